@@ -1,0 +1,11 @@
+pub mod Packet
+pub mod Dump
+pub mod GenerationTime
+pub mod Order
+pub mod History
+pub mod Arrivals
+pub mod Table
+pub mod Name
+pub mod Interval
+pub mod Refusal
+pub mod Laws
