@@ -10,6 +10,8 @@
 // Every crate above stands on this one: a change here is proved again everywhere. Later crates only add.
 #![tactic(auto)]
 
+pub mod ask;
+pub mod cell;
 pub mod inserted;
 pub mod interval;
 pub mod key;
@@ -20,3 +22,4 @@ pub mod refusal;
 pub mod row;
 pub mod spans;
 pub mod steps;
+pub mod tables;
