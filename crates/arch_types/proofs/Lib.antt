@@ -1,3 +1,6 @@
 pub mod Dumps
+pub mod Histories
+pub mod InOrder
 pub mod Ordered
 pub mod Parts
+pub mod Ranks

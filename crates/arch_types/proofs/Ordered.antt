@@ -48,7 +48,7 @@ module _ {X : Type 0} {lt : X → X → Bool} (o : IsStrictWeakOrder lt) where
   ascending_cases x y ys true h up more = ((o.one_way x y h, not_above_all x ys (below_all x y ys h up.0)), up)
   ascending_cases x y ys false h up more = (place_keeps (λ z. lt z y ≡ false) ys x h up.0, more)
 
-  ascending-place : (ys : List X) (x : X) → IsAscending lt ys → IsAscending lt (place_by lt ys x)
+  pub ascending-place : (ys : List X) (x : X) → IsAscending lt ys → IsAscending lt (place_by lt ys x)
   ascending-place [] x up = (tt, tt)
   ascending-place (y ∷ ys) x up = ascending_cases x y ys (lt x y) refl up (ascending-place ys x up.1)
 

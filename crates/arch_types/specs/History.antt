@@ -1,6 +1,6 @@
 -- A history: rows in the order in which they came to stay, of which no two have one table and key.
 use Rattle.std.specs.Prelude.{◌≡◌, ℕ, List, [], ◌∷◌, ◌++◌, Bool, false, ◌&&◌, ◌==◌, fold, if◌then◌else◌}
-use Rattle.std.specs.List.{list_any}
+use Rattle.std.specs.List.{list_any, AllByRecursion}
 use Rattle.std.specs.Ordering.{is_eq}
 use Rattle.arch_types.specs.declared.row.Row.{Row}
 use Rattle.arch_types.specs.declared.key.Key.{Key}
@@ -32,4 +32,5 @@ firsts rows = ingested [] rows
 
 -- no row has the table and key of one before it
 abbrev pub IsHistory : List Row → Type 0
-IsHistory rows = (before : List Row) (row : Row) (after : List Row) → rows ≡ before ++ (row ∷ after) → list_any (is_duplicate_of row) before ≡ false
+IsHistory [] = Unit {0}
+IsHistory (row ∷ rows) = AllByRecursion (λ later. is_duplicate_of later row ≡ false) rows × IsHistory rows

@@ -23,3 +23,5 @@ pub mod row;
 pub mod spans;
 pub mod steps;
 pub mod tables;
+#[cfg(test)]
+mod tests;
