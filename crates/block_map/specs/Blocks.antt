@@ -1,0 +1,36 @@
+-- Entries in blocks.
+use Rattle.std.specs.Prelude.{◌≡◌, ℕ, ◌+◌, ◌<◌, ◌≤◌, List, [], length, take, drop, slice_index_or, vec_capacity}
+use Rattle.std.specs.Global.{Vec}
+use Rattle.std.specs.List.{flat_map, All}
+use Rattle.std.specs.declared.cmp.Ordering.{Ordering}
+use Rattle.block_map.specs.declared.blocks.TheConstants.{HALF, FULL}
+use Rattle.block_map.specs.Rising.{IsAbove, IsBelow, IsRising}
+
+-- the entries of blocks, one block after the other
+abbrev pub entries_of : {K V : Type 0} → List (Vec (K × V)) → List (K × V)
+entries_of blocks = flat_map (λ b. b.items) blocks
+
+-- each block but the first has an entry
+abbrev pub HaveFirsts : {K V : Type 0} → List (Vec (K × V)) → Type 0
+HaveFirsts {K} {V} blocks = (i : ℕ) (d : Vec (K × V)) → 0 < i → i < length blocks → 0 < length (slice_index_or blocks i d).items
+
+-- a key belongs in the block b
+pub record IsBlockFor {K V : Type 0} (cmp : K → K → Ordering) (key : K) (blocks : List (Vec (K × V))) (b : ℕ) : Type 0 where
+  pub within : b < length blocks
+  pub above : IsAbove cmp key (entries_of (take b blocks))
+  pub below : IsBelow cmp key (entries_of (drop (b + 1) blocks))
+
+-- a block is no longer than its memory
+abbrev pub IsSized : {K V : Type 0} → Vec (K × V) → Type 0
+IsSized b = (length b.items ≤ FULL) × (FULL ≤ vec_capacity b)
+
+-- blocks in the order of their keys, each but the first at least half full
+pub record IsBlocks {K V : Type 0} (cmp : K → K → Ordering) (blocks : List (Vec (K × V))) : Type 0 where
+  pub some : 0 < length blocks
+  pub rising : IsRising cmp (entries_of blocks)
+  pub filled : (i : ℕ) (d : Vec (K × V)) → 0 < i → i < length blocks → HALF ≤ length (slice_index_or blocks i d).items
+  pub sized : All IsSized blocks
+
+-- spare blocks are empty, with memory
+abbrev pub AreReady : {K V : Type 0} → List (Vec (K × V)) → Type 0
+AreReady spare = All (λ b. (b.items ≡ []) × (FULL ≤ vec_capacity b)) spare

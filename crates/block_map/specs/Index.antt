@@ -1,0 +1,26 @@
+-- What contracts see of an index, and what is true of its fields.
+use Rattle.std.specs.Prelude.{◌≡◌, ℕ, ◌+◌, ◌*◌, ◌^◌, ◌<◌, ◌≤◌, List, length, vec_len, vec_capacity}
+use Rattle.std.specs.Global.{Vec}
+use Rattle.std.specs.BTreeMap.{insert_entry}
+use Rattle.std.specs.declared.cmp.Ordering.{Ordering}
+use Rattle.block_map.specs.declared.blocks.TheConstants.{HALF}
+use Rattle.block_map.specs.Blocks.{entries_of, IsBlocks, AreReady}
+
+-- the entries in the order of their keys, and how many more go in without memory
+pub record Listing (K V : Type 0) : Type 0 where
+  pub entries : List (K × V)
+  pub room : ℕ
+
+-- blocks in order, and as many spare ones as the room that was promised may take; either list may come to hold all of them
+pub record IsIndex {K V : Type 0} (cmp : K → K → Ordering) (blocks spare : Vec (Vec (K × V))) (len room : ℕ) : Type 0 where
+  pub blocks_in_order : IsBlocks cmp blocks.items
+  pub ready : AreReady spare.items
+  pub fits : vec_len blocks + vec_len spare ≤ vec_capacity blocks
+  pub fits_spare : vec_len blocks + vec_len spare ≤ vec_capacity spare
+  pub counted : len ≡ length (entries_of blocks.items)
+  pub spared : len + room < (vec_len blocks + vec_len spare) * HALF
+  pub small : len + room < 2 ^ 64
+
+-- one more entry, at its key, in the place of one of the room
+abbrev pub IsAdded : {K V : Type 0} → (K → K → Ordering) → Listing K V → Listing K V → K → V → Type 0
+IsAdded cmp old new key value = (new.entries ≡ insert_entry cmp old.entries key value) × (new.room + 1 ≡ old.room)

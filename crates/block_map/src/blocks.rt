@@ -1,0 +1,131 @@
+//! Blocks of entries in the order of their keys, and what puts entries into them.
+
+ghost use Rattle.std.specs.Prelude.{◌≡◌, ◌+◌, ◌*◌, ◌<◌, ◌≤◌, ℕ, [], length, take, drop, slice_index_or, vec_len, vec_capacity, Ok, Err};
+ghost use Rattle.std.specs.Global.{Vec};
+ghost use Rattle.std.specs.BTreeMap.{insert_entry};
+ghost use Rattle.block_map.specs.Rising.{IsPlaceIn};
+ghost use Rattle.block_map.specs.Blocks.{entries_of, IsBlockFor, IsBlocks, AreReady};
+
+use crate::search::block_for;
+
+/// The entries of a full block.
+pub const FULL: usize = 256;
+
+/// The entries that each block but the first has at least.
+pub const HALF: usize = FULL / 2;
+
+pub(crate) type Block<K, V> = Vec<(K, V)>;
+
+/// Moves the upper half of a full block into an empty one.
+fn move_half<K: Copy, V: Copy>(block: &mut Block<K, V>, upper: &mut Block<K, V>)
+    requires full { vec_len block.old ≡ FULL }
+    requires empty { upper.old.items ≡ [] }
+    requires room { FULL ≤ vec_capacity upper.old }
+    ensures lower { block.new.items ≡ take HALF block.old.items }
+    ensures upper { upper.new.items ≡ drop HALF block.old.items }
+    ensures lower_len { vec_len block.new ≡ HALF }
+    ensures upper_len { vec_len upper.new ≡ HALF }
+    ensures same { vec_capacity block.new ≡ vec_capacity block.old }
+    ensures kept { FULL ≤ vec_capacity upper.new }
+{
+    let (_, high) = block.as_slice().split_at(HALF);
+    let _ = upper.extend_from_slice(high);
+    block.truncate(HALF);
+}
+
+/// Splits a full block, its upper half in a spare block behind it.
+fn split<K: Ord + Copy, V: Copy>(
+    blocks: &mut Vec<Block<K, V>>,
+    spare: &mut Vec<Block<K, V>>,
+    b: usize,
+)
+    requires blocks { IsBlocks K.cmp blocks.old.items }
+    requires ready { AreReady spare.old.items }
+    requires within { b < length blocks.old.items }
+    requires full { (d : Vec (K × V)) → vec_len (slice_index_or blocks.old.items b d) ≡ FULL }
+    requires spare { 0 < vec_len spare.old }
+    requires room { vec_len blocks.old + vec_len spare.old ≤ vec_capacity blocks.old }
+    ensures blocks { IsBlocks K.cmp blocks.new.items }
+    ensures same { entries_of blocks.new.items ≡ entries_of blocks.old.items }
+    ensures ready { AreReady spare.new.items }
+    ensures moved { vec_len spare.new + 1 ≡ vec_len spare.old }
+    ensures longer { vec_len blocks.new ≡ vec_len blocks.old + 1 }
+    ensures room { vec_len blocks.new + vec_len spare.new ≤ vec_capacity blocks.new }
+    ensures spare_capacity { vec_capacity spare.new ≡ vec_capacity spare.old }
+{
+    if let Some(mut upper) = spare.pop() {
+        move_half(&mut blocks[b], &mut upper);
+        let _ = blocks.insert(b + 1, upper);
+    }
+}
+
+/// The block that a key belongs in, with a place left in it. Full ones are split on the way, and searched again:
+/// which half the key belongs in needs no proof of its own.
+pub(crate) fn open_block<K: Ord + Copy, V: Copy>(
+    blocks: &mut Vec<Block<K, V>>,
+    spare: &mut Vec<Block<K, V>>,
+    key: K,
+) -> usize
+    requires blocks { IsBlocks K.cmp blocks.old.items }
+    requires ready { AreReady spare.old.items }
+    requires fits { vec_len blocks.old + vec_len spare.old ≤ vec_capacity blocks.old }
+    requires room { length (entries_of blocks.old.items) < (vec_len blocks.old + vec_len spare.old) * HALF }
+    ensures blocks { IsBlocks K.cmp blocks.new.items }
+    ensures same { entries_of blocks.new.items ≡ entries_of blocks.old.items }
+    ensures ready { AreReady spare.new.items }
+    ensures moved { vec_len blocks.new + vec_len spare.new ≡ vec_len blocks.old + vec_len spare.old }
+    ensures fits { vec_len blocks.new + vec_len spare.new ≤ vec_capacity blocks.new }
+    ensures spare_capacity { vec_capacity spare.new ≡ vec_capacity spare.old }
+    ensures place { IsBlockFor K.cmp key blocks.new.items result }
+    ensures open { (d : Vec (K × V)) → vec_len (slice_index_or blocks.new.items result d) < FULL }
+{
+    let mut b = block_for(blocks.as_slice(), key);
+    while blocks[b].len() >= FULL {
+        split(blocks, spare, b);
+        b = block_for(blocks.as_slice(), key);
+    }
+    b
+}
+
+/// Puts an entry into a block that has a place left.
+pub(crate) fn put<K: Ord + Copy, V: Copy>(
+    blocks: &mut Vec<Block<K, V>>,
+    b: usize,
+    at: usize,
+    key: K,
+    value: V,
+)
+    requires blocks { IsBlocks K.cmp blocks.old.items }
+    requires place { IsBlockFor K.cmp key blocks.old.items b }
+    requires at { (d : Vec (K × V)) → IsPlaceIn K.cmp key (slice_index_or blocks.old.items b d).items (Err at) }
+    requires open { (d : Vec (K × V)) → vec_len (slice_index_or blocks.old.items b d) < FULL }
+    ensures blocks { IsBlocks K.cmp blocks.new.items }
+    ensures entries { entries_of blocks.new.items ≡ insert_entry K.cmp (entries_of blocks.old.items) key value }
+    ensures counted { length (entries_of blocks.new.items) ≡ length (entries_of blocks.old.items) + 1 }
+    ensures len { vec_len blocks.new ≡ vec_len blocks.old }
+    ensures capacity { vec_capacity blocks.new ≡ vec_capacity blocks.old }
+{
+    let _ = blocks[b].insert(at, (key, value));
+}
+
+/// Gives the entry at a place another value.
+pub(crate) fn set_value<K: Ord + Copy, V: Copy>(
+    blocks: &mut Vec<Block<K, V>>,
+    b: usize,
+    at: usize,
+    key: K,
+    value: V,
+)
+    requires blocks { IsBlocks K.cmp blocks.old.items }
+    requires place { IsBlockFor K.cmp key blocks.old.items b }
+    requires at { (d : Vec (K × V)) → IsPlaceIn K.cmp key (slice_index_or blocks.old.items b d).items (Ok at) }
+    ensures blocks { IsBlocks K.cmp blocks.new.items }
+    ensures entries { entries_of blocks.new.items ≡ insert_entry K.cmp (entries_of blocks.old.items) key value }
+    ensures counted { length (entries_of blocks.new.items) ≡ length (entries_of blocks.old.items) }
+    ensures len { vec_len blocks.new ≡ vec_len blocks.old }
+    ensures capacity { vec_capacity blocks.new ≡ vec_capacity blocks.old }
+{
+    let block = &mut blocks[b];
+    let (first, _) = block[at];
+    block[at] = (first, value);
+}
