@@ -17,3 +17,5 @@ pub mod blocks;
 pub mod entries;
 pub mod index;
 pub mod search;
+#[cfg(test)]
+mod tests;
