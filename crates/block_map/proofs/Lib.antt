@@ -5,3 +5,5 @@ pub mod Between
 pub mod Edits
 pub mod Lookups
 pub mod Counted
+pub mod Neighbours
+pub mod Removals

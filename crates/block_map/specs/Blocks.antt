@@ -1,5 +1,5 @@
 -- Entries in blocks.
-use Rattle.std.specs.Prelude.{◌≡◌, ℕ, ◌+◌, ◌<◌, ◌≤◌, List, [], length, take, drop, slice_index_or, vec_capacity}
+use Rattle.std.specs.Prelude.{◌≡◌, ◌≢◌, ℕ, ◌+◌, ◌<◌, ◌≤◌, List, [], length, take, drop, slice_index_or, vec_capacity}
 use Rattle.std.specs.Global.{Vec}
 use Rattle.std.specs.List.{flat_map, All}
 use Rattle.std.specs.declared.cmp.Ordering.{Ordering}
@@ -29,6 +29,14 @@ pub record IsBlocks {K V : Type 0} (cmp : K → K → Ordering) (blocks : List (
   pub some : 0 < length blocks
   pub rising : IsRising cmp (entries_of blocks)
   pub filled : (i : ℕ) (d : Vec (K × V)) → 0 < i → i < length blocks → HALF ≤ length (slice_index_or blocks i d).items
+  pub sized : All IsSized blocks
+
+-- blocks in order, but for one of them, which may lack an entry of half
+pub record IsThinAt {K V : Type 0} (cmp : K → K → Ordering) (blocks : List (Vec (K × V))) (b : ℕ) : Type 0 where
+  pub some : 0 < length blocks
+  pub rising : IsRising cmp (entries_of blocks)
+  pub filled : (i : ℕ) (d : Vec (K × V)) → 0 < i → i < length blocks → i ≢ b → HALF ≤ length (slice_index_or blocks i d).items
+  pub thin : (d : Vec (K × V)) → 0 < b → HALF ≤ length (slice_index_or blocks b d).items + 1
   pub sized : All IsSized blocks
 
 -- spare blocks are empty, with memory

@@ -1,7 +1,7 @@
 //! The index.
 
 ghost use Rattle.std.specs.Prelude.{◌≡◌, ◌+◌, ◌<◌, ◌≤◌, [], length, max, IfSome, IfNone, IfOk, OnSome, OnOk, OnErr, slice_get, vec_len, vec_capacity};
-ghost use Rattle.std.specs.Map.{lookup};
+ghost use Rattle.std.specs.Map.{lookup, remove_entry};
 ghost use Rattle.std.specs.BTreeMap.{is_at, insert_entry};
 ghost use Rattle.std.specs.BTreeMap.Range.{entries_from};
 ghost use Rattle.block_map.specs.Rising.{IsRising};
@@ -10,6 +10,7 @@ ghost use Rattle.block_map.specs.Index.{IsAdded};
 
 use crate::blocks::{Block, FULL, HALF, open_block, put, set_value};
 use crate::entries::Entries;
+use crate::removal::{refill, take_out};
 use crate::search::{block_for, place_in};
 use std::alloc::{AllocError, Global};
 use std::marker::Model;
@@ -169,6 +170,28 @@ impl<K: Ord + Copy, V: Copy> Index<K, V> {
             Ok(at) => {
                 let old = block[at].1;
                 set_value(&mut self.blocks, b, at, key, value);
+                Some(old)
+            }
+            Err(_) => None,
+        }
+    }
+
+    /// Takes out a key that is there, and answers its value. Its place can be used again without memory.
+    pub fn remove(&mut self, key: K) -> Option<V>
+        ensures found { result ≡ lookup (is_at (K.cmp key)) self.old.entries }
+        ensures removed { OnSome result (self.new ≡ record { entries = remove_entry (is_at (K.cmp key)) self.old.entries; room = self.old.room + 1 }) }
+        ensures absent { IfNone result (self.new ≡ self.old) }
+        ensures rising { IsRising K.cmp self.new.entries }
+    {
+        let b = block_for(self.blocks.as_slice(), key);
+        let block = self.blocks[b].as_slice();
+        match place_in(block, key) {
+            Ok(at) => {
+                let old = block[at].1;
+                take_out(&mut self.blocks, b, at, key);
+                refill(&mut self.blocks, &mut self.spare, b);
+                self.len -= 1;
+                self.room += 1;
                 Some(old)
             }
             Err(_) => None,

@@ -16,6 +16,7 @@
 pub mod blocks;
 pub mod entries;
 pub mod index;
+pub mod removal;
 pub mod search;
 #[cfg(test)]
 mod tests;

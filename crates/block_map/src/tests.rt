@@ -35,5 +35,18 @@ fn holds_six_hundred_keys(rt: HostRuntime) -> Result<(), Fail> {
     assert_eq!(rt; above.next().copied(), Some((599, 429)));
     assert_eq!(rt; above.next().copied(), Some((600, 515)));
     assert_eq!(rt; above.next().copied(), None);
+    for key in 1..500 {
+        assert_eq!(rt; index.remove(key).is_some(), true);
+    }
+    assert_eq!(rt; (index.remove(1), index.get(1)), (None, None));
+    assert_eq!(rt;
+        (index.len(), index.room(), index.first()),
+        (101, 500, Some((500, 415)))
+    );
+    for key in 1..500 {
+        assert!(rt; 0 < index.room());
+        assert_eq!(rt; index.insert(key, key), None);
+    }
+    assert_eq!(rt; (index.get(86), index.get(600)), (Some(86), Some(515)));
     Ok(())
 }
