@@ -41,7 +41,7 @@ fn holds_six_hundred_keys(rt: HostRuntime) -> Result<(), Fail> {
     assert_eq!(rt; (index.remove(1), index.get(1)), (None, None));
     assert_eq!(rt;
         (index.len(), index.room(), index.first()),
-        (101, 500, Some((500, 415)))
+        (101, 500, Some((500, 329)))
     );
     for key in 1..500 {
         assert!(rt; 0 < index.room());
