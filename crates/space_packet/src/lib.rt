@@ -1,0 +1,20 @@
+// Space packets (CCSDS 133.0-B): their primary headers, their keys, and the packets of a dump.
+//
+// A dump is packets one after the other with nothing between them, and a rest that begins with no packet (`IsDump` of arch_types). `split`
+// gives its packets as parts of the dump's own block, for callers that keep them; `DumpPackets` gives one place after the other and holds
+// nothing, for callers that pass over them once. `Header::read` gives the fields of a primary header, and `key_of` the key of a packet,
+// both without memory. Callers: scan and the load session; whatever reads the header of a stored packet.
+//
+// The one idea of the proof is `IsCut`: some packets joined are the octets of the dump before a place. It holds of no packets at 0, the
+// lemmas of proofs/Cuts.antt carry it over one more packet, and where no packet begins at the place it is `IsDump`.
+//
+// To be changed together: the fields in src/header.rt and their definitions in arch_types' specs/Packet.antt; `first_packet` and `why_of`.
+#![tactic(auto)]
+
+pub mod dump;
+pub mod header;
+pub mod key;
+pub mod packets;
+pub mod split;
+#[cfg(test)]
+mod tests;
