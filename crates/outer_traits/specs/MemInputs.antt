@@ -1,0 +1,18 @@
+-- What files in memory are.
+use Rattle.std.specs.Prelude.{◌≡◌, ℕ, ◌<◌, List, map, length, Some, IsSome, string_bytes, slice_index_or}
+use Rattle.std.specs.FinMap.{from_entries, get}
+use Rattle.outer_traits.specs.Outside.{Files}
+use Rattle.outer_traits.specs.declared.mem_inputs.File.{File}
+
+-- the octets of a file, by its name
+abbrev pub entry_of : File → List ℕ × List ℕ
+entry_of file = (string_bytes file.name, file.octets.items)
+
+-- of files with one name the first counts
+abbrev pub files_of : List File → Files
+files_of files = from_entries (map entry_of files)
+
+-- the file at a place is the one of a name
+abbrev pub HasFile : List File → List ℕ → ℕ → Type 0
+HasFile files name i =
+    (i < length files) × IsSome (get (files_of files) name) × ((d : File) → get (files_of files) name ≡ Some (slice_index_or files i d).octets.items)

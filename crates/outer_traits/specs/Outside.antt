@@ -1,0 +1,46 @@
+-- What the calls on the outside do, where its content is told, and when they fail.
+use Rattle.std.specs.Prelude.{◌≡◌, ℕ, ℤ, pos, ◌+◌, ◌^◌, ◌<◌, ◌≤◌, ◌≤ℤ◌, List, ◌++◌, length, take, drop, Option, Some, None, IsSomeAnd}
+use Rattle.std.specs.Option.{is_some}
+use Rattle.std.specs.Ordering.{nat_cmp}
+use Rattle.std.specs.Cmp.Lexicographic.{slice_cmp}
+use Rattle.std.specs.FinMap.{FinMap, get}
+
+-- a count of faults has risen, or stands at the last value of its type
+abbrev pub HasRisen : ℕ → ℕ → Type 0
+HasRisen before now = now + 1 < 2 ^ 64 → before < now
+
+-- a count of faults is as before
+abbrev pub Stays : ℕ → ℕ → Type 0
+Stays before now = now ≡ before
+
+-- an object tells after a call exactly where it told before
+abbrev pub SameTelling : {X : Type 0} → Option X → Option X → Type 0
+SameTelling before now = is_some now ≡ is_some before
+
+-- octets by the octets of a name
+abbrev pub Files : Type 0
+Files = FinMap (slice_cmp nat_cmp) (List ℕ)
+
+-- the first n octets left were moved to the front of a slice, where they are told
+abbrev pub Reads : Option (List ℕ) → Option (List ℕ) → ℕ → List ℕ → Type 0
+Reads None new n into = new ≡ None
+Reads (Some octets) new n into = (n ≤ length octets) × (take n into ≡ take n octets) × (new ≡ Some (drop n octets))
+
+-- what is left at first is what the files have at the name, where they are told
+abbrev pub Gives : Option Files → List ℕ → Option (List ℕ) → Type 0
+Gives None name left = left ≡ None
+Gives (Some files) name left = IsSomeAnd (get files name) (λ octets. left ≡ Some octets)
+
+-- the first n octets of a piece were appended, where the content is told
+abbrev pub Writes : Option (List ℕ) → Option (List ℕ) → ℕ → List ℕ → Type 0
+Writes None new n piece = new ≡ None
+Writes (Some octets) new n piece = new ≡ Some (octets ++ take n piece)
+
+-- a prefix of a text was appended, where the content is told
+abbrev pub WritesSome : Option (List ℕ) → Option (List ℕ) → List ℕ → Type 0
+WritesSome None new text = new ≡ None
+WritesSome (Some octets) new text = (piece : List ℕ) × (more : List ℕ) × (piece ++ more ≡ text) × (new ≡ Some (octets ++ piece))
+
+-- milliseconds from 1970 to the end of 9999
+abbrev pub IsMoment : ℤ → Type 0
+IsMoment moment = (pos 0 ≤ℤ moment) × (moment ≤ℤ pos 253402300799999)

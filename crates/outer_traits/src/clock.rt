@@ -1,0 +1,55 @@
+//! A clock.
+
+ghost use Rattle.std.specs.Prelude.{◌≡◌, ℤ, Option, IfSome};
+ghost use Rattle.outer_traits.specs.Outside.{IsMoment, SameTelling};
+
+use std::marker::Model;
+
+/// The time of day, in milliseconds since 1970-01-01T00:00:00.
+pub trait Clock {
+    /// The moment that the next call answers, where the clock tells it.
+    ghost next: { Self → Option ℤ };
+
+    /// The moment, which lies before the year 10000.
+    fn now(&mut self) -> i64
+        ensures told { IfSome (next self.old) (λ moment. result ≡ moment) }
+        ensures range { IsMoment result }
+        ensures same { SameTelling (next self.old) (next self.new) };
+}
+
+/// A clock that stands still.
+#[derive(Drop)]
+pub struct FixedClock {
+    moment: i64,
+}
+
+impl Model for FixedClock {
+    ghost use Rattle.std.specs.Prelude.{ℤ};
+    ghost use Rattle.outer_traits.specs.Outside.{IsMoment};
+
+    ghost Value = { ℤ };
+
+    ghost view = { λ c. c.moment };
+
+    ghost invariant = { λ c. IsMoment c.moment };
+}
+
+impl FixedClock {
+    /// A clock that stands at this moment.
+    pub fn new(moment: i64) -> Self
+        requires { IsMoment moment }
+        ensures { result ≡ moment }
+    {
+        FixedClock { moment }
+    }
+}
+
+impl Clock for FixedClock {
+    ghost use Rattle.std.specs.Prelude.{Some};
+
+    ghost next = { λ clock. Some clock };
+
+    fn now(&mut self) -> i64 {
+        self.moment
+    }
+}

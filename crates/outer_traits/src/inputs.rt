@@ -1,0 +1,41 @@
+//! Inputs by name.
+
+ghost use Rattle.std.specs.Prelude.{◌≡◌, ℕ, ◌≤◌, ◌<◌, List, Option, IfOk, IfSome, IsNone, IsErrOf, ◌↔◌};
+ghost use Rattle.std.specs.FinMap.{get};
+ghost use Rattle.outer_traits.specs.Outside.{HasRisen, Files, Gives, Stays};
+
+use crate::fault::OpenFault;
+use crate::source::Source;
+use std::alloc::Global;
+
+/// Sources that are opened by their names. Each that was opened is to be closed again, so that its faults are counted.
+pub trait Inputs {
+    type Source: Source + Drop;
+
+    /// The octets of each name, where they are told.
+    ghost files: { Self → Option Files };
+
+    /// How often they have failed, a source that had failed when it was closed counted too.
+    ghost faults: { Self → ℕ };
+
+    /// Whether they are known never to fail, as inputs in memory.
+    ghost never_fails: { Self → Type 0 } = { λ _. ⊥ };
+
+    /// A source at the start of the named octets.
+    fn open(&mut self, alloc: Global, name: &str) -> Result<Self::Source, OpenFault>
+        ensures found { IfOk result (λ source. Gives (files self.old) name.now (Self.Source.left source)) }
+        ensures fresh { IfOk result (λ source. Self.Source.faults source ≡ 0) }
+        ensures missing { IfSome (files self.old) (λ all. IsErrOf result OpenFault.Missing ↔ IsNone (get all name.now)) }
+        ensures same { files self.new ≡ files self.old }
+        ensures later { faults self.old ≤ faults self.new }
+        ensures failed { IsErrOf result OpenFault.Failed → HasRisen (faults self.old) (faults self.new) }
+        ensures steady { never_fails self.old → never_fails self.new × Stays (faults self.old) (faults self.new) }
+        ensures steady_source { never_fails self.old → IfOk result (λ source. Self.Source.never_fails source) };
+
+    /// Takes a source back. The count rises where the source's had.
+    fn close(&mut self, source: Self::Source)
+        ensures same { files self.new ≡ files self.old }
+        ensures later { faults self.old ≤ faults self.new }
+        ensures risen { 0 < Self.Source.faults source → HasRisen (faults self.old) (faults self.new) }
+        ensures steady { never_fails self.old → Self.Source.faults source ≡ 0 → never_fails self.new × Stays (faults self.old) (faults self.new) };
+}

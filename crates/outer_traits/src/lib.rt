@@ -1,0 +1,22 @@
+// What the archive asks of the outside: octets to read by name, a place to write to, and the time.
+//
+// Contracts see an object of the outside through what it tells: the octets that a source has left, the files of the inputs, what a sink
+// has written, the moment of a clock. Forms in memory tell it, and real ones don't (specs/Outside.antt has what each call does with it;
+// whether an object tells never changes). Beside it each has a count of faults, which never falls, and a call answers `Failed` only
+// where the count rose, or stands at the last value of its type. So a caller can say of each failure which object it came from.
+//
+// `mem_inputs`, `mem_sink` and `FixedClock` are the forms in memory, whose calls can be told to fail. They are for tests, and show that the
+// contracts can be met.
+//
+// Every crate that reads or writes stands on this one, the program's adapters among them.
+#![tactic(auto)]
+
+pub mod clock;
+pub mod fault;
+pub mod inputs;
+pub mod mem_inputs;
+pub mod mem_sink;
+pub mod sink;
+pub mod source;
+#[cfg(test)]
+mod tests;

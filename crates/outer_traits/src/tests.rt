@@ -1,0 +1,59 @@
+//! Calls that fail, and calls that don't.
+
+use crate::clock::{Clock, FixedClock};
+use crate::fault::{Failed, OpenFault};
+use crate::inputs::Inputs;
+use crate::mem_inputs::{FailingCall, File, MemInputs};
+use crate::mem_sink::MemSink;
+use crate::sink::Sink;
+use crate::source::Source;
+use std::alloc::{AllocError, Global};
+use std::test::Fail;
+
+/// One file `a` with three octets.
+fn files(alloc: Global) -> Result<Vec<File>, AllocError> {
+    let mut files = Vec::new(alloc);
+    files.push(File {
+        name: String::from_str(alloc, "a")?,
+        octets: Vec::from_slice(alloc, &[1, 2, 3])?,
+    })?;
+    Ok(files)
+}
+
+#[test]
+fn fails_where_it_is_told(rt: HostRuntime) -> Result<(), Fail> {
+    let alloc = rt.alloc();
+    let mut sure = MemInputs::new(alloc, files(alloc)?);
+    assert_eq!(rt; sure.open(alloc, "b").err(), Some(OpenFault::Missing));
+    let first = FailingCall {
+        opening: 1,
+        read: 0,
+    };
+    let second_read = FailingCall {
+        opening: 2,
+        read: 2,
+    };
+    let calls = Vec::from_slice(alloc, &[first, second_read])?;
+    let mut inputs = MemInputs::failing(files(alloc)?, calls);
+    assert_eq!(rt; inputs.open(alloc, "a").err(), Some(OpenFault::Failed));
+    let Ok(opened) = inputs.open(alloc, "a") else {
+        assert!(rt; false, "not opened");
+        return Ok(());
+    };
+    let mut source = opened;
+    let mut into = [0; 2];
+    assert_eq!(rt; source.read(&mut into), Ok(2));
+    assert_eq!(rt; into, [1, 2]);
+    assert_eq!(rt; source.read(&mut into), Err(Failed));
+    assert_eq!(rt; source.read(&mut into), Ok(1));
+    assert_eq!(rt; source.read(&mut into), Ok(0));
+    inputs.close(source);
+    let mut sink = MemSink::failing(alloc, Vec::from_slice(alloc, &[2])?);
+    assert_eq!(rt; sink.write(&[7, 8]), Ok(2));
+    assert_eq!(rt; sink.write(&[9]), Err(Failed));
+    assert_eq!(rt; sink.write(&[]), Ok(0));
+    assert_eq!(rt; sink.octets.as_slice(), [7, 8].as_slice());
+    assert_eq!(rt; MemSink::new(alloc).write(&[1]), Ok(1));
+    assert_eq!(rt; FixedClock::new(9000).now(), 9000);
+    Ok(())
+}
