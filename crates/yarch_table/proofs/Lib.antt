@@ -1,0 +1,4 @@
+pub mod Insertion
+pub mod RowsLeft
+pub mod Ranged
+pub mod Histories

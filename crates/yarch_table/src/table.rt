@@ -1,0 +1,115 @@
+//! A table.
+
+ghost use Rattle.std.specs.Prelude.{◌≡◌, ◌+◌, ◌<◌, ◌≤◌, [], max, IfOk, OnOk, OnErr, length};
+ghost use Rattle.yarch_table.specs.Stored.{seen_at, seen_between, IsInserted};
+
+use crate::rows::{TableRows, Window};
+use arch_types::inserted::Inserted;
+use arch_types::key::Key;
+use arch_types::row::Row;
+use block_map::index::Index;
+use std::alloc::{AllocError, Global};
+use std::marker::Model;
+
+/// A row and its position in the history.
+#[derive(Debug, Drop)]
+pub struct Stored {
+    pub row: Row,
+    pub position: u64,
+}
+
+/// The rows of one table.
+#[derive(Drop)]
+pub struct Table {
+    /// The rows in the order of their insertion.
+    stored: Vec<Stored>,
+    /// The place of each row in `stored`, by its key.
+    index: Index<Key, usize>,
+}
+
+impl Model for Table {
+    ghost use Rattle.yarch_table.specs.Stored.{Holding};
+    ghost use Rattle.yarch_table.specs.Index.{IsTable};
+
+    ghost Value = { Holding };
+
+    ghost view = { λ t. record { stored = t.stored.items; room = t.index.room } };
+
+    ghost invariant = { λ t. IsTable t.stored t.index };
+}
+
+impl Table {
+    /// A table without rows or room. The one error is want of memory.
+    pub fn new(alloc: Global) -> Result<Self, AllocError>
+        ensures { IfOk result (λ t. t ≡ record { stored = []; room = 0 }) }
+    {
+        Ok(Table {
+            stored: Vec::new(alloc),
+            index: Index::new(alloc)?,
+        })
+    }
+
+    /// Makes room for at least so many more rows. The one error is want of memory, and then all is as before.
+    pub fn reserve(&mut self, rows: u64) -> Result<(), AllocError>
+        ensures ok { OnOk result (self.new ≡ record { stored = self.old.stored; room = max self.old.room rows }) }
+        ensures err { OnErr result (self.new ≡ self.old) }
+        ensures full { OnErr result (self.old.room < rows) }
+    {
+        let rows = rows as usize;
+        if rows <= self.index.room() {
+            return Ok(());
+        }
+        self.stored.reserve(rows)?;
+        self.index.reserve(rows)
+    }
+
+    /// Adds a row with its position in the history. Where a row of its key is there, that one stays, and the answer is its position.
+    /// Takes no memory.
+    pub fn insert(&mut self, row: Row, position: u64) -> Inserted
+        requires { 0 < self.old.room }
+        ensures inserted { IsInserted self.old self.new row position result }
+        ensures left { self.old.room ≤ self.new.room + 1 }
+    {
+        match self.index.insert(row.key, self.stored.len()) {
+            Some(i) => Inserted::Duplicate(self.stored[i].position),
+            None => {
+                self.stored.push_reserved(Stored { row, position });
+                Inserted::New(position)
+            }
+        }
+    }
+
+    /// The rows with a position below the front and `from <= time < to`, in the order of their keys. Times are in milliseconds.
+    pub fn range_at(&self, front: u64, from: i64, to: i64) -> TableRows<'_>
+        ensures { result ≡ seen_between front from to self.now.stored }
+    {
+        let entries = self.index.from_key(Key { time: from, seq: 0 });
+        let window = Window {
+            front,
+            end: Some(to),
+        };
+        TableRows::new(self.stored.as_slice(), entries, window)
+    }
+
+    /// The rows with a position below the front, in the order of their keys.
+    pub fn rows_at(&self, front: u64) -> TableRows<'_>
+        ensures { result ≡ seen_at front self.now.stored }
+    {
+        let window = Window { front, end: None };
+        TableRows::new(self.stored.as_slice(), self.index.iter(), window)
+    }
+
+    /// How many rows there are.
+    pub fn len(&self) -> usize
+        ensures { result ≡ length self.now.stored }
+    {
+        self.stored.len()
+    }
+
+    /// How many more rows go in without memory.
+    pub fn room(&self) -> usize
+        ensures { result ≡ self.now.room }
+    {
+        self.index.room()
+    }
+}
