@@ -1,0 +1,2 @@
+pub mod CalendarFacts
+pub mod DigitFacts

@@ -1,0 +1,30 @@
+-- Decimal digits in ASCII, and texts of a fixed shape.
+use Rattle.std.specs.Prelude.{ℕ, ◌+◌, ◌-◌, ◌*◌, ◌/◌, ◌%◌, ◌++◌, ◌==◌, ◌&&◌, Bool, true, false, List, [], ◌∷◌, nat_le, fold, if◌then◌else◌}
+
+abbrev pub is_digit : ℕ → Bool
+is_digit octet = nat_le 48 octet && nat_le octet 57
+
+-- the number that decimal digits stand for
+unfoldable pub worth : List ℕ → ℕ
+worth digits = fold (λ n digit. 10 * n + (digit - 48)) 0 digits
+
+-- a digit where the shape has 0, else the shape's own octet
+abbrev pub fits : ℕ → ℕ → Bool
+fits place octet = if place == 48 then is_digit octet else (octet == place)
+
+-- the text is as long as the shape, and fits it at each place
+unfoldable pub has_shape : List ℕ → List ℕ → Bool
+has_shape [] [] = true
+has_shape [] (octet ∷ text) = false
+has_shape (place ∷ shape) [] = false
+has_shape (place ∷ shape) (octet ∷ text) = fits place octet && has_shape shape text
+
+-- numbers below 100, 1,000 and 10,000, each with all its digits
+abbrev pub two_digits_of : ℕ → List ℕ
+two_digits_of n = (48 + n / 10) ∷ (48 + n % 10) ∷ []
+
+abbrev pub three_digits_of : ℕ → List ℕ
+three_digits_of n = (48 + n / 100) ∷ two_digits_of (n % 100)
+
+abbrev pub four_digits_of : ℕ → List ℕ
+four_digits_of n = two_digits_of (n / 100) ++ two_digits_of (n % 100)

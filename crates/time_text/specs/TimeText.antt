@@ -1,0 +1,61 @@
+-- Time texts and their milliseconds.
+use Rattle.std.specs.Prelude.{ℕ, ◌-◌, ◌*◌, ◌^◌, ◌==◌, ◌&&◌, Bool, not, List, length, take, drop, codes, slice_index, slice_range, nat_le, Option, Some, None, option_map, ℤ, pos, neg_ℤ, if◌then◌else◌}
+use Rattle.std.specs.List.{list_all}
+use Rattle.std.specs.Option.{option_or}
+use Rattle.time_text.specs.Digits.{is_digit, worth, has_shape}
+use Rattle.time_text.specs.Civil.{moment_of}
+use Rattle.time_text.specs.declared.civil.Civil.{Civil}
+
+-- 1 to 15 digits
+unfoldable pub number_of : List ℕ → Option ℕ
+number_of text =
+    if nat_le 1 (length text) && nat_le (length text) 15 && list_all is_digit text then Some (worth text)
+    else None
+
+-- the text begins with a minus
+abbrev pub is_negative : List ℕ → Bool
+is_negative text = slice_index text 0 == 45
+
+-- milliseconds: a number, with a minus before it or not
+unfoldable pub count_of : List ℕ → Option ℤ
+count_of text =
+    if is_negative text then option_map (λ n. neg_ℤ (pos n)) (number_of (drop 1 text))
+    else option_map (λ n. pos n) (number_of text)
+
+-- the text without the Z that may end it
+unfoldable pub without_z : List ℕ → List ℕ
+without_z text =
+    if slice_index text (length text - 1) == 90 then take (length text - 1) text else text
+
+-- nothing, or a point and 1 to 3 digits
+unfoldable pub is_fraction : List ℕ → Bool
+is_fraction text = not (length text == 1) && has_shape (take (length text) (codes ".000")) text
+
+-- the milliseconds of a fraction of a second
+unfoldable pub millis_in : List ℕ → ℕ
+millis_in fraction = worth (drop 1 fraction) * 10 ^ (4 - length fraction)
+
+-- YYYY-MM-DDTHH:MM:SS, perhaps with a fraction after it
+unfoldable pub has_civil_shape : List ℕ → Bool
+has_civil_shape text =
+    has_shape (codes "0000-00-00T00:00:00") (take 19 text) && is_fraction (drop 19 text)
+
+-- the numbers that stand at the places of that shape
+unfoldable pub civil_of : List ℕ → Civil
+civil_of text = record {
+  year = worth (slice_range text 0 4);
+  month = worth (slice_range text 5 7);
+  day = worth (slice_range text 8 10);
+  hour = worth (slice_range text 11 13);
+  minute = worth (slice_range text 14 16);
+  second = worth (slice_range text 17 19);
+  milli = millis_in (drop 19 text);
+}
+
+-- the moment of a civil text
+unfoldable pub civil_time : List ℕ → Option ℤ
+civil_time text = if has_civil_shape text then moment_of (civil_of text) else None
+
+-- the milliseconds that a text stands for, where it is a time text: a count of them, or a civil text with or without a Z
+unfoldable pub time_of : List ℕ → Option ℤ
+time_of text = option_or (count_of text) (civil_time (without_z text))

@@ -1,0 +1,32 @@
+//! The day of a moment, and a day's name.
+
+ghost use Rattle.std.specs.Prelude.{◌≡◌, pos, ◌≤ℤ◌, IfOk, unsigned_abs};
+ghost use Rattle.time_text.specs.Day.{day_of, IsDayName};
+
+use crate::calendar::date_of;
+use crate::digits::{four_digits, three_digits};
+use std::alloc::{AllocError, Global};
+
+/// The milliseconds of a day.
+pub(crate) const MILLIS_PER_DAY: i64 = 86_400_000;
+
+/// The day on which a moment lies, counted from 1970-01-01; a moment before 1970 has a negative one.
+#[tactic(auto, unfolding(crate::specs::Day::day_of))]
+pub fn day_of(time: i64) -> i64
+    ensures { result ≡ day_of time }
+{
+    time.div_euclid(MILLIS_PER_DAY)
+}
+
+/// The name `YYYY/DOY` of a day from 0 to 2,932,896: its year, and its place in that year from 001.
+pub fn day_name(alloc: Global, day: i64) -> Result<Vec<u8>, AllocError>
+    requires from { pos 0 ≤ℤ day }
+    requires to { day ≤ℤ pos 2_932_896 }
+    ensures { IfOk result (λ name. IsDayName name.items (unsigned_abs day)) }
+{
+    let date = date_of(day);
+    let mut name = *b"0000/000";
+    name[0..4].copy_from_slice(&four_digits(date.year.unsigned_abs()));
+    name[5..8].copy_from_slice(&three_digits(date.day_of_year()));
+    Vec::from_slice(alloc, &name)
+}

@@ -1,0 +1,109 @@
+//! Time texts, read.
+
+ghost use Rattle.std.specs.Prelude.{◌≡◌, IfOk, OnErr, Some, None, length, true};
+ghost use Rattle.time_text.specs.TimeText.{time_of, count_of, civil_time, civil_of, without_z, is_fraction, millis_in, has_civil_shape};
+
+use crate::civil::Civil;
+use crate::digits::{has_shape, number, worth};
+use thiserror::Error;
+
+/// The text is no time text.
+#[derive(Clone, Copy, Debug, Drop, Error, PartialEq, Eq)]
+#[error("not a time")]
+pub struct BadTime;
+
+/// Reads a moment, in milliseconds since 1970: an optional minus and 1 to 15 digits, which are milliseconds, or
+/// `YYYY-MM-DDTHH:MM:SS`, optionally a point and 1 to 3 digits, optionally `Z`, in the years 1970 to 9999.
+#[tactic(auto, unfolding(crate::specs::TimeText::time_of))]
+pub fn read_time(text: &str) -> Result<i64, BadTime>
+    ensures time { IfOk result (λ time. time_of text.now ≡ Some time) }
+    ensures none { OnErr result (time_of text.now ≡ None) }
+{
+    let text = text.as_bytes();
+    if let Some(time) = count(text) {
+        return Ok(time);
+    }
+    match civil_time(without_z(text)) {
+        Some(time) => Ok(time),
+        None => Err(BadTime),
+    }
+}
+
+/// A count of milliseconds.
+#[tactic(auto, unfolding(crate::specs::TimeText::count_of))]
+fn count(text: &[u8]) -> Option<i64>
+    ensures { result ≡ count_of text.now }
+{
+    if let [b'-', digits @ ..] = text {
+        let millis = number(digits)?;
+        Some(-(millis as i64))
+    } else {
+        let millis = number(text)?;
+        Some(millis as i64)
+    }
+}
+
+#[tactic(auto, unfolding(crate::specs::TimeText::without_z))]
+fn without_z(text: &[u8]) -> &[u8]
+    ensures { result.now ≡ without_z text.now }
+{
+    if let [before @ .., b'Z'] = text { before } else { text }
+}
+
+/// The moment of a civil text without a `Z`.
+#[tactic(auto, unfolding(crate::specs::TimeText::civil_time))]
+fn civil_time(text: &[u8]) -> Option<i64>
+    ensures { result ≡ civil_time text.now }
+{
+    if has_civil_shape(text) { civil(text).moment() } else { None }
+}
+
+#[tactic(auto, unfolding(crate::specs::TimeText::has_civil_shape))]
+fn has_civil_shape(text: &[u8]) -> bool
+    ensures { result ≡ has_civil_shape text.now }
+{
+    match text.split_at_checked(19) {
+        Some((date_time, fraction)) => has_shape(b"0000-00-00T00:00:00", date_time) && is_fraction(fraction),
+        None => false,
+    }
+}
+
+#[tactic(auto, unfolding(crate::specs::TimeText::is_fraction))]
+fn is_fraction(text: &[u8]) -> bool
+    ensures { result ≡ is_fraction text.now }
+{
+    text.len() != 1 && text.len() <= 4 && has_shape(&b".000"[..text.len()], text)
+}
+
+ghost use Rattle.std.specs.Prelude.{◌<◌};
+
+/// The parts of a civil text.
+fn civil(text: &[u8]) -> Civil
+    requires { has_civil_shape text.now ≡ true }
+    ensures value { result ≡ civil_of text.now }
+    ensures year { result.year < 10_000 }
+    ensures month { result.month < 100 }
+    ensures day { result.day < 100 }
+    ensures milli { result.milli < 1_000 }
+{
+    Civil {
+        year: worth(&text[0..4]) as u16,
+        month: worth(&text[5..7]) as u8,
+        day: worth(&text[8..10]) as u8,
+        hour: worth(&text[11..13]) as u8,
+        minute: worth(&text[14..16]) as u8,
+        second: worth(&text[17..19]) as u8,
+        milli: millis(&text[19..]),
+    }
+}
+
+fn millis(fraction: &[u8]) -> u16
+    requires { is_fraction fraction.now ≡ true }
+    ensures value { result ≡ millis_in fraction.now }
+    ensures bound { result < 1_000 }
+{
+    match fraction {
+        [_, digits @ ..] => worth(digits) as u16 * 10_u16.pow(3 - digits.len() as u32),
+        [] => 0,
+    }
+}
