@@ -76,35 +76,35 @@ from_1970 year month day date h =
     (λ le. le)
 
 -- jiff's day of jiff's date, where it gave one
-pub day_number-found : (year month day : ℕ) (y m d n : ℤ) (date : Date) → 1970 ≤ year → y ≡ pos year → m ≡ pos month → d ≡ pos day → jiff.IsDate y m d → IsYmd y m d date → n ≡ epoch_day date → Some n ≡ cond (is_date year month day) (Some (pos (day_number year month day))) None
-day_number-found year month day y m d n date from yp mp dp valid parts number =
+pub epoch_day-found : (year month day : ℕ) (y m d : ℤ) (date : Date) → 1970 ≤ year → y ≡ pos year → m ≡ pos month → d ≡ pos day → jiff.IsDate y m d → IsYmd y m d date → (is_date year month day ≡ true) × (epoch_day date ≡ pos (day_number year month day))
+epoch_day-found year month day y m d date from yp mp dp valid parts =
     let real = is_date-from_jiff year month day from (rw (yp, mp, dp) at valid) in
     let month_is : date.month ≡ month = omega (arith, signed_arith, parts.1) in
     let day_is : date.day ≡ day = omega (arith, signed_arith, parts.2) in
     let year_is : date.year ≡ pos year = parts.0 ∙ yp in
     let first : 1 ≤ day = (IsCalendarDate-from_test year month day real).first in
-    let same : epoch_day date ≡ pos (day_number year month day) = rw (year_is, month_is, day_is) (day_number-jiff year month day from first) in
-    rw (real, number, same) refl
+    (real, rw (year_is, month_is, day_is) (day_number-jiff year month day from first))
 
 -- what jiff's date of a day is in the calendar of the definitions
-pub record IsDateOf (date : Date) (day : ℤ) : Type 0 where
+pub record IsDateOf (date : Date) (day : ℕ) : Type 0 where
   pub year : unsigned_abs date.year < 10_000
   pub real : is_date (unsigned_abs date.year) date.month date.day ≡ true
-  pub number : pos (day_number (unsigned_abs date.year) date.month date.day) ≡ day
-  pub ordinal : days_of_years (unsigned_abs date.year - 1970) + ordinal date ≡ unsigned_abs day + 1
+  pub number : day_number (unsigned_abs date.year) date.month date.day ≡ day
+  pub ordinal : days_of_years (unsigned_abs date.year - 1970) + ordinal date ≡ day + 1
 
-date_of-parts : (year : ℤ) (month day : ℕ) (number : ℤ) → jiff.IsCivilDate year month day → pos 0 ≤ℤ number → jiff.days_from_civil year month day ≡ number → (unsigned_abs year < 10_000) × (is_date (unsigned_abs year) month day ≡ true) × (pos (day_number (unsigned_abs year) month day) ≡ number) × (days_of_years (unsigned_abs year - 1970) + jiff.day_of_year year month day ≡ unsigned_abs number + 1)
-date_of-parts (negsuc y) month day number date low e =
-    absurd (omega (arith, signed_arith, from_1970 (negsuc y) month day date (rw e low)))
-date_of-parts (pos y) month day number date low e =
-    let from : 1970 ≤ y = omega (arith, signed_arith, from_1970 (pos y) month day date (rw e low)) in
+date_of-parts : (year : ℤ) (month day number : ℕ) → jiff.IsCivilDate year month day → jiff.days_from_civil year month day ≡ pos number → (unsigned_abs year < 10_000) × (is_date (unsigned_abs year) month day ≡ true) × (day_number (unsigned_abs year) month day ≡ number) × (days_of_years (unsigned_abs year - 1970) + jiff.day_of_year year month day ≡ number + 1)
+date_of-parts (negsuc y) month day number date e =
+    absurd (omega (arith, signed_arith, from_1970 (negsuc y) month day date (rw e (omega (arith, signed_arith)))))
+date_of-parts (pos y) month day number date e =
+    let from : 1970 ≤ y = omega (arith, signed_arith, from_1970 (pos y) month day date (rw e (omega (arith, signed_arith)))) in
     let first : 1 ≤ day = date.2.0 in
-    let same : pos (day_number y month day) ≡ number = sym (day_number-jiff y month day from first) ∙ e in
+    let same : pos (day_number y month day) ≡ pos number = sym (day_number-jiff y month day from first) ∙ e in
+    let same_number : day_number y month day ≡ number = ap unsigned_abs same in
     let four : y < 10_000 = omega (arith, signed_arith, date.0.1) in
     let signed : jiff.IsDate (pos y) (pos month) (pos day) = ((omega (arith, signed_arith), omega (arith, signed_arith)), (omega (arith, signed_arith), omega (arith, signed_arith)), (omega (arith, signed_arith), omega (arith, signed_arith))) in
-    (four, is_date-from_jiff y month day from signed, same, omega (arith, ap unsigned_abs same, day_number-ordinal y month day first))
+    (four, is_date-from_jiff y month day from signed, same_number, omega (arith, same_number, day_number-ordinal y month day first))
 
-pub IsDateOf-epoch_day : (date : Date) (day : ℤ) → pos 0 ≤ℤ day → epoch_day date ≡ day → IsDateOf date day
-IsDateOf-epoch_day date day low e =
-    let parts = date_of-parts date.year date.month date.day day (date.year_in, date.month_in, date.day_in) low e in
+pub IsDateOf-epoch_day : (date : Date) (day : ℕ) → epoch_day date ≡ pos day → IsDateOf date day
+IsDateOf-epoch_day date day e =
+    let parts = date_of-parts date.year date.month date.day day (date.year_in, date.month_in, date.day_in) e in
     record { year = parts.0; real = parts.1; number = parts.2; ordinal = parts.3 }

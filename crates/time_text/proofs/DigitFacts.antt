@@ -1,7 +1,8 @@
 -- Digits at their places, and texts of a shape.
-use Rattle.std.proofs.Common.{◌≡◌, ◌≢◌, ℕ, zero, suc, ◌+◌, ◌-◌, ◌*◌, ◌^◌, ◌/◌, ◌%◌, ◌<◌, ◌≤◌, ◌&&◌, Bool, true, false, leb, cond, eqb, List, [], ◌∷◌, ◌++◌, length, take, drop, get_or, refl, sym, ap, ◌∙◌, arith, inl, inr, add-one, drop-cons}
+use Rattle.std.proofs.Common.{◌≡◌, ◌≢◌, ℕ, zero, suc, ◌+◌, ◌-◌, ◌*◌, ◌^◌, ◌/◌, ◌%◌, ◌<◌, ◌≤◌, ◌&&◌, Bool, true, false, leb, cond, eqb, List, [], ◌∷◌, ◌++◌, length, take, drop, get_or, refl, sym, ap, ◌∙◌, arith, inl, inr, add-one, drop-cons, length-take}
+use Rattle.std.specs.Prelude.{slice_range, codes}
 use Rattle.std.specs.List.{list_all}
-use Rattle.std.proofs.lemmas.Bool.{cases_Bool, and_parts, leb-true, both_ways}
+use Rattle.std.proofs.lemmas.Bool.{cases_Bool, and_parts, and_from, leb-true, le-leb, both_ways, cond-true}
 use Rattle.std.proofs.lemmas.Bool.Decides.{nat_tests}
 use Rattle.std.proofs.lemmas.List.Folds.{list_all_at}
 use Rattle.std.proofs.lemmas.List.Sums.{fold_more}
@@ -53,3 +54,99 @@ below_pow n i small few =
 
 pub pow_next : (i : ℕ) → 10 ^ (i + 1) ≡ 10 * 10 ^ i
 pow_next i = omega (arith, pow_more 10 i)
+
+pub has_shape-take : (shape text : List ℕ) (n : ℕ) → has_shape shape text ≡ true → has_shape (take n shape) (take n text) ≡ true
+unfolding has_shape
+has_shape-take shape text zero h = refl
+has_shape-take [] [] (suc n) h = refl
+has_shape-take [] (octet ∷ text) (suc n) h = cc
+has_shape-take (place ∷ shape) [] (suc n) h = cc
+has_shape-take (place ∷ shape) (octet ∷ text) (suc n) h =
+    let both = and_parts (fits place octet) _ h in
+    and_from _ _ both.0 (has_shape-take shape text n both.1)
+
+pub has_shape-drop : (shape text : List ℕ) (n : ℕ) → has_shape shape text ≡ true → has_shape (drop n shape) (drop n text) ≡ true
+unfolding has_shape
+has_shape-drop shape text zero h = h
+has_shape-drop [] [] (suc n) h = refl
+has_shape-drop [] (octet ∷ text) (suc n) h = cc
+has_shape-drop (place ∷ shape) [] (suc n) h = cc
+has_shape-drop (place ∷ shape) (octet ∷ text) (suc n) h =
+    has_shape-drop shape text n (and_parts (fits place octet) _ h).1
+
+-- a shape of nothing but digits
+abbrev pub is_zero : ℕ → Bool
+is_zero place = eqb place 48
+
+pub digits_from_shape : (shape text : List ℕ) → has_shape shape text ≡ true → list_all is_zero shape ≡ true → list_all is_digit text ≡ true
+unfolding has_shape
+digits_from_shape [] [] h zeros = refl
+digits_from_shape [] (octet ∷ text) h zeros = cc
+digits_from_shape (place ∷ shape) [] h zeros = cc
+digits_from_shape (place ∷ shape) (octet ∷ text) h zeros =
+    let both = and_parts (fits place octet) _ h in
+    let first = and_parts (is_zero place) _ zeros in
+    and_from _ _ (sym (cond-true (is_zero place) (is_digit octet) (eqb octet place) first.0) ∙ both.0) (digits_from_shape shape text both.1 first.1)
+
+pub digits_within : (shape text : List ℕ) (i j : ℕ) → has_shape shape text ≡ true → list_all is_zero (slice_range shape i j) ≡ true → list_all is_digit (slice_range text i j) ≡ true
+digits_within shape text i j h zeros =
+    digits_from_shape _ _ (has_shape-take (drop i shape) (drop i text) (j - i) (has_shape-drop shape text i h)) zeros
+
+-- a text that fits the front of a shape of digits
+digits_from_front : (shape text : List ℕ) → has_shape (take (length text) shape) text ≡ true → list_all is_zero shape ≡ true → list_all is_digit text ≡ true
+unfolding has_shape
+digits_from_front shape [] h zeros = refl
+digits_from_front [] (octet ∷ text) h zeros = cc
+digits_from_front (place ∷ shape) (octet ∷ text) h zeros =
+    let both = and_parts (fits place octet) _ h in
+    let first = and_parts (is_zero place) _ zeros in
+    and_from _ _ (sym (cond-true (is_zero place) (is_digit octet) (eqb octet place) first.0) ∙ both.0) (digits_from_front shape text both.1 first.1)
+
+pub fraction_digits : (text : List ℕ) → has_shape (take (length text) (codes ".000")) text ≡ true → list_all is_digit (drop 1 text) ≡ true
+unfolding has_shape
+fraction_digits [] h = refl
+fraction_digits (octet ∷ text) h =
+    digits_from_front (codes "000") text (and_parts (fits 46 octet) _ h).1 refl
+
+pub fraction_length : (text : List ℕ) → has_shape (take (length text) (codes ".000")) text ≡ true → length text ≤ 4
+fraction_length text h =
+    omega (arith, has_shape-length _ text h, length-take (length text) (codes ".000"))
+
+-- what is written with all its digits is the number, and fits their places
+pub worth-two_digits_of : (n : ℕ) → worth (two_digits_of n) ≡ n
+unfolding worth
+worth-two_digits_of n = omega arith
+
+pub worth-three_digits_of : (n : ℕ) → worth (three_digits_of n) ≡ n
+unfolding worth
+worth-three_digits_of n = omega arith
+
+pub worth-four_digits_of : (n : ℕ) → worth (four_digits_of n) ≡ n
+unfolding worth
+worth-four_digits_of n = omega arith
+
+is_digit-of : (n : ℕ) → n < 10 → is_digit (48 + n) ≡ true
+is_digit-of n less = and_from _ _ (le-leb _ _ (omega arith)) (le-leb _ _ (omega arith))
+
+pub has_shape-two_digits_of : (n : ℕ) → n < 100 → has_shape (codes "00") (two_digits_of n) ≡ true
+unfolding has_shape
+has_shape-two_digits_of n less =
+    and_from _ _ (is_digit-of (n / 10) (omega arith)) (and_from _ _ (is_digit-of (n % 10) (omega arith)) refl)
+
+pub has_shape-three_digits_of : (n : ℕ) → n < 1_000 → has_shape (codes "000") (three_digits_of n) ≡ true
+unfolding has_shape
+has_shape-three_digits_of n less =
+    and_from _ _ (is_digit-of (n / 100) (omega arith)) (has_shape-two_digits_of (n % 100) (omega arith))
+
+pub has_shape-append : (first second front back : List ℕ) → has_shape first front ≡ true → has_shape second back ≡ true → has_shape (first ++ second) (front ++ back) ≡ true
+unfolding has_shape
+has_shape-append [] second [] back f s = s
+has_shape-append [] second (octet ∷ front) back f s = cc
+has_shape-append (place ∷ first) second [] back f s = cc
+has_shape-append (place ∷ first) second (octet ∷ front) back f s =
+    let both = and_parts (fits place octet) _ f in
+    and_from _ _ both.0 (has_shape-append first second front back both.1 s)
+
+pub has_shape-four_digits_of : (n : ℕ) → n < 10_000 → has_shape (codes "0000") (four_digits_of n) ≡ true
+has_shape-four_digits_of n less =
+    has_shape-append (codes "00") (codes "00") (two_digits_of (n / 100)) (two_digits_of (n % 100)) (has_shape-two_digits_of (n / 100) (omega arith)) (has_shape-two_digits_of (n % 100) (omega arith))

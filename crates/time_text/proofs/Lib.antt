@@ -1,2 +1,5 @@
 pub mod CalendarFacts
+pub mod CivilFacts
+pub mod DayFacts
 pub mod DigitFacts
+pub mod WritingFacts

@@ -35,26 +35,28 @@ is_fraction text = not (length text == 1) && has_shape (take (length text) (code
 unfoldable pub millis_in : List ℕ → ℕ
 millis_in fraction = worth (drop 1 fraction) * 10 ^ (4 - length fraction)
 
--- YYYY-MM-DDTHH:MM:SS, perhaps with a fraction after it
-unfoldable pub has_civil_shape : List ℕ → Bool
-has_civil_shape text =
-    has_shape (codes "0000-00-00T00:00:00") (take 19 text) && is_fraction (drop 19 text)
-
--- the numbers that stand at the places of that shape
-unfoldable pub civil_of : List ℕ → Civil
-civil_of text = record {
+-- the numbers that stand in YYYY-MM-DDTHH:MM:SS and in the fraction after it
+unfoldable pub civil_of : List ℕ → List ℕ → Civil
+civil_of text fraction = record {
   year = worth (slice_range text 0 4);
   month = worth (slice_range text 5 7);
   day = worth (slice_range text 8 10);
   hour = worth (slice_range text 11 13);
   minute = worth (slice_range text 14 16);
   second = worth (slice_range text 17 19);
-  milli = millis_in (drop 19 text);
+  milli = millis_in fraction;
 }
+
+-- both are of their shapes
+abbrev pub has_civil_shape : List ℕ → List ℕ → Bool
+has_civil_shape text fraction =
+    has_shape (codes "0000-00-00T00:00:00") text && is_fraction fraction
 
 -- the moment of a civil text
 unfoldable pub civil_time : List ℕ → Option ℤ
-civil_time text = if has_civil_shape text then moment_of (civil_of text) else None
+civil_time text =
+    if has_civil_shape (take 19 text) (drop 19 text) then moment_of (civil_of (take 19 text) (drop 19 text))
+    else None
 
 -- the milliseconds that a text stands for, where it is a time text: a count of them, or a civil text with or without a Z
 unfoldable pub time_of : List ℕ → Option ℤ

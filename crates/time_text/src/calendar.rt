@@ -8,31 +8,29 @@ use jiff::civil::Date;
 use jiff_core::civil;
 
 /// The days from 1970-01-01 to a date, where the calendar has it.
-pub(crate) fn day_number(year: u16, month: u8, day: u8) -> Option<i64>
+pub(crate) fn day_number(year: u16, month: u8, day: u8) -> Option<u64>
     requires four_digits { year < 10_000 }
     requires two_digits { month < 100 }
     requires two_more { day < 100 }
-    ensures value { result ≡ (if is_date year month day then Some (pos (day_number year month day)) else None) }
-    ensures bound { IfSome result (λ n. n ≤ℤ pos 2_932_896) }
+    ensures value { result ≡ (if is_date year month day then Some (day_number year month day) else None) }
+    ensures bound { IfSome result (λ n. n ≤ 2_932_896) }
 {
     if year < 1970 {
         return None;
     }
     match Date::new(year as i16, month as i8, day as i8) {
-        Ok(date) => Some(i64::from(date.to_plain().to_unix_epoch_day())),
+        Ok(date) => Some(date.to_plain().to_unix_epoch_day() as u64),
         Err(_) => None,
     }
 }
 
-/// The date of a day, which is in the years 1970 to 9999.
-pub(crate) fn date_of(day: i64) -> civil::Date
-    requires from { pos 0 ≤ℤ day }
-    requires to { day ≤ℤ pos 2_932_896 }
+/// The date of a day, counted from 1970-01-01. It is in the years 1970 to 9999.
+pub(crate) fn date_of(day: u64) -> civil::Date
+    requires { day ≤ 2_932_896 }
     ensures year { unsigned_abs result.year < 10_000 }
     ensures date { is_date (unsigned_abs result.year) result.month result.day ≡ true }
-    ensures number { pos (day_number (unsigned_abs result.year) result.month result.day) ≡ day }
-    ensures ordinal { days_of_years (unsigned_abs result.year - 1970) + ordinal result
-        ≡ unsigned_abs day + 1 }
+    ensures number { day_number (unsigned_abs result.year) result.month result.day ≡ day }
+    ensures ordinal { days_of_years (unsigned_abs result.year - 1970) + ordinal result ≡ day + 1 }
 {
-    civil::Date::from_unix_epoch_day(day).unwrap()
+    civil::Date::from_unix_epoch_day(day as i64).unwrap()
 }

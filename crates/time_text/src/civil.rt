@@ -18,10 +18,9 @@ pub(crate) struct Civil {
 }
 
 impl Civil {
-    ghost use Rattle.time_text.specs.Civil.{is_real, millis_of, moment_of};
+    ghost use Rattle.time_text.specs.Civil.{is_time_of_day, is_real, millis_of_day, millis_of, moment_of};
 
     /// The moment, in milliseconds since 1970, where the date and the time are real.
-    #[tactic(auto, unfolding(crate::specs::Civil::is_real, crate::specs::Civil::millis_of))]
     pub(crate) fn moment(&self) -> Option<i64>
         requires year { self.now.year < 10_000 }
         requires month { self.now.month < 100 }
@@ -29,25 +28,40 @@ impl Civil {
         requires milli { self.now.milli < 1_000 }
         ensures { result ≡ moment_of self.now }
     {
-        if self.hour >= 24 || self.minute >= 60 || self.second >= 60 {
+        if !self.is_time_of_day() {
             return None;
         }
         let day = day_number(self.year, self.month, self.day)?;
-        let minutes = 60 * i64::from(self.hour) + i64::from(self.minute);
-        let seconds = 60 * minutes + i64::from(self.second);
-        Some(MILLIS_PER_DAY * day + 1_000 * seconds + i64::from(self.milli))
+        Some((MILLIS_PER_DAY * day + self.millis_of_day()) as i64)
     }
 
-    /// The date and time of day of a moment of the years 1970 to 9999.
-    #[tactic(auto, unfolding(crate::specs::Civil::is_real, crate::specs::Civil::millis_of))]
-    pub(crate) fn at(time: i64) -> Civil
-        requires from { pos 0 ≤ℤ time }
-        requires to { time ≤ℤ pos 253_402_300_799_999 }
+    fn is_time_of_day(&self) -> bool
+        ensures { result ≡ is_time_of_day self.now }
+    {
+        self.hour < 24 && self.minute < 60 && self.second < 60
+    }
+
+    /// The milliseconds since midnight.
+    fn millis_of_day(&self) -> u64
+        ensures value { result ≡ millis_of_day self.now }
+        ensures bound { result < 1_000_000_000 }
+    {
+        let minutes = 60 * u64::from(self.hour) + u64::from(self.minute);
+        let seconds = 60 * minutes + u64::from(self.second);
+        1_000 * seconds + u64::from(self.milli)
+    }
+
+    /// The date and time of day of a moment, in milliseconds since 1970. It is in the years 1970 to 9999.
+    pub(crate) fn at(time: u64) -> Civil
+        requires { time ≤ 253_402_300_799_999 }
         ensures real { is_real result ≡ true }
-        ensures moment { pos (millis_of result) ≡ time }
+        ensures moment { millis_of result ≡ time }
         ensures year { result.year < 10_000 }
         ensures month { result.month < 100 }
         ensures day { result.day < 100 }
+        ensures hour { result.hour < 100 }
+        ensures minute { result.minute < 100 }
+        ensures second { result.second < 100 }
         ensures milli { result.milli < 1_000 }
     {
         let date = date_of(time / MILLIS_PER_DAY);

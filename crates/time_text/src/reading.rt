@@ -1,6 +1,6 @@
 //! Time texts, read.
 
-ghost use Rattle.std.specs.Prelude.{◌≡◌, IfOk, OnErr, Some, None, length, true};
+ghost use Rattle.std.specs.Prelude.{◌≡◌, IfOk, OnErr, Some, None, true, ◌<◌, ◌≤◌, ◌-◌, ◌^◌};
 ghost use Rattle.time_text.specs.TimeText.{time_of, count_of, civil_time, civil_of, without_z, is_fraction, millis_in, has_civil_shape};
 
 use crate::civil::Civil;
@@ -55,19 +55,15 @@ fn without_z(text: &[u8]) -> &[u8]
 fn civil_time(text: &[u8]) -> Option<i64>
     ensures { result ≡ civil_time text.now }
 {
-    if has_civil_shape(text) { civil(text).moment() } else { None }
-}
-
-#[tactic(auto, unfolding(crate::specs::TimeText::has_civil_shape))]
-fn has_civil_shape(text: &[u8]) -> bool
-    ensures { result ≡ has_civil_shape text.now }
-{
-    match text.split_at_checked(19) {
-        Some((date_time, fraction)) => has_shape(b"0000-00-00T00:00:00", date_time) && is_fraction(fraction),
-        None => false,
+    let (date_time, fraction) = text.split_at_checked(19)?;
+    if has_shape(b"0000-00-00T00:00:00", date_time) && is_fraction(fraction) {
+        civil(date_time, fraction).moment()
+    } else {
+        None
     }
 }
 
+/// Whether the text is a fraction of a second: empty, or a point and 1 to 3 digits.
 #[tactic(auto, unfolding(crate::specs::TimeText::is_fraction))]
 fn is_fraction(text: &[u8]) -> bool
     ensures { result ≡ is_fraction text.now }
@@ -75,12 +71,10 @@ fn is_fraction(text: &[u8]) -> bool
     text.len() != 1 && text.len() <= 4 && has_shape(&b".000"[..text.len()], text)
 }
 
-ghost use Rattle.std.specs.Prelude.{◌<◌};
-
-/// The parts of a civil text.
-fn civil(text: &[u8]) -> Civil
-    requires { has_civil_shape text.now ≡ true }
-    ensures value { result ≡ civil_of text.now }
+/// The numbers in a civil text.
+fn civil(text: &[u8], fraction: &[u8]) -> Civil
+    requires { has_civil_shape text.now fraction.now ≡ true }
+    ensures value { result ≡ civil_of text.now fraction.now }
     ensures year { result.year < 10_000 }
     ensures month { result.month < 100 }
     ensures day { result.day < 100 }
@@ -93,17 +87,31 @@ fn civil(text: &[u8]) -> Civil
         hour: worth(&text[11..13]) as u8,
         minute: worth(&text[14..16]) as u8,
         second: worth(&text[17..19]) as u8,
-        milli: millis(&text[19..]),
+        milli: millis(fraction),
     }
 }
 
+/// The milliseconds of a fraction of a second.
 fn millis(fraction: &[u8]) -> u16
     requires { is_fraction fraction.now ≡ true }
     ensures value { result ≡ millis_in fraction.now }
     ensures bound { result < 1_000 }
 {
-    match fraction {
-        [_, digits @ ..] => worth(digits) as u16 * 10_u16.pow(3 - digits.len() as u32),
-        [] => 0,
+    if fraction.is_empty() {
+        return 0;
+    }
+    worth(&fraction[1..]) as u16 * last_place(fraction.len() - 1)
+}
+
+/// How many milliseconds the last of 1 to 3 digits after the point counts.
+fn last_place(digits: usize) -> u16
+    requires some { 1 ≤ digits }
+    requires few { digits ≤ 3 }
+    ensures { result ≡ 10 ^ (3 - digits) }
+{
+    match digits {
+        1 => 100,
+        2 => 10,
+        _ => 1,
     }
 }

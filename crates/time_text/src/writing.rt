@@ -16,7 +16,7 @@ pub fn write_time(alloc: Global, time: i64) -> Result<Vec<u8>, AllocError>
     ensures shape { IfOk result (λ text. has_shape (codes "0000-00-00T00:00:00.000") text.items ≡ true) }
     ensures read_back { IfOk result (λ text. time_of text.items ≡ Some time) }
 {
-    let text = octets(&Civil::at(time));
+    let text = octets(&Civil::at(time as u64));
     Vec::from_slice(alloc, &text)
 }
 

@@ -1,0 +1,22 @@
+-- The name of a day.
+use Rattle.std.proofs.Common.{◌≡◌, ℕ, ◌+◌, ◌-◌, ◌<◌, ◌≤◌, true, List, [], ◌∷◌, ◌++◌, arith}
+use Rattle.std.specs.Prelude.{codes}
+use Rattle.time_text.specs.Calendar.{days_of_years, days_in_year}
+use Rattle.time_text.specs.Digits.{worth, has_shape, two_digits_of, three_digits_of, four_digits_of}
+use Rattle.time_text.specs.Day.{IsDayName}
+use Rattle.time_text.specs.Spelling.{named}
+use Rattle.time_text.proofs.DigitFacts.{worth-three_digits_of, worth-four_digits_of, has_shape-three_digits_of, has_shape-four_digits_of, has_shape-append}
+
+has_shape-named : (year place : ℕ) → year < 10_000 → place < 1_000 → has_shape (codes "0000/000") (named year place) ≡ true
+unfolding has_shape
+has_shape-named year place y p =
+    has_shape-append (codes "0000") (codes "/000") (four_digits_of year) (47 ∷ three_digits_of place) (has_shape-four_digits_of year y) (has_shape-three_digits_of place p)
+
+pub IsDayName-named : (year place day : ℕ) → year < 10_000 → place < 1_000 → 1970 ≤ year → 1 ≤ place → place ≤ days_in_year year → days_of_years (year - 1970) + place ≡ day + 1 → IsDayName (named year place) day
+IsDayName-named year place day y p from first last counted = record {
+  shape = has_shape-named year place y p;
+  from_1970 = rw (worth-four_digits_of year) from;
+  first = rw (worth-three_digits_of place) first;
+  last = rw (worth-three_digits_of place, worth-four_digits_of year) last;
+  counted = rw (worth-four_digits_of year, worth-three_digits_of place) counted;
+}
