@@ -126,7 +126,7 @@ unfolding worth
 worth-four_digits_of n = omega arith
 
 is_digit-of : (n : ℕ) → n < 10 → is_digit (48 + n) ≡ true
-is_digit-of n less = and_from _ _ (le-leb _ _ (omega arith)) (le-leb _ _ (omega arith))
+is_digit-of n less = and_from _ _ (le-leb 48 (48 + n) (omega arith)) (le-leb (48 + n) 57 (omega arith))
 
 pub has_shape-two_digits_of : (n : ℕ) → n < 100 → has_shape (codes "00") (two_digits_of n) ≡ true
 unfolding has_shape

@@ -19,19 +19,30 @@ pub record IsWritable (c : Civil) : Type 0 where
   pub second : c.second < 100
   pub milli : c.milli < 1_000
 
--- the part before the fraction
-abbrev seconds_text : Civil → List ℕ
-seconds_text c =
-    four_digits_of c.year ++ (45 ∷ two_digits_of c.month) ++ (45 ∷ two_digits_of c.day) ++ (84 ∷ two_digits_of c.hour) ++ (58 ∷ two_digits_of c.minute) ++ (58 ∷ two_digits_of c.second)
+-- the parts before the fraction, each with what stands before it
+abbrev to_month : Civil → List ℕ
+to_month c = four_digits_of c.year ++ (45 ∷ two_digits_of c.month)
 
-has_shape-seconds_text : (c : Civil) → IsWritable c → has_shape (codes "0000-00-00T00:00:00") (seconds_text c) ≡ true
+abbrev to_day : Civil → List ℕ
+to_day c = to_month c ++ (45 ∷ two_digits_of c.day)
+
+abbrev to_hour : Civil → List ℕ
+to_hour c = to_day c ++ (84 ∷ two_digits_of c.hour)
+
+abbrev to_minute : Civil → List ℕ
+to_minute c = to_hour c ++ (58 ∷ two_digits_of c.minute)
+
+abbrev to_second : Civil → List ℕ
+to_second c = to_minute c ++ (58 ∷ two_digits_of c.second)
+
+has_shape-to_second : (c : Civil) → IsWritable c → has_shape (codes "0000-00-00T00:00:00") (to_second c) ≡ true
 unfolding has_shape
-has_shape-seconds_text c w =
-    has_shape-append (codes "0000-00-00T00:00") (codes ":00") _ (58 ∷ two_digits_of c.second)
-    (has_shape-append (codes "0000-00-00T00") (codes ":00") _ (58 ∷ two_digits_of c.minute)
-    (has_shape-append (codes "0000-00-00") (codes "T00") _ (84 ∷ two_digits_of c.hour)
-    (has_shape-append (codes "0000-00") (codes "-00") _ (45 ∷ two_digits_of c.day)
-    (has_shape-append (codes "0000") (codes "-00") _ (45 ∷ two_digits_of c.month)
+has_shape-to_second c w =
+    has_shape-append (codes "0000-00-00T00:00") (codes ":00") (to_minute c) (58 ∷ two_digits_of c.second)
+    (has_shape-append (codes "0000-00-00T00") (codes ":00") (to_hour c) (58 ∷ two_digits_of c.minute)
+    (has_shape-append (codes "0000-00-00") (codes "T00") (to_day c) (84 ∷ two_digits_of c.hour)
+    (has_shape-append (codes "0000-00") (codes "-00") (to_month c) (45 ∷ two_digits_of c.day)
+    (has_shape-append (codes "0000") (codes "-00") (four_digits_of c.year) (45 ∷ two_digits_of c.month)
     (has_shape-four_digits_of c.year w.year)
     (has_shape-two_digits_of c.month w.month))
     (has_shape-two_digits_of c.day w.day))
@@ -45,7 +56,7 @@ has_shape-fraction n less = has_shape-three_digits_of n less
 
 pub has_shape-spelled : (c : Civil) → IsWritable c → has_shape (codes "0000-00-00T00:00:00.000") (spelled c) ≡ true
 has_shape-spelled c w =
-    has_shape-append (codes "0000-00-00T00:00:00") (codes ".000") (seconds_text c) (46 ∷ three_digits_of c.milli) (has_shape-seconds_text c w) (has_shape-fraction c.milli w.milli)
+    has_shape-append (codes "0000-00-00T00:00:00") (codes ".000") (to_second c) (46 ∷ three_digits_of c.milli) (has_shape-to_second c w) (has_shape-fraction c.milli w.milli)
 
 number_of-long : (text : List ℕ) → 15 < length text → number_of text ≡ None
 unfolding number_of
@@ -79,7 +90,7 @@ civil_of-spelled c =
 
 has_civil_shape-spelled : (c : Civil) → IsWritable c → has_civil_shape (take 19 (spelled c)) (drop 19 (spelled c)) ≡ true
 unfolding is_fraction
-has_civil_shape-spelled c w = and_from _ _ (has_shape-seconds_text c w) (has_shape-fraction c.milli w.milli)
+has_civil_shape-spelled c w = and_from _ _ (has_shape-to_second c w) (has_shape-fraction c.milli w.milli)
 
 pub time_of-spelled : (c : Civil) → IsWritable c → is_real c ≡ true → time_of (spelled c) ≡ Some (pos (millis_of c))
 unfolding time_of civil_time

@@ -53,7 +53,7 @@ fn are_digits(text: &[u8]) -> bool
 }
 
 /// The number that 1 to 15 digits stand for.
-#[tactic(auto, using(crate::proofs::DigitFacts::below_pow), unfolding(crate::specs::TimeText::number_of))]
+#[tactic(auto, unfolding(crate::specs::TimeText::number_of))]
 pub(crate) fn number(text: &[u8]) -> Option<u64>
     ensures value { result ≡ number_of text.now }
     ensures bound { IfSome result (λ n. n < 1_000_000_000_000_000) }

@@ -55,12 +55,20 @@ fn without_z(text: &[u8]) -> &[u8]
 fn civil_time(text: &[u8]) -> Option<i64>
     ensures { result ≡ civil_time text.now }
 {
-    let (date_time, fraction) = text.split_at_checked(19)?;
-    if has_shape(b"0000-00-00T00:00:00", date_time) && is_fraction(fraction) {
-        civil(date_time, fraction).moment()
-    } else {
-        None
+    if text.len() < 19 {
+        return None;
     }
+    let (date_time, fraction) = text.split_at(19);
+    if !has_civil_shape(date_time, fraction) {
+        return None;
+    }
+    civil(date_time, fraction).moment()
+}
+
+fn has_civil_shape(text: &[u8], fraction: &[u8]) -> bool
+    ensures { result ≡ has_civil_shape text.now fraction.now }
+{
+    has_shape(b"0000-00-00T00:00:00", text) && is_fraction(fraction)
 }
 
 /// Whether the text is a fraction of a second: empty, or a point and 1 to 3 digits.
@@ -68,7 +76,10 @@ fn civil_time(text: &[u8]) -> Option<i64>
 fn is_fraction(text: &[u8]) -> bool
     ensures { result ≡ is_fraction text.now }
 {
-    text.len() != 1 && text.len() <= 4 && has_shape(&b".000"[..text.len()], text)
+    if text.len() > 4 {
+        return false;
+    }
+    text.len() != 1 && has_shape(&b".000"[..text.len()], text)
 }
 
 /// The numbers in a civil text.
