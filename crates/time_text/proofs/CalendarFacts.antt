@@ -1,5 +1,5 @@
 -- The calendar of the definitions is jiff's.
-use Rattle.std.proofs.Common.{◌≡◌, ℕ, zero, suc, ◌+◌, ◌-◌, ◌<◌, ◌≤◌, true, leb, refl, sym, ap, ◌∙◌, cond, Some, None, arith, ℤ, pos, negsuc, ◌≤ℤ◌, unsigned_abs}
+use Rattle.std.proofs.Common.{◌≡◌, ℕ, zero, suc, ◌+◌, ◌-◌, ◌<◌, ◌≤◌, true, leb, refl, sym, ap, ◌∙◌, arith, ℤ, pos, negsuc, ◌≤ℤ◌, unsigned_abs}
 use Rattle.std.proofs.lemmas.Bool.{and_parts, leb-true}
 use Rattle.std.proofs.lemmas.Bool.Decides.{nat_tests}
 use Rattle.std.proofs.lemmas.Int.{by_lt_z}
@@ -8,7 +8,7 @@ use Rattle.jiff_core.specs.Date.{epoch_day, ordinal, IsYmd}
 use Rattle.jiff_core.specs.declared.civil.date.Date.{Date}
 use Rattle.jiff_core.proofs.SignedLemmas.{signed_arith}
 use Rattle.jiff_core.proofs.CalendarLemmas.{day_count-epoch, days_from_civil-day_count, day_count-day_of_year, day_count-next_year, day_count-lt_year}
-use Rattle.time_text.specs.Calendar.{is_date, days_in_month, days_in_year, days_of_years, days_of_months, day_number}
+use Rattle.time_text.specs.Calendar.{is_date, days_in_month, days_of_years, days_of_months, day_number}
 
 days_of_months-jiff : (year months : ℕ) → jiff.days_of_months (pos year) months ≡ days_of_months year months
 unfolding days_of_months jiff.days_of_months

@@ -1,7 +1,6 @@
 -- The moment of a civil date and time.
-use Rattle.std.proofs.Common.{◌≡◌, ℕ, ◌+◌, ◌*◌, ◌/◌, ◌%◌, ◌<◌, ◌≤◌, ◌⊎◌, ◌&&◌, true, false, cond, ltb, Some, None, ℤ, pos, ◌+ℤ◌, ◌*ℤ◌, inl, inr, refl, ap, arith, sym, ◌∙◌}
+use Rattle.std.proofs.Common.{◌≡◌, ℕ, ◌+◌, ◌*◌, ◌/◌, ◌%◌, ◌<◌, true, false, cond, Some, None, ℤ, pos, inl, inr, refl, ap, arith, sym}
 use Rattle.std.proofs.lemmas.Bool.{cases_Bool, and_from, and_right, lt-ltb, cond-false}
-use Rattle.std.proofs.lemmas.Bool.Decides.{nat_tests}
 use Rattle.time_text.specs.Calendar.{is_date, day_number}
 use Rattle.time_text.specs.Civil.{is_time_of_day, is_real, millis_of_day, millis_of, moment_of}
 use Rattle.time_text.specs.declared.civil.Civil.{Civil}
@@ -10,26 +9,26 @@ use Rattle.time_text.specs.declared.civil.Civil.{Civil}
 pub moment-found : (c : Civil) (day : ℕ) (moment : ℤ) → is_time_of_day c ≡ true → Some day ≡ cond (is_date c.year c.month c.day) (Some (day_number c.year c.month c.day)) None → moment ≡ pos (86_400_000 * day + millis_of_day c) → Some moment ≡ moment_of c
 unfolding millis_of is_real
 moment-found c day moment time found is =
-    elim (cases_Bool (is_date c.year c.month c.day))
-    [ inl real ↦
-      let same : Some day ≡ Some (day_number c.year c.month c.day) = rw real at found in
-      let day_is : day ≡ day_number c.year c.month c.day = cc in
-      let moment_is : moment ≡ pos (86_400_000 * day_number c.year c.month c.day + millis_of_day c) = rw day_is at is in
-      rw (real, time) (ap (λ (m : ℤ). Some m) moment_is)
-    | inr unreal ↦
-      let none : ◌≡◌ (Some day) None = rw unreal at found in
-      cc
+    elim (cases_Bool (is_date c.year c.month c.day)) [
+      | inl real ↦
+          let same : Some day ≡ Some (day_number c.year c.month c.day) = rw real at found in
+          let day_is : day ≡ day_number c.year c.month c.day = cc in
+          let moment_is : moment ≡ pos (86_400_000 * day_number c.year c.month c.day + millis_of_day c) = rw day_is at is in
+          rw (real, time) (ap (λ (m : ℤ). Some m) moment_is)
+      | inr unreal ↦
+          let none : ◌≡◌ (Some day) None = rw unreal at found in
+          cc
     ]
 
 -- no day was found
 pub moment-none : (c : Civil) → ◌≡◌ None (cond (is_date c.year c.month c.day) (Some (day_number c.year c.month c.day)) None) → ◌≡◌ None (moment_of c)
 unfolding is_real
 moment-none c none =
-    elim (cases_Bool (is_date c.year c.month c.day))
-    [ inl real ↦
-      let found : ◌≡◌ None (Some (day_number c.year c.month c.day)) = rw real at none in
-      cc
-    | inr unreal ↦ rw unreal refl
+    elim (cases_Bool (is_date c.year c.month c.day)) [
+      | inl real ↦
+          let found : ◌≡◌ None (Some (day_number c.year c.month c.day)) = rw real at none in
+          cc
+      | inr unreal ↦ rw unreal refl
     ]
 
 pub moment-no_time : (c : Civil) → is_time_of_day c ≡ false → ◌≡◌ None (moment_of c)

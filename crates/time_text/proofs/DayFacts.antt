@@ -1,11 +1,11 @@
 -- The name of a day.
-use Rattle.std.proofs.Common.{◌≡◌, ℕ, ◌+◌, ◌-◌, ◌<◌, ◌≤◌, true, List, [], ◌∷◌, ◌++◌, arith, pos, unsigned_abs}
+use Rattle.std.proofs.Common.{◌≡◌, ℕ, ◌+◌, ◌-◌, ◌<◌, ◌≤◌, true, ◌∷◌, arith, pos, unsigned_abs}
 use Rattle.std.specs.Prelude.{codes}
 use Rattle.jiff_core.specs.Date.{ordinal}
 use Rattle.jiff_core.specs.declared.civil.date.Date.{Date}
 use Rattle.jiff_core.proofs.CalendarLemmas.{days_in_year_bounds}
 use Rattle.time_text.specs.Calendar.{is_date, days_of_years, days_in_year}
-use Rattle.time_text.specs.Digits.{worth, has_shape, two_digits_of, three_digits_of, four_digits_of}
+use Rattle.time_text.specs.Digits.{has_shape, three_digits_of, four_digits_of}
 use Rattle.time_text.specs.Day.{IsDayName}
 use Rattle.time_text.specs.Spelling.{named}
 use Rattle.time_text.proofs.CalendarFacts.{IsCalendarDate-from_test}

@@ -1,9 +1,8 @@
 -- Digits at their places, and texts of a shape.
-use Rattle.std.proofs.Common.{◌≡◌, ◌≢◌, ℕ, zero, suc, ◌+◌, ◌-◌, ◌*◌, ◌^◌, ◌/◌, ◌%◌, ◌<◌, ◌≤◌, ◌&&◌, Bool, true, false, leb, cond, eqb, List, [], ◌∷◌, ◌++◌, length, take, drop, get_or, refl, sym, ap, ◌∙◌, arith, inl, inr, add-one, drop-cons, length-take}
+use Rattle.std.proofs.Common.{◌≡◌, ℕ, zero, suc, ◌+◌, ◌-◌, ◌*◌, ◌^◌, ◌/◌, ◌%◌, ◌<◌, ◌≤◌, ◌&&◌, Bool, true, leb, eqb, List, [], ◌∷◌, ◌++◌, length, take, drop, get_or, refl, sym, ap, ◌∙◌, arith, inl, inr, add-one, drop-cons, length-take}
 use Rattle.std.specs.Prelude.{slice_range, codes}
 use Rattle.std.specs.List.{list_all}
 use Rattle.std.proofs.lemmas.Bool.{cases_Bool, and_parts, and_from, leb-true, le-leb, both_ways, cond-true}
-use Rattle.std.proofs.lemmas.Bool.Decides.{nat_tests}
 use Rattle.std.proofs.lemmas.List.Folds.{list_all_at}
 use Rattle.std.proofs.lemmas.List.Sums.{fold_more}
 use Rattle.std.proofs.lemmas.Grind.{pow_more}
@@ -13,11 +12,11 @@ use Rattle.time_text.specs.Digits.{is_digit, worth, fits, has_shape, two_digits_
 -- a digit among digits
 pub digit_at : (digits : List ℕ) (i : ℕ) → i < length digits → list_all is_digit digits ≡ true → (48 ≤ get_or digits i 0) × (get_or digits i 0 ≤ 57)
 digit_at digits i within all =
-    elim (cases_Bool (is_digit (get_or digits i 0)))
-    [ inl passed ↦
-      let both = and_parts (leb 48 (get_or digits i 0)) (leb (get_or digits i 0) 57) passed in
-      (leb-true _ _ both.0, leb-true _ _ both.1)
-    | inr failed ↦ absurd (both_ways _ (list_all_at is_digit digits i 0 within failed) all)
+    elim (cases_Bool (is_digit (get_or digits i 0))) [
+      | inl passed ↦
+          let both = and_parts (leb 48 (get_or digits i 0)) (leb (get_or digits i 0) 57) passed in
+          (leb-true _ _ both.0, leb-true _ _ both.1)
+      | inr failed ↦ absurd (both_ways _ (list_all_at is_digit digits i 0 within failed) all)
     ]
 
 pub worth_none : worth [] ≡ 0
@@ -48,7 +47,7 @@ has_shape_none = refl
 
 -- more digits than there are places for 15 of them
 pub below_pow : (n i : ℕ) → n < 10 ^ i → i ≤ 15 → n < 1_000_000_000_000_000
-below_pow n i small few = 
+below_pow n i small few =
     let most : 10 ^ i ≤ 10 ^ 15 = pow-le-pow_right (omega arith) few in
     omega arith
 

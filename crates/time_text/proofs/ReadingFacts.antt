@@ -1,11 +1,11 @@
 -- Parts of a civil text.
-use Rattle.std.proofs.Common.{◌≡◌, ◌≢◌, ℕ, zero, suc, ◌-◌, ◌*◌, ◌^◌, ◌<◌, ◌≤◌, ◌&&◌, not, true, false, eqb, List, length, take, drop, Option, None, ℤ, refl, sym, ap, ◌∙◌, arith, length-take, length-drop}
+use Rattle.std.proofs.Common.{◌≡◌, ◌≢◌, ℕ, zero, suc, ◌-◌, ◌*◌, ◌^◌, ◌<◌, ◌≤◌, not, true, false, eqb, List, length, take, drop, None, refl, sym, arith, length-take}
 use Rattle.std.specs.Prelude.{codes}
 use Rattle.std.specs.List.{list_all}
 use Rattle.std.proofs.lemmas.Bool.{and_parts, and_left, false_from_ne_true, cond-false, eqb-false, not-true}
 use Rattle.std.proofs.lemmas.Slice.{between_to_end}
 use Rattle.time_text.specs.Digits.{is_digit, worth, has_shape}
-use Rattle.time_text.specs.TimeText.{is_fraction, millis_in, has_civil_shape, civil_time}
+use Rattle.time_text.specs.TimeText.{is_fraction, millis_in, civil_time}
 use Rattle.time_text.proofs.DigitFacts.{has_shape-length, fraction_digits, fraction_length}
 
 -- what a fraction of a second is

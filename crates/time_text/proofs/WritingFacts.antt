@@ -1,9 +1,9 @@
 -- What is written is read back.
-use Rattle.std.proofs.Common.{◌≡◌, ℕ, zero, suc, ◌+◌, ◌-◌, ◌*◌, ◌%◌, ◌^◌, ◌<◌, ◌≤◌, ◌&&◌, true, false, cond, leb, eqb, Bool, List, [], ◌∷◌, ◌++◌, length, take, drop, Option, Some, None, ℤ, pos, refl, sym, ap, ◌∙◌, inl, inr, arith, length-drop}
-use Rattle.std.specs.Prelude.{codes, slice_index, option_map}
+use Rattle.std.proofs.Common.{◌≡◌, ℕ, ◌+◌, ◌%◌, ◌<◌, true, List, ◌∷◌, ◌++◌, length, take, drop, Some, None, pos, refl, inl, inr, arith, length-drop}
+use Rattle.std.specs.Prelude.{codes}
 use Rattle.std.proofs.lemmas.Bool.{cases_Bool, and_from, and_left, and_right, lt-leb, ne_eqb, cond-false}
-use Rattle.time_text.specs.Digits.{worth, has_shape, two_digits_of, three_digits_of, four_digits_of}
-use Rattle.time_text.specs.Civil.{is_real, millis_of, moment_of}
+use Rattle.time_text.specs.Digits.{has_shape, two_digits_of, three_digits_of, four_digits_of}
+use Rattle.time_text.specs.Civil.{is_real, millis_of}
 use Rattle.time_text.specs.TimeText.{number_of, is_negative, count_of, without_z, is_fraction, millis_in, has_civil_shape, civil_of, civil_time, time_of}
 use Rattle.time_text.specs.Spelling.{spelled}
 use Rattle.time_text.specs.declared.civil.Civil.{Civil}
@@ -66,13 +66,13 @@ number_of-long text long =
 count_of-long : (text : List ℕ) → 16 < length text → count_of text ≡ None
 unfolding count_of
 count_of-long text long =
-    elim (cases_Bool (is_negative text))
-    [ inl minus ↦
-      let none = number_of-long (drop 1 text) (omega (arith, length-drop 1 text)) in
-      rw (minus, none) refl
-    | inr plain ↦
-      let none = number_of-long text (omega arith) in
-      rw (plain, none) refl
+    elim (cases_Bool (is_negative text)) [
+      | inl minus ↦
+          let none = number_of-long (drop 1 text) (omega (arith, length-drop 1 text)) in
+          rw (minus, none) refl
+      | inr plain ↦
+          let none = number_of-long text (omega arith) in
+          rw (plain, none) refl
     ]
 
 without_z-spelled : (c : Civil) → without_z (spelled c) ≡ spelled c

@@ -1,5 +1,5 @@
 -- What is written, octet by octet.
-use Rattle.std.specs.Prelude.{ℕ, List, [], ◌∷◌, ◌++◌}
+use Rattle.std.specs.Prelude.{ℕ, List, ◌∷◌, ◌++◌}
 use Rattle.time_text.specs.Digits.{two_digits_of, three_digits_of, four_digits_of}
 use Rattle.time_text.specs.declared.civil.Civil.{Civil}
 

@@ -14,7 +14,11 @@ pub(crate) fn is_digit(octet: u8) -> bool
 fn fits(place: u8, octet: u8) -> bool
     ensures { result ≡ fits place octet }
 {
-    if place == b'0' { is_digit(octet) } else { octet == place }
+    if place == b'0' {
+        is_digit(octet)
+    } else {
+        octet == place
+    }
 }
 
 /// Whether the text is of the shape: a digit where it has `0`, else the same octet.

@@ -16,6 +16,8 @@ mod civil;
 mod day;
 mod digits;
 mod reading;
+#[cfg(test)]
+mod tests;
 mod writing;
 
 pub use day::{day_name, day_of};

@@ -47,7 +47,11 @@ fn count(text: &[u8]) -> Option<i64>
 fn without_z(text: &[u8]) -> &[u8]
     ensures { result.now ≡ without_z text.now }
 {
-    if let [before @ .., b'Z'] = text { before } else { text }
+    if let [before @ .., b'Z'] = text {
+        before
+    } else {
+        text
+    }
 }
 
 /// The moment of a civil text without a `Z`.

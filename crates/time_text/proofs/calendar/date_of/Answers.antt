@@ -1,7 +1,7 @@
-use Rattle.std.proofs.Common.{◌≡◌, pos, arith, rules, FitsSigned, w64}
-use Rattle.std.proofs.lemmas.Int.{ints, to_z-of_z}
+use Rattle.std.proofs.Common.{◌≡◌, pos, arith}
+use Rattle.std.proofs.lemmas.Int.{ints}
 use Rattle.jiff_core.specs.Date.{epoch_day}
-use Rattle.time_text.proofs.CalendarFacts.{IsDateOf, IsDateOf-epoch_day}
+use Rattle.time_text.proofs.CalendarFacts.{IsDateOf-epoch_day}
 use Rattle.time_text.proofs.calendar.date_of.Goals as goal
 
 pub returns : goal.returns

@@ -1,7 +1,6 @@
-use Rattle.std.proofs.Common.{◌≡◌, ◌≤◌, true, arith, refl, rules, Some, pos, ap, sym, ◌∙◌, w32, w64, FitsSigned, unsigned_abs}
+use Rattle.std.proofs.Common.{◌≡◌, ◌≤◌, arith, refl, rules, Some, pos, ap, w32, FitsSigned, unsigned_abs}
 use Rattle.std.proofs.lemmas.Int.{ints, to_z-of_z}
-use Rattle.jiff_core.specs.Date.{epoch_day}
-use Rattle.time_text.specs.Calendar.{is_date, day_number}
+use Rattle.time_text.specs.Calendar.{day_number}
 use Rattle.time_text.proofs.CalendarFacts.{epoch_day-found}
 use Rattle.time_text.proofs.calendar.day_number.Goals as goal
 

@@ -1,7 +1,6 @@
-use Rattle.std.proofs.Common.{◌≡◌, ◌<◌, true, false, length, drop, get_or, arith, ◌∙◌, sym}
-use Rattle.std.proofs.lemmas.Bool.{false_from_ne_true, and_left}
+use Rattle.std.proofs.Common.{arith, sym}
+use Rattle.std.proofs.lemmas.Bool.{false_from_ne_true}
 use Rattle.std.proofs.lemmas.Grind.{common_steps}
-use Rattle.time_text.specs.Digits.{fits, has_shape}
 use Rattle.time_text.proofs.DigitFacts.{has_shape_next, has_shape-length, has_shape_none}
 use Rattle.time_text.proofs.digits.has_shape.Goals as goal
 

@@ -1,4 +1,4 @@
-use Rattle.std.proofs.Common.{◌≡◌, take, drop, true}
+use Rattle.std.proofs.Common.{◌≡◌, drop}
 use Rattle.time_text.specs.Digits.{has_shape}
 use Rattle.time_text.proofs.digits.has_shape.Given as goal
 

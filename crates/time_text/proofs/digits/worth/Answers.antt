@@ -1,4 +1,4 @@
-use Rattle.std.proofs.Common.{◌≡◌, ◌<◌, ◌≤◌, ◌^◌, length, arith}
+use Rattle.std.proofs.Common.{arith}
 use Rattle.std.proofs.lemmas.Grind.{common_steps}
 use Rattle.time_text.proofs.DigitFacts.{digit_at, worth_none, worth_more, below_pow, pow_next}
 use Rattle.time_text.proofs.digits.worth.Goals as goal

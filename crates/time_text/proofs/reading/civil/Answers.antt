@@ -1,4 +1,4 @@
-use Rattle.std.proofs.Common.{◌≡◌, ◌≤◌, ℕ, true, List, length, arith, refl, rules}
+use Rattle.std.proofs.Common.{◌≡◌, ℕ, true, List, length, arith, refl, rules}
 use Rattle.std.specs.Prelude.{codes}
 use Rattle.std.proofs.lemmas.Bool.{and_parts}
 use Rattle.time_text.specs.Digits.{has_shape}

@@ -1,9 +1,9 @@
-use Rattle.std.proofs.Common.{◌≡◌, ◌≢◌, sym, ◌≤◌, ◌<◌, ◌^◌, ◌*◌, ◌-◌, length, take, drop, ap, ◌∙◌, arith, rules, refl, length-take, length-drop}
+use Rattle.std.proofs.Common.{◌≢◌, sym, ◌<◌, ◌*◌, ◌-◌, length, ap, ◌∙◌, arith, rules, length-drop}
 use Rattle.std.proofs.lemmas.Bool.{eqb-false}
 use Rattle.std.proofs.lemmas.Grind.{common_steps}
 use Rattle.time_text.specs.Digits.{worth}
-use Rattle.time_text.specs.TimeText.{is_fraction, millis_in}
-use Rattle.time_text.proofs.ReadingFacts.{IsFraction, IsFraction-from_test, tail_is, millis_in-product, below_second, below_thousand}
+use Rattle.time_text.specs.TimeText.{millis_in}
+use Rattle.time_text.proofs.ReadingFacts.{IsFraction-from_test, tail_is, millis_in-product, below_second, below_thousand}
 use Rattle.time_text.proofs.reading.millis.Goals as goal
 
 pub returns-then-is_empty-clause-value : goal.returns-then-is_empty-clause-value

@@ -1,6 +1,6 @@
 use Rattle.std.proofs.Common.{◌≡◌, ◌/◌, ◌%◌, arith, rules, FitsSigned, w16, unsigned_abs}
 use Rattle.std.proofs.lemmas.Int.{to_z-of_z}
-use Rattle.time_text.specs.Calendar.{is_date, day_number}
+use Rattle.time_text.specs.Calendar.{day_number}
 use Rattle.time_text.proofs.CivilFacts.{is_real-from, day_parts, millis_of-is}
 use Rattle.time_text.proofs.civil.Civil.at.Goals as goal
 
