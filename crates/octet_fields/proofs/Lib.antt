@@ -1,0 +1,5 @@
+pub mod Exact
+pub mod Numbers
+pub mod Times
+pub mod Answers
+pub mod Stations

@@ -1,0 +1,5 @@
+pub mod Reading
+pub mod Spelling
+pub mod Exact
+pub mod Answers
+pub mod Example
