@@ -1,0 +1,5 @@
+pub mod Partition
+pub mod Bounds
+pub mod Names
+pub mod Wanted
+pub mod Partitions

@@ -1,0 +1,21 @@
+// Partitions: which civil days and packet names hold rows of a table.
+//
+// A partition is one day and one packet name (specs/Partition.antt). Contracts see `Partitions` as the list of the partitions that hold
+// a row, rising by day and then by the packet name's number, and its room (`Holding`, specs/Partitions.antt). `pruned` gives those of
+// them in which a row may stand that has its time and its packet name in given bounds, so that a reader passes over all others.
+// Callers: the store adds each row's partition, replays and scripts ask for the partitions of their bounds.
+//
+// `pruned` goes through two rising lists at once, the partitions that hold a row and those that the bounds want, and leaps in each to
+// where the other stands. The one idea of its proof: what is given so far, and those of the entries left that are wanted, are together
+// all entries that are wanted (proofs/Leaps.antt); so what a leap passes over has only to be unwanted.
+// To be changed together: the order of `Partition`'s fields, `partition_cmp`, and `Wanted::first_from`, which leaps in that order.
+#![tactic(auto)]
+
+pub mod bounds;
+pub mod lists;
+mod names;
+pub mod partition;
+pub mod partitions;
+#[cfg(test)]
+mod tests;
+mod wanted;
