@@ -2,7 +2,6 @@
 
 ghost use Rattle.std.specs.Prelude.{◌≡◌};
 ghost use Rattle.partitions.specs.Partition.{partition_of};
-ghost use Rattle.time_text.specs.Day.{day_of};
 
 use time_text::day_of;
 
