@@ -1,0 +1,5 @@
+pub mod Crashes
+pub mod Moments
+pub mod Noted
+pub mod Places
+pub mod Settled

@@ -1,0 +1,7 @@
+pub mod Crash
+pub mod Disk
+pub mod Files
+pub mod History
+pub mod Image
+pub mod Laws
+pub mod Steps

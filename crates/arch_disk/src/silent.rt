@@ -1,0 +1,94 @@
+// A disk over one in memory that tells nothing of what it holds, as a disk over real files would.
+ghost use Rattle.std.specs.Prelude.{◌≡◌, [], false};
+ghost use Rattle.arch_disk.specs.Laws.{untold};
+
+use crate::memory::{failed_write, fault};
+use crate::{Disk, Failed, MemDisk};
+
+/// Passes each call on. A range that doesn't lie in the file, which no contract rules out here, is a fault.
+#[derive(Drop)]
+pub struct Silent {
+    inner: MemDisk,
+    faults: u64,
+    failed_writes: u64,
+}
+
+impl Silent {
+    pub fn new(inner: MemDisk) -> Silent
+        ensures { result.inner ≡ inner }
+    {
+        Silent {
+            inner,
+            faults: 0,
+            failed_writes: 0,
+        }
+    }
+
+    /// The disk that the calls were passed on to.
+    pub fn into_inner(self) -> MemDisk
+        ensures { result ≡ self.inner }
+    {
+        self.inner
+    }
+}
+
+impl Disk for Silent {
+    ghost device = { record {
+      tells = false;
+      reads = λ _ _. [];
+      images = λ _ _. ⊥;
+      moment = λ _. 0;
+      images_since = λ _ _ _. ⊥;
+      fault_count = λ s. s.faults;
+      failed_writes = λ s. s.failed_writes;
+      now_counts = λ _ _ _ _ left. left;
+      only_now = λ _ _ left. left;
+      reads_as_image = λ _ told. untold told;
+      lengths_fit = λ _ _ told. untold told;
+    } };
+
+    fn len(&mut self, file: u32) -> Result<u64, Failed> {
+        match self.inner.len(file) {
+            Ok(len) => Ok(len),
+            Err(_) => Err(fault(&mut self.faults)),
+        }
+    }
+
+    fn read_at(&mut self, file: u32, at: u64, into: &mut [u8]) -> Result<(), Failed> {
+        let len = self.inner.content(file).len() as u64;
+        if at <= len
+            && into.len() as u64 <= len - at
+            && let Ok(()) = self.inner.read_at(file, at, into)
+        {
+            return Ok(());
+        }
+        Err(fault(&mut self.faults))
+    }
+
+    fn write_at(&mut self, file: u32, at: u64, from: &[u8]) -> Result<(), Failed> {
+        if at <= self.inner.content(file).len() as u64
+            && let Ok(()) = self.inner.write_at(file, at, from)
+        {
+            return Ok(());
+        }
+        Err(failed_write(&mut self.faults, &mut self.failed_writes))
+    }
+
+    fn cut(&mut self, file: u32, len: u64) -> Result<(), Failed> {
+        match self.inner.cut(file, len) {
+            Ok(()) => Ok(()),
+            Err(_) => Err(failed_write(&mut self.faults, &mut self.failed_writes)),
+        }
+    }
+
+    fn sync(&mut self, file: u32) -> Result<(), Failed> {
+        match self.inner.sync(file) {
+            Ok(()) => Ok(()),
+            Err(_) => Err(failed_write(&mut self.faults, &mut self.failed_writes)),
+        }
+    }
+
+    fn faults(&self) -> u64 {
+        self.faults
+    }
+}

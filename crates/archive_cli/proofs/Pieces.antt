@@ -1,0 +1,92 @@
+-- Texts that are written piece by piece.
+use Rattle.std.proofs.Common.{◌≡◌, ℕ, ◌+◌, List, [], ◌∷◌, ◌++◌, take, drop, Option, Some, None, append_assoc, append-nil, refl}
+use Rattle.std.proofs.lemmas.List.{take-append-drop}
+use Rattle.std.proofs.Math.Seq.{take-add}
+use Rattle.outer_traits.specs.Outside.{Writes, WritesSome}
+use Rattle.archive_cli.specs.Call.{Appends}
+use Rattle.archive_cli.specs.Printing.{HasMoved}
+use Rattle.std.specs.Prelude.{flat_map, Result, Ok, Err, OnOk, OnErr}
+use Rattle.arch_types.specs.declared.row.Row.{Row}
+use Rattle.archive_cli.specs.Text.{row_line}
+
+pub wrote_none : (first : Option (List ℕ)) → Appends first first []
+wrote_none None = refl
+wrote_none (Some b) = rw (append-nil b)
+
+-- the next octets of a text
+pub wrote_more : (first now new : Option (List ℕ)) (text rest : List ℕ) (at n : ℕ) → rest ≡ drop at text →
+    Appends first now (take at text) → Writes now new n rest → Appends first new (take (at + n) text)
+wrote_more None now new text rest at n e h w = rw h at w
+wrote_more (Some b) now new text rest at n e h w = let w' = rw (h, e) at w in rw (take-add at n text, ← append_assoc) w'
+
+-- some of the next octets of a text
+pub wrote_some : (first now new : Option (List ℕ)) (text rest : List ℕ) (at : ℕ) → rest ≡ drop at text →
+    Appends first now (take at text) → WritesSome now new rest → WritesSome first new text
+wrote_some None now new text rest at e h w = rw h at w
+wrote_some (Some b) now new text rest at e h w =
+    let w' = rw (h, e) at w in
+    (take at text ++ w'.0, w'.1, rw (append_assoc, w'.2, take-append-drop at text), rw (← append_assoc) w'.3)
+
+-- one text, and then another
+pub wrote_both : (first now new : Option (List ℕ)) (text more : List ℕ) → Appends first now text → Appends now new more → Appends first new (text ++ more)
+wrote_both None now new text more h k = rw h at k
+wrote_both (Some b) now new text more h k = let k' = rw h at k in rw (← append_assoc) k'
+
+-- one text, and then some of another
+pub wrote_then : (first now new : Option (List ℕ)) (text more : List ℕ) → Appends first now text → WritesSome now new more → WritesSome first new (text ++ more)
+wrote_then None now new text more h w = rw h at w
+wrote_then (Some b) now new text more h w =
+    let w' = rw h at w in
+    (text ++ w'.0, w'.1, rw (append_assoc, w'.2), rw (← append_assoc) w'.3)
+
+-- some of a text that is longer
+pub wrote_front : (first new : Option (List ℕ)) (text more : List ℕ) → WritesSome first new text → WritesSome first new (text ++ more)
+wrote_front None new text more w = w
+wrote_front (Some b) new text more w = (w.0, w.1 ++ more, rw (← append_assoc, w.2), w.3)
+
+-- what is held and what is added to it
+pub moved_more : (first now new : Option (List ℕ)) (all held left rest : List ℕ) → HasMoved first now all (held ++ rest) → HasMoved now new held left → HasMoved first new all (left ++ rest)
+moved_more first now new all held left rest h k =
+    (h.0 ++ k.0, rw (append_assoc, ← append_assoc k.0 left rest, ← k.1) h.1, wrote_both first now new h.0 k.0 h.2 k.2)
+
+-- some of what is held
+pub moved_some : (first now new : Option (List ℕ)) (all held rest : List ℕ) → HasMoved first now all (held ++ rest) → WritesSome now new held → WritesSome first new all
+moved_some first now new all held rest h w = rw h.1 (wrote_then first now new h.0 (held ++ rest) h.2 (wrote_front now new held rest w))
+
+-- all of what is left
+pub moved_all : (first now new : Option (List ℕ)) (all held : List ℕ) → HasMoved first now all held → Appends now new held → Appends first new all
+moved_all first now new all held h k = rw h.1 (wrote_both first now new h.0 held h.2 k)
+
+-- the first of the rows that are left, its line beside what is held
+pub regroup : (first now : Option (List ℕ)) (all held : List ℕ) (rows rest : List Row) (row : Row) → rows ≡ row ∷ rest →
+    HasMoved first now all (held ++ flat_map row_line rows) → HasMoved first now all ((held ++ row_line row) ++ flat_map row_line rest)
+regroup first now all held rows rest row step h = let h' = rw step at h in rw (append_assoc held (row_line row) (flat_map row_line rest)) h'
+
+-- nothing is left but what is held
+pub regroup_end : (first now : Option (List ℕ)) (all held : List ℕ) (rows : List Row) → rows ≡ [] → HasMoved first now all (held ++ flat_map row_line rows) → HasMoved first now all held
+regroup_end first now all held rows none h = let h' = rw none at h in rw (append-nil held) at h'
+
+-- nothing went on yet
+pub moved_none : (first : Option (List ℕ)) (text : List ℕ) → HasMoved first first text text
+moved_none first text = ([], refl, wrote_none first)
+
+-- the lines went on but for what is held, and then that with the end
+pub moved_end : (first now new : Option (List ℕ)) (lines held end : List ℕ) → HasMoved first now lines held → Appends now new (held ++ end) → Appends first new (lines ++ end)
+moved_end first now new lines held end h k = rw (h.1, append_assoc) (wrote_both first now new h.0 (held ++ end) h.2 k)
+
+-- and then some of that
+pub moved_end_some : (first now new : Option (List ℕ)) (lines held end : List ℕ) → HasMoved first now lines held → WritesSome now new (held ++ end) → WritesSome first new (lines ++ end)
+moved_end_some first now new lines held end h k = rw (h.1, append_assoc) (wrote_then first now new h.0 (held ++ end) h.2 k)
+
+pub on_ok : {T E : Type 0} (r : Result T E) (P Q : Type 0) → (P → Q) → OnOk r P → OnOk r Q
+on_ok (Ok x) P Q f p = f p
+on_ok (Err x) P Q f p = tt
+
+pub on_err : {T E : Type 0} (r : Result T E) (P Q : Type 0) → (P → Q) → OnErr r P → OnErr r Q
+on_err (Ok x) P Q f p = tt
+on_err (Err x) P Q f p = f p
+
+-- the two halves of a line, put behind what is held
+pub put_halves : (old mid new a b c d e f g h i : List ℕ) → mid ≡ old ++ a ++ b ++ c ++ d → new ≡ mid ++ e ++ f ++ g ++ h ++ i →
+    new ≡ old ++ ((a ++ b ++ c ++ d) ++ (e ++ f ++ g ++ h ++ i))
+put_halves old mid new a b c d e f g h i first second = rw (second, first) (simp append_assoc refl)

@@ -1,0 +1,126 @@
+-- From the rows of a dump to the ending of its scan.
+use Rattle.std.proofs.Common.{◌≡◌, ℕ, ℤ, ◌+◌, ◌-◌, ◌≤◌, List, [], ◌∷◌, ◌++◌, length, drop, Bool, true, false, Option, Some, None, sym, ◌∙◌, ap, refl, arith, append-nil}
+use Rattle.std.specs.Prelude.{IfSome, flat_map, nat_lt, if◌then◌else◌}
+use Rattle.std.proofs.lemmas.List.{length-drop}
+use Rattle.arch_types.specs.declared.row.Row.{Row}
+use Rattle.arch_types.specs.declared.refusal.Refusal.TheVariants.{WriteFault, BadPacket}
+use Rattle.arch_types.specs.declared.refusal.BadKind.{BadKind}
+use Rattle.arch_types.specs.declared.refusal.BadKind.TheVariants as bad
+use Rattle.arch_types.specs.History.{firsts}
+use Rattle.arch_types.specs.Table.{sorted, table_of}
+use Rattle.outer_traits.specs.Outside.{Files, IsMoment}
+use Rattle.space_packet.specs.declared.dump.Why.{Why}
+use Rattle.space_packet.specs.declared.dump.Why.TheVariants as why
+use Rattle.space_packet.specs.Rest.{why_of}
+use Rattle.yarch_table.specs.declared.table.Stored.{Stored}
+use Rattle.yarch_table.specs.Stored.{rows_of}
+use Rattle.archive_cli.specs.declared.counts.Counts.{Counts}
+use Rattle.archive_cli.specs.declared.rows.Loaded.{Loaded}
+use Rattle.archive_cli.specs.Text.{scanned_rows, row_line, row_lines, counts_line, last_line, scan_text}
+use Rattle.archive_cli.specs.Call.{Call, Prints, PrintsSome, WritesFailed, IsInput, IsMomentOf}
+use Rattle.archive_cli.specs.Ending.{dump_limit, Received, text_of, kind_of, IsBadRest, IsScanEnding}
+use Rattle.archive_cli.specs.Loaded.{HasCounts, IsGathered, IsLoaded}
+use Rattle.archive_cli.specs.Printing.{lines_of, end_of, text_of_loaded}
+use Rattle.archive_cli.proofs.Shown.{table-all}
+
+lines_are : (packets : List (List ℕ)) (moment : ℤ) (stored : List Stored) (counts : Counts) → IsGathered packets moment stored counts → lines_of stored ≡ row_lines packets moment
+lines_are packets moment stored counts g =
+    ap (λ (rows : List Row). flat_map row_line rows) (sym (table-all stored g.shown) ∙ ap (table_of 0) g.rows_are)
+
+last_is : (packets : List (List ℕ)) (moment : ℤ) (counts : Counts) → HasCounts packets moment counts →
+    counts_line counts.packets counts.rows counts.duplicates counts.idle ≡ last_line packets moment
+last_is packets moment counts h =
+    let a = h.of_packets in let b = h.of_rows in let c = h.of_duplicates in let d = h.of_idle in
+    let duplicates : counts.duplicates ≡ length (scanned_rows packets moment) - length (firsts (scanned_rows packets moment)) = omega arith in
+    let idle : counts.idle ≡ length packets - length (scanned_rows packets moment) = omega arith in
+    rw (h.of_packets, h.of_rows, duplicates, idle)
+
+end_is_none : (b : Bool) (reason : Why) (counts : Counts) → reason ≡ (if b then why.Truncated else why.Version) → end_of reason counts ≡ []
+end_is_none true reason counts e = rw e
+end_is_none false reason counts e = rw e
+
+text_is : (packets : List (List ℕ)) (rest : List ℕ) (moment : ℤ) (stored : List Stored) (counts : Counts) (reason : Why) → IsGathered packets moment stored counts →
+    reason ≡ why_of rest → lines_of stored ++ end_of reason counts ≡ scan_text packets rest moment
+text_is packets [] moment stored counts reason g e =
+    rw (e, lines_are packets moment stored counts g, last_is packets moment counts g.counted)
+text_is packets (octet ∷ rest) moment stored counts reason g e =
+    rw (end_is_none (nat_lt octet 32) reason counts e, append-nil (lines_of stored)) (lines_are packets moment stored counts g)
+
+abbrev pub received : (call : Call) (name dump : List ℕ) (moment : ℤ) (loaded : Loaded) → IsInput call.files name dump → length dump ≤ dump_limit →
+    IsMomentOf call.moment moment → IsLoaded dump moment loaded → Received call name
+received call name dump moment loaded i s m l = record {
+  dump = dump;
+  moment = moment;
+  packets = l.packets;
+  rest = drop loaded.at dump;
+  input = i;
+  short = s;
+  clock = m;
+  parts = l.parts;
+}
+
+text_of_received : (dump : List ℕ) (moment : ℤ) (loaded : Loaded) (l : IsLoaded dump moment loaded) → text_of_loaded loaded ≡ scan_text l.packets (drop loaded.at dump) moment
+text_of_received dump moment loaded l = text_is l.packets (drop loaded.at dump) moment loaded.table.stored loaded.counts loaded.why l.gathered l.why
+
+rest_is_none : (rest : List ℕ) → why.End ≡ why_of rest → rest ≡ []
+rest_is_none [] e = refl
+rest_is_none (octet ∷ rest) e = absurd (none_cases (nat_lt octet 32) e)
+  where
+    none_cases : (b : Bool) → why.End ≡ (if b then why.Truncated else why.Version) → ⊥
+    none_cases true h = cc
+    none_cases false h = cc
+
+-- the kind of a bad packet, as what the rest of a dump is
+abbrev pub why_bad : BadKind → Why
+why_bad bad.Version = why.Version
+why_bad bad.Truncated = why.Truncated
+
+kind_cases : (b : Bool) (kind : BadKind) → why_bad kind ≡ (if b then why.Truncated else why.Version) → kind ≡ (if b then bad.Truncated else bad.Version)
+kind_cases true bad.Version e = cc
+kind_cases true bad.Truncated e = refl
+kind_cases false bad.Version e = refl
+kind_cases false bad.Truncated e = cc
+
+bad_rest : (dump rest : List ℕ) (at : ℕ) (kind : BadKind) → at + length rest ≡ length dump → why_bad kind ≡ why_of rest → IsBadRest dump rest at kind
+bad_rest dump [] at bad.Version len e = cc
+bad_rest dump [] at bad.Truncated len e = cc
+bad_rest dump (octet ∷ rest) at kind len e = (len, kind_cases (nat_lt octet 32) kind e)
+
+-- the dump was read and printed to its end
+pub scan_whole : (call : Call) (name dump : List ℕ) (moment : ℤ) (loaded : Loaded) → IsInput call.files name dump → length dump ≤ dump_limit → IsMomentOf call.moment moment →
+    IsLoaded dump moment loaded → loaded.why ≡ why.End → Prints call (text_of_loaded loaded) → IsScanEnding call name None
+scan_whole call name dump moment loaded i s m l e p =
+    (received call name dump moment loaded i s m l, rest_is_none (drop loaded.at dump) (sym e ∙ l.why), rw (text_of_received dump moment loaded l) at p)
+
+-- its rows were printed, and a rest is left
+pub scan_bad : (call : Call) (name dump : List ℕ) (moment : ℤ) (loaded : Loaded) (kind : BadKind) → IsInput call.files name dump → length dump ≤ dump_limit → IsMomentOf call.moment moment →
+    IsLoaded dump moment loaded → loaded.why ≡ why_bad kind → Prints call (text_of_loaded loaded) → IsScanEnding call name (Some (BadPacket loaded.at kind))
+scan_bad call name dump moment loaded kind i s m l e p =
+    let len = length-drop loaded.at dump in
+    let within = l.within in
+    let sum : loaded.at + length (drop loaded.at dump) ≡ length dump = omega (arith, len, within) in
+    (received call name dump moment loaded i s m l, bad_rest dump (drop loaded.at dump) loaded.at kind sum (sym e ∙ l.why), rw (text_of_received dump moment loaded l) at p)
+
+-- a part of it was printed
+pub scan_some : (call : Call) (name dump : List ℕ) (moment : ℤ) (loaded : Loaded) → IsInput call.files name dump → length dump ≤ dump_limit → IsMomentOf call.moment moment →
+    IsLoaded dump moment loaded → WritesFailed call → PrintsSome call (text_of_loaded loaded) → IsScanEnding call name (Some WriteFault)
+scan_some call name dump moment loaded i s m l f p =
+    (received call name dump moment loaded i s m l, f, rw (text_of_received dump moment loaded l) at p)
+
+-- a call, by its parts
+abbrev pub call_of : List (List ℕ) → Option Files → Option ℤ → ℕ → ℕ → Option (List ℕ) → Option (List ℕ) → ℕ → ℕ → Call
+call_of words files moment reads reads' written written' writes writes' = record {
+  words = words;
+  files = files;
+  moment = moment;
+  read_faults = reads;
+  read_faults' = reads';
+  written = written;
+  written' = written';
+  write_faults = writes;
+  write_faults' = writes';
+}
+
+pub moment_of : (told : Option ℤ) (moment : ℤ) → IfSome told (λ next. moment ≡ next) → IsMoment moment → IsMomentOf told moment
+moment_of None moment e m = m
+moment_of (Some next) moment e m = e

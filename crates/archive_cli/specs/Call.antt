@@ -1,0 +1,50 @@
+-- All that the contract of `run` speaks of.
+use Rattle.std.specs.Prelude.{◌≡◌, ℕ, ℤ, List, ◌++◌, Option, Some, None, IfSome}
+use Rattle.std.specs.FinMap.{get}
+use Rattle.outer_traits.specs.Outside.{Files, HasRisen, IsMoment, WritesSome}
+
+-- the words, and what the inputs, the clock and the sink tell, before and after
+pub record Call : Type 0 where
+  pub words : List (List ℕ)
+  pub files : Option Files
+  pub moment : Option ℤ
+  pub read_faults : ℕ
+  pub read_faults' : ℕ
+  pub written : Option (List ℕ)
+  pub written' : Option (List ℕ)
+  pub write_faults : ℕ
+  pub write_faults' : ℕ
+
+-- the text was appended, where what was written is told
+abbrev pub Appends : Option (List ℕ) → Option (List ℕ) → List ℕ → Type 0
+Appends None new text = new ≡ None
+Appends (Some before) new text = new ≡ Some (before ++ text)
+
+-- nothing was written
+abbrev pub IsSilent : Call → Type 0
+IsSilent call = call.written' ≡ call.written
+
+-- exactly this text was written
+abbrev pub Prints : Call → List ℕ → Type 0
+Prints call text = Appends call.written call.written' text
+
+-- a prefix of this text was written
+abbrev pub PrintsSome : Call → List ℕ → Type 0
+PrintsSome call text = WritesSome call.written call.written' text
+
+-- the count of the inputs rose
+abbrev pub ReadsFailed : Call → Type 0
+ReadsFailed call = HasRisen call.read_faults call.read_faults'
+
+-- the count of the sink rose
+abbrev pub WritesFailed : Call → Type 0
+WritesFailed call = HasRisen call.write_faults call.write_faults'
+
+-- the named input has these octets, where the inputs are told
+abbrev pub IsInput : Option Files → List ℕ → List ℕ → Type 0
+IsInput files name octets = IfSome files (λ all. get all name ≡ Some octets)
+
+-- the moment that the clock tells, or some moment
+abbrev pub IsMomentOf : Option ℤ → ℤ → Type 0
+IsMomentOf None moment = IsMoment moment
+IsMomentOf (Some told) moment = moment ≡ told

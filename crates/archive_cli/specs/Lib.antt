@@ -1,0 +1,11 @@
+pub mod Job
+pub mod Text
+pub mod Call
+pub mod Ending
+pub mod Expected
+pub mod Report
+pub mod Reading
+pub mod Printing
+pub mod Asked
+pub mod ReadFault
+pub mod Loaded

@@ -1,0 +1,29 @@
+-- A text that is written piece by piece.
+use Rattle.std.specs.Prelude.{◌≡◌, ℕ, List, [], ◌++◌, Option, flat_map}
+use Rattle.arch_types.specs.Table.{sorted}
+use Rattle.space_packet.specs.declared.dump.Why.{Why}
+use Rattle.space_packet.specs.declared.dump.Why.TheVariants.{End, Version, Truncated}
+use Rattle.yarch_table.specs.declared.table.Stored.{Stored}
+use Rattle.yarch_table.specs.Stored.{rows_of}
+use Rattle.archive_cli.specs.Call.{Appends}
+use Rattle.archive_cli.specs.Text.{row_line, counts_line}
+use Rattle.archive_cli.specs.declared.counts.Counts.{Counts}
+use Rattle.archive_cli.specs.declared.rows.Loaded.{Loaded}
+
+-- a front of a text was appended, and the rest of it is left
+abbrev pub HasMoved : Option (List ℕ) → Option (List ℕ) → List ℕ → List ℕ → Type 0
+HasMoved before now text left = (sent : List ℕ) × (text ≡ sent ++ left) × Appends before now sent
+
+-- the lines of stored rows, in the order of their keys
+abbrev pub lines_of : List Stored → List ℕ
+lines_of stored = flat_map row_line (sorted (rows_of stored))
+
+-- the last line, where nothing is left of a dump
+abbrev pub end_of : Why → Counts → List ℕ
+end_of End counts = counts_line counts.packets counts.rows counts.duplicates counts.idle
+end_of Version counts = []
+end_of Truncated counts = []
+
+-- what is printed of a dump
+abbrev pub text_of_loaded : Loaded → List ℕ
+text_of_loaded loaded = lines_of loaded.table.stored ++ end_of loaded.why loaded.counts

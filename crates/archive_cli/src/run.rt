@@ -1,0 +1,92 @@
+//! The top call.
+
+ghost use Rattle.std.specs.Prelude.{◌≡◌, map, string_bytes};
+ghost use Rattle.archive_cli.specs.Job.{job_of};
+ghost use Rattle.archive_cli.specs.Ending.{IsEnding};
+ghost use Rattle.archive_cli.specs.Expected.{IsExpected};
+ghost use Rattle.archive_cli.specs.Report.{status_at, IsReport};
+ghost use Rattle.std.specs.Result.{result_err};
+
+use crate::report::{Ended, Report};
+use crate::scan::scan;
+use crate::words::{Command, command_of};
+use arch_types::refusal::Refusal;
+use outer_traits::clock::Clock;
+use outer_traits::inputs::Inputs;
+use outer_traits::sink::Sink;
+use std::alloc::Global;
+
+/// Does what the words ask, and says how it ended.
+pub fn run<I: Inputs, K: Sink, C: Clock>(
+    alloc: Global,
+    words: &[String],
+    inputs: &mut I,
+    sink: &mut K,
+    clock: &mut C,
+) -> Ended
+    // For each job and each answer its cause, and what was written.
+    ensures ended { IsEnding (record {
+      words = map (λ w. string_bytes w) words.now;
+      files = I.files inputs.old;
+      moment = C.next clock.old;
+      read_faults = I.faults inputs.old;
+      read_faults' = I.faults inputs.new;
+      written = K.written sink.old;
+      written' = K.written sink.new;
+      write_faults = K.faults sink.old;
+      write_faults' = K.faults sink.new;
+    }) result.report.refusal }
+
+    // Over told inputs the answer that it has to be, or want of memory.
+    ensures expected { IsExpected (record {
+      words = map (λ w. string_bytes w) words.now;
+      files = I.files inputs.old;
+      moment = C.next clock.old;
+      read_faults = I.faults inputs.old;
+      read_faults' = I.faults inputs.new;
+      written = K.written sink.old;
+      written' = K.written sink.new;
+      write_faults = K.faults sink.old;
+      write_faults' = K.faults sink.new;
+    }) result.report.refusal }
+
+    // The number of the refusal, and 0 exactly where there's none.
+    ensures status { result.status ≡ status_at result.report.refusal }
+    ensures report { IsReport (job_of (map (λ w. string_bytes w) words.now)) result.report }
+{
+    let refusal = run_job(alloc, words, inputs, sink, clock).err();
+    let status = match &refusal {
+        None => 0,
+        Some(refusal) => refusal.status(),
+    };
+    Ended {
+        status,
+        report: Report::unopened(refusal),
+    }
+}
+
+/// Does the job of the words.
+fn run_job<I: Inputs, K: Sink, C: Clock>(
+    alloc: Global,
+    words: &[String],
+    inputs: &mut I,
+    sink: &mut K,
+    clock: &mut C,
+) -> Result<(), Refusal>
+    ensures { IsEnding (record {
+      words = map (λ w. string_bytes w) words.now;
+      files = I.files inputs.old;
+      moment = C.next clock.old;
+      read_faults = I.faults inputs.old;
+      read_faults' = I.faults inputs.new;
+      written = K.written sink.old;
+      written' = K.written sink.new;
+      write_faults = K.faults sink.old;
+      write_faults' = K.faults sink.new;
+    }) (result_err result) }
+{
+    match command_of(words) {
+        Command::Usage => Err(Refusal::Usage),
+        Command::Scan { dump } => scan(alloc, dump, inputs, sink, clock),
+    }
+}
