@@ -27,8 +27,8 @@ pub struct Loaded {
     pub why: Why,
 }
 
-/// Rows that a table makes room for at first.
-const LEAST: usize = 64;
+/// Rows that a table makes room for at a time.
+const STEP: u64 = 1024;
 
 /// The rows of a dump that was received at a moment. The one error is want of memory.
 pub fn load_rows(alloc: Global, dump: &Octets, moment: i64) -> Result<Loaded, AllocError>
@@ -51,7 +51,7 @@ pub fn load_rows(alloc: Global, dump: &Octets, moment: i64) -> Result<Loaded, Al
     })
 }
 
-/// Gives a table without room as much as it has rows, so that what it takes stays in proportion to them.
+/// Makes room in a table that has none, by small steps: its rows grow by doubling, and blocks of its index that stay empty take memory.
 fn make_room(table: &mut Table) -> Result<(), AllocError>
     ensures room { OnOk result (0 < table.new.room) }
     ensures same { table.new.stored ≡ table.old.stored }
@@ -59,8 +59,7 @@ fn make_room(table: &mut Table) -> Result<(), AllocError>
     if table.room() > 0 {
         return Ok(());
     }
-    let rows = table.len().max(LEAST);
-    table.reserve(rows as u64)
+    table.reserve(STEP)
 }
 
 /// Adds the row of a packet that isn't idle.

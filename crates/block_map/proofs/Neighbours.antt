@@ -67,33 +67,33 @@ module _ {K V : Type 0} where
       subst (λ (c : ℕ). c < length blocks → w.items ≡ (get_or blocks b d).items ++ (get_or blocks c d).items → entries_of (set (remove blocks c) b w) ≡ entries_of blocks) (sym next) (joined_next blocks b d w) h is
 
   module _ (n : ℕ) where
-    abbrev HasHalf : Vec (K × V) → Type 0
-    HasHalf block = n ≤ length block.items
+    abbrev HasLeast : Vec (K × V) → Type 0
+    HasLeast block = n ≤ length block.items
 
     -- one block changed, and another that may have too few
     pub filled_but : (blocks : List (Vec (K × V))) (b c : ℕ) (w : Vec (K × V)) → ((i : ℕ) (d : Vec (K × V)) → 0 < i → i < length blocks → (i ≡ c → ⊥) → n ≤ length (get_or blocks i d).items) →
         (0 < b → n ≤ length w.items) → (i : ℕ) (d : Vec (K × V)) → 0 < i → i < length (set blocks b w) → (i ≡ c → ⊥) → n ≤ length (get_or (set blocks b w) i d).items
     filled_but blocks b c w filled more i d p l apart =
         let within : i < length blocks = omega (arith, l, length-set blocks b w) in
-        set_either HasHalf blocks b w i d within (λ e. more (omega (arith, p, e))) (λ other. filled i d p within apart)
+        set_either HasLeast blocks b w i d within (λ e. more (omega (arith, p, e))) (λ other. filled i d p within apart)
 
     -- the block that may have too few is changed
     pub filled_mended : (blocks : List (Vec (K × V))) (b : ℕ) (w : Vec (K × V)) → ((i : ℕ) (d : Vec (K × V)) → 0 < i → i < length blocks → (i ≡ b → ⊥) → n ≤ length (get_or blocks i d).items) →
         (0 < b → n ≤ length w.items) → (i : ℕ) (d : Vec (K × V)) → 0 < i → i < length (set blocks b w) → n ≤ length (get_or (set blocks b w) i d).items
     filled_mended blocks b w filled more i d p l =
         let within : i < length blocks = omega (arith, l, length-set blocks b w) in
-        set_either HasHalf blocks b w i d within (λ e. more (omega (arith, p, e))) (λ other. filled i d p within other)
+        set_either HasLeast blocks b w i d within (λ e. more (omega (arith, p, e))) (λ other. filled i d p within other)
 
     -- one block loses entries
     pub filled_thinned : (blocks : List (Vec (K × V))) (b : ℕ) (w : Vec (K × V)) → ((i : ℕ) (d : Vec (K × V)) → 0 < i → i < length blocks → n ≤ length (get_or blocks i d).items) →
         (i : ℕ) (d : Vec (K × V)) → 0 < i → i < length (set blocks b w) → (i ≡ b → ⊥) → n ≤ length (get_or (set blocks b w) i d).items
     filled_thinned blocks b w filled i d p l apart =
         let within : i < length blocks = omega (arith, l, length-set blocks b w) in
-        set_either HasHalf blocks b w i d within (λ e. absurd (apart e)) (λ other. filled i d p within)
+        set_either HasLeast blocks b w i d within (λ e. absurd (apart e)) (λ other. filled i d p within)
 
     -- the block that may have too few is gone
     pub filled_removed : (blocks : List (Vec (K × V))) (c : ℕ) → c < length blocks → ((i : ℕ) (d : Vec (K × V)) → 0 < i → i < length blocks → (i ≡ c → ⊥) → n ≤ length (get_or blocks i d).items) →
         (i : ℕ) (d : Vec (K × V)) → 0 < i → i < length (remove blocks c) → n ≤ length (get_or (remove blocks c) i d).items
     filled_removed blocks c h filled i d p l =
         let len = length-remove blocks c h in
-        remove_either HasHalf blocks c i d h (λ k. filled i d p (omega (arith, k, h)) (λ e. omega (arith, k, e))) (λ k. filled (suc i) d (omega arith) (omega (arith, l, len)) (λ e. omega (arith, k, e)))
+        remove_either HasLeast blocks c i d h (λ k. filled i d p (omega (arith, k, h)) (λ e. omega (arith, k, e))) (λ k. filled (suc i) d (omega arith) (omega (arith, l, len)) (λ e. omega (arith, k, e)))

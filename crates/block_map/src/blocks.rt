@@ -9,31 +9,34 @@ ghost use Rattle.block_map.specs.Blocks.{entries_of, IsBlockFor, IsBlocks, AreRe
 use crate::search::block_for;
 
 /// The entries of a full block.
-pub const FULL: usize = 256;
+pub const FULL: usize = 1024;
 
 /// The entries that each block but the first has at least.
-pub const HALF: usize = FULL / 2;
+pub const LEAST: usize = FULL / 4;
+
+/// The entries that a full block keeps where it is split. Keys that come in order leave blocks behind them that are so full.
+pub const KEPT: usize = FULL - LEAST;
 
 pub(crate) type Block<K, V> = Vec<(K, V)>;
 
-/// Moves the upper half of a full block into an empty one.
-fn move_half<K: Copy, V: Copy>(block: &mut Block<K, V>, upper: &mut Block<K, V>)
+/// Moves the last entries of a full block into an empty one.
+fn move_upper<K: Copy, V: Copy>(block: &mut Block<K, V>, upper: &mut Block<K, V>)
     requires full { vec_len block.old ≡ FULL }
     requires empty { upper.old.items ≡ [] }
     requires room { FULL ≤ vec_capacity upper.old }
-    ensures lower { block.new.items ≡ take HALF block.old.items }
-    ensures upper { upper.new.items ≡ drop HALF block.old.items }
-    ensures lower_len { vec_len block.new ≡ HALF }
-    ensures upper_len { vec_len upper.new ≡ HALF }
+    ensures lower { block.new.items ≡ take KEPT block.old.items }
+    ensures upper { upper.new.items ≡ drop KEPT block.old.items }
+    ensures lower_len { vec_len block.new ≡ KEPT }
+    ensures upper_len { vec_len upper.new ≡ LEAST }
     ensures same { vec_capacity block.new ≡ vec_capacity block.old }
     ensures kept { FULL ≤ vec_capacity upper.new }
 {
-    let (_, high) = block.as_slice().split_at(HALF);
+    let (_, high) = block.as_slice().split_at(KEPT);
     let _ = upper.extend_from_slice(high);
-    block.truncate(HALF);
+    block.truncate(KEPT);
 }
 
-/// Splits a full block, its upper half in a spare block behind it.
+/// Splits a full block, its last entries in a spare block behind it.
 fn split<K: Ord + Copy, V: Copy>(
     blocks: &mut Vec<Block<K, V>>,
     spare: &mut Vec<Block<K, V>>,
@@ -54,13 +57,13 @@ fn split<K: Ord + Copy, V: Copy>(
     ensures spare_capacity { vec_capacity spare.new ≡ vec_capacity spare.old }
 {
     if let Some(mut upper) = spare.pop() {
-        move_half(&mut blocks[b], &mut upper);
+        move_upper(&mut blocks[b], &mut upper);
         let _ = blocks.insert(b + 1, upper);
     }
 }
 
 /// The block that a key belongs in, with a place left in it. Full ones are split on the way, and searched again:
-/// which half the key belongs in needs no proof of its own.
+/// which part the key belongs in needs no proof of its own.
 pub(crate) fn open_block<K: Ord + Copy, V: Copy>(
     blocks: &mut Vec<Block<K, V>>,
     spare: &mut Vec<Block<K, V>>,
@@ -69,7 +72,7 @@ pub(crate) fn open_block<K: Ord + Copy, V: Copy>(
     requires blocks { IsBlocks K.cmp blocks.old.items }
     requires ready { AreReady spare.old.items }
     requires fits { vec_len blocks.old + vec_len spare.old ≤ vec_capacity blocks.old }
-    requires room { length (entries_of blocks.old.items) < (vec_len blocks.old + vec_len spare.old) * HALF }
+    requires room { length (entries_of blocks.old.items) < (vec_len blocks.old + vec_len spare.old) * LEAST }
     ensures blocks { IsBlocks K.cmp blocks.new.items }
     ensures same { entries_of blocks.new.items ≡ entries_of blocks.old.items }
     ensures ready { AreReady spare.new.items }

@@ -8,7 +8,7 @@ ghost use Rattle.block_map.specs.Rising.{IsRising};
 ghost use Rattle.block_map.specs.Blocks.{AreReady};
 ghost use Rattle.block_map.specs.Index.{IsAdded};
 
-use crate::blocks::{Block, FULL, HALF, open_block, put, set_value};
+use crate::blocks::{Block, FULL, LEAST, open_block, put, set_value};
 use crate::entries::Entries;
 use crate::removal::{refill, take_out};
 use crate::search::{block_for, place_in};
@@ -116,7 +116,7 @@ impl<K: Ord + Copy, V: Copy> Index<K, V> {
             self.alloc,
             &mut self.blocks,
             &mut self.spare,
-            total / HALF + 1,
+            total / LEAST + 1,
         )?;
         self.room = additional;
         Ok(())

@@ -4,13 +4,13 @@
 // a look-up, an insert and a removal are the list functions that std's `BTreeMap` has for its entries.
 // Callers: the tables (key to place of a row), the late intervals, the partitions and the histogram.
 //
-// The entries stand in blocks of at most `FULL` entries, each block but the first at least half full. A full block
-// is split, and its upper half goes into a spare block. The one idea of the proof: where a block is full and each
-// but the first is half full, `blocks * HALF <= len`; so `len + room < (blocks + spare) * HALF` promises every
+// The entries stand in blocks of at most `FULL` entries, each block but the first at least `LEAST`. A full block
+// is split, and its last `LEAST` go into a spare block. The one idea of the proof: where a block is full and each
+// but the first has `LEAST`, `blocks * LEAST <= len`; so `len + room < (blocks + spare) * LEAST` promises every
 // insert the spare block that it may need, and no split has ever to be counted.
 // The searches need two facts alone: a key that is not below an entry is above those before it, and a key below an
 // entry is below those after it (proofs/Rising.antt).
-// To be changed together: the sizes in src/blocks.rt, `IsBlocks` in specs/Blocks.antt, `half_full` in proofs/Counted.antt.
+// To be changed together: the sizes in src/blocks.rt, `IsBlocks` in specs/Blocks.antt, `full_counts` in proofs/Counted.antt.
 #![tactic(auto)]
 
 pub mod blocks;

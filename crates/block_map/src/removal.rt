@@ -7,9 +7,9 @@ ghost use Rattle.std.specs.BTreeMap.{is_at};
 ghost use Rattle.block_map.specs.Rising.{IsPlaceIn};
 ghost use Rattle.block_map.specs.Blocks.{entries_of, IsBlockFor, IsBlocks, IsThinAt, AreReady};
 
-use crate::blocks::{Block, FULL, HALF};
+use crate::blocks::{Block, FULL, LEAST};
 
-/// Takes the entry at a place out of its block, which may then lack one of half.
+/// Takes the entry at a place out of its block, which may then lack one of `LEAST`.
 pub(crate) fn take_out<K: Ord + Copy, V: Copy>(
     blocks: &mut Vec<Block<K, V>>,
     b: usize,
@@ -55,8 +55,8 @@ fn join<K: Ord + Copy, V: Copy>(
 fn move_last<K: Ord + Copy, V: Copy>(blocks: &mut Vec<Block<K, V>>, left: usize)
     requires thin { IsThinAt K.cmp blocks.old.items (left + 1) }
     requires within { left + 1 < length blocks.old.items }
-    requires more { (d : Vec (K × V)) → HALF < length (slice_index_or blocks.old.items left d).items }
-    requires less { (d : Vec (K × V)) → length (slice_index_or blocks.old.items (left + 1) d).items < HALF }
+    requires more { (d : Vec (K × V)) → LEAST < length (slice_index_or blocks.old.items left d).items }
+    requires less { (d : Vec (K × V)) → length (slice_index_or blocks.old.items (left + 1) d).items < LEAST }
     ensures blocks { IsBlocks K.cmp blocks.new.items }
     ensures same { entries_of blocks.new.items ≡ entries_of blocks.old.items }
     ensures len { vec_len blocks.new ≡ vec_len blocks.old }
@@ -67,7 +67,7 @@ fn move_last<K: Ord + Copy, V: Copy>(blocks: &mut Vec<Block<K, V>>, left: usize)
     }
 }
 
-/// Fills up a block that lacks one entry of half, from the block before it: both become one, or it gets that one's
+/// Fills up a block that lacks one entry of `LEAST`, from the block before it: both become one, or it gets that one's
 /// last entry. The first block may hold any number.
 pub(crate) fn refill<K: Ord + Copy, V: Copy>(
     blocks: &mut Vec<Block<K, V>>,
@@ -85,7 +85,7 @@ pub(crate) fn refill<K: Ord + Copy, V: Copy>(
     ensures capacity { vec_capacity blocks.new ≡ vec_capacity blocks.old }
     ensures spare_capacity { vec_capacity spare.new ≡ vec_capacity spare.old }
 {
-    if b == 0 || blocks[b].len() >= HALF {
+    if b == 0 || blocks[b].len() >= LEAST {
         return;
     }
     let left = b - 1;

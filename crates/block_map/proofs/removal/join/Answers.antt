@@ -6,7 +6,7 @@ use Rattle.std.proofs.lemmas.List.Elements.{All-set, All-append, All-cons, All-n
 use Rattle.std.specs.Global.{Vec}
 use Rattle.block_map.specs.Rising.{IsRising}
 use Rattle.block_map.specs.Blocks.{entries_of, IsSized}
-use Rattle.block_map.specs.declared.blocks.TheConstants.{HALF, FULL}
+use Rattle.block_map.specs.declared.blocks.TheConstants.{LEAST, FULL}
 use Rattle.block_map.proofs.Counted.{filled_set}
 use Rattle.block_map.proofs.Neighbours.{before_removed, entries_joined, filled_removed}
 use Rattle.block_map.proofs.removal.join.Goals as goal
@@ -62,12 +62,12 @@ returns-clause-blocks g c =
     let len : length w.items ≡ length x.items + length right.items = ap length (rw appended at c.append.ensures.items) ∙ length-append x.items right.items in
     let fewer = length-remove old (c.args.left + 1) c.requires.within in
     let within : c.args.left < length rest = omega (arith, fewer, c.requires.within) in
-    let more : 0 < c.args.left → HALF ≤ length w.items = λ p. (let f = rw (← x_is) at (c.requires.thin.filled c.args.left right p here (λ e. omega (arith, e))) in omega (arith, len, f)) in
+    let more : 0 < c.args.left → LEAST ≤ length w.items = λ p. (let f = rw (← x_is) at (c.requires.thin.filled c.args.left right p here (λ e. omega (arith, e))) in omega (arith, len, f)) in
     let small : IsSized w = (omega (arith, len, fit), omega (arith, c.append.ensures.capacity, sized.1)) in
     let all = c.requires.thin.sized in
     record {
       some = rw gone (omega (arith, length-set rest c.args.left w, within));
       rising = subst (IsRising g.K.Ord.cmp) (sym (returns-clause-same g c)) c.requires.thin.rising;
-      filled = rw gone (filled_set HALF rest c.args.left w (filled_removed HALF old (c.args.left + 1) c.requires.within c.requires.thin.filled) within more);
+      filled = rw gone (filled_set LEAST rest c.args.left w (filled_removed LEAST old (c.args.left + 1) c.requires.within c.requires.thin.filled) within more);
       sized = rw gone (All-set IsSized rest c.args.left w small (All-append IsSized (take (c.args.left + 1) old) (drop (suc (c.args.left + 1)) old) (All-take IsSized (c.args.left + 1) old all) (All-drop IsSized (suc (c.args.left + 1)) old all)));
     }

@@ -3,7 +3,7 @@ use Rattle.std.proofs.Math.ListN.{length-set}
 use Rattle.std.proofs.lemmas.List.Elements.{All-set}
 use Rattle.block_map.specs.Rising.{IsRising}
 use Rattle.block_map.specs.Blocks.{IsSized}
-use Rattle.block_map.specs.declared.blocks.TheConstants.{HALF}
+use Rattle.block_map.specs.declared.blocks.TheConstants.{LEAST}
 use Rattle.block_map.proofs.Neighbours.{after_changed, entries_shared, filled_but, filled_mended}
 use Rattle.block_map.proofs.removal.move_last.Goals as goal
 
@@ -48,6 +48,6 @@ returns-in-Some-clause-blocks g c =
     record {
       some = omega (arith, length-set old c.args.left l, length-set (set old c.args.left l) (c.args.left + 1) r, c.requires.thin.some);
       rising = subst (IsRising g.K.Ord.cmp) (sym (returns-in-Some-clause-same g c)) c.requires.thin.rising;
-      filled = filled_mended HALF (set old c.args.left l) (c.args.left + 1) r (filled_but HALF old c.args.left (c.args.left + 1) l c.requires.thin.filled (λ p. omega (arith, taken, more))) (λ p. omega (arith, given, thin));
+      filled = filled_mended LEAST (set old c.args.left l) (c.args.left + 1) r (filled_but LEAST old c.args.left (c.args.left + 1) l c.requires.thin.filled (λ p. omega (arith, taken, more))) (λ p. omega (arith, given, thin));
       sized = All-set IsSized (set old c.args.left l) (c.args.left + 1) r right_small (All-set IsSized old c.args.left l left_small c.requires.thin.sized);
     }
