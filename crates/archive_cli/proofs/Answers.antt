@@ -1,9 +1,9 @@
 -- Which answer has to come, by the causes of all answers.
-use Rattle.std.proofs.Common.{◌≡◌, ℕ, ◌+◌, ◌-◌, ◌<◌, ◌≤◌, List, [], ◌∷◌, length, Option, Some, None, inl, inr, sym, ◌∙◌, ap, refl, arith}
+use Rattle.std.proofs.Common.{◌≡◌, ℕ, ◌-◌, ◌<◌, ◌≤◌, List, [], ◌∷◌, length, Option, Some, None, inl, inr, sym, ◌∙◌, ap, refl, arith}
 use Rattle.std.specs.Prelude.{IfSome, IsSome, IsNone, IsSomeAnd}
 use Rattle.std.specs.FinMap.{get}
 use Rattle.arch_types.specs.declared.refusal.Refusal.{Refusal}
-use Rattle.arch_types.specs.declared.refusal.Refusal.TheVariants.{Usage, Missing, ReadFault, WriteFault, BadPacket, BadSheet, BadSql, NoArchive, Exists, Damaged, DiskFault, NeedsReopen, UnknownParameter, BadRange, UnknownTable, Limit, Mismatch, Late, OutOfMemory}
+use Rattle.arch_types.specs.declared.refusal.Refusal.TheVariants.{Missing, ReadFault, WriteFault, BadPacket, Limit, OutOfMemory}
 use Rattle.arch_types.specs.declared.refusal.Which.TheVariants.{DumpOctets}
 use Rattle.arch_types.specs.declared.refusal.BadKind.{BadKind}
 use Rattle.arch_types.specs.Dump.{IsDump}
@@ -12,7 +12,7 @@ use Rattle.outer_traits.specs.Outside.{Files, HasRisen}
 use Rattle.archive_cli.specs.Job.{Job, Scan, job_of}
 use Rattle.archive_cli.specs.Call.{Call, IsInput, IsSilent}
 use Rattle.archive_cli.specs.Ending.{dump_limit, Received, IsBadRest, IsScanEnding, IsJobEnding, IsEnding}
-use Rattle.archive_cli.specs.Expected.{IsOrMemory, NoFault, ending_of_rest, IsScanExpected, IsJobExpected, IsExpected}
+use Rattle.archive_cli.specs.Expected.{IsOrMemory, NoFault, ending_of_rest, IsJobExpected, IsExpected}
 use Rattle.archive_cli.specs.Reading.{IsReadRefusal}
 
 not_risen : (before now : ℕ) → NoFault before now → HasRisen before now → ⊥

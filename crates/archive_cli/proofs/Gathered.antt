@@ -1,6 +1,6 @@
 -- The rows of packets, with one packet more.
-use Rattle.std.proofs.Common.{◌≡◌, ℕ, ℤ, ◌+◌, ◌-◌, ◌<◌, ◌≤◌, List, [], ◌∷◌, ◌++◌, length, map, true, false, not, Bool, cond, sym, ◌∙◌, ap, refl, arith, length-append, append-nil}
-use Rattle.std.specs.Prelude.{fold, flat_map, slice_range}
+use Rattle.std.proofs.Common.{◌≡◌, ℕ, ℤ, ◌<◌, List, [], ◌∷◌, ◌++◌, map, true, false, not, Bool, cond, ◌∙◌, ap, refl, arith, length-append, append-nil}
+use Rattle.std.specs.Prelude.{flat_map, slice_range}
 use Rattle.std.specs.List.{list_any, AllByRecursion}
 use Rattle.std.proofs.lemmas.List.Elements.{All-nil}
 use Rattle.std.proofs.lemmas.List.Sums.{fold-append}
@@ -9,15 +9,15 @@ use Rattle.arch_types.specs.Packet.{is_idle, IsPacket}
 use Rattle.arch_types.specs.Arrivals.{row_of, kept}
 use Rattle.arch_types.specs.History.{with_row, firsts, is_duplicate_of, has_key}
 use Rattle.arch_types.proofs.Parts.{part_length}
-use Rattle.space_packet.specs.Cut.{IsPart, IsCut}
+use Rattle.space_packet.specs.Cut.{IsPart}
 use Rattle.space_packet.proofs.Cuts.{cut_more}
 use Rattle.yarch_table.specs.declared.table.Stored.{Stored}
 use Rattle.yarch_table.specs.Stored.{rows_of}
 use Rattle.archive_cli.specs.declared.counts.Added.{Added}
 use Rattle.archive_cli.specs.declared.counts.Added.TheVariants.{Idle, New, Duplicate}
 use Rattle.archive_cli.specs.declared.counts.Counts.{Counts}
-use Rattle.archive_cli.specs.Text.{scanned_rows, counts_line, last_line}
-use Rattle.archive_cli.specs.Loaded.{scanned_row, IsShown, IsAdded, counted, HasCounts, IsGathered, IsLoading}
+use Rattle.archive_cli.specs.Text.{scanned_rows}
+use Rattle.archive_cli.specs.Loaded.{scanned_row, IsShown, IsAdded, counted, IsGathered, IsLoading}
 
 abbrev rows_of_packet : ℤ → List ℕ → List Row
 rows_of_packet moment p = map (row_of 1 moment (λ p. 0) p) (0 ∷ [])

@@ -1,6 +1,6 @@
 -- Inputs that are read piece by piece.
-use Rattle.std.proofs.Common.{◌≡◌, ℕ, ◌+◌, ◌<◌, List, [], ◌++◌, length, take, drop, Option, Some, None, append_assoc, append-nil, length-append, ◌∙◌, sym, ap, refl, arith}
-use Rattle.std.specs.Prelude.{IfSome, IsSome, IsNone, IsSomeAnd}
+use Rattle.std.proofs.Common.{◌≡◌, ℕ, ◌+◌, ◌<◌, List, [], ◌++◌, length, take, drop, Option, Some, None, append_assoc, append-nil, length-append, ◌∙◌, ap, refl, arith}
+use Rattle.std.specs.Prelude.{IfSome, IsSome, IsSomeAnd}
 use Rattle.std.specs.FinMap.{get}
 use Rattle.std.proofs.lemmas.List.{take-append-drop}
 use Rattle.outer_traits.specs.Outside.{Files, Reads, Gives}

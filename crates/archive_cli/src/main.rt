@@ -45,7 +45,7 @@ fn main(rt: HostRuntime) -> ExitCode {
     };
     let mut inputs = RealInputs::new(&rt);
     let mut sink = RealSink::new(&rt);
-    let mut clock = RealClock::new(&rt);
+    let mut clock = RealClock { rt: &rt };
     let ended = run(
         rt.alloc(),
         words.as_slice(),

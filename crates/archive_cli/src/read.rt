@@ -50,6 +50,7 @@ pub fn read_input<I: Inputs>(
     ensures whole { IfOk result (λ octets. IsInput (I.files inputs.old) name.now octets.items × (vec_len octets ≤ bound.limit)) }
     ensures refused { IfErr result (IsReadRefusal (I.files inputs.old) name.now bound.which bound.limit (I.faults inputs.old) (I.faults inputs.new)) }
     ensures later { I.faults inputs.old ≤ I.faults inputs.new }
+    ensures steady { I.never_fails inputs.old → Stays (I.faults inputs.old) (I.faults inputs.new) }
 {
     match inputs.open(alloc, name) {
         Ok(opened) => {
@@ -106,6 +107,7 @@ fn read_all<S: Source>(alloc: Global, source: &mut S, limit: usize) -> Result<Ve
     ensures long { IsErrOf result ReadFault.TooLong → IfSome (S.left source.old) (λ left. limit < length left) }
     ensures later { S.faults source.old ≤ S.faults source.new }
     ensures failed { IsErrOf result ReadFault.Failed → HasRisen (S.faults source.old) (S.faults source.new) }
+    ensures steady { S.never_fails source.old → Stays (S.faults source.old) (S.faults source.new) }
 {
     let mut octets = Vec::new(alloc);
     let mut piece = zeros(alloc, PIECE)?;

@@ -1,6 +1,6 @@
 //! The files, the standard output and the clock of the system. They tell no contents, and count their faults.
 
-ghost use Rattle.std.specs.Prelude.{None};
+ghost use Rattle.std.specs.Prelude.{◌≡◌, None};
 
 use outer_traits::clock::Clock;
 use outer_traits::fault::{Failed, OpenFault, raised};
@@ -47,7 +47,9 @@ pub struct RealInputs<'a, R> {
 }
 
 impl<'a, R> RealInputs<'a, R> {
-    pub fn new(rt: &'a R) -> Self {
+    pub fn new(rt: &'a R) -> Self
+        ensures { result.faults ≡ 0 }
+    {
         RealInputs { rt, faults: 0 }
     }
 }
@@ -63,7 +65,7 @@ impl<'a, R: Files> Inputs for RealInputs<'a, R> {
         match fs::open(self.rt, name) {
             Ok(file) => Ok(RealSource { file, faults: 0 }),
             Err(error) => {
-                if error.kind() == ErrorKind::NotFound {
+                if matches!(error.kind(), ErrorKind::NotFound | ErrorKind::NotADirectory) {
                     return Err(OpenFault::Missing);
                 }
                 self.faults = raised(self.faults);
@@ -87,7 +89,9 @@ pub struct RealSink<'a, R> {
 }
 
 impl<'a, R> RealSink<'a, R> {
-    pub fn new(rt: &'a R) -> Self {
+    pub fn new(rt: &'a R) -> Self
+        ensures { result.faults ≡ 0 }
+    {
         RealSink { rt, faults: 0 }
     }
 }
@@ -115,13 +119,7 @@ impl<'a, R: Print> Sink for RealSink<'a, R> {
 /// The system's clock, kept to the years 1970 to 9999. Where it can't be read it stands at the first moment.
 #[derive(Drop)]
 pub struct RealClock<'a, R> {
-    rt: &'a R,
-}
-
-impl<'a, R> RealClock<'a, R> {
-    pub fn new(rt: &'a R) -> Self {
-        RealClock { rt }
-    }
+    pub rt: &'a R,
 }
 
 impl<'a, R: SystemClock> Clock for RealClock<'a, R> {

@@ -1,6 +1,7 @@
 //! The top call.
 
 ghost use Rattle.std.specs.Prelude.{◌≡◌, map, string_bytes};
+ghost use Rattle.outer_traits.specs.Outside.{Stays};
 ghost use Rattle.archive_cli.specs.Job.{job_of};
 ghost use Rattle.archive_cli.specs.Ending.{IsEnding};
 ghost use Rattle.archive_cli.specs.Expected.{IsExpected};
@@ -53,6 +54,9 @@ pub fn run<I: Inputs, K: Sink, C: Clock>(
     // The number of the refusal, and 0 exactly where there's none.
     ensures status { result.status ≡ status_at result.report.refusal }
     ensures report { IsReport (job_of (map (λ w. string_bytes w) words.now)) result.report }
+
+    // Inputs that never fail have no more faults than before.
+    ensures steady { I.never_fails inputs.old → Stays (I.faults inputs.old) (I.faults inputs.new) }
 {
     let refusal = run_job(alloc, words, inputs, sink, clock).err();
     let status = match &refusal {
@@ -73,7 +77,7 @@ fn run_job<I: Inputs, K: Sink, C: Clock>(
     sink: &mut K,
     clock: &mut C,
 ) -> Result<(), Refusal>
-    ensures { IsEnding (record {
+    ensures ended { IsEnding (record {
       words = map (λ w. string_bytes w) words.now;
       files = I.files inputs.old;
       moment = C.next clock.old;
@@ -84,6 +88,7 @@ fn run_job<I: Inputs, K: Sink, C: Clock>(
       write_faults = K.faults sink.old;
       write_faults' = K.faults sink.new;
     }) (result_err result) }
+    ensures steady { I.never_fails inputs.old → Stays (I.faults inputs.old) (I.faults inputs.new) }
 {
     match command_of(words) {
         Command::Usage => Err(Refusal::Usage),

@@ -2,7 +2,7 @@
 
 ghost use Rattle.std.specs.Prelude.{◌≡◌, ◌<◌, ◌≤◌, OnOk, OnErr, IsErr, length, ◌++◌};
 ghost use Rattle.std.specs.Result.{result_err};
-ghost use Rattle.outer_traits.specs.Outside.{HasRisen, WritesSome};
+ghost use Rattle.outer_traits.specs.Outside.{HasRisen, Stays, WritesSome};
 ghost use Rattle.archive_cli.specs.Call.{Appends};
 ghost use Rattle.archive_cli.specs.Ending.{IsScanEnding};
 ghost use Rattle.archive_cli.specs.Printing.{lines_of, end_of, text_of_loaded};
@@ -35,7 +35,7 @@ pub fn scan<I: Inputs, K: Sink, C: Clock>(
     sink: &mut K,
     clock: &mut C,
 ) -> Result<(), Refusal>
-    ensures { (words : _) → IsScanEnding (record {
+    ensures ended { (words : _) → IsScanEnding (record {
       words = words;
       files = I.files inputs.old;
       moment = C.next clock.old;
@@ -46,6 +46,7 @@ pub fn scan<I: Inputs, K: Sink, C: Clock>(
       write_faults = K.faults sink.old;
       write_faults' = K.faults sink.new;
     }) name.now (result_err result) }
+    ensures steady { I.never_fails inputs.old → Stays (I.faults inputs.old) (I.faults inputs.new) }
 {
     let dump = read_input(alloc, inputs, name, DUMP)?;
     let moment = clock.now();

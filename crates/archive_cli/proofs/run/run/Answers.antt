@@ -11,4 +11,7 @@ returns-clause-expected g c =
     rw refusal
     (expected (call_of (map (λ w. string_bytes w) c.args.words.now) (g.I.Inputs.files c.args.inputs.now) (g.C.Clock.next c.args.clock.now)
     (g.I.Inputs.faults c.args.inputs.now) (g.I.Inputs.faults c.run_job.new.inputs) (g.K.Sink.written c.args.sink.now) (g.K.Sink.written c.run_job.new.sink)
-    (g.K.Sink.faults c.args.sink.now) (g.K.Sink.faults c.run_job.new.sink)) (result_err c.run_job.result) c.run_job.ensures)
+    (g.K.Sink.faults c.args.sink.now) (g.K.Sink.faults c.run_job.new.sink)) (result_err c.run_job.result) c.run_job.ensures.ended)
+
+pub returns-clause-steady : goal.returns-clause-steady
+returns-clause-steady g c = c.run_job.ensures.steady

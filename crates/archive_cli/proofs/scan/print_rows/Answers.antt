@@ -1,9 +1,9 @@
-use Rattle.std.proofs.Common.{◌≡◌, ◌++◌, ◌∷◌, [], arith}
+use Rattle.std.proofs.Common.{◌≡◌, ◌++◌, ◌∷◌, arith}
 use Rattle.std.specs.Prelude.{flat_map}
 use Rattle.std.proofs.lemmas.Result.{err_from_is_err_and}
 use Rattle.archive_cli.specs.Text.{row_line}
 use Rattle.archive_cli.specs.Printing.{HasMoved, lines_of}
-use Rattle.archive_cli.proofs.Pieces.{moved_none, moved_more, moved_some, regroup, regroup_end}
+use Rattle.archive_cli.proofs.Pieces.{moved_none, moved_more, moved_some, regroup}
 use Rattle.archive_cli.proofs.Shown.{seen-all}
 use Rattle.archive_cli.proofs.scan.print_rows.Goals as goal
 
