@@ -1,0 +1,7 @@
+pub mod Appending
+pub mod Bodies
+pub mod Elsewhere
+pub mod Files
+pub mod Once
+pub mod Opened
+pub mod Reading

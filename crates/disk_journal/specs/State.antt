@@ -1,0 +1,111 @@
+-- How a journal in memory and its file belong together.
+use Rattle.std.specs.Prelude.{◌≡◌, ℕ, ◌+◌, ◌<◌, List, [], ◌∷◌, length, Option, Some, None, Result, Err, vec_len, vec_capacity}
+use Rattle.arch_disk.specs.Image.{Image, AgreesBut}
+use Rattle.arch_disk.specs.Disk.{Device, IsDurable}
+use Rattle.disk_journal.specs.Format.{written, HasRecords, HasStaged}
+use Rattle.disk_journal.specs.declared.journal.Journal.{Journal}
+use Rattle.disk_journal.specs.declared.fault.JournalFault.{JournalFault}
+use Rattle.disk_journal.specs.declared.fault.JournalFault.TheVariants.{NoArchive, Damaged, NeedsReopen, Limit, DiskFault, OutOfMemory}
+use Rattle.disk_journal.specs.declared.journal.Extent.{Extent}
+use Rattle.disk_journal.specs.declared.journal.Trouble.{Trouble}
+use Rattle.disk_journal.specs.declared.journal.Trouble.TheVariants.{Healthy, GateClosed, GateTouched}
+
+-- the places of the bodies in a file whose records begin at this octet
+abbrev pub extents_from : ℕ → List (List ℕ) → List Extent
+extents_from at [] = []
+extents_from at (body ∷ bodies) = record { at = at + 5; len = length body } ∷ extents_from (at + 5 + length body) bodies
+
+-- What is known of the file by the failures of writes and syncs since the last heal;
+-- `pending` is the body of the record whose gate may have been written.
+abbrev pub StateIs : {D : Type 0} → Device D → Trouble → ℕ → List (List ℕ) → List ℕ → D → Type 0
+StateIs device Healthy file bodies pending disk = HasRecords (device.reads disk file) bodies × IsDurable device file (device.reads disk file) disk
+StateIs device (GateClosed faults) file bodies pending disk = (c : Image) → device.images disk c → HasRecords (c file) bodies
+StateIs device (GateTouched faults) file bodies pending disk = (c : Image) → device.images disk c → HasStaged (c file) bodies pending
+
+-- the journal has just these records on this disk
+pub record Keeps {D : Type 0} (device : Device D) (journal : Journal) (bodies : List (List ℕ)) (pending : List ℕ) (disk : D) : Type 0 where
+  pub extents : journal.extents.items ≡ extents_from 0 bodies
+  pub end : journal.end ≡ length (written bodies)
+  pub state : StateIs device journal.trouble journal.file bodies pending disk
+
+pub record KeepsSome {D : Type 0} (device : Device D) (journal : Journal) (disk : D) : Type 0 where
+  pub bodies : List (List ℕ)
+  pub pending : List ℕ
+  pub keeps : Keeps device journal bodies pending disk
+
+-- in every other file the image is one of those from before
+abbrev pub IsOldBut : {D : Type 0} → Device D → ℕ → D → Image → Type 0
+IsOldBut device file old c = (d : Image) × device.images old d × AgreesBut file d c
+
+-- all but the room is the same
+pub record IsSame (old new : Journal) : Type 0 where
+  pub file : new.file ≡ old.file
+  pub extents : new.extents.items ≡ old.extents.items
+  pub end : new.end ≡ old.end
+  pub trouble : new.trouble ≡ old.trouble
+
+abbrev pub file_of : Journal → ℕ
+file_of journal = journal.file
+
+abbrev pub count_of : Journal → ℕ
+count_of journal = length journal.extents.items
+
+-- there is room for one record more
+abbrev pub HasRoom : Journal → Type 0
+HasRoom journal = vec_len journal.extents < vec_capacity journal.extents
+
+abbrev pub faults_of : Trouble → Option ℕ
+faults_of Healthy = None
+faults_of (GateClosed faults) = Some faults
+faults_of (GateTouched faults) = Some faults
+
+-- the disk's count of faults at the failure that is not healed
+abbrev pub unhealed : Journal → Option ℕ
+unhealed journal = faults_of journal.trouble
+
+-- the count in a NeedsReopen
+abbrev pub asks_reopen : {T : Type 0} → Result T JournalFault → Option ℕ
+asks_reopen (Err (NeedsReopen faults)) = Some faults
+asks_reopen _ = None
+
+-- the errors of an append
+abbrev pub IsAppendFault : JournalFault → Type 0
+IsAppendFault (NeedsReopen faults) = Unit {0}
+IsAppendFault Limit = Unit {0}
+IsAppendFault DiskFault = Unit {0}
+IsAppendFault _ = ⊥
+
+-- the error is one that an append answers before any call of the disk
+abbrev pub IsEarly : JournalFault → Type 0
+IsEarly (NeedsReopen faults) = Unit {0}
+IsEarly Limit = Unit {0}
+IsEarly _ = ⊥
+
+-- what reading a file of this content gives
+pub record IsReadFrom (content : List ℕ) (journal : Journal) : Type 0 where
+  pub bodies : List (List ℕ)
+  pub has : HasRecords content bodies
+  pub extents : journal.extents.items ≡ extents_from 0 bodies
+  pub end : journal.end ≡ length (written bodies)
+
+-- the errors of reading records
+abbrev pub IsReadFault : JournalFault → Type 0
+IsReadFault (Damaged at) = Unit {0}
+IsReadFault DiskFault = Unit {0}
+IsReadFault OutOfMemory = Unit {0}
+IsReadFault _ = ⊥
+
+-- the errors of opening
+abbrev pub IsOpenFault : JournalFault → Type 0
+IsOpenFault NoArchive = Unit {0}
+IsOpenFault (Damaged at) = Unit {0}
+IsOpenFault DiskFault = Unit {0}
+IsOpenFault OutOfMemory = Unit {0}
+IsOpenFault _ = ⊥
+
+-- it is damaged at that gate, or the disk failed or memory is wanting
+abbrev pub IsDamagedOr : ℕ → JournalFault → Type 0
+IsDamagedOr at (Damaged other) = other ≡ at
+IsDamagedOr at DiskFault = Unit {0}
+IsDamagedOr at OutOfMemory = Unit {0}
+IsDamagedOr at _ = ⊥

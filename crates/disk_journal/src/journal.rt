@@ -1,0 +1,184 @@
+// The records of one file.
+ghost use Rattle.std.specs.Prelude.{◌≡◌, ◌+◌, ◌<◌, ◌≤◌, ◌⊎◌, ◌++◌, [], ◌∷◌, List, ℕ, None, IsTrue, length, get_or, OnOk, IfOk, IfErr, IfSome, IsErrAnd, slice_get};
+ghost use Rattle.arch_disk.specs.Image.{Image, AgreesBut};
+ghost use Rattle.arch_disk.specs.Disk.{IsDurable, LeavesOnly, Looked, HasCause, raised};
+ghost use Rattle.disk_journal.specs.Format.{HasRecords, IsDamagedAt, HoldsNone};
+ghost use Rattle.disk_journal.specs.State.{IsOldBut};
+
+use crate::steps::{flush, len_of, octet_at, octets_at, put};
+use crate::{Frame, JournalFault, Opening};
+use arch_disk::{Disk, Failed};
+use std::alloc::{AllocError, Global};
+
+/// Where the body of a record stands: its first octet in the file, and its length.
+#[derive(Clone, Copy, Debug, PartialEq, Eq)]
+pub struct Extent {
+    pub at: u64,
+    pub len: u32,
+}
+
+/// A failure of a write or a sync that is not healed, with the disk's count of faults as it stood at it.
+#[derive(Clone, Copy, Debug, PartialEq, Eq)]
+pub enum Trouble {
+    Healthy,
+    /// The gate behind the records was not written.
+    GateClosed(u64),
+    /// The gate may have been written; the record behind it stands whole.
+    GateTouched(u64),
+}
+
+/// The records of a file of a disk, and where the next one goes.
+#[derive(Drop)]
+pub struct Journal {
+    pub(crate) file: u32,
+    pub(crate) extents: Vec<Extent>,
+    /// The closed gate behind the records.
+    pub(crate) end: u64,
+    pub(crate) trouble: Trouble,
+}
+
+// The length of a file that begins with an open gate, and has an octet behind it.
+pub(crate) fn begins_open<D: Disk>(disk: &mut D, file: u32) -> Result<Option<u64>, Failed>
+    ensures none { IsTrue D.device.tells → IfOk result (λ len. len ≡ None → HoldsNone (D.device.reads disk.old file)) }
+    ensures some { IsTrue D.device.tells → IfOk result (λ len. IfSome len (λ n. (n ≡ length (D.device.reads disk.old file)) × (2 ≤ n) × (get_or (D.device.reads disk.old file) 0 0 ≡ 1))) }
+    ensures two { IfOk result (λ len. IfSome len (λ n. 2 ≤ n)) }
+    ensures looked { Looked D.device disk.old disk.new }
+    ensures cause { HasCause D.device disk.old disk.new result }
+{
+    let len = len_of(disk, file)?;
+    if len < 2 {
+        return Ok(None);
+    }
+    if octet_at(disk, file, 0)? == 1 {
+        Ok(Some(len))
+    } else {
+        Ok(None)
+    }
+}
+
+// Makes a file that holds no archive begin with a closed gate.
+fn prepare<D: Disk>(disk: &mut D, file: u32) -> Result<(), JournalFault>
+    ensures ready { IsTrue D.device.tells → OnOk result (HasRecords (D.device.reads disk.new file) [] × IsDurable D.device file (D.device.reads disk.new file) disk.new) }
+    ensures none { IsTrue D.device.tells → OnOk result (HoldsNone (D.device.reads disk.old file)) }
+    ensures exists { IsTrue D.device.tells → result ≡ Err JournalFault.Exists → (2 ≤ length (D.device.reads disk.old file)) × (get_or (D.device.reads disk.old file) 0 0 ≡ 1) × (D.device.reads disk.new ≡ D.device.reads disk.old) }
+    ensures moments { IsTrue D.device.tells → HoldsNone (D.device.reads disk.old file) → LeavesOnly D.device disk.old disk.new (λ c. D.device.images disk.old c ⊎ HoldsNone (c file)) }
+    ensures elsewhere { LeavesOnly D.device disk.old disk.new (IsOldBut D.device file disk.old) }
+    ensures reads { IsTrue D.device.tells → AgreesBut file (D.device.reads disk.old) (D.device.reads disk.new) }
+    ensures only { IfErr result (λ e. (e ≡ JournalFault.Exists) ⊎ (e ≡ JournalFault.DiskFault)) }
+    ensures cause { result ≡ Err JournalFault.DiskFault → raised (D.device.fault_count disk.old) ≤ D.device.fault_count disk.new }
+    ensures later { D.device.fault_count disk.old ≤ D.device.fault_count disk.new }
+{
+    flush(disk, file)?;
+    let len = len_of(disk, file)?;
+    if len < 2 {
+        put(disk, file, 0, &[0])?;
+        return Ok(());
+    }
+    if octet_at(disk, file, 0)? == 1 {
+        return Err(JournalFault::Exists);
+    }
+    Ok(())
+}
+
+impl Journal {
+    ghost use Rattle.disk_journal.specs.State.{Keeps, KeepsSome, HasRoom, count_of, file_of, unhealed, IsSame, IsOpenFault, IsDamagedOr};
+
+    /// Makes a journal with one record in a file that holds none. It begins with a sync.
+    pub fn create<D: Disk>(
+        alloc: Global,
+        disk: &mut D,
+        file: u32,
+        first: &Frame,
+    ) -> Result<Journal, JournalFault>
+        ensures ok { IsTrue D.device.tells → IfOk result (λ journal. Keeps D.device journal (first.now ∷ []) [] disk.new) }
+        ensures still { IsTrue D.device.tells → IfOk result (λ journal. KeepsSome D.device journal disk.new) }
+        ensures healthy { IfOk result (λ journal. (unhealed journal ≡ None) × (file_of journal ≡ file)) }
+
+        // Exists comes exactly where the file has two octets at least and the first is 1.
+        ensures none { IsTrue D.device.tells → OnOk result (HoldsNone (D.device.reads disk.old file)) }
+        ensures exists { IsTrue D.device.tells → result ≡ Err JournalFault.Exists → (2 ≤ length (D.device.reads disk.old file)) × (get_or (D.device.reads disk.old file) 0 0 ≡ 1) × (D.device.reads disk.new ≡ D.device.reads disk.old) }
+
+        // A crash at any moment of the call leaves no archive or one record, or what it could have left before.
+        ensures any_moment { IsTrue D.device.tells → HoldsNone (D.device.reads disk.old file)
+            → LeavesOnly D.device disk.old disk.new (λ c. D.device.images disk.old c ⊎ (HoldsNone (c file) ⊎ HasRecords (c file) (first.now ∷ []))) }
+        ensures elsewhere { LeavesOnly D.device disk.old disk.new (IsOldBut D.device file disk.old) }
+        ensures reads { IsTrue D.device.tells → AgreesBut file (D.device.reads disk.old) (D.device.reads disk.new) }
+
+        ensures only { IfErr result (λ e. (e ≡ JournalFault.Exists) ⊎ ((e ≡ JournalFault.DiskFault) ⊎ (e ≡ JournalFault.OutOfMemory))) }
+        ensures cause { result ≡ Err JournalFault.DiskFault → raised (D.device.fault_count disk.old) ≤ D.device.fault_count disk.new }
+        ensures memory { result ≡ Err JournalFault.OutOfMemory → disk.new ≡ disk.old }
+    {
+        let _size = first.len();
+        let mut journal = Journal {
+            file,
+            extents: Vec::new(alloc),
+            end: 0,
+            trouble: Trouble::Healthy,
+        };
+        journal.reserve()?;
+        prepare(disk, file)?;
+        journal.append(disk, first)?;
+        Ok(journal)
+    }
+
+    /// Opens the journal in a file. It begins with a sync, and reads of each record the gate and the length.
+    pub fn open<D: Disk>(alloc: Global, disk: &mut D, file: u32) -> Result<Journal, JournalFault>
+        ensures records { IsTrue D.device.tells → IfOk result (λ journal. (bodies : List (List ℕ)) × HasRecords (D.device.reads disk.old file) bodies × Keeps D.device journal bodies [] disk.new) }
+        ensures still { IsTrue D.device.tells → IfOk result (λ journal. KeepsSome D.device journal disk.new) }
+        ensures healthy { IfOk result (λ journal. (unhealed journal ≡ None) × (file_of journal ≡ file)) }
+        ensures reads { D.device.reads disk.new ≡ D.device.reads disk.old }
+
+        // NoArchive comes exactly where the file doesn't have two octets at least of which the first is 1.
+        ensures none { IsTrue D.device.tells → result ≡ Err JournalFault.NoArchive → HoldsNone (D.device.reads disk.old file) }
+        ensures some { IsTrue D.device.tells → OnOk result (get_or (D.device.reads disk.old file) 0 0 ≡ 1) }
+
+        // Damaged comes exactly where an open record, with the gate octet after it, passes the end, and names its gate.
+        ensures damaged { IsTrue D.device.tells → (at : ℕ) → result ≡ Err (JournalFault.Damaged at)
+            → (get_or (D.device.reads disk.old file) 0 0 ≡ 1) × (2 ≤ length (D.device.reads disk.old file)) × IsDamagedAt (D.device.reads disk.old file) at }
+        ensures exactly { IsTrue D.device.tells → 2 ≤ length (D.device.reads disk.old file) → get_or (D.device.reads disk.old file) 0 0 ≡ 1
+            → (at : ℕ) → IsDamagedAt (D.device.reads disk.old file) at → IsErrAnd result (IsDamagedOr at) }
+
+        ensures moments { LeavesOnly D.device disk.old disk.new (D.device.images disk.old) }
+        ensures only { IfErr result IsOpenFault }
+        ensures cause { result ≡ Err JournalFault.DiskFault → raised (D.device.fault_count disk.old) ≤ D.device.fault_count disk.new }
+        ensures later { D.device.fault_count disk.old ≤ D.device.fault_count disk.new }
+    {
+        let opening = Opening::begin(alloc, disk, file)?;
+        opening.finish_all(disk)
+    }
+
+    /// The number of records.
+    pub fn count(&self) -> u64
+        ensures { result ≡ count_of self.now }
+    {
+        self.extents.len() as u64
+    }
+
+    /// Makes room for one record more.
+    pub fn reserve(&mut self) -> Result<(), AllocError>
+        ensures ok { OnOk result (HasRoom self.new) }
+        ensures same { IsSame self.old self.new }
+    {
+        self.extents.reserve(1)
+    }
+
+    /// The body of the record at place `i`, counted from 0.
+    pub fn record<D: Disk>(
+        &self,
+        alloc: Global,
+        disk: &mut D,
+        i: u64,
+    ) -> Result<Vec<u8>, JournalFault>
+        requires place { i < count_of self.now }
+        requires kept { IsTrue D.device.tells → KeepsSome D.device self.now disk.old }
+        ensures body { IsTrue D.device.tells → (bodies : List (List ℕ)) (pending : List ℕ)
+            → Keeps D.device self.now bodies pending disk.old
+            → IfOk result (λ body. slice_get bodies i ≡ Some body.items) }
+        ensures looked { Looked D.device disk.old disk.new }
+        ensures only { IfErr result (λ e. (e ≡ JournalFault.DiskFault) ⊎ (e ≡ JournalFault.OutOfMemory)) }
+        ensures cause { result ≡ Err JournalFault.DiskFault → raised (D.device.fault_count disk.old) ≤ D.device.fault_count disk.new }
+    {
+        let extent = self.extents[i as usize];
+        octets_at(alloc, disk, self.file, extent.at, extent.len)
+    }
+}

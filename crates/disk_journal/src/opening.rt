@@ -1,0 +1,166 @@
+// A journal that is being read, record after record, in one pass.
+ghost use Rattle.std.specs.Prelude.{◌≡◌, ◌≢◌, ◌+◌, ◌<◌, ◌^◌, ◌≤◌, ◌⊎◌, ◌++◌, [], ◌∷◌, List, ℕ, IsTrue, length, get_or, take, drop, OnOk, IfOk, IfErr, IfSome, None};
+ghost use Rattle.arch_disk.specs.Disk.{AddsNoImage, IsDurable, LeavesOnly, Looked, raised};
+ghost use Rattle.disk_journal.specs.Format.{HasRecords, IsDamagedAt, HoldsNone};
+ghost use Rattle.disk_journal.specs.declared.fault.JournalFault.TheVariants.{NoArchive, DiskFault};
+ghost use Rattle.disk_journal.specs.State.{IsReadFault, unhealed, file_of};
+
+use crate::JournalFault;
+use crate::journal::{Extent, Journal, Trouble, begins_open};
+use crate::steps::{flush, number_at, octet_at, octets_at};
+use arch_disk::Disk;
+use std::alloc::{AllocError, Global};
+
+/// A reading of a file, up to a gate.
+#[derive(Drop)]
+pub struct Opening {
+    file: u32,
+    extents: Vec<Extent>,
+    /// The gate that is read next.
+    at: u64,
+    /// The length of the file.
+    len: u64,
+}
+
+impl Opening {
+    ghost use Rattle.disk_journal.specs.Reading.{IsAt, IsWholeAt, IsCutShortAt, place_of, file_read, IsFinished};
+    ghost use Rattle.disk_journal.specs.State.{IsReadFrom};
+
+    /// Begins at the first record, with a sync.
+    pub fn begin<D: Disk>(alloc: Global, disk: &mut D, file: u32) -> Result<Opening, JournalFault>
+        ensures at { IsTrue D.device.tells → IfOk result (λ opening. IsAt opening (D.device.reads disk.old file) []) }
+        ensures file { IfOk result (λ opening. file_read opening ≡ file) }
+        ensures open { IsTrue D.device.tells → OnOk result ((2 ≤ length (D.device.reads disk.old file)) × (get_or (D.device.reads disk.old file) 0 0 ≡ 1)) }
+        ensures none { IsTrue D.device.tells → result ≡ Err JournalFault.NoArchive → HoldsNone (D.device.reads disk.old file) }
+        ensures durable { OnOk result (IsDurable D.device file (D.device.reads disk.new file) disk.new) }
+        ensures reads { D.device.reads disk.new ≡ D.device.reads disk.old }
+        ensures moments { LeavesOnly D.device disk.old disk.new (D.device.images disk.old) }
+        ensures only { IfErr result (λ e. (e ≡ NoArchive) ⊎ (e ≡ DiskFault)) }
+        ensures cause { result ≡ Err JournalFault.DiskFault → raised (D.device.fault_count disk.old) ≤ D.device.fault_count disk.new }
+        ensures later { D.device.fault_count disk.old ≤ D.device.fault_count disk.new }
+        ensures images { AddsNoImage D.device disk.old disk.new }
+    {
+        flush(disk, file)?;
+        match begins_open(disk, file)? {
+            None => Err(JournalFault::NoArchive),
+            Some(len) => Ok(Opening {
+                file,
+                extents: Vec::new(alloc),
+                at: 0,
+                len,
+            }),
+        }
+    }
+
+    // Where the body of the next record stands; None at a closed gate.
+    fn look<D: Disk>(&self, disk: &mut D) -> Result<Option<Extent>, JournalFault>
+        requires { IsTrue D.device.tells → (self.now.len ≡ length (D.device.reads disk.old self.now.file)) × (self.now.at < self.now.len) }
+        ensures some { IsTrue D.device.tells → IfOk result (λ next. IfSome next (λ extent. IsWholeAt (D.device.reads disk.old self.now.file) self.now.at extent)) }
+        ensures none { IsTrue D.device.tells → IfOk result (λ next. next ≡ None → get_or (D.device.reads disk.old self.now.file) self.now.at 0 ≢ 1) }
+        ensures within { IfOk result (λ next. IfSome next (λ extent. (extent.at ≡ self.now.at + 5) × (self.now.at + 5 + extent.len < 2 ^ 64))) }
+        ensures damaged { IsTrue D.device.tells → (bodies : List (List ℕ)) → IsAt self.now (D.device.reads disk.old self.now.file) bodies
+            → (at : ℕ) → result ≡ Err (JournalFault.Damaged at) → (at ≡ self.now.at) × IsCutShortAt (D.device.reads disk.old self.now.file) bodies }
+        ensures looked { Looked D.device disk.old disk.new }
+        ensures only { IfErr result IsReadFault }
+        ensures cause { result ≡ Err JournalFault.DiskFault → raised (D.device.fault_count disk.old) ≤ D.device.fault_count disk.new }
+    {
+        if octet_at(disk, self.file, self.at)? != 1 {
+            return Ok(None);
+        }
+        let left = self.len.saturating_sub(self.at);
+        if left < 6 {
+            return Err(JournalFault::Damaged { at: self.at });
+        }
+        let len = number_at(disk, self.file, self.at + 1)?;
+        if u64::from(len) > left - 6 {
+            return Err(JournalFault::Damaged { at: self.at });
+        }
+        Ok(Some(Extent {
+            at: self.at + 5,
+            len,
+        }))
+    }
+
+    // Takes in the record that was looked at.
+    fn advance(&mut self, extent: Extent) -> Result<(), AllocError>
+        requires { extent.at + extent.len < 2 ^ 64 }
+        ensures at { (content : List ℕ) (bodies : List (List ℕ)) → IsAt self.old content bodies → IsWholeAt content self.old.at extent
+            → OnOk result (IsAt self.new content (bodies ++ take extent.len (drop extent.at content) ∷ [])) }
+        ensures moves { OnOk result (self.new.at ≡ extent.at + extent.len) }
+        ensures file { file_read self.new ≡ file_read self.old }
+    {
+        self.extents.push(extent)?;
+        self.at = extent.at + extent.len as u64;
+        Ok(())
+    }
+
+    /// The body of the next record; None at the closed gate that ends them.
+    pub fn next<D: Disk>(
+        &mut self,
+        alloc: Global,
+        disk: &mut D,
+    ) -> Result<Option<Vec<u8>>, JournalFault>
+        requires { IsTrue D.device.tells → (bodies : List (List ℕ)) × IsAt self.old (D.device.reads disk.old (file_read self.old)) bodies }
+        ensures some { IsTrue D.device.tells → (bodies : List (List ℕ)) → IsAt self.old (D.device.reads disk.old (file_read self.old)) bodies
+            → IfOk result (λ next. IfSome next (λ body. IsAt self.new (D.device.reads disk.old (file_read self.old)) (bodies ++ body.items ∷ []))) }
+        ensures none { IsTrue D.device.tells → (bodies : List (List ℕ)) → IsAt self.old (D.device.reads disk.old (file_read self.old)) bodies
+            → IfOk result (λ next. next ≡ None → HasRecords (D.device.reads disk.old (file_read self.old)) bodies × IsAt self.new (D.device.reads disk.old (file_read self.old)) bodies) }
+        ensures damaged { IsTrue D.device.tells → (bodies : List (List ℕ)) → IsAt self.old (D.device.reads disk.old (file_read self.old)) bodies
+            → (at : ℕ) → result ≡ Err (JournalFault.Damaged at) → (at ≡ place_of self.old) × IsCutShortAt (D.device.reads disk.old (file_read self.old)) bodies }
+        ensures moves { IfOk result (λ next. IfSome next (λ body. (place_of self.old < place_of self.new) × (length body.items < 2 ^ 32))) }
+        ensures file { file_read self.new ≡ file_read self.old }
+        ensures looked { Looked D.device disk.old disk.new }
+        ensures only { IfErr result IsReadFault }
+        ensures cause { result ≡ Err JournalFault.DiskFault → raised (D.device.fault_count disk.old) ≤ D.device.fault_count disk.new }
+    {
+        match self.look(disk)? {
+            None => Ok(None),
+            Some(extent) => {
+                let body = octets_at(alloc, disk, self.file, extent.at, extent.len)?;
+                self.advance(extent)?;
+                Ok(Some(body))
+            }
+        }
+    }
+
+    // Reads on to the closed gate that ends the records, over the bodies.
+    pub(crate) fn finish_all<D: Disk>(mut self, disk: &mut D) -> Result<Journal, JournalFault>
+        requires { IsTrue D.device.tells → IsAt self (D.device.reads disk.old (file_read self)) [] }
+        ensures records { IsTrue D.device.tells → IfOk result (IsReadFrom (D.device.reads disk.old (file_read self))) }
+        ensures healthy { IfOk result (λ journal. (unhealed journal ≡ None) × (file_of journal ≡ file_read self)) }
+        ensures damaged { IsTrue D.device.tells → (at : ℕ) → result ≡ Err (JournalFault.Damaged at) → IsDamagedAt (D.device.reads disk.old (file_read self)) at }
+        ensures only { IfErr result IsReadFault }
+        ensures looked { Looked D.device disk.old disk.new }
+        ensures cause { result ≡ Err JournalFault.DiskFault → raised (D.device.fault_count disk.old) ≤ D.device.fault_count disk.new }
+    {
+        'records: while let Some(extent) = self.look(disk)? {
+            self.advance(extent)?;
+        }
+        Ok(self.finish())
+    }
+
+    /// The gate of the next record, in octets from the file's start.
+    pub fn place(&self) -> u64
+        ensures { result ≡ place_of self.now }
+    {
+        self.at
+    }
+
+    /// The journal of the records that were read; the next one goes to the gate that is read next.
+    pub fn finish(self) -> Journal
+        ensures { IsFinished self result }
+    {
+        let Opening {
+            file,
+            extents,
+            at,
+            len: _,
+        } = self;
+        Journal {
+            file,
+            extents,
+            end: at,
+            trouble: Trouble::Healthy,
+        }
+    }
+}

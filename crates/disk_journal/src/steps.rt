@@ -1,0 +1,106 @@
+// Runs of few calls of a disk: a write that is durable once it is answered Ok, and looks at a file.
+ghost use Rattle.std.specs.Prelude.{◌≡◌, ◌+◌, ◌<◌, ◌≤◌, ◌⊎◌, IsTrue, length, take, drop, get_or, OnOk, IfOk, IfErr};
+ghost use Rattle.std.specs.Int.{w32, from_be_bytes, to_be_bytes};
+ghost use Rattle.arch_disk.specs.Image.{Image, AgreesBut, Torn, InFile, Becomes, overwritten};
+ghost use Rattle.arch_disk.specs.Disk.{AddsNoImage, IsDurable, LeavesOnly, Looked, HasCause, CountsFailure, raised};
+ghost use Rattle.disk_journal.specs.declared.fault.JournalFault.TheVariants.{DiskFault, OutOfMemory};
+
+use crate::JournalFault;
+use arch_disk::{Disk, Failed};
+use std::alloc::Global;
+
+// A write and a sync.
+pub fn put<D: Disk>(disk: &mut D, file: u32, at: u64, octets: &[u8]) -> Result<(), Failed>
+    requires { IsTrue D.device.tells → at ≤ length (D.device.reads disk.old file) }
+    ensures written { OnOk result (IsTrue D.device.tells → InFile (Becomes (overwritten at octets.now)) file (D.device.reads disk.old) (D.device.reads disk.new)) }
+    ensures reads { IsTrue D.device.tells → AgreesBut file (D.device.reads disk.old) (D.device.reads disk.new) }
+    ensures durable { OnOk result (IsDurable D.device file (D.device.reads disk.new file) disk.new) }
+
+    // A crash at any moment leaves the range torn.
+    ensures moments { LeavesOnly D.device disk.old disk.new
+        (λ c. (d : Image) × D.device.images disk.old d × InFile (Torn at (length octets.now)) file d c) }
+    ensures cause { HasCause D.device disk.old disk.new result }
+    ensures writes { CountsFailure D.device disk.old disk.new result }
+{
+    disk.write_at(file, at, octets)?;
+    disk.sync(file)
+}
+
+// A sync.
+pub fn flush<D: Disk>(disk: &mut D, file: u32) -> Result<(), Failed>
+    ensures durable { OnOk result (IsDurable D.device file (D.device.reads disk.new file) disk.new) }
+    ensures reads { D.device.reads disk.new ≡ D.device.reads disk.old }
+    ensures moments { LeavesOnly D.device disk.old disk.new (D.device.images disk.old) }
+    ensures images { AddsNoImage D.device disk.old disk.new }
+    ensures cause { HasCause D.device disk.old disk.new result }
+    ensures writes { CountsFailure D.device disk.old disk.new result }
+{
+    disk.sync(file)
+}
+
+// One octet.
+pub fn octet_at<D: Disk>(disk: &mut D, file: u32, at: u64) -> Result<u8, Failed>
+    requires { IsTrue D.device.tells → at < length (D.device.reads disk.old file) }
+    ensures octet { IfOk result (λ octet. IsTrue D.device.tells → octet ≡ get_or (D.device.reads disk.old file) at 0) }
+    ensures looked { Looked D.device disk.old disk.new }
+    ensures cause { HasCause D.device disk.old disk.new result }
+{
+    let mut octets = [0; 1];
+    disk.read_at(file, at, &mut octets)?;
+    Ok(octets[0])
+}
+
+// The number that four octets spell.
+fn number_of(octets: &[u8]) -> u32
+    requires { length octets.now ≡ 4 }
+    ensures number { result ≡ from_be_bytes w32 octets.now }
+    ensures octets { to_be_bytes w32 result ≡ octets.now }
+{
+    u32::from_be_bytes([octets[0], octets[1], octets[2], octets[3]])
+}
+
+// A number of four octets.
+pub fn number_at<D: Disk>(disk: &mut D, file: u32, at: u64) -> Result<u32, Failed>
+    requires { IsTrue D.device.tells → at + 4 ≤ length (D.device.reads disk.old file) }
+    ensures number { IfOk result (λ number. IsTrue D.device.tells → number ≡ from_be_bytes w32 (take 4 (drop at (D.device.reads disk.old file)))) }
+    ensures octets { IfOk result (λ number. IsTrue D.device.tells → to_be_bytes w32 number ≡ take 4 (drop at (D.device.reads disk.old file))) }
+    ensures looked { Looked D.device disk.old disk.new }
+    ensures cause { HasCause D.device disk.old disk.new result }
+{
+    let mut octets = [0; 4];
+    disk.read_at(file, at, &mut octets)?;
+    Ok(number_of(&octets))
+}
+
+// The length of a file.
+pub fn len_of<D: Disk>(disk: &mut D, file: u32) -> Result<u64, Failed>
+    ensures len { IfOk result (λ n. IsTrue D.device.tells → n ≡ length (D.device.reads disk.old file)) }
+    ensures looked { Looked D.device disk.old disk.new }
+    ensures cause { HasCause D.device disk.old disk.new result }
+{
+    disk.len(file)
+}
+
+// A run of octets.
+pub fn octets_at<D: Disk>(
+    alloc: Global,
+    disk: &mut D,
+    file: u32,
+    at: u64,
+    size: u32,
+) -> Result<Vec<u8>, JournalFault>
+    requires { IsTrue D.device.tells → at + size ≤ length (D.device.reads disk.old file) }
+    ensures octets { IfOk result (λ octets. IsTrue D.device.tells → octets.items ≡ take size (drop at (D.device.reads disk.old file))) }
+    ensures long { IfOk result (λ octets. length octets.items ≡ size) }
+    ensures looked { Looked D.device disk.old disk.new }
+    ensures only { IfErr result (λ e. (e ≡ DiskFault) ⊎ (e ≡ OutOfMemory)) }
+    ensures cause { result ≡ Err JournalFault.DiskFault → raised (D.device.fault_count disk.old) ≤ D.device.fault_count disk.new }
+{
+    let Ok(mut octets) = vec![in alloc; 0u8; size as usize] else {
+        return Err(JournalFault::OutOfMemory);
+    };
+    match disk.read_at(file, at, &mut octets) {
+        Ok(()) => Ok(octets),
+        Err(_) => Err(JournalFault::DiskFault),
+    }
+}

@@ -1,0 +1,4 @@
+pub mod Spans
+pub mod Counts
+pub mod Tally
+pub mod Walk

@@ -1,0 +1,3 @@
+pub mod IntervalOrder
+pub mod Positions
+pub mod Waiting

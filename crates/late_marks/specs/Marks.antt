@@ -1,0 +1,57 @@
+-- What contracts see of the marks.
+use Rattle.std.specs.Prelude.{◌≡◌, ◌≢◌, ℕ, ◌≤ℤ◌, List, Option, Some, None, option_map, option_and_then, Bool, false}
+use Rattle.std.specs.Option.{is_some, option_map_or}
+use Rattle.std.specs.Ordering.{int_cmp}
+use Rattle.std.specs.declared.cmp.Ordering.{Ordering}
+use Rattle.std.specs.Map.{lookup}
+use Rattle.std.specs.BTreeMap.{is_at}
+use Rattle.arch_types.specs.declared.interval.Interval.{Interval}
+use Rattle.late_marks.specs.declared.mark.Mark.{Mark}
+use Rattle.late_marks.specs.Mark.{is_late_mark, is_waiting}
+
+-- intervals stand in the order of their numbers
+abbrev pub interval_cmp : Interval → Interval → Ordering
+interval_cmp a b = int_cmp a.0 b.0
+
+-- the marks of the intervals that have rows, and how many more intervals may come to without memory
+pub record Marks : Type 0 where
+  pub marks : List (Interval × Mark)
+  pub room : ℕ
+
+-- the mark among such a list
+abbrev pub mark_in : List (Interval × Mark) → Interval → Option Mark
+mark_in marks interval = lookup (is_at (interval_cmp interval)) marks
+
+-- the mark of an interval, where it has rows
+abbrev pub mark_of : Marks → Interval → Option Mark
+mark_of m interval = mark_in m.marks interval
+
+-- the interval has rows
+abbrev pub has_rows : Marks → Interval → Bool
+has_rows m interval = is_some (mark_of m interval)
+
+-- the greatest position of its rows
+abbrev pub last_of : Marks → Interval → Option ℕ
+last_of m interval = option_map (λ k. k.last) (mark_of m interval)
+
+-- the base of its last fill
+abbrev pub base_of : Marks → Interval → Option ℕ
+base_of m interval = option_and_then (λ k. k.base) (mark_of m interval)
+
+-- it is late
+abbrev pub is_late : Marks → Interval → Bool
+is_late m interval = option_map_or is_late_mark (mark_of m interval) false
+
+-- it is late, and nobody has taken it
+abbrev pub is_late_free : Marks → Interval → Bool
+is_late_free m interval = option_map_or is_waiting (mark_of m interval) false
+
+-- one interval has this mark from now on, and all others the mark that they had
+pub record Marked (old new : Marks) (interval : Interval) (mark : Mark) : Type 0 where
+  pub set : mark_of new interval ≡ Some mark
+  pub others : (other : Interval) → other ≢ interval → mark_of new other ≡ mark_of old other
+
+-- the least interval of which a fact holds, or that it holds of none
+abbrev pub IsLeast : (Interval → Type 0) → Option Interval → Type 0
+IsLeast P None = (i : Interval) → ¬ P i
+IsLeast P (Some least) = P least × ((i : Interval) → P i → least.0 ≤ℤ i.0)

@@ -1,0 +1,19 @@
+// Late marks: which intervals have rows that no fill has seen.
+//
+// An interval with rows is late where it was never filled, or where one of its rows stands in the history at or after the base of
+// its last fill. Contracts see `LateMarks` as the mark of each interval that has rows: the position of the last one, the base of the
+// last fill, and whether somebody has taken the interval to fill it (specs/Mark.antt, specs/Marks.antt). That the greatest position
+// decides as all of them do (`IsLateBy`) is shown in proofs/Positions.antt.
+// Callers: the store, which touches the interval of each row, notes fills, and asks for the next interval to fill.
+//
+// The marks stand in one ordered index, and the intervals that are late and free in a second one, so that the least of them is
+// its first entry. The one idea of the proof: a mark that doesn't wait has a place kept for it in the second index
+// (`roomy` in specs/Books.antt), so that no change of a mark ever takes memory.
+// To be changed together: `is_waiting` in specs/Mark.antt and `Mark::waits`.
+#![tactic(auto)]
+
+mod books;
+pub mod mark;
+pub mod marks;
+#[cfg(test)]
+mod tests;

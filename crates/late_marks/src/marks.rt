@@ -1,0 +1,179 @@
+//! The late marks.
+
+ghost use Rattle.std.specs.Prelude.{◌≡◌, ◌+◌, ◌<◌, ◌≤◌, ◌≤ℤ◌, [], max, true, false, Some, IfOk, OnOk, OnErr, IfSome};
+ghost use Rattle.late_marks.specs.Mark.{touched};
+ghost use Rattle.late_marks.specs.Marks.{mark_of, has_rows, last_of, base_of, is_late, is_late_free, Marked, IsLeast};
+
+use crate::books::Books;
+use crate::mark::Mark;
+use arch_types::interval::Interval;
+use std::alloc::{AllocError, Global};
+use std::marker::Model;
+
+/// The marks of the intervals that have rows.
+#[derive(Drop)]
+pub struct LateMarks {
+    alloc: Global,
+    /// There once room was made.
+    books: Option<Books>,
+}
+
+impl Model for LateMarks {
+    ghost use Rattle.late_marks.specs.Marks.{Marks};
+    ghost use Rattle.late_marks.specs.Books.{marks_of};
+
+    ghost Value = { Marks };
+
+    ghost view = { λ l. marks_of l.books };
+}
+
+impl LateMarks {
+    /// No interval has rows, and there is no room. Takes no memory.
+    pub fn new(alloc: Global) -> Self
+        ensures { result ≡ record { marks = []; room = 0 } }
+    {
+        LateMarks { alloc, books: None }
+    }
+
+    /// Makes room for at least so many more intervals. The one error is want of memory, and then all is as before.
+    pub fn reserve(&mut self, intervals: u64) -> Result<(), AllocError>
+        ensures ok { OnOk result (self.new ≡ record { marks = self.old.marks; room = max self.old.room intervals }) }
+        ensures err { OnErr result (self.new ≡ self.old) }
+        ensures full { OnErr result (self.old.room < intervals) }
+    {
+        let intervals = intervals as usize;
+        match &mut self.books {
+            Some(books) => books.reserve(intervals),
+            None if intervals == 0 => Ok(()),
+            None => {
+                let mut books = Books::new(self.alloc)?;
+                books.reserve(intervals)?;
+                self.books = Some(books);
+                Ok(())
+            }
+        }
+    }
+
+    /// Notes that a row of the interval stands at this position of the history. Takes no memory.
+    pub fn touch(&mut self, interval: Interval, position: u64)
+        requires { 0 < self.old.room }
+        ensures marked { Marked self.old self.new interval (touched (mark_of self.old interval) position) }
+        ensures known { has_rows self.old interval ≡ true → self.new.room ≡ self.old.room }
+        ensures fresh { has_rows self.old interval ≡ false → self.new.room + 1 ≡ self.old.room }
+    {
+        if let Some(books) = &mut self.books {
+            books.touch(interval, position);
+        }
+    }
+
+    /// Notes that the interval, which has rows, was filled from the history's first `base` rows on.
+    pub fn filled(&mut self, interval: Interval, base: u64)
+        requires { has_rows self.old interval ≡ true }
+        ensures marked { IfSome (mark_of self.old interval) (λ m. Marked self.old self.new interval (record m { base = Some base })) }
+        ensures room { self.new.room ≡ self.old.room }
+    {
+        if let Some(books) = &mut self.books {
+            if let Some(mark) = books.mark(interval) {
+                books.change(
+                    interval,
+                    Mark {
+                        base: Some(base),
+                        ..mark
+                    },
+                );
+            }
+        }
+    }
+
+    /// Whether the interval has rows, and was never filled or has one at or after the base of its last fill.
+    pub fn is_late(&self, interval: Interval) -> bool
+        ensures { result ≡ is_late self.now interval }
+    {
+        match self.mark(interval) {
+            Some(mark) => mark.is_late(),
+            None => false,
+        }
+    }
+
+    /// The greatest position of the interval's rows.
+    pub fn last(&self, interval: Interval) -> Option<u64>
+        ensures { result ≡ last_of self.now interval }
+    {
+        self.mark(interval).map(|mark| mark.last)
+    }
+
+    /// The base of the interval's last fill.
+    pub fn base(&self, interval: Interval) -> Option<u64>
+        ensures { result ≡ base_of self.now interval }
+    {
+        self.mark(interval)?.base
+    }
+
+    /// The least interval that is late and that nobody has taken.
+    pub fn least_late_free(&self) -> Option<Interval>
+        ensures { IsLeast (λ i. is_late_free self.now i ≡ true) result }
+    {
+        match &self.books {
+            Some(books) => books.first_waiting(),
+            None => None,
+        }
+    }
+
+    /// Takes an interval that is late and that nobody has taken.
+    pub fn take(&mut self, interval: Interval)
+        requires { is_late_free self.old interval ≡ true }
+        ensures marked { IfSome (mark_of self.old interval) (λ m. Marked self.old self.new interval (record m { taken = true })) }
+        ensures room { self.new.room ≡ self.old.room }
+    {
+        if let Some(books) = &mut self.books {
+            if let Some(mark) = books.mark(interval) {
+                books.change(
+                    interval,
+                    Mark {
+                        taken: true,
+                        ..mark
+                    },
+                );
+            }
+        }
+    }
+
+    /// Gives an interval back, where somebody has taken it.
+    pub fn free(&mut self, interval: Interval)
+        ensures marked { IfSome (mark_of self.old interval) (λ m. Marked self.old self.new interval (record m { taken = false })) }
+        ensures none { has_rows self.old interval ≡ false → self.new ≡ self.old }
+        ensures room { self.new.room ≡ self.old.room }
+    {
+        if let Some(books) = &mut self.books {
+            if let Some(mark) = books.mark(interval) {
+                books.change(
+                    interval,
+                    Mark {
+                        taken: false,
+                        ..mark
+                    },
+                );
+            }
+        }
+    }
+
+    /// The least interval that has rows and isn't below this one.
+    pub fn next_touched(&self, from: Interval) -> Option<Interval>
+        ensures { IsLeast (λ i. (from.0 ≤ℤ i.0) × (has_rows self.now i ≡ true)) result }
+    {
+        match &self.books {
+            Some(books) => books.next_from(from),
+            None => None,
+        }
+    }
+
+    /// The mark of an interval that has rows.
+    fn mark(&self, interval: Interval) -> Option<Mark>
+        ensures { result ≡ mark_of self.now interval }
+    {
+        match &self.books {
+            Some(books) => books.mark(interval),
+            None => None,
+        }
+    }
+}
