@@ -13,12 +13,13 @@ place_of opening = opening.at
 abbrev pub file_read : Opening → ℕ
 file_read opening = opening.file
 
--- so far these bodies were read
+-- so far these bodies were read; where there are none yet, the gate is known to be open
 pub record IsAt (opening : Opening) (content : List ℕ) (bodies : List (List ℕ)) : Type 0 where
   pub extents : opening.extents.items ≡ extents_from 0 bodies
   pub up_to : HasUpTo content opening.at bodies
   pub len : opening.len ≡ length content
   pub inside : opening.at < opening.len
+  pub first : opening.at ≡ 0 → get_or content opening.at 0 ≡ 1
 
 -- a whole record with an open gate stands at this octet, and its body there
 pub record IsWholeAt (content : List ℕ) (at : ℕ) (extent : Extent) : Type 0 where

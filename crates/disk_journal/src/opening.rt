@@ -16,7 +16,7 @@ use std::alloc::{AllocError, Global};
 pub struct Opening {
     file: u32,
     extents: Vec<Extent>,
-    /// The gate that is read next.
+    /// The gate that is read next; the one at 0 was found open at the beginning.
     at: u64,
     /// The length of the file.
     len: u64,
@@ -54,7 +54,8 @@ impl Opening {
 
     // Where the body of the next record stands; None at a closed gate.
     fn look<D: Disk>(&self, disk: &mut D) -> Result<Option<Extent>, JournalFault>
-        requires { IsTrue D.device.tells → (self.now.len ≡ length (D.device.reads disk.old self.now.file)) × (self.now.at < self.now.len) }
+        requires { IsTrue D.device.tells → (self.now.len ≡ length (D.device.reads disk.old self.now.file)) × (self.now.at < self.now.len)
+            × (self.now.at ≡ 0 → get_or (D.device.reads disk.old self.now.file) self.now.at 0 ≡ 1) }
         ensures some { IsTrue D.device.tells → IfOk result (λ next. IfSome next (λ extent. IsWholeAt (D.device.reads disk.old self.now.file) self.now.at extent)) }
         ensures none { IsTrue D.device.tells → IfOk result (λ next. next ≡ None → get_or (D.device.reads disk.old self.now.file) self.now.at 0 ≢ 1) }
         ensures within { IfOk result (λ next. IfSome next (λ extent. (extent.at ≡ self.now.at + 5) × (self.now.at + 5 + extent.len < 2 ^ 64))) }
@@ -64,7 +65,7 @@ impl Opening {
         ensures only { IfErr result IsReadFault }
         ensures cause { result ≡ Err JournalFault.DiskFault → raised (D.device.fault_count disk.old) ≤ D.device.fault_count disk.new }
     {
-        if octet_at(disk, self.file, self.at)? != 1 {
+        if self.at > 0 && octet_at(disk, self.file, self.at)? != 1 {
             return Ok(None);
         }
         let left = self.len.saturating_sub(self.at);

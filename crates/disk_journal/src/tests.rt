@@ -171,7 +171,8 @@ fn images_of_appends_and_heals(rt: HostRuntime) -> Result<(), Fail> {
     Ok(())
 }
 
-// 100,000 appends, over a disk that tells what it holds and over one that doesn't.
+// 100,000 appends, over a disk that tells what it holds and over one that doesn't. Opening them makes a sync, asks for the
+// length of the file, and reads each gate and each record's length once.
 #[test]
 fn many_appends(rt: HostRuntime) -> Result<(), Fail> {
     let mut disk = Silent::new(MemDisk::new(rt.alloc()));
@@ -180,7 +181,9 @@ fn many_appends(rt: HostRuntime) -> Result<(), Fail> {
     grow_many(rt.alloc(), &mut journal, &mut disk, 100_000)?;
     assert_eq!(rt; journal.count(), 100_001);
     let mut disk = disk.into_inner();
+    let made = disk.made();
     assert_eq!(rt; Journal::open(rt.alloc(), &mut disk, 0)?.count(), 100_001);
+    assert_eq!(rt; disk.made().saturating_sub(made), 2 + 100_002 + 100_001);
     assert_eq!(rt;
         Journal::create(rt.alloc(), &mut disk, 0, &first).err(),
         Some(JournalFault::Exists)

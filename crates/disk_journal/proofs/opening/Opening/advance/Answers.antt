@@ -11,4 +11,5 @@ returns-clause-at c content bodies is whole =
       up_to = one_more content old.at bodies e whole is.up_to;
       len = is.len;
       inside = omega (arith, is.len, whole.fits, whole.body_at);
+      first = λ zero_at. absurd (omega (arith, zero_at, whole.body_at));
     }
