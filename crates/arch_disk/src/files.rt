@@ -98,7 +98,7 @@ impl Files {
     }
 
     /// Puts these octets in the place of all that stands in a file.
-    pub fn put(&mut self, file: u32, octets: &[u8]) -> Result<(), AllocError>
+    pub(crate) fn put(&mut self, file: u32, octets: &[u8]) -> Result<(), AllocError>
         ensures { OnOk result (InFile (Becomes (λ _. octets.now)) file (image_in self.old) (image_in self.new)) }
     {
         self.cut(file, 0);

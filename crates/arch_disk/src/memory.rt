@@ -27,14 +27,18 @@ pub struct MemDisk {
 impl MemDisk {
     /// Empty files, and no call that fails while memory lasts.
     pub fn new(alloc: Global) -> MemDisk
-        ensures { result.history ≡ [] }
+        ensures empty { result.history ≡ [] }
+        ensures unlisted { result.failing.items ≡ [] }
+        ensures fresh { (result.made ≡ 0) × (result.faults ≡ 0) × (result.failed_writes ≡ 0) }
     {
         MemDisk::failing(Vec::new(alloc), alloc)
     }
 
     /// Empty files. The calls of these numbers fail, counted from 1 over all calls but `faults`.
     pub fn failing(calls: Vec<u64>, alloc: Global) -> MemDisk
-        ensures { result.history ≡ [] }
+        ensures empty { result.history ≡ [] }
+        ensures listed { result.failing ≡ calls }
+        ensures fresh { (result.made ≡ 0) × (result.faults ≡ 0) × (result.failed_writes ≡ 0) }
     {
         MemDisk {
             history: History::new(alloc),
@@ -73,6 +77,8 @@ impl MemDisk {
         ensures image { IfOk result (λ disk. images_of (first_calls moment self.now.history) (reads_of disk.history)) }
         ensures since { IfOk result (λ disk. since_of self.now.history moment (reads_of disk.history)) }
         ensures kind { IfOk result (λ disk. HoldsOnly disk.history (crash_of crash (first_calls moment self.now.history))) }
+        ensures unlisted { IfOk result (λ disk. disk.failing.items ≡ []) }
+        ensures fresh { IfOk result (λ disk. (disk.made ≡ 0) × (disk.faults ≡ 0) × (disk.failed_writes ≡ 0)) }
     {
         let files = image_after(self.alloc, self.history.first(moment), crash)?;
         let disk = MemDisk::holding(&files, self.alloc)?;
@@ -81,7 +87,9 @@ impl MemDisk {
 
     /// Files that hold this, and all of it is synced.
     pub fn holding(files: &Files, alloc: Global) -> Result<MemDisk, AllocError>
-        ensures { IfOk result (λ disk. HoldsOnly disk.history (image_in files.now)) }
+        ensures image { IfOk result (λ disk. HoldsOnly disk.history (image_in files.now)) }
+        ensures unlisted { IfOk result (λ disk. disk.failing.items ≡ []) }
+        ensures fresh { IfOk result (λ disk. (disk.made ≡ 0) × (disk.faults ≡ 0) × (disk.failed_writes ≡ 0)) }
     {
         let history = History::holding(alloc, files)?;
         Ok(MemDisk {

@@ -10,7 +10,7 @@ pub returns-clause-image : goal.returns-clause-image
 returns-clause-image c =
     let calls = first_calls c.args.moment c.args.self.now.history in
     let same : (f : ℕ) → image_in c.in_ok-files.files f ≡ crash_of c.args.crash calls f = λ f. c.in_ok-files.ensures f ∙ ap (λ (l : List Call). crash_of c.args.crash l f) c.first.ensures in
-    images_same calls (crash_of c.args.crash calls) (reads_of c.in_ok-disk.disk.history) (λ f. c.in_ok-disk.ensures.reads f ∙ same f) (crash_is_image c.args.crash calls)
+    images_same calls (crash_of c.args.crash calls) (reads_of c.in_ok-disk.disk.history) (λ f. c.in_ok-disk.ensures.image.reads f ∙ same f) (crash_is_image c.args.crash calls)
 
 pub returns-clause-since : goal.returns-clause-since
 returns-clause-since c = since_first c.args.self.now.history c.args.moment (reads_of c.in_ok-disk.disk.history) c.requires (returns-clause-image c)
@@ -19,4 +19,4 @@ pub returns-clause-kind : goal.returns-clause-kind
 returns-clause-kind c =
     let calls = first_calls c.args.moment c.args.self.now.history in
     let same : (f : ℕ) → image_in c.in_ok-files.files f ≡ crash_of c.args.crash calls f = λ f. c.in_ok-files.ensures f ∙ ap (λ (l : List Call). crash_of c.args.crash l f) c.first.ensures in
-    record { reads = λ f. c.in_ok-disk.ensures.reads f ∙ same f; durable = λ i left f. c.in_ok-disk.ensures.durable i left f ∙ same f }
+    record { reads = λ f. c.in_ok-disk.ensures.image.reads f ∙ same f; durable = λ i left f. c.in_ok-disk.ensures.image.durable i left f ∙ same f }
