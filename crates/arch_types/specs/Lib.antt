@@ -8,4 +8,5 @@ pub mod Table
 pub mod Name
 pub mod Interval
 pub mod Refusal
+pub mod Limits
 pub mod Laws

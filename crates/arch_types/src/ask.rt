@@ -70,6 +70,20 @@ impl Asks {
         }
     }
 
+    /// Takes a vector over.
+    pub fn from_vec(items: Vec<Ask>) -> Self
+        ensures { result ≡ items.items }
+    {
+        Asks { items }
+    }
+
+    /// The items in a vector.
+    pub fn into_vec(self) -> Vec<Ask>
+        ensures { result.items ≡ self }
+    {
+        self.items
+    }
+
     pub fn as_slice(&self) -> &[Ask]
         ensures { result.now ≡ self.now }
     {

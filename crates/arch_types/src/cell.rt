@@ -52,6 +52,20 @@ impl Cells {
         }
     }
 
+    /// Takes a vector over.
+    pub fn from_vec(items: Vec<Cell>) -> Self
+        ensures { result ≡ items.items }
+    {
+        Cells { items }
+    }
+
+    /// The items in a vector.
+    pub fn into_vec(self) -> Vec<Cell>
+        ensures { result.items ≡ self }
+    {
+        self.items
+    }
+
     pub fn as_slice(&self) -> &[Cell]
         ensures { result.now ≡ self.now }
     {

@@ -48,6 +48,20 @@ impl Outcomes {
         }
     }
 
+    /// Takes a vector over. A caller that must not fail half-way makes one with room for all first, and fills it by `push_reserved`.
+    pub fn from_vec(items: Vec<Inserted>) -> Self
+        ensures { result ≡ items.items }
+    {
+        Outcomes { items }
+    }
+
+    /// The items in a vector.
+    pub fn into_vec(self) -> Vec<Inserted>
+        ensures { result.items ≡ self }
+    {
+        self.items
+    }
+
     pub fn as_slice(&self) -> &[Inserted]
         ensures { result.now ≡ self.now }
     {

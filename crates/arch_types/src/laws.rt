@@ -1,6 +1,18 @@
 //! Laws of the definitions, carried by functions that do nothing.
 
+ghost use Rattle.std.specs.Prelude.{◌≡◌};
+ghost use Rattle.arch_types.specs.Order.{key_cmp};
 ghost use Rattle.arch_types.specs.Laws.{DumpIsOne, TableIsSorted, TableHasItsRows, IngestKeepsHistory, IngestOnlyAdds, IngestKeepsEachKey};
+
+use crate::key::Key;
+use std::cmp::Ordering;
+
+/// Keys are ordered by time, and then by number.
+pub fn keys_are_ordered(a: &Key, b: &Key) -> Ordering
+    ensures { result ≡ key_cmp a.now b.now }
+{
+    a.cmp(b)
+}
 
 /// A dump has one list of packets and one rest.
 pub fn dump_is_one()

@@ -100,6 +100,20 @@ impl Names {
         }
     }
 
+    /// Takes a vector over.
+    pub fn from_vec(items: Vec<Name>) -> Self
+        ensures { result ≡ items.items }
+    {
+        Names { items }
+    }
+
+    /// The items in a vector.
+    pub fn into_vec(self) -> Vec<Name>
+        ensures { result.items ≡ self }
+    {
+        self.items
+    }
+
     pub fn as_slice(&self) -> &[Name]
         ensures { result.now ≡ self.now }
     {

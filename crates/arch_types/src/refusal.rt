@@ -2,11 +2,13 @@
 
 ghost use Rattle.std.specs.Prelude.{◌≡◌, ◌<◌};
 ghost use Rattle.arch_types.specs.Refusal.{status_of};
+ghost use Rattle.arch_types.specs.Limits.{limit_of};
 
 use crate::interval::Interval;
 use crate::key::Key;
 use crate::name::Name;
 use crate::octets::Octets;
+use std::alloc::AllocError;
 
 /// Why the rest of a dump is no packet.
 #[derive(Clone, Copy, Debug, PartialEq, Eq)]
@@ -69,6 +71,36 @@ pub enum Which {
     Tables,
     /// Records of a journal: 4,294,967,295.
     Records,
+}
+
+impl Which {
+    /// The greatest number that the quantity may have.
+    pub fn limit(self) -> u64
+        ensures { result ≡ limit_of self }
+    {
+        match self {
+            Which::DumpOctets => 268_435_456,
+            Which::Rows => 4_194_304,
+            Which::HistoryOctets => 2_147_483_648,
+            Which::IntervalRows => 262_144,
+            Which::Dumps => 16,
+            Which::Fillers => 8,
+            Which::Links => 255,
+            Which::Asks => 256,
+            Which::Files => 99_999_999,
+            Which::SheetOctets => 4_194_304,
+            Which::Parameters => 4_096,
+            Which::Calibrations => 4_096,
+            Which::Containers => 4_096,
+            Which::CalibrationRows => 65_536,
+            Which::Entries => 65_536,
+            Which::ScriptOctets => 65_536,
+            Which::Statements => 256,
+            Which::SqlDepth => 32,
+            Which::Tables => 16,
+            Which::Records => 4_294_967_295,
+        }
+    }
 }
 
 #[derive(Debug, Drop)]
@@ -169,5 +201,15 @@ impl Refusal {
             Refusal::Damaged { .. } | Refusal::Mismatch { .. } => 6,
             Refusal::OutOfMemory => 7,
         }
+    }
+}
+
+impl From<AllocError> for Refusal {
+    ghost use Rattle.arch_types.specs.declared.refusal.Refusal.TheVariants.{OutOfMemory};
+
+    ghost from_gives = { λ _ refusal. refusal ≡ OutOfMemory };
+
+    fn from(_error: AllocError) -> Refusal {
+        Refusal::OutOfMemory
     }
 }

@@ -38,6 +38,20 @@ impl Spans {
         }
     }
 
+    /// Takes a vector over.
+    pub fn from_vec(items: Vec<Span>) -> Self
+        ensures { result ≡ items.items }
+    {
+        Spans { items }
+    }
+
+    /// The items in a vector.
+    pub fn into_vec(self) -> Vec<Span>
+        ensures { result.items ≡ self }
+    {
+        self.items
+    }
+
     pub fn as_slice(&self) -> &[Span]
         ensures { result.now ≡ self.now }
     {

@@ -29,6 +29,20 @@ impl TableList {
         }
     }
 
+    /// Takes a vector over.
+    pub fn from_vec(items: Vec<u8>) -> Self
+        ensures { result ≡ items.items }
+    {
+        TableList { items }
+    }
+
+    /// The items in a vector.
+    pub fn into_vec(self) -> Vec<u8>
+        ensures { result.items ≡ self }
+    {
+        self.items
+    }
+
     pub fn as_slice(&self) -> &[u8]
         ensures { result.now ≡ self.now }
     {
