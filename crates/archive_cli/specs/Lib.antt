@@ -7,5 +7,4 @@ pub mod Report
 pub mod Reading
 pub mod Printing
 pub mod Asked
-pub mod ReadFault
 pub mod Loaded

@@ -1,5 +1,5 @@
 -- What the calls on the outside do, where its content is told, and when they fail.
-use Rattle.std.specs.Prelude.{◌≡◌, ℕ, ℤ, pos, ◌+◌, ◌^◌, ◌<◌, ◌≤◌, ◌≤ℤ◌, List, ◌++◌, length, take, drop, Option, Some, None, IsSomeAnd}
+use Rattle.std.specs.Prelude.{◌≡◌, ℕ, ℤ, pos, ◌+◌, ◌-◌, ◌^◌, min, ◌<◌, ◌≤◌, ◌≤ℤ◌, List, ◌++◌, length, take, drop, Option, Some, None, IsSomeAnd}
 use Rattle.std.specs.Option.{is_some}
 use Rattle.std.specs.Ordering.{nat_cmp}
 use Rattle.std.specs.Cmp.Lexicographic.{slice_cmp}
@@ -12,6 +12,10 @@ HasRisen before now = now + 1 < 2 ^ 64 → before < now
 -- a count of faults is as before
 abbrev pub Stays : ℕ → ℕ → Type 0
 Stays before now = now ≡ before
+
+-- one more, where the counter isn't at its last value
+abbrev pub one_more : ℕ → ℕ
+one_more count = min (count + 1) (2 ^ 64 - 1)
 
 -- an object tells after a call exactly where it told before
 abbrev pub SameTelling : {X : Type 0} → Option X → Option X → Type 0

@@ -10,11 +10,15 @@ pub trait Clock {
     /// The moment that the next call answers, where the clock tells it.
     ghost next: { Self → Option ℤ };
 
+    /// Whether it's known to stand still, as a clock in memory.
+    ghost stands: { Self → Type 0 } = { λ _. ⊥ };
+
     /// The moment, which lies before the year 10000.
     fn now(&mut self) -> i64
         ensures told { IfSome (next self.old) (λ moment. result ≡ moment) }
         ensures range { IsMoment result }
-        ensures same { SameTelling (next self.old) (next self.new) };
+        ensures same { SameTelling (next self.old) (next self.new) }
+        ensures steady { stands self.old → stands self.new × (next self.new ≡ next self.old) };
 }
 
 /// A clock that stands still.
@@ -45,9 +49,11 @@ impl FixedClock {
 }
 
 impl Clock for FixedClock {
-    ghost use Rattle.std.specs.Prelude.{Some};
+    ghost use Rattle.std.specs.Prelude.{Some, ⊤};
 
     ghost next = { λ clock. Some clock };
+
+    ghost stands = { λ _. ⊤ };
 
     fn now(&mut self) -> i64 {
         self.moment

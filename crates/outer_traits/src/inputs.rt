@@ -1,8 +1,8 @@
 //! Inputs by name.
 
-ghost use Rattle.std.specs.Prelude.{◌≡◌, ℕ, ◌≤◌, ◌<◌, List, Option, IfOk, IfSome, IsNone, IsErrOf, ◌↔◌};
+ghost use Rattle.std.specs.Prelude.{◌≡◌, ℕ, ◌-◌, ◌≤◌, ◌<◌, List, Option, IfOk, OnOk, OnErr, IfSome, IsNone, IsErrOf, ◌↔◌};
 ghost use Rattle.std.specs.FinMap.{get};
-ghost use Rattle.outer_traits.specs.Outside.{HasRisen, Files, Gives, Stays};
+ghost use Rattle.outer_traits.specs.Outside.{HasRisen, Files, Gives, Stays, one_more};
 
 use crate::fault::OpenFault;
 use crate::source::Source;
@@ -18,6 +18,9 @@ pub trait Inputs {
     /// How often they have failed, a source that had failed when it was closed counted too.
     ghost faults: { Self → ℕ };
 
+    /// How many sources are open, up to the last value of its type.
+    ghost open_sources: { Self → ℕ };
+
     /// Whether they are known never to fail, as inputs in memory.
     ghost never_fails: { Self → Type 0 } = { λ _. ⊥ };
 
@@ -28,14 +31,18 @@ pub trait Inputs {
         ensures missing { IfSome (files self.old) (λ all. IsErrOf result OpenFault.Missing ↔ IsNone (get all name.now)) }
         ensures same { files self.new ≡ files self.old }
         ensures later { faults self.old ≤ faults self.new }
+        ensures opened { OnOk result (open_sources self.new ≡ one_more (open_sources self.old)) }
+        ensures unopened { OnErr result (open_sources self.new ≡ open_sources self.old) }
         ensures failed { IsErrOf result OpenFault.Failed → HasRisen (faults self.old) (faults self.new) }
         ensures steady { never_fails self.old → never_fails self.new × Stays (faults self.old) (faults self.new) }
         ensures steady_source { never_fails self.old → IfOk result (λ source. Self.Source.never_fails source) };
 
-    /// Takes a source back. The count rises where the source's had.
+    /// Takes a source back. The count rises exactly where the source's had.
     fn close(&mut self, source: Self::Source)
         ensures same { files self.new ≡ files self.old }
         ensures later { faults self.old ≤ faults self.new }
+        ensures closed { open_sources self.new ≡ open_sources self.old - 1 }
+        ensures kept { Self.Source.faults source ≡ 0 → Stays (faults self.old) (faults self.new) }
         ensures risen { 0 < Self.Source.faults source → HasRisen (faults self.old) (faults self.new) }
         ensures steady { never_fails self.old → Self.Source.faults source ≡ 0 → never_fails self.new × Stays (faults self.old) (faults self.new) };
 }

@@ -4,9 +4,10 @@
 // has written, the moment of a clock. Forms in memory tell it, and real ones don't (specs/Outside.antt has what each call does with it;
 // whether an object tells never changes). Beside it each has a count of faults, which never falls, and a call answers `Failed` only
 // where the count rose, or stands at the last value of its type. So a caller can say of each failure which object it came from.
+// Inputs also count their open sources, so that a caller can promise to close each one.
 //
 // `mem_inputs`, `mem_sink` and `FixedClock` are the forms in memory, whose calls can be told to fail. They are for tests, and show that the
-// contracts can be met.
+// contracts can be met. `whole` reads an input to its end, where it isn't longer than a limit.
 //
 // Every crate that reads or writes stands on this one, the program's adapters among them.
 #![tactic(auto)]
@@ -20,3 +21,4 @@ pub mod sink;
 pub mod source;
 #[cfg(test)]
 mod tests;
+pub mod whole;

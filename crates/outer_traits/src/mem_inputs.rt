@@ -44,6 +44,8 @@ pub struct MemInputs {
     calls: Vec<FailingCall>,
     /// How many openings were asked for.
     opened: u64,
+    /// How many sources are open.
+    held: u64,
     faults: u64,
 }
 
@@ -108,6 +110,7 @@ impl MemInputs {
             files,
             calls,
             opened: 0,
+            held: 0,
             faults: 0,
         }
     }
@@ -122,6 +125,8 @@ impl Inputs for MemInputs {
     ghost files = { λ inputs. Some (files_of inputs.files.items) };
 
     ghost faults = { λ inputs. inputs.faults };
+
+    ghost open_sources = { λ inputs. inputs.held };
 
     ghost never_fails = { λ inputs. inputs.calls.items ≡ [] };
 
@@ -144,6 +149,7 @@ impl Inputs for MemInputs {
         let Ok(calls) = Vec::from_slice(alloc, self.calls.as_slice()) else {
             return Err(OpenFault::OutOfMemory);
         };
+        self.held = self.held.saturating_add(1);
         Ok(MemSource {
             octets,
             at: 0,
@@ -155,6 +161,7 @@ impl Inputs for MemInputs {
     }
 
     fn close(&mut self, source: MemSource) {
+        self.held = self.held.saturating_sub(1);
         if source.faults > 0 {
             self.faults = raised(self.faults);
         }

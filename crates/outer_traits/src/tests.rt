@@ -7,7 +7,9 @@ use crate::mem_inputs::{FailingCall, File, MemInputs};
 use crate::mem_sink::MemSink;
 use crate::sink::Sink;
 use crate::source::Source;
+use crate::whole::{ReadFault, read_input, read_whole};
 use std::alloc::{AllocError, Global};
+use std::process::Abort;
 use std::test::Fail;
 
 /// One file `a` with three octets.
@@ -55,5 +57,61 @@ fn fails_where_it_is_told(rt: HostRuntime) -> Result<(), Fail> {
     assert_eq!(rt; sink.octets.as_slice(), [7, 8].as_slice());
     assert_eq!(rt; MemSink::new(alloc).write(&[1]), Ok(1));
     assert_eq!(rt; FixedClock::new(9000).now(), 9000);
+    Ok(())
+}
+
+/// Reads the input with this limit, where this read of it fails. It has to end with this fault, or else to give the three octets.
+fn expect(
+    rt: &(impl Abort + AllocGlobal),
+    name: &str,
+    limit: usize,
+    failing: u64,
+    fault: Option<ReadFault>,
+) -> Result<(), Fail> {
+    let alloc = rt.alloc();
+    let call = FailingCall {
+        opening: 1,
+        read: failing,
+    };
+    let mut inputs = MemInputs::failing(files(alloc)?, Vec::from_slice(alloc, &[call])?);
+    match read_input(alloc, &mut inputs, name, limit) {
+        Ok(octets) => {
+            assert_eq!(rt; octets.as_slice(), [1, 2, 3].as_slice());
+            assert_eq!(rt; fault, None);
+        }
+        Err(found) => assert_eq!(rt; Some(found), fault),
+    }
+    Ok(())
+}
+
+#[test]
+fn reads_to_the_end(rt: HostRuntime) -> Result<(), Fail> {
+    for (name, limit, failing, fault) in [
+        ("a", 3, 9, None),
+        ("a", 2, 9, Some(ReadFault::TooLong)),
+        ("b", 3, 9, Some(ReadFault::Missing)),
+        ("b", 3, 0, Some(ReadFault::Missing)),
+        ("a", 3, 0, Some(ReadFault::Failed)),
+        ("a", 3, 1, Some(ReadFault::Failed)),
+        ("a", 3, 2, Some(ReadFault::Failed)),
+        ("a", 2, 2, Some(ReadFault::TooLong)),
+    ] {
+        expect(&rt, name, limit, failing, fault)?;
+    }
+    let alloc = rt.alloc();
+    let mut inputs = MemInputs::new(alloc, files(alloc)?);
+    let Ok(opened) = inputs.open(alloc, "a") else {
+        assert!(rt; false, "not opened");
+        return Ok(());
+    };
+    let mut source = opened;
+    let mut first = [0];
+    assert_eq!(rt; source.read(&mut first), Ok(1));
+    let Ok(others) = read_whole(alloc, &mut source, 2) else {
+        assert!(rt; false, "not read");
+        return Ok(());
+    };
+    assert_eq!(rt; others.as_slice(), [2, 3].as_slice());
+    inputs.close(source);
     Ok(())
 }

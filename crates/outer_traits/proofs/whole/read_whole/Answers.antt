@@ -1,6 +1,6 @@
 use Rattle.std.proofs.Common.{arith, ◌<◌, length, refl, ◌∙◌}
-use Rattle.archive_cli.proofs.Inputs.{taken_none, taken_more, taken_end, taken_long}
-use Rattle.archive_cli.proofs.read.read_all.Goals as goal
+use Rattle.outer_traits.proofs.Taken.{taken_none, taken_more, taken_end, taken_long}
+use Rattle.outer_traits.proofs.whole.read_whole.Goals as goal
 
 pub loop-n-init : goal.loop-n-init
 loop-n-init g c = record {

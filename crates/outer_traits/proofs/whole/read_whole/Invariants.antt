@@ -1,7 +1,7 @@
 use Rattle.std.proofs.Common.{◌≤◌, ◌<◌, ◌-◌, vec_len}
 use Rattle.outer_traits.specs.Outside.{Stays}
-use Rattle.archive_cli.specs.Reading.{IsTaken}
-use Rattle.archive_cli.proofs.read.read_all.Given as goal
+use Rattle.outer_traits.specs.Whole.{IsTaken}
+use Rattle.outer_traits.proofs.whole.read_whole.Given as goal
 
 abbrev pub invariant-loop-n : goal.invariant-loop-n
 invariant-loop-n g l = record {

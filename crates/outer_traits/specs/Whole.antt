@@ -1,0 +1,26 @@
+-- Inputs that are read to their end.
+use Rattle.std.specs.Prelude.{◌≡◌, ℕ, ◌<◌, List, ◌++◌, Option, Some, None, IfSome, IsNone, IsSome, IsSomeAnd, length}
+use Rattle.std.specs.FinMap.{get}
+use Rattle.outer_traits.specs.declared.whole.ReadFault.{ReadFault}
+use Rattle.outer_traits.specs.declared.whole.ReadFault.TheVariants.{Missing, Failed, TooLong, OutOfMemory}
+use Rattle.outer_traits.specs.Outside.{Files, HasRisen}
+
+-- of the octets that were left at first these were taken, and the others are left, where they are told
+abbrev pub IsTaken : Option (List ℕ) → List ℕ → Option (List ℕ) → Type 0
+IsTaken None taken left = left ≡ None
+IsTaken (Some octets) taken left = (more : List ℕ) × (octets ≡ taken ++ more) × (left ≡ Some more)
+
+-- the named input has these octets, where the inputs are told
+abbrev pub IsInput : Option Files → List ℕ → List ℕ → Type 0
+IsInput files name octets = IfSome files (λ all. get all name ≡ Some octets)
+
+-- there is an input of the name, where the inputs are told
+abbrev pub IsThere : Option Files → List ℕ → Type 0
+IsThere files name = IfSome files (λ all. IsSome (get all name))
+
+-- why an input wasn't read to its end: there's none of the name, or there is one and a call failed, it is longer than the limit, or there was no memory
+abbrev pub IsReadFault : Option Files → List ℕ → ℕ → ℕ → ℕ → ReadFault → Type 0
+IsReadFault files name limit faults faults' Missing = IfSome files (λ all. IsNone (get all name))
+IsReadFault files name limit faults faults' Failed = HasRisen faults faults' × IsThere files name
+IsReadFault files name limit faults faults' TooLong = IfSome files (λ all. IsSomeAnd (get all name) (λ octets. limit < length octets))
+IsReadFault files name limit faults faults' OutOfMemory = IsThere files name
