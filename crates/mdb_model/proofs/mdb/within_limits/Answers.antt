@@ -1,0 +1,24 @@
+use Rattle.std.proofs.Common.{◌≡◌, ◌∙◌, List, None, ap, sym, subst}
+use Rattle.mdb_model.specs.declared.container.Container.{Container}
+use Rattle.mdb_model.specs.Children.{AreChildren}
+use Rattle.mdb_model.specs.Database.{Database, IsDatabase, database_of, limit_passed}
+use Rattle.mdb_model.specs.Spans.{AreEarlier}
+use Rattle.mdb_model.proofs.Respelling.{is_database}
+use Rattle.mdb_model.proofs.mdb.within_limits.Goals as goal
+
+pub children_of-requires-clause-earlier : goal.children_of-requires-clause-earlier
+children_of-requires-clause-earlier c =
+    let P : List Container → Type 0 = λ cs. AreEarlier cs in
+    subst P (sym c.as_slice.ensures.value) c.requires.earlier
+
+pub invariant_of-result : goal.invariant_of-result
+invariant_of-result c =
+    let small : limit_passed (database_of c.requires.rows) ≡ None = ap limit_passed c.requires.spelled ∙ sym c.limit_of.ensures ∙ c.in_default.is in
+    let P : Database → Type 0 = λ d. IsDatabase d in
+    let Q : List Container → Type 0 = λ cs. AreChildren cs c.in_ok-children.children.items in
+    record {
+      kept = subst P c.requires.spelled (is_database c.requires.rows c.requires.sound small);
+      parameter_names = c.requires.parameter_names;
+      container_names = c.requires.container_names;
+      children = subst Q c.as_slice.ensures.value c.in_ok-children.ensures;
+    }

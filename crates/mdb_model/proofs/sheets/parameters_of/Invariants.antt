@@ -1,0 +1,12 @@
+use Rattle.std.proofs.Common.{◌≡◌, map, take}
+use Rattle.mdb_model.specs.ParameterRows.{parameter_fault_at, parameters_of}
+use Rattle.mdb_model.specs.Sheets.{read_parameter}
+use Rattle.mdb_model.proofs.SheetLoops.{SoundBelow}
+use Rattle.mdb_model.proofs.sheets.parameters_of.Given as goal
+
+abbrev pub invariant-loop-i : goal.invariant-loop-i
+invariant-loop-i l = record {
+  names : l.parameters.names ≡ map (λ p. p.name) l.parameters.items.items;
+  items : l.parameters.items.items ≡ parameters_of (map (read_parameter l.calibrations.names) (take l.i l.records));
+  sound : SoundBelow (parameter_fault_at l.calibrations.items.items (map (read_parameter l.calibrations.names) l.records)) l.i;
+}

@@ -1,0 +1,55 @@
+-- What the sheets give one by one.
+use Rattle.std.specs.Prelude.{◌≡◌, List, [], map, drop, Some, None, Result, Ok, Err}
+use Rattle.mdb_model.specs.declared.calibration.Calibration.{Calibration}
+use Rattle.mdb_model.specs.declared.calibration_rows.Calibrations.{Calibrations}
+use Rattle.mdb_model.specs.declared.container_rows.Containers.{Containers}
+use Rattle.mdb_model.specs.declared.fault.MdbFault.{MdbFault}
+use Rattle.mdb_model.specs.declared.fault.MdbFault.TheVariants.{Bad, Limit, OutOfMemory}
+use Rattle.mdb_model.specs.declared.fault.MdbSheet.TheVariants as sheet
+use Rattle.mdb_model.specs.declared.parameter.Parameter.{Parameter}
+use Rattle.mdb_model.specs.declared.parameter_rows.Parameters.{Parameters}
+use Rattle.mdb_model.specs.CalibrationRows.{calibrations_of}
+use Rattle.mdb_model.specs.ContainerRows.{containers_of}
+use Rattle.mdb_model.specs.Database.{Database, Rows, calibrations_fault, containers_fault, database_of, first_fault, limit_passed, parameters_fault}
+use Rattle.mdb_model.specs.ParameterRows.{parameters_of}
+use Rattle.mdb_model.specs.Sheets.{is_calibration_header, is_container_header, is_parameter_header, read_calibration, read_containers, read_parameter, sheet_fault}
+use Rattle.mdb_model.specs.Spans.{AreEarlier, IsInLine}
+use Rattle.mdb_model.specs.Steps.{IsInStep, Refuses}
+use Rattle.mdb_model.specs.Texts.{Text}
+
+abbrev pub GivenCalibrations : List (List Text) → Result Calibrations MdbFault → Type 0
+GivenCalibrations records (Ok c) =
+    let rows = map read_calibration (drop 1 records) in
+    (sheet_fault sheet.Calibrations is_calibration_header records (calibrations_fault rows) ≡ None) × (calibrations_fault rows ≡ None) × (c.items.items ≡ calibrations_of rows) × IsInStep c
+GivenCalibrations records (Err fault) = Refuses (sheet_fault sheet.Calibrations is_calibration_header records (calibrations_fault (map read_calibration (drop 1 records)))) fault
+
+abbrev pub GivenParameters : List Calibration → List Text → List (List Text) → Result Parameters MdbFault → Type 0
+GivenParameters calibrations names records (Ok p) =
+    let rows = map (read_parameter names) (drop 1 records) in
+    (sheet_fault sheet.Parameters is_parameter_header records (parameters_fault calibrations rows) ≡ None) × (parameters_fault calibrations rows ≡ None) × (p.items.items ≡ parameters_of rows) × (p.names ≡ map (λ x. x.name) p.items.items)
+GivenParameters calibrations names records (Err fault) = Refuses (sheet_fault sheet.Parameters is_parameter_header records (parameters_fault calibrations (map (read_parameter names) (drop 1 records)))) fault
+
+abbrev pub GivenContainers : List Parameter → List (List Text) → Result Containers MdbFault → Type 0
+GivenContainers parameters records (Ok c) =
+    let rows = read_containers parameters [] (drop 1 records) in
+    (sheet_fault sheet.Containers is_container_header records (containers_fault parameters rows) ≡ None) × (containers_fault parameters rows ≡ None) × (c.items.items ≡ containers_of rows) × IsInLine parameters c
+GivenContainers parameters records (Err fault) = Refuses (sheet_fault sheet.Containers is_container_header records (containers_fault parameters (read_containers parameters [] (drop 1 records)))) fault
+
+abbrev pub database_from : Calibrations → Parameters → Containers → Database
+database_from calibrations parameters containers = record { parameters = parameters.items.items; calibrations = calibrations.items.items; containers = containers.items.items }
+
+-- sound rows spell the three lists, the names are those of the items, and each parent stands earlier
+pub record AreGiven (calibrations : Calibrations) (parameters : Parameters) (containers : Containers) : Type 0 where
+  pub rows : Rows
+  pub sound : first_fault rows ≡ None
+  pub spelled : database_of rows ≡ database_from calibrations parameters containers
+  pub parameter_names : parameters.names ≡ map (λ p. p.name) parameters.items.items
+  pub container_names : containers.names ≡ map (λ c. c.name) containers.items.items
+  pub earlier : AreEarlier containers.items.items
+
+-- the database, or the first limit that it passes; for want of memory nothing is said
+abbrev pub LimitsGive : Database → Result Database MdbFault → Type 0
+LimitsGive database (Ok mdb) = (limit_passed database ≡ None) × (mdb ≡ database)
+LimitsGive database (Err (Bad sheet row rule)) = ⊥
+LimitsGive database (Err (Limit which number)) = limit_passed database ≡ Some (which, number)
+LimitsGive database (Err OutOfMemory) = Unit {0}

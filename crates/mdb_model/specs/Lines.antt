@@ -1,0 +1,58 @@
+-- What stands on the path from the root down to a container.
+use Rattle.std.specs.Prelude.{ℕ, suc, ◌+◌, ◌==◌, Bool, List, [], ◌∷◌, ◌++◌, length, fold, slice_get, Option, Some, None, unwrap_or}
+use Rattle.std.specs.List.{list_any}
+use Rattle.mdb_model.specs.declared.container.Container.{Container}
+use Rattle.mdb_model.specs.declared.container.Entry.{Entry}
+use Rattle.mdb_model.specs.declared.parameter.Parameter.{Parameter}
+use Rattle.mdb_model.specs.Lists.{last_of}
+
+-- how many containers stand on a path, and their entries from the root on
+pub record Line : Type 0 where
+  pub containers : ℕ
+  pub entries : List Entry
+
+-- above the root nothing stands
+abbrev pub no_line : Line
+no_line = record { containers = 0; entries = [] }
+
+-- the line of a container: its parent's line, and then itself
+abbrev pub line_below : Line → Container → Line
+line_below up c = record { containers = suc up.containers; entries = up.entries ++ c.entries }
+
+-- the line of the container with a number
+abbrev pub line_at : List Line → Option ℕ → Line
+line_at lines None = no_line
+line_at lines (Some n) = unwrap_or (slice_get lines n) no_line
+
+abbrev pub with_line : List Line → Container → List Line
+with_line lines c = lines ++ line_below (line_at lines c.parent) c ∷ []
+
+-- the lines of containers that each stand below their parents
+unfoldable pub lines_of : List Container → List Line
+lines_of containers = fold with_line [] containers
+
+-- the number of the last container
+abbrev pub last_number : List Container → Option ℕ
+last_number [] = None
+last_number (c ∷ containers) = Some (length containers)
+
+-- the parameter is that of an entry
+abbrev pub stands_on : List Entry → ℕ → Bool
+stands_on entries n = list_any (λ e. e.parameter == n) entries
+
+abbrev pub bits_of_parameter : Option Parameter → ℕ
+bits_of_parameter None = 0
+bits_of_parameter (Some p) = p.bits
+
+-- the bits of a parameter
+abbrev pub bits_at : List Parameter → ℕ → ℕ
+bits_at parameters n = bits_of_parameter (slice_get parameters n)
+
+-- the bit after an entry; before the first entry positions count from 0
+abbrev pub end_after : List Parameter → Option Entry → ℕ
+end_after parameters None = 0
+end_after parameters (Some e) = e.at + bits_at parameters e.parameter
+
+-- the bit after the last entry of a line
+abbrev pub line_end : List Parameter → Line → ℕ
+line_end parameters line = end_after parameters (last_of line.entries)

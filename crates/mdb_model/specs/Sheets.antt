@@ -1,0 +1,166 @@
+-- The three sheets: what their texts say, and the database that they spell.
+use Rattle.std.specs.Prelude.{◌≡◌, ℕ, ◌+◌, ◌==◌, ◌&&◌, ◌||◌, not, Bool, true, false, List, [], ◌∷◌, length, map, drop, Option, Some, None, Result, Ok, Err, if◌then◌else◌, codes, option_map}
+use Rattle.std.specs.Str.{bytes_eq}
+use Rattle.mdb_model.specs.declared.container.Container.{Container}
+use Rattle.mdb_model.specs.declared.fault.MdbFault.{MdbFault}
+use Rattle.mdb_model.specs.declared.fault.MdbFault.TheVariants.{Bad, Limit, OutOfMemory}
+use Rattle.mdb_model.specs.declared.fault.MdbSheet.{MdbSheet}
+use Rattle.mdb_model.specs.declared.fault.MdbSheet.TheVariants.{Parameters, Calibrations, Containers}
+use Rattle.mdb_model.specs.declared.parameter.Coding.{Coding}
+use Rattle.mdb_model.specs.declared.parameter.Coding.TheVariants.{Uint, Int, UintLe, IntLe}
+use Rattle.mdb_model.specs.declared.parameter.Parameter.{Parameter}
+use Rattle.mdb_model.specs.declared.rows.Cells.{Cells}
+use Rattle.mdb_model.specs.declared.rows.Cells.TheVariants.{Unread, Coefficient, Point, Label}
+use Rattle.mdb_model.specs.declared.rows.Head.{Head}
+use Rattle.mdb_model.specs.declared.rows.Head.TheVariants.{Begins, Continues}
+use Rattle.mdb_model.specs.declared.rows.ParameterRow.{ParameterRow}
+use Rattle.mdb_model.specs.declared.rows.Position.{Position}
+use Rattle.mdb_model.specs.declared.rows.Position.TheVariants as place
+use Rattle.mdb_model.specs.declared.rows.Position.TheVariants.{At}
+use Rattle.mdb_model.specs.declared.rows.Reference.{Reference}
+use Rattle.mdb_model.specs.declared.rows.Reference.TheVariants.{Nothing, Unknown, Known}
+use Rattle.mdb_model.specs.declared.sheet.RawMdb.{RawMdb}
+use Rattle.mdb_model.specs.CalibrationRows.{CalibrationRow, calibrations_of}
+use Rattle.mdb_model.specs.Checks.{or_else}
+use Rattle.mdb_model.specs.Conditions.{condition}
+use Rattle.mdb_model.specs.ContainerRows.{ContainerRow, is_nothing, last_line, with_container_row, with_head}
+use Rattle.mdb_model.specs.Database.{Broken, Database, Rows, calibrations_fault, containers_fault, database_of, limit_passed, parameters_fault}
+use Rattle.mdb_model.specs.Lines.{line_end}
+use Rattle.mdb_model.specs.Lists.{is_empty}
+use Rattle.mdb_model.specs.ParameterRows.{parameters_of}
+use Rattle.mdb_model.specs.Texts.{Text, decimal_number, digits_at_most, field, offset, place_of, small_number, whole_number}
+
+-- what the columns kind, x and y say
+abbrev pub read_cells : Text → Text → Text → Cells
+read_cells kind x y =
+    if bytes_eq kind (codes "poly") then Coefficient (small_number 0 3 x) (decimal_number y)
+    else (if bytes_eq kind (codes "points") then Point (whole_number x) (decimal_number y)
+    else (if bytes_eq kind (codes "enum") then Label (whole_number x) y else Unread))
+
+-- a row of the calibrations sheet: name, kind, x, y
+abbrev pub read_calibration : List Text → CalibrationRow
+read_calibration fields = record { fields = length fields; name = field fields 0; cells = read_cells (field fields 1) (field fields 2) (field fields 3) }
+
+abbrev pub read_coding : Text → Option Coding
+read_coding text =
+    if bytes_eq text (codes "uint") then Some Uint
+    else (if bytes_eq text (codes "int") then Some Int
+    else (if bytes_eq text (codes "uintLE") then Some UintLe
+    else (if bytes_eq text (codes "intLE") then Some IntLe else None)))
+
+abbrev pub reference_from : Option ℕ → Reference
+reference_from None = Unknown
+reference_from (Some n) = Known n
+
+-- the item that a text names, where it isn't empty
+abbrev pub read_reference : List Text → Text → Reference
+read_reference names [] = Nothing
+read_reference names (b ∷ text) = reference_from (place_of (b ∷ text) names)
+
+-- a row of the parameters sheet: name, coding, bits, calibration
+abbrev pub read_parameter : List Text → List Text → ParameterRow
+read_parameter calibrations fields = record {
+  fields = length fields;
+  name = field fields 0;
+  coding = read_coding (field fields 1);
+  bits = small_number 1 64 (field fields 2);
+  calibration = read_reference calibrations (field fields 3);
+}
+
+-- `yes`, `no` or empty, which means no
+abbrev pub read_archive : Text → Option Bool
+read_archive [] = Some false
+read_archive (b ∷ text) = if bytes_eq (b ∷ text) (codes "yes") then Some true else (if bytes_eq (b ∷ text) (codes "no") then Some false else None)
+
+-- the columns container, parent, condition and archive
+abbrev pub read_head : List Text → List Text → Text → Text → Text → Text → Head
+read_head parameters above [] parent text archive = Continues (not (is_empty parent) || not (is_empty text) || not (is_empty archive))
+read_head parameters above (b ∷ name) parent text archive = Begins (record {
+  name = b ∷ name;
+  parent = read_reference above parent;
+  condition = condition parameters text;
+  archive = read_archive archive;
+})
+
+abbrev pub position_from : Option ℕ → Position
+position_from None = place.Unknown
+position_from (Some at) = At at
+
+-- up to 6 digits, or `+` and digits after the previous entry's end, or empty, which is `+0`
+abbrev pub read_position : ℕ → Reference → Text → Position
+read_position end entry [] = if is_nothing entry then place.Nothing else At end
+read_position end entry (b ∷ text) =
+    position_from (if b == 43 then option_map (λ n. end + n) (offset text) else digits_at_most 6 (b ∷ text))
+
+abbrev pub name_of_parameter : Parameter → Text
+name_of_parameter p = p.name
+
+abbrev pub name_of_container : Container → Text
+name_of_container c = c.name
+
+abbrev pub head_of : List Parameter → List Container → List Text → Head
+head_of parameters above fields =
+    read_head (map name_of_parameter parameters) (map name_of_container above) (field fields 0) (field fields 1) (field fields 2) (field fields 3)
+
+-- a row of the containers sheet below the containers above it: container, parent, condition, archive, entry, position
+abbrev pub read_container : List Parameter → List Container → List Text → ContainerRow
+read_container parameters above fields =
+    let head = head_of parameters above fields in
+    let entry = read_reference (map name_of_parameter parameters) (field fields 4) in
+    record { fields = length fields; head = head; entry = entry; position = read_position (line_end parameters (last_line (with_head above head))) entry (field fields 5) }
+
+-- the rows of records, each read below the containers of those above it
+abbrev pub read_containers : List Parameter → List Container → List (List Text) → List ContainerRow
+read_containers parameters above [] = []
+read_containers parameters above (fields ∷ records) =
+    let row = read_container parameters above fields in
+    row ∷ read_containers parameters (with_container_row above row) records
+
+-- two neighbouring fields are these texts
+abbrev pub are_texts : List Text → ℕ → Text → Text → Bool
+are_texts fields i first second = bytes_eq (field fields i) first && bytes_eq (field fields (i + 1)) second
+
+abbrev pub is_calibration_header : List Text → Bool
+is_calibration_header fields = (length fields == 4) && (are_texts fields 0 (codes "name") (codes "kind") && are_texts fields 2 (codes "x") (codes "y"))
+
+abbrev pub is_parameter_header : List Text → Bool
+is_parameter_header fields = (length fields == 4) && (are_texts fields 0 (codes "name") (codes "coding") && are_texts fields 2 (codes "bits") (codes "calibration"))
+
+abbrev pub is_container_header : List Text → Bool
+is_container_header fields =
+    (length fields == 6) && (are_texts fields 0 (codes "container") (codes "parent") && (are_texts fields 2 (codes "condition") (codes "archive") && are_texts fields 4 (codes "entry") (codes "position")))
+
+-- the sheet's first record is its header
+abbrev pub has_header : (List Text → Bool) → List (List Text) → Bool
+has_header is_header [] = false
+has_header is_header (fields ∷ records) = is_header fields
+
+-- what the rows of three sheets say
+abbrev pub rows_of_sheets : RawMdb → Rows
+rows_of_sheets raw =
+    let calibrations = map read_calibration (drop 1 raw.calibrations) in
+    let parameters = map (read_parameter (map (λ c. c.name) (calibrations_of calibrations))) (drop 1 raw.parameters) in
+    record { parameters = parameters; calibrations = calibrations; containers = read_containers (parameters_of parameters) [] (drop 1 raw.containers) }
+
+-- a sheet's header, and then its rows
+abbrev pub sheet_fault : MdbSheet → (List Text → Bool) → List (List Text) → Option Broken → Option Broken
+sheet_fault sheet is_header records fault = if has_header is_header records then fault else Some (record { sheet = sheet; row = 1; rule = 1 })
+
+-- the first rule that three sheets break: calibrations, then parameters, then containers
+abbrev pub sheets_fault : RawMdb → Option Broken
+sheets_fault raw =
+    let rows = rows_of_sheets raw in
+    or_else (sheet_fault Calibrations is_calibration_header raw.calibrations (calibrations_fault rows.calibrations))
+    (or_else (sheet_fault Parameters is_parameter_header raw.parameters (parameters_fault (calibrations_of rows.calibrations) rows.parameters))
+    (sheet_fault Containers is_container_header raw.containers (containers_fault (parameters_of rows.parameters) rows.containers)))
+
+-- the database that three sheets spell
+abbrev pub sheets_database : RawMdb → Database
+sheets_database raw = database_of (rows_of_sheets raw)
+
+-- the database, or the first rule broken, or where none is the first limit passed
+abbrev pub SheetsGive : RawMdb → Result Database MdbFault → Type 0
+SheetsGive raw (Ok database) = (sheets_fault raw ≡ None) × (limit_passed (sheets_database raw) ≡ None) × (database ≡ sheets_database raw)
+SheetsGive raw (Err (Bad sheet row rule)) = sheets_fault raw ≡ Some (record { sheet = sheet; row = row; rule = rule })
+SheetsGive raw (Err (Limit which number)) = (sheets_fault raw ≡ None) × (limit_passed (sheets_database raw) ≡ Some (which, number))
+SheetsGive raw (Err OutOfMemory) = Unit {0}

@@ -1,0 +1,39 @@
+-- What the rows so far keep beside their items, and what the rows of a sheet give.
+use Rattle.std.specs.Prelude.{◌≡◌, List, map, Option, Some, None, Result, Ok, Err}
+use Rattle.mdb_model.specs.declared.calibration.Calibration.{Calibration}
+use Rattle.mdb_model.specs.declared.calibration_rows.Calibrations.{Calibrations}
+use Rattle.mdb_model.specs.declared.container_rows.Containers.{Containers}
+use Rattle.mdb_model.specs.declared.fault.MdbFault.{MdbFault}
+use Rattle.mdb_model.specs.declared.fault.MdbFault.TheVariants.{Bad, Limit, OutOfMemory}
+use Rattle.mdb_model.specs.declared.parameter.Parameter.{Parameter}
+use Rattle.mdb_model.specs.declared.parameter_rows.Parameters.{Parameters}
+use Rattle.mdb_model.specs.declared.rows.ParameterRow.{ParameterRow}
+use Rattle.mdb_model.specs.CalibrationRows.{CalibrationRow, calibrations_of, enum_numbers, table_of_last}
+use Rattle.mdb_model.specs.ContainerRows.{ContainerRow, containers_of}
+use Rattle.mdb_model.specs.Database.{Broken, calibrations_fault, containers_fault, parameters_fault}
+use Rattle.mdb_model.specs.Lists.{last_of}
+use Rattle.mdb_model.specs.ParameterRows.{parameters_of}
+use Rattle.mdb_model.specs.Spans.{IsInLine}
+
+-- the names are those of the calibrations, and the numbers those of the last one where it is an enum
+pub record IsInStep (c : Calibrations) : Type 0 where
+  pub names : c.names ≡ map (λ x. x.name) c.items.items
+  pub numbers : c.numbers ≡ enum_numbers (table_of_last (last_of c.items.items))
+
+-- the refusal names the first rule broken; want of memory says nothing
+abbrev pub Refuses : Option Broken → MdbFault → Type 0
+Refuses fault (Bad sheet row rule) = fault ≡ Some (record { sheet = sheet; row = row; rule = rule })
+Refuses fault (Limit which number) = ⊥
+Refuses fault OutOfMemory = Unit {0}
+
+abbrev pub CalibrationsGive : List CalibrationRow → Result Calibrations MdbFault → Type 0
+CalibrationsGive rows (Ok c) = (calibrations_fault rows ≡ None) × (c.items.items ≡ calibrations_of rows) × IsInStep c
+CalibrationsGive rows (Err fault) = Refuses (calibrations_fault rows) fault
+
+abbrev pub ParametersGive : List Calibration → List ParameterRow → Result Parameters MdbFault → Type 0
+ParametersGive calibrations rows (Ok p) = (parameters_fault calibrations rows ≡ None) × (p.items.items ≡ parameters_of rows) × (p.names ≡ map (λ x. x.name) p.items.items)
+ParametersGive calibrations rows (Err fault) = Refuses (parameters_fault calibrations rows) fault
+
+abbrev pub ContainersGive : List Parameter → List ContainerRow → Result Containers MdbFault → Type 0
+ContainersGive parameters rows (Ok c) = (containers_fault parameters rows ≡ None) × (c.items.items ≡ containers_of rows) × IsInLine parameters c
+ContainersGive parameters rows (Err fault) = Refuses (containers_fault parameters rows) fault

@@ -1,0 +1,175 @@
+//! The three sheets, checked one after the other.
+
+ghost use Rattle.std.specs.Prelude.{◌≡◌, ◌∷◌, ◌++◌, [], None, Some, Ok, option_copied, option_map, map, slice_get, IfOk};
+ghost use Rattle.mdb_model.specs.CalibrationRows.{calibration_fault, with_calibration_row};
+ghost use Rattle.mdb_model.specs.ContainerRows.{row_fault, with_container_row};
+ghost use Rattle.mdb_model.specs.ParameterRows.{parameter_fault, parameter_of};
+ghost use Rattle.mdb_model.specs.Sheets.{read_calibration, read_container, read_containers, read_parameter};
+ghost use Rattle.mdb_model.specs.Spans.{IsInLine};
+ghost use Rattle.mdb_model.specs.Steps.{CalibrationsGive, ContainersGive, IsInStep, ParametersGive};
+ghost use Rattle.mdb_model.specs.Texts.{field};
+
+use crate::calibration_rows::Calibrations;
+use crate::container_rows::{Containers, is_continuing};
+use crate::fault::{MdbFault, MdbSheet};
+use crate::parameter_rows::Parameters;
+use crate::sheet::Record;
+use crate::sheet_rows::{read_cells, read_head, read_parameter, read_position, read_reference};
+use std::alloc::{AllocError, Global};
+
+/// The first field of a record, if there is a record.
+fn first_field(fields: Option<&Record>) -> Option<&[u8]>
+    ensures { option_copied result ≡ option_map (λ r. field r 0) (option_copied fields.entry) }
+{
+    match fields {
+        Some(fields) => Some(fields.field(0)),
+        None => None,
+    }
+}
+
+/// The record at a place, if there is one.
+fn record_at(records: &[Record], place: usize) -> Option<&Record>
+    ensures { option_copied result ≡ slice_get records.now place }
+{
+    records.get(place)
+}
+
+/// Takes a record in, or answers the first rule that it breaks.
+fn take_calibration(
+    alloc: Global,
+    calibrations: &mut Calibrations,
+    fields: &Record,
+    next: Option<&Record>,
+) -> Result<Option<u8>, AllocError>
+    requires { IsInStep calibrations.old }
+    ensures fault { IfOk result (λ rule. rule ≡ calibration_fault calibrations.old.items.items (Some (read_calibration fields.now)) (option_map read_calibration (option_copied next.entry))) }
+    ensures added { result ≡ Ok None → calibrations.new.items.items ≡ with_calibration_row calibrations.old.items.items (read_calibration fields.now) }
+    ensures step { result ≡ Ok None → IsInStep calibrations.new }
+{
+    let count = fields.len();
+    let name = fields.field(0);
+    let cells = read_cells(alloc, fields.field(1), fields.field(2), fields.field(3))?;
+    let next = first_field(next);
+    let rule = calibrations.broken(count, name, &cells, next);
+    if rule.is_some() {
+        return Ok(rule);
+    }
+    calibrations.add(alloc, count, name, cells, next)?;
+    Ok(None)
+}
+
+/// The calibrations of the records below the header.
+pub(crate) fn calibrations_of(alloc: Global, records: &[Record]) -> Result<Calibrations, MdbFault>
+    ensures { CalibrationsGive (map read_calibration records.now) result }
+{
+    let mut calibrations = Calibrations::new(alloc);
+    for (i, fields) in records.iter().enumerate() {
+        let next = record_at(records, i + 1);
+        if let Some(rule) = take_calibration(alloc, &mut calibrations, fields, next)? {
+            return Err(MdbFault::Bad {
+                sheet: MdbSheet::Calibrations,
+                row: i + 2,
+                rule,
+            });
+        }
+    }
+    Ok(calibrations)
+}
+
+/// Takes a record in, or answers the first rule that it breaks.
+fn take_parameter(
+    alloc: Global,
+    calibrations: &Calibrations,
+    parameters: &mut Parameters,
+    fields: &Record,
+) -> Result<Option<u8>, AllocError>
+    requires names { parameters.old.names ≡ map (λ p. p.name) parameters.old.items.items }
+    ensures fault { IfOk result (λ rule. rule ≡ parameter_fault calibrations.now.items.items parameters.old.items.items (Some (read_parameter calibrations.now.names fields.now))) }
+    ensures added { result ≡ Ok None → parameters.new.items.items ≡ parameters.old.items.items ++ parameter_of (read_parameter calibrations.now.names fields.now) ∷ [] }
+    ensures names { result ≡ Ok None → parameters.new.names ≡ map (λ p. p.name) parameters.new.items.items }
+{
+    let row = read_parameter(alloc, &calibrations.names, fields)?;
+    let rule = parameters.broken(calibrations.items.as_slice(), &row);
+    if rule.is_some() {
+        return Ok(rule);
+    }
+    parameters.add(alloc, row)?;
+    Ok(None)
+}
+
+/// The parameters of the records below the header.
+pub(crate) fn parameters_of(
+    alloc: Global,
+    calibrations: &Calibrations,
+    records: &[Record],
+) -> Result<Parameters, MdbFault>
+    ensures { ParametersGive calibrations.now.items.items (map (read_parameter calibrations.now.names) records.now) result }
+{
+    let mut parameters = Parameters::new(alloc);
+    for (i, fields) in records.iter().enumerate() {
+        if let Some(rule) = take_parameter(alloc, calibrations, &mut parameters, fields)? {
+            return Err(MdbFault::Bad {
+                sheet: MdbSheet::Parameters,
+                row: i + 2,
+                rule,
+            });
+        }
+    }
+    Ok(parameters)
+}
+
+/// Takes a record in, or answers the first rule that it breaks.
+fn take_container(
+    alloc: Global,
+    parameters: &Parameters,
+    containers: &mut Containers,
+    fields: &Record,
+) -> Result<Option<u8>, AllocError>
+    requires line { IsInLine parameters.now.items.items containers.old }
+    requires names { parameters.now.names ≡ map (λ p. p.name) parameters.now.items.items }
+    ensures fault { IfOk result (λ rule. rule ≡ row_fault parameters.now.items.items containers.old.items.items (read_container parameters.now.items.items containers.old.items.items fields.now)) }
+    ensures added { result ≡ Ok None → containers.new.items.items ≡ with_container_row containers.old.items.items (read_container parameters.now.items.items containers.old.items.items fields.now) }
+    ensures line { result ≡ Ok None → IsInLine parameters.now.items.items containers.new }
+{
+    let head = read_head(alloc, &parameters.names, &containers.names, fields)?;
+    let continuing = is_continuing(&head);
+    let items = parameters.items.as_slice();
+    let rule = containers.take_head(alloc, fields.len(), head)?;
+    if rule.is_some() {
+        return Ok(rule);
+    }
+    let entry = read_reference(&parameters.names, fields.field(4));
+    let last = containers.last();
+    let end = containers.end_of_path(last);
+    let position = read_position(end, entry, fields.field(5));
+    containers.take_entry(items, continuing, entry, position)
+}
+
+/// The containers of the records below the header.
+pub(crate) fn containers_of(
+    alloc: Global,
+    parameters: &Parameters,
+    records: &[Record],
+) -> Result<Containers, MdbFault>
+    requires { parameters.now.names ≡ map (λ p. p.name) parameters.now.items.items }
+    ensures { ContainersGive parameters.now.items.items (read_containers parameters.now.items.items [] records.now) result }
+{
+    if records.is_empty() {
+        return Err(MdbFault::Bad {
+            sheet: MdbSheet::Containers,
+            row: 1,
+            rule: 19,
+        });
+    }
+    let mut containers = Containers::new(alloc);
+    for (i, fields) in records.iter().enumerate() {
+        if let Some(rule) = take_container(alloc, parameters, &mut containers, fields)? {
+            return Err(MdbFault::Bad {
+                sheet: MdbSheet::Containers,
+                row: i + 2,
+                rule,
+            });
+        }
+    }
+    Ok(containers)
+}
