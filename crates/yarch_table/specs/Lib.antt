@@ -1,3 +1,4 @@
 pub mod Stored
 pub mod Index
 pub mod Placed
+pub mod Laws

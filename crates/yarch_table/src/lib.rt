@@ -2,8 +2,8 @@
 //
 // A row is stored with its position in the history. Contracts see a `Table` as its stored rows in the order of their insertion, and how
 // many more go in without memory (`Holding`, specs/Stored.antt). What it answers at a front are the rows with a position below the
-// front, in the order of their keys. specs/Placed.antt and proofs/Histories.antt tie that to a history: where the stored rows are the
-// table's rows of a history at their positions, the answers are `table_at` and `range_of` of arch_types, and an insert is an ingest.
+// front, in the order of their keys. `laws` ties that to a history: where the stored rows are the table's rows of a history at their
+// positions (specs/Placed.antt), the answers are `table_at` and `range_of` of arch_types, and an insert is an ingest.
 // One value holds one table. Callers: scan, which reads all rows; the store and its replays, which read ranges at a front.
 //
 // The rows stand in a `Vec` in the order of their insertion, and an ordered index of block_map names them by key, so that an insert
@@ -14,6 +14,7 @@
 // To be changed together: `Window` and `is_seen` in specs/Index.antt; the answers and `seen_at` in specs/Stored.antt.
 #![tactic(auto)]
 
+pub mod laws;
 pub mod rows;
 pub mod table;
 #[cfg(test)]
