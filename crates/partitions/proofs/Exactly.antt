@@ -1,5 +1,5 @@
 -- What bounds want is what may hold a row in them.
-use Rattle.std.proofs.Common.{◌≡◌, ℕ, pos, ◌-ℤ◌, ◌<ℤ◌, ◌↔◌, true, List, Some, None, sym, ◌∙◌, refl, arith}
+use Rattle.std.proofs.Common.{◌≡◌, ℕ, ℤ, pos, ◌-ℤ◌, ◌<ℤ◌, ◌≤ℤ◌, ◌↔◌, true, List, Some, None, sym, ◌∙◌, arith}
 use Rattle.std.specs.Prelude.{nat_eq}
 use Rattle.std.specs.List.{list_any}
 use Rattle.std.specs.Cmp.{nat_eq_equiv}
@@ -8,32 +8,49 @@ use Rattle.std.proofs.lemmas.Int.{ints}
 use Rattle.std.proofs.lemmas.Map.Views.{Contains-from_any, list_any-from_Contains}
 use Rattle.partitions.specs.declared.partition.Partition.{Partition}
 use Rattle.partitions.specs.declared.bounds.Bounds.{Bounds}
+use Rattle.partitions.specs.declared.days.Days.{Days}
 use Rattle.partitions.specs.declared.wanted.Wanted.{Wanted}
 use Rattle.time_text.specs.Day.{day_of}
-use Rattle.partitions.specs.Bounds.{IsAmong, MayHold}
-use Rattle.partitions.specs.Wanted.{is_among, is_wanted}
-use Rattle.partitions.proofs.Days.{has_time_on}
-use Rattle.partitions.proofs.Firsts.{wanted_is, wanted_from}
+use Rattle.partitions.specs.NamedDay.{named_day}
+use Rattle.partitions.specs.Bounds.{HasTimeOn, MayHold}
+use Rattle.partitions.specs.Wanted.{is_on, is_wanted}
+use Rattle.partitions.proofs.TimesOfDays.{day_is, has_time_on}
+use Rattle.partitions.proofs.Firsts.{wanted_is, wanted_from, on_is, on_from}
 
 same_names : (x y : ℕ) → nat_eq x y ≡ true → x ≡ y
 same_names x y e = grind (arith, nat_tests)
 
--- where there is no list, each name is wanted
-pub all_among : (p : ℕ) → (is_among None p ≡ true) ↔ IsAmong None p
-all_among p = (λ _. tt, λ _. refl)
+-- the days from the first time's to the last time's are those of the times
+module _ (from to : ℤ) (days : Days) (some : from <ℤ to) (first : days.first ≡ day_of from) (last : days.last ≡ day_of (to -ℤ pos 1)) where
+  pub days_exactly : (day : ℤ) → (is_on days day ≡ true) ↔ HasTimeOn from to day
+  days_exactly day = (
+    λ on. (let is = on_is days day on in (has_time_on from to day some).1 (rw first at is.first, rw last at is.last)),
+    λ has. (let is = (has_time_on from to day some).0 has in on_from days day (record { first = rw first is.0; last = rw last is.1 })),
+  )
 
--- a list with the same names wants the same
-pub same_among : (names sorted : List ℕ) → ((p : ℕ) → list_any (nat_eq p) sorted ≡ list_any (nat_eq p) names) → (p : ℕ) → (is_among (Some sorted) p ≡ true) ↔ IsAmong (Some names) p
-same_among names sorted same p = (λ is. Contains-from_any {eq = nat_eq} same_names p names (sym (same p) ∙ is), λ is. same p ∙ list_any-from_Contains nat_eq_equiv p names is)
+  pub days_some : days.first ≤ℤ days.last
+  days_some = let low = day_is from in let high = day_is (to -ℤ pos 1) in omega (arith, ints, first, last, low.begun, high.ending, some)
 
-pub wanted_exactly : (bounds : Bounds) (w : Wanted) → bounds.from <ℤ bounds.to → w.first ≡ day_of bounds.from → w.last ≡ day_of (bounds.to -ℤ pos 1) →
-    ((p : ℕ) → (is_among w.names p ≡ true) ↔ IsAmong bounds.names p) → (p : Partition) → (is_wanted w p ≡ true) ↔ MayHold bounds p
-wanted_exactly bounds w some first last names p = (to, from)
-  where
-    to : is_wanted w p ≡ true → MayHold bounds p
-    to wants = let is = wanted_is w p wants in let f = is.first in let l = is.last in
-        record { day = (has_time_on bounds.from bounds.to p.day some).1 (grind (arith, ints), grind (arith, ints)); name = (names p.pname).0 is.name }
+module _ (bounds : Bounds) (days : Days) (on : (day : ℤ) → (is_on days day ≡ true) ↔ HasTimeOn bounds.from bounds.to day) where
+  -- where there is no list, the day decides
+  pub all_exactly : bounds.names ≡ None → (p : Partition) → (is_on days p.day ≡ true) ↔ MayHold bounds p
+  all_exactly none p = (λ is. record { day = (on p.day).0 is; name = rw none tt }, λ may. (on p.day).1 may.day)
 
-    from : MayHold bounds p → is_wanted w p ≡ true
-    from may = let days = (has_time_on bounds.from bounds.to p.day some).0 may.day in let low = days.0 in let high = days.1 in
-        wanted_from w p (record { first = grind (arith, ints); last = grind (arith, ints); name = (names p.pname).1 may.name })
+  -- a list with the same names wants the same
+  pub named_exactly : (names sorted : List ℕ) → bounds.names ≡ Some names → ((p : ℕ) → list_any (nat_eq p) sorted ≡ list_any (nat_eq p) names) →
+      (p : Partition) → (is_wanted (record { days = days; names = sorted }) (named_day p) ≡ true) ↔ MayHold bounds p
+  named_exactly names sorted is same p = (to, from)
+    where
+      w : Wanted
+      w = record { days = days; names = sorted }
+
+      to : is_wanted w (named_day p) ≡ true → MayHold bounds p
+      to wants = let has = wanted_is w (named_day p) wants in
+          record {
+            day = (on p.day).0 (on_from days p.day (record { first = has.first; last = has.last }));
+            name = rw is (Contains-from_any {eq = nat_eq} same_names p.pname names (sym (same p.pname) ∙ has.name));
+          }
+
+      from : MayHold bounds p → is_wanted w (named_day p) ≡ true
+      from may = let has = on_is days p.day ((on p.day).1 may.day) in
+          wanted_from w (named_day p) (record { first = has.first; last = has.last; name = same p.pname ∙ list_any-from_Contains nat_eq_equiv p.pname names (rw is at may.name) })

@@ -1,107 +1,77 @@
--- The first partition that is wanted, from a partition on.
-use Rattle.std.proofs.Common.{◌≡◌, ℕ, ◌+ℤ◌, pos, inl, inr, Bool, true, false, not, ◌&&◌, Some, None, refl, arith}
-use Rattle.std.specs.Prelude.{int_lt, Option}
+-- Which days and named days are wanted.
+use Rattle.std.proofs.Common.{◌≡◌, ℤ, ◌≤ℤ◌, ◌<ℤ◌, inl, inr, Bool, true, false, not, ◌&&◌, refl, arith}
+use Rattle.std.specs.Prelude.{int_lt, nat_eq}
+use Rattle.std.specs.List.{list_any}
 use Rattle.std.specs.declared.cmp.Ordering.TheVariants.{Less, Greater}
 use Rattle.std.proofs.lemmas.Int.{ints}
 use Rattle.partitions.specs.declared.partition.Partition.{Partition}
+use Rattle.partitions.specs.declared.named_day.NamedDay.{NamedDay}
+use Rattle.partitions.specs.declared.days.Days.{Days}
 use Rattle.partitions.specs.declared.wanted.Wanted.{Wanted}
 use Rattle.partitions.specs.Partition.{partition_cmp}
-use Rattle.partitions.specs.Names.{IsLeastFrom}
-use Rattle.partitions.specs.Wanted.{is_among, is_wanted, IsFirstFrom}
-use Rattle.partitions.proofs.Order.{IsNoLater, IsBefore, no_later, not_greater, before_from_less}
+use Rattle.partitions.specs.Wanted.{is_on, is_on_days, is_wanted}
+use Rattle.partitions.proofs.Order.{IsNoLater, IsBefore, no_later, before_from_less}
 
 pub not_true : (b : Bool) → (b ≡ true → ⊥) → b ≡ false
 not_true true never = absurd (never refl)
 not_true false never = refl
 
--- what is true of a partition that is wanted
-pub record IsWanted (wanted : Wanted) (p : Partition) : Type 0 where
-  pub first : int_lt p.day wanted.first ≡ false
-  pub last : int_lt wanted.last p.day ≡ false
-  pub name : is_among wanted.names p.pname ≡ true
+-- what is true of a day that is one of those in a row
+pub record IsOn (days : Days) (day : ℤ) : Type 0 where
+  pub first : days.first ≤ℤ day
+  pub last : day ≤ℤ days.last
 
-parts_of_test : (b c d : Bool) → (not b && not c && d) ≡ true → (b ≡ false) × (c ≡ false) × (d ≡ true)
-parts_of_test true c d h = cc
-parts_of_test false true d h = cc
-parts_of_test false false d h = (refl, refl, h)
+pub on_is : (days : Days) (day : ℤ) → is_on days day ≡ true → IsOn days day
+on_is days day h = by (int_lt day days.first) (int_lt days.last day) refl refl h
+  where
+    by : (b c : Bool) → int_lt day days.first ≡ b → int_lt days.last day ≡ c → (not b && not c) ≡ true → IsOn days day
+    by true c first last h = cc
+    by false true first last h = cc
+    by false false first last h = record { first = grind (arith, ints); last = grind (arith, ints) }
 
-pub wanted_is : (w : Wanted) (p : Partition) → is_wanted w p ≡ true → IsWanted w p
-wanted_is w p h = let t = parts_of_test (int_lt p.day w.first) (int_lt w.last p.day) (is_among w.names p.pname) h in record { first = t.0; last = t.1; name = t.2 }
+pub on_from : (days : Days) (day : ℤ) → IsOn days day → is_on days day ≡ true
+on_from days day is = let first = is.first in let last = is.last in
+    let low : int_lt day days.first ≡ false = grind (arith, ints) in
+    let high : int_lt days.last day ≡ false = grind (arith, ints) in rw (low, high)
 
-pub wanted_from : (w : Wanted) (p : Partition) → IsWanted w p → is_wanted w p ≡ true
-wanted_from w p is = rw (is.first, is.last, is.name)
-
-module _ (w : Wanted) (part : Partition) where
-  -- no partition is wanted past the last day
-  pub none_past : int_lt w.last part.day ≡ true → IsFirstFrom (is_wanted w) part None
-  none_past past p up = not_true (is_wanted w p) (λ yes. by (no_later part p up) (wanted_is w p yes))
+module _ (days : Days) where
+  -- no partition before the first day's first is on one of the days
+  pub none_below : (p : Partition) → partition_cmp p (record { day = days.first; pname = 0 }) ≡ Less → is_on_days days p ≡ false
+  none_below p less = not_true (is_on days p.day) (λ yes. by (before_from_less p (record { day = days.first; pname = 0 }) less) (on_is days p.day yes))
     where
-      by : IsNoLater part p → IsWanted w p → ⊥
-      by (inl days) is = let last = is.last in grind (arith, ints)
-      by (inr same) is = let last = is.last in let day = same.0 in grind (arith, ints)
+      by : IsBefore p (record { day = days.first; pname = 0 }) → IsOn days p.day → ⊥
+      by (inl x) is = omega (arith, ints, x, is.first)
+      by (inr x) is = omega (arith, x.1)
 
-  -- the least name from the partition's on is on its day
-  pub on_the_day : (least : ℕ) → int_lt part.day w.first ≡ false → int_lt w.last part.day ≡ false → IsLeastFrom (is_among w.names) part.pname (Some least) →
-      IsFirstFrom (is_wanted w) part (Some (record { day = part.day; pname = least }))
-  on_the_day least first last is = (not_greater part next (inr (refl, is.0)), wanted_from w next (record { first = first; last = last; name = is.1 }), before)
+  -- one that isn't, and not past the last day either, is
+  pub on_one : (p : Partition) → (partition_cmp (record { day = days.first; pname = 0 }) p ≡ Greater → ⊥) → int_lt days.last p.day ≡ false → is_on_days days p ≡ true
+  on_one p up last = by (no_later (record { day = days.first; pname = 0 }) p up)
     where
-      next : Partition
-      next = record { day = part.day; pname = least }
+      by : IsNoLater (record { day = days.first; pname = 0 }) p → is_on_days days p ≡ true
+      by (inl x) = on_from days p.day (record { first = omega (arith, ints, x); last = grind (arith, ints) })
+      by (inr x) = on_from days p.day (record { first = omega (arith, ints, x.0); last = grind (arith, ints) })
 
-      before : (p : Partition) → (partition_cmp part p ≡ Greater → ⊥) → partition_cmp p next ≡ Less → is_wanted w p ≡ false
-      before p up less = not_true (is_wanted w p) (λ yes. by (no_later part p up) (before_from_less p next less) (wanted_is w p yes))
-        where
-          by : IsNoLater part p → IsBefore p next → IsWanted w p → ⊥
-          by (inl x) (inl y) is = omega (arith, ints, x, y)
-          by (inl x) (inr y) is = omega (arith, ints, x, y.0)
-          by (inr x) (inl y) is = omega (arith, ints, x.0, y)
-          by (inr x) (inr y) wants = let name = wants.name in let none = is.2 p.pname x.1 y.1 in cc
-
-  -- on the last day no name is left
-  pub none_left : int_lt part.day w.last ≡ false → IsLeastFrom (is_among w.names) part.pname None → IsFirstFrom (is_wanted w) part None
-  none_left last none p up = not_true (is_wanted w p) (λ yes. by (no_later part p up) (wanted_is w p yes))
+  -- nor is one from a partition past the last day on
+  pub none_past : (part : Partition) → days.last <ℤ part.day → (p : Partition) → (partition_cmp part p ≡ Greater → ⊥) → is_on_days days p ≡ false
+  none_past part past p up = not_true (is_on days p.day) (λ yes. by (no_later part p up) (on_is days p.day yes))
     where
-      by : IsNoLater part p → IsWanted w p → ⊥
-      by (inl days) is = let end = is.last in grind (arith, ints)
-      by (inr same) is = let name = is.name in let gone = none p.pname same.1 in cc
+      by : IsNoLater part p → IsOn days p.day → ⊥
+      by (inl x) is = omega (arith, ints, x, past, is.last)
+      by (inr x) is = omega (arith, ints, x.0, past, is.last)
 
-  -- where what is wanted from a partition on is all from a later one on, the first is the same
-  pub later : (start : Partition) (r : Option Partition) → IsNoLater part start → ((p : Partition) → IsNoLater part p → IsWanted w p → IsNoLater start p) →
-      IsFirstFrom (is_wanted w) start r → IsFirstFrom (is_wanted w) part r
-  later start None up all is = λ p from. not_true (is_wanted w p) (λ yes. (let no = is p (not_greater start p (all p (no_later part p from) (wanted_is w p yes))) in cc))
-  later start (Some next) up all is = (not_greater part next (joined up (no_later start next is.0)), is.1, λ p from less. not_true (is_wanted w p) (λ yes. (let no = is.2 p (not_greater start p (all p (no_later part p from) (wanted_is w p yes))) less in cc)))
-    where
-      joined : IsNoLater part start → IsNoLater start next → IsNoLater part next
-      joined (inl x) (inl y) = inl (omega (arith, ints, x, y))
-      joined (inl x) (inr y) = inl (omega (arith, ints, x, y.0))
-      joined (inr x) (inl y) = inl (omega (arith, ints, x.0, y))
-      joined (inr x) (inr y) = inr (omega (arith, ints, x.0, y.0), omega (arith, x.1, y.1))
+-- what is true of a named day that is wanted
+pub record IsWanted (wanted : Wanted) (at : NamedDay) : Type 0 where
+  pub first : wanted.days.first ≤ℤ at.day
+  pub last : at.day ≤ℤ wanted.days.last
+  pub name : list_any (nat_eq at.pname) wanted.names ≡ true
 
-  -- before the first day the first partition is the first day's
-  pub from_first_day : (r : Option Partition) → int_lt part.day w.first ≡ true → IsFirstFrom (is_wanted w) (record { day = w.first; pname = 0 }) r → IsFirstFrom (is_wanted w) part r
-  from_first_day r early is = later start r (inl (grind (arith, ints))) all is
-    where
-      start : Partition
-      start = record { day = w.first; pname = 0 }
+pub wanted_is : (w : Wanted) (k : NamedDay) → is_wanted w k ≡ true → IsWanted w k
+wanted_is w k h = by (is_on w.days k.day) (list_any (nat_eq k.pname) w.names) refl refl h
+  where
+    by : (b c : Bool) → is_on w.days k.day ≡ b → list_any (nat_eq k.pname) w.names ≡ c → (b && c) ≡ true → IsWanted w k
+    by true true on name h = let is = on_is w.days k.day on in record { first = is.first; last = is.last; name = name }
+    by true false on name h = cc
+    by false c on name h = cc
 
-      all : (p : Partition) → IsNoLater part p → IsWanted w p → IsNoLater start p
-      all p up wants = by (int_lt w.first p.day) refl
-        where
-          by : (b : Bool) → int_lt w.first p.day ≡ b → IsNoLater start p
-          by true less = inl (grind (arith, ints))
-          by false not_less = let first = wants.first in inr (grind (arith, ints), omega arith)
-
-  -- where no name is left on a day, the first partition is the next day's
-  pub from_next_day : (r : Option Partition) → IsLeastFrom (is_among w.names) part.pname None → IsFirstFrom (is_wanted w) (record { day = part.day +ℤ pos 1; pname = 0 }) r → IsFirstFrom (is_wanted w) part r
-  from_next_day r none is = later start r (inl (omega (arith, ints))) all is
-    where
-      start : Partition
-      start = record { day = part.day +ℤ pos 1; pname = 0 }
-
-      all : (p : Partition) → IsNoLater part p → IsWanted w p → IsNoLater start p
-      all p (inr same) wants = let name = wants.name in let gone = none p.pname same.1 in absurd cc
-      all p (inl days) wants = by (int_lt (part.day +ℤ pos 1) p.day) refl
-        where
-          by : (b : Bool) → int_lt (part.day +ℤ pos 1) p.day ≡ b → IsNoLater start p
-          by true less = inl (grind (arith, ints))
-          by false not_less = inr (grind (arith, ints), omega arith)
+pub wanted_from : (w : Wanted) (k : NamedDay) → IsWanted w k → is_wanted w k ≡ true
+wanted_from w k is = rw (on_from w.days k.day (record { first = is.first; last = is.last }), is.name)

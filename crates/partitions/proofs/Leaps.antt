@@ -2,6 +2,7 @@
 use Rattle.std.proofs.Common.{◌≡◌, ◌<◌, ◌≤◌, List, [], ◌∷◌, ◌++◌, length, Bool, true, false, cond, sym, ◌∙◌, ap, subst, refl, arith}
 use Rattle.std.specs.Prelude.{filter}
 use Rattle.std.specs.Ordering.{is_le}
+use Rattle.std.specs.List.{AllByRecursion}
 use Rattle.std.specs.Map.{keys_of}
 use Rattle.std.specs.BTreeMap.Range.{entries_from}
 use Rattle.std.specs.Cmp.{IsTotalOrder}
@@ -19,6 +20,17 @@ module _ {K V : Type 0} (cmp : K → K → Ordering) where
   from_below : (k : K) (es : List (K × V)) → IsBelow cmp k es → entries_from (cmp k) es ≡ es
   from_below k [] below = refl
   from_below k (x ∷ es) below = rw below.0 (ap (λ (l : List (K × V)). x ∷ l) (from_below k es below.1))
+
+  -- no entry from a key on is below it
+  pub from_above : (k : K) (es : List (K × V)) → AllByRecursion (λ e. cmp k e.0 ≡ Greater → ⊥) (entries_from (cmp k) es)
+  from_above k [] = tt
+  from_above k (e ∷ es) = by (cmp k e.0) refl (from_above k es)
+    where
+      by : (r : Ordering) → cmp k e.0 ≡ r → AllByRecursion (λ x. cmp k x.0 ≡ Greater → ⊥) (entries_from (cmp k) es) →
+          AllByRecursion (λ x. cmp k x.0 ≡ Greater → ⊥) (cond (is_le r) (e ∷ entries_from (cmp k) es) (entries_from (cmp k) es))
+      by Less less later = (λ greater. cc, later)
+      by Equal same later = (λ greater. cc, later)
+      by Greater above later = later
 
 module _ {K V : Type 0} {cmp : K → K → Ordering} (o : IsTotalOrder cmp) where
   -- the entries from a key on are the last ones
@@ -88,6 +100,24 @@ module _ {K V : Type 0} (test : K → Bool) where
         by Equal same later = kept (test e.0) later
         by Greater above later = let not : cmp k e.0 ≡ Greater → ⊥ = λ greater. (let less = below.0 in cc) in
             rw (none e.0 not (flip_greater o next e.0 above)) later
+
+    -- entries below a key, none of which passes
+    passing_upto : (next : K) (es : List (K × V)) → ((q : K) → cmp q next ≡ Less → test q ≡ false) → passing (entries_from (cmp next) es) ≡ passing es
+    passing_upto next [] none = refl
+    passing_upto next (e ∷ es) none = by (cmp next e.0) refl (passing_upto next es none)
+      where
+        kept : (b : Bool) → passing (entries_from (cmp next) es) ≡ passing es → cond b (e.0 ∷ passing (entries_from (cmp next) es)) (passing (entries_from (cmp next) es)) ≡ cond b (e.0 ∷ passing es) (passing es)
+        kept true later = ap (λ (l : List K). e.0 ∷ l) later
+        kept false later = later
+
+        by : (r : Ordering) → cmp next e.0 ≡ r → passing (entries_from (cmp next) es) ≡ passing es → passing (cond (is_le r) (e ∷ entries_from (cmp next) es) (entries_from (cmp next) es)) ≡ passing (e ∷ es)
+        by Less less later = kept (test e.0) later
+        by Equal same later = kept (test e.0) later
+        by Greater above later = rw (none e.0 (flip_greater o next e.0 above)) later
+
+    -- a start at a key below which none passes
+    pub begun_from : (start : K) (all : List (K × V)) → IsRising cmp all → ((q : K) → cmp q start ≡ Less → test q ≡ false) → IsUnderWay all (entries_from (cmp start) all) []
+    begun_from start all up none = let last = from_last o start all up in record { past = last.0; parted = last.1; same = passing_upto start all none }
 
     passing_none : (k : K) (es : List (K × V)) → IsBelow cmp k es → ((q : K) → (cmp k q ≡ Greater → ⊥) → test q ≡ false) → passing es ≡ []
     passing_none k [] below none = refl

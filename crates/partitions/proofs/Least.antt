@@ -29,16 +29,16 @@ module _ (xs : List ℕ) where
     pub least_none : length xs ≤ at → IsLeastFrom (λ p. list_any (nat_eq p) xs) x None
     least_none past p low = none_of p (λ i h is. (let less = below i (omega arith) in omega arith))
 
-    -- the first that is above
-    pub least_next : at < length xs → x < get_or xs at 0 → IsNonDecreasing xs → IsLeastFrom (λ p. list_any (nat_eq p) xs) x (Some (get_or xs at 0))
+    -- the first that isn't
+    pub least_next : at < length xs → x ≤ get_or xs at 0 → IsNonDecreasing xs → IsLeastFrom (λ p. list_any (nat_eq p) xs) x (Some (get_or xs at 0))
     least_next within above sorted = (omega arith, list_any_at (nat_eq (get_or xs at 0)) xs at 0 within (same_number (get_or xs at 0)), λ p low high. none_of p (λ i h is. by p i low high h is (nat_lt i at) refl))
       where
         by : (p i : ℕ) → x ≤ p → p < get_or xs at 0 → i < length xs → get_or xs i 0 ≡ p → (b : Bool) → nat_lt i at ≡ b → ⊥
         by p i low high h is true before = let i_before : i < at = grind (arith, nat_tests) in let less = below i i_before in omega arith
         by p i low high h is false behind = let i_behind : at ≤ i = grind (arith, nat_tests) in let more = sorted at i 0 i_behind h in omega arith
 
-  -- where all before a place are below a number, and all from there on above
-  pub least_from : (x at : ℕ) → ((k : ℕ) → k < at → get_or xs k 0 < x) → at ≤ length xs → ((k : ℕ) → at ≤ k → k < length xs → x < get_or xs k 0) → IsNonDecreasing xs →
+  -- where all before a place are below a number, and none from there on
+  pub least_from : (x at : ℕ) → ((k : ℕ) → k < at → get_or xs k 0 < x) → at ≤ length xs → ((k : ℕ) → at ≤ k → k < length xs → x ≤ get_or xs k 0) → IsNonDecreasing xs →
       IsLeastFrom (λ p. list_any (nat_eq p) xs) x (slice_get xs at)
   least_from x at below upto above sorted = by (nat_lt at (length xs)) refl
     where

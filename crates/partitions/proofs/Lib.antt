@@ -1,5 +1,6 @@
 pub mod Order
-pub mod Days
+pub mod NamedOrder
+pub mod TimesOfDays
 pub mod Firsts
 pub mod Leaps
 pub mod Members

@@ -1,19 +1,35 @@
 -- Which partitions are in a list.
-use Rattle.std.proofs.Common.{◌≡◌, ◌⊎◌, ◌↔◌, inl, inr, List, [], ◌∷◌, Bool, true, false, cond, Some, None, sym, ◌∙◌, ap, subst, refl, arith}
-use Rattle.std.specs.Prelude.{filter, Contains, IsSome, IfSome, IfNone, Option}
+use Rattle.std.proofs.Common.{◌≡◌, ◌⊎◌, ◌↔◌, inl, inr, ℕ, ◌+◌, pos, List, [], ◌∷◌, map, Bool, true, false, cond, Some, None, sym, ◌∙◌, ap, subst, refl, arith}
+use Rattle.std.specs.Prelude.{filter, Contains, IsSome, IfNone, IfSome, Option, slice_index_or, Result, Ok, Err, OnOk, OnErr, max}
+use Rattle.std.specs.Option.{is_some}
+use Rattle.std.specs.List.{AllByRecursion, IsDistinct}
+use Rattle.std.specs.List.Sorted.{IsPermutation, IsSorted}
 use Rattle.std.specs.Map.{lookup, keys_of}
 use Rattle.std.specs.BTreeMap.{is_at, insert_entry}
-use Rattle.std.specs.Cmp.{eq_by_cmp_equiv}
+use Rattle.std.specs.Cmp.{IsTotalOrder, eq_by_cmp_equiv}
+use Rattle.std.specs.Ordering.{eq_by_cmp, is_lt, is_eq}
+use Rattle.std.specs.declared.cmp.Ordering.{Ordering}
+use Rattle.std.specs.declared.cmp.Ordering.TheVariants.{Less, Equal, Greater}
+use Rattle.std.proofs.lemmas.List.{length-map}
+use Rattle.std.proofs.Math.ListN.{get_or-map}
 use Rattle.std.proofs.lemmas.List.Elements.{Contains-append_cases, Contains-append_left, Contains-append_right, Contains-push_cases, All-contains, All-filter, All-contains_itself, filter_passes}
 use Rattle.std.proofs.lemmas.List.Kept.{IsStrictlySortedBy-filter}
+use Rattle.std.proofs.lemmas.List.Sorted.{Contains-permutation, IsPermutation-sym, sorted_far, ranks_by}
+use Rattle.std.proofs.lemmas.Map.Keys.{IsDistinct-from_sorted, IsDistinct-IsPermutation, apart_from_distinct, sorted_from_all_adjacent}
+use Rattle.std.proofs.lemmas.Map.Lookups.{CmpEqualImpliesEq}
 use Rattle.std.proofs.lemmas.Map.Views.{Contains-keys_from_lookup, IsSome-lookup_from_Contains, tells_apart}
 use Rattle.block_map.specs.Index.{Listing, IsAdded as IsAddedTo}
 use Rattle.block_map.specs.Rising.{IsRising}
+use Rattle.block_map.proofs.Rising.{flip_greater}
 use Rattle.block_map.proofs.KeyedLists.{sorted_from_rising, lookup-insert_entry}
 use Rattle.partitions.specs.declared.partition.Partition.{Partition}
+use Rattle.partitions.specs.declared.named_day.NamedDay.{NamedDay}
 use Rattle.partitions.specs.Partition.{partition_cmp}
-use Rattle.partitions.specs.Partitions.{Holding, AreRising, IsAdded}
-use Rattle.partitions.proofs.Order.{partition_cmp_total, exact_partitions}
+use Rattle.partitions.specs.NamedDay.{named_cmp, named_day}
+use Rattle.partitions.specs.Partitions.{Holding, AreRising, AreTheSame, IsAdded}
+use Rattle.partitions.proofs.Order.{partition_cmp_total, exact_partitions, together}
+use Rattle.partitions.proofs.NamedOrder.{named_cmp_total, exact_named}
+use Rattle.partitions.proofs.Firsts.{not_true}
 
 -- ---- what a filter keeps
 
@@ -43,53 +59,96 @@ module _ {X : Type 0} (test : X → Bool) where
 
 -- ---- what an insert adds
 
-abbrev pub holding : Listing Partition Unit → Holding
-holding index = record { parts = keys_of index.entries; room = index.room }
+module _ {K : Type 0} {cmp : K → K → Ordering} (o : IsTotalOrder cmp) (exact : CmpEqualImpliesEq cmp) where
+  pub found : (k : K) (es : List (K × Unit)) → IsSome (lookup (is_at (cmp k)) es) → Contains (keys_of es) k
+  found k es = Contains-keys_from_lookup (tells_apart exact) k es
 
-found : (p : Partition) (es : List (Partition × Unit)) → IsSome (lookup (is_at (partition_cmp p)) es) → Contains (keys_of es) p
-found p es = Contains-keys_from_lookup (tells_apart exact_partitions) p es
+  pub looked_up : (k : K) (es : List (K × Unit)) → Contains (keys_of es) k → IsSome (lookup (is_at (cmp k)) es)
+  looked_up k es = IsSome-lookup_from_Contains (eq_by_cmp_equiv o) k es
 
-looked_up : (p : Partition) (es : List (Partition × Unit)) → Contains (keys_of es) p → IsSome (lookup (is_at (partition_cmp p)) es)
-looked_up p es = IsSome-lookup_from_Contains (eq_by_cmp_equiv partition_cmp_total) p es
+  module _ (key : K) (es : List (K × Unit)) where
+    pub in_new : (k : K) → Contains (keys_of (insert_entry cmp es key tt)) k → Contains (keys_of es) k ⊎ (k ≡ key)
+    in_new k is = by (is_at (cmp key) k) refl
+      where
+        by : (b : Bool) → is_at (cmp key) k ≡ b → Contains (keys_of es) k ⊎ (k ≡ key)
+        by true same = inr (sym (tells_apart exact key k same))
+        by false apart = inl (found k es (subst IsSome (lookup-insert_entry o k key tt es ∙ ap (λ b. cond b (Some tt) (lookup (is_at (cmp k)) es)) apart) (looked_up k (insert_entry cmp es key tt) is)))
 
-module _ (part : Partition) (es : List (Partition × Unit)) where
-  in_new : (p : Partition) → Contains (keys_of (insert_entry partition_cmp es part tt)) p → Contains (keys_of es) p ⊎ (p ≡ part)
-  in_new p is = by (is_at (partition_cmp part) p) refl
-    where
-      by : (b : Bool) → is_at (partition_cmp part) p ≡ b → Contains (keys_of es) p ⊎ (p ≡ part)
-      by true same = inr (sym (tells_apart exact_partitions part p same))
-      by false apart = inl (found p es (subst IsSome (lookup-insert_entry partition_cmp_total p part tt es ∙ ap (λ b. cond b (Some tt) (lookup (is_at (partition_cmp p)) es)) apart) (looked_up p (insert_entry partition_cmp es part tt) is)))
+    pub from_old : (k : K) → Contains (keys_of es) k ⊎ (k ≡ key) → Contains (keys_of (insert_entry cmp es key tt)) k
+    from_old k (inl is) = found k (insert_entry cmp es key tt) (rw (lookup-insert_entry o k key tt es) (by (is_at (cmp key) k) (looked_up k es is)))
+      where
+        by : (b : Bool) → IsSome (lookup (is_at (cmp k)) es) → IsSome (cond b (Some tt) (lookup (is_at (cmp k)) es))
+        by true some = refl
+        by false some = some
+    from_old k (inr one) = found k (insert_entry cmp es key tt) (rw (lookup-insert_entry o k key tt es, one, (eq_by_cmp_equiv o).refl key) refl)
 
-  from_old : (p : Partition) → Contains (keys_of es) p ⊎ (p ≡ part) → Contains (keys_of (insert_entry partition_cmp es part tt)) p
-  from_old p (inl is) = found p (insert_entry partition_cmp es part tt) (rw (lookup-insert_entry partition_cmp_total p part tt es) (by (is_at (partition_cmp part) p) (looked_up p es is)))
-    where
-      by : (b : Bool) → IsSome (lookup (is_at (partition_cmp p)) es) → IsSome (cond b (Some tt) (lookup (is_at (partition_cmp p)) es))
-      by true some = refl
-      by false some = some
-  from_old p (inr one) = found p (insert_entry partition_cmp es part tt) (rw (lookup-insert_entry partition_cmp_total p part tt es, one, (eq_by_cmp_equiv partition_cmp_total).refl part) refl)
+    pub absent : (None ≡ lookup (is_at (cmp key)) es) → Contains (keys_of es) key → ⊥
+    absent none is = let some = looked_up key es is in cc
 
--- an insert makes a partition hold a row
-pub added : (old new : Listing Partition Unit) (part : Partition) (r : Option Unit) → r ≡ lookup (is_at (partition_cmp part)) old.entries → IfSome r (λ _. new ≡ old) →
-    IfNone r (IsAddedTo partition_cmp old new part tt) → IsRising partition_cmp new.entries → IsAdded (holding old) (holding new) part
-added old new part None is present absent up = record {
-  held = rw absent.0 (λ p. (in_new part old.entries p, from_old part old.entries p));
-  rising = sorted_from_rising partition_cmp new.entries up;
-  known = λ known. (let some = looked_up part old.entries known in absurd cc);
-  fresh = λ _. absent.1;
-}
-added old new part (Some v) is present absent up = record {
-  held = λ p. (λ now. inl (subst (λ (l : Listing Partition Unit). Contains (keys_of l.entries) p) present now), before p);
-  rising = sorted_from_rising partition_cmp new.entries up;
-  known = λ _. ap holding present;
+abbrev pub held_in : Listing Partition Unit → Listing NamedDay Unit → Holding
+held_in by_day by_name = record { parts = keys_of by_day.entries; room = by_name.room }
+
+named_once : (p q : Partition) → named_day p ≡ named_day q → p ≡ q
+named_once p q same = together p q (ap (λ (k : NamedDay). k.day) same) (ap (λ (k : NamedDay). k.pname) same)
+
+-- a partition that both indexes hold already stays
+pub still_held : (by_day : Listing Partition Unit) (by_name : Listing NamedDay Unit) (part : Partition) → AreTheSame by_day by_name →
+    IsSome (lookup (is_at (partition_cmp part)) by_day.entries) → IsAdded (held_in by_day by_name) (held_in by_day by_name) part
+still_held by_day by_name part are some = record {
+  held = λ p. (inl, before p);
+  rising = sorted_from_rising partition_cmp by_day.entries are.by_day_rises;
+  known = λ _. refl;
   fresh = λ none. absurd (none there);
 }
   where
-    there : Contains (keys_of old.entries) part
-    there = found part old.entries (rw (← is) refl)
+    there : Contains (keys_of by_day.entries) part
+    there = found partition_cmp_total exact_partitions part by_day.entries some
 
-    before : (p : Partition) → Contains (keys_of old.entries) p ⊎ (p ≡ part) → Contains (keys_of new.entries) p
-    before p (inl was) = rw present was
-    before p (inr one) = rw (present, one) there
+    before : (p : Partition) → Contains (keys_of by_day.entries) p ⊎ (p ≡ part) → Contains (keys_of by_day.entries) p
+    before p (inl was) = was
+    before p (inr one) = rw one there
+
+-- one that neither holds goes into both
+module _ (old_day new_day : Listing Partition Unit) (old_name new_name : Listing NamedDay Unit) (part : Partition) (are : AreTheSame old_day old_name)
+    (none : None ≡ lookup (is_at (partition_cmp part)) old_day.entries) (added_day : IsAddedTo partition_cmp old_day new_day part tt) (day_rises : IsRising partition_cmp new_day.entries) where
+  module _ (r : Option Unit) (is : r ≡ lookup (is_at (named_cmp (named_day part))) old_name.entries) (absent_name : IfNone r (IsAddedTo named_cmp old_name new_name (named_day part) tt)) where
+    added_name_by : (s : Option Unit) → r ≡ s → IsAddedTo named_cmp old_name new_name (named_day part) tt
+    added_name_by None e = rw e at absent_name
+    added_name_by (Some v) e = absurd (absent partition_cmp_total exact_partitions part old_day.entries none ((are.same part).0 (found named_cmp_total exact_named (named_day part) old_name.entries (rw (← is, e) refl))))
+
+    pub added_name : IsAddedTo named_cmp old_name new_name (named_day part) tt
+    added_name = added_name_by r refl
+
+  module _ (added_name : IsAddedTo named_cmp old_name new_name (named_day part) tt) (name_rises : IsRising named_cmp new_name.entries) where
+    pub newly_held : IsAdded (held_in old_day old_name) (held_in new_day new_name) part
+    newly_held = record {
+      held = rw added_day.0 (λ p. (in_new partition_cmp_total exact_partitions part old_day.entries p, from_old partition_cmp_total exact_partitions part old_day.entries p));
+      rising = sorted_from_rising partition_cmp new_day.entries day_rises;
+      known = λ known. absurd (absent partition_cmp_total exact_partitions part old_day.entries none known);
+      fresh = λ _. added_name.1;
+    }
+
+    pub still_the_same : AreTheSame new_day new_name
+    still_the_same = record {
+      by_day_rises = day_rises;
+      by_name_rises = name_rises;
+      same = rw (added_day.0, added_name.0) (λ p. (to p, from p));
+      fits = omega (arith, added_day.1, added_name.1, are.fits);
+    }
+      where
+        to : (p : Partition) → Contains (keys_of (insert_entry named_cmp old_name.entries (named_day part) tt)) (named_day p) → Contains (keys_of (insert_entry partition_cmp old_day.entries part tt)) p
+        to p is = by (in_new named_cmp_total exact_named (named_day part) old_name.entries (named_day p) is)
+          where
+            by : Contains (keys_of old_name.entries) (named_day p) ⊎ (named_day p ≡ named_day part) → Contains (keys_of (insert_entry partition_cmp old_day.entries part tt)) p
+            by (inl was) = from_old partition_cmp_total exact_partitions part old_day.entries p (inl ((are.same p).0 was))
+            by (inr one) = from_old partition_cmp_total exact_partitions part old_day.entries p (inr (named_once p part one))
+
+        from : (p : Partition) → Contains (keys_of (insert_entry partition_cmp old_day.entries part tt)) p → Contains (keys_of (insert_entry named_cmp old_name.entries (named_day part) tt)) (named_day p)
+        from p is = by (in_new partition_cmp_total exact_partitions part old_day.entries p is)
+          where
+            by : Contains (keys_of old_day.entries) p ⊎ (p ≡ part) → Contains (keys_of (insert_entry named_cmp old_name.entries (named_day part) tt)) (named_day p)
+            by (inl was) = from_old named_cmp_total exact_named (named_day part) old_name.entries (named_day p) (inl ((are.same p).1 was))
+            by (inr one) = from_old named_cmp_total exact_named (named_day part) old_name.entries (named_day p) (inr (ap named_day one))
 
 -- ---- what is wanted of rising partitions
 
@@ -101,3 +160,91 @@ filter_rises test es up = IsStrictlySortedBy-filter partition_cmp test (keys_of 
 
 pub none_rise : AreRising []
 none_rise = sorted_from_rising {V = Unit} partition_cmp [] tt
+
+-- ---- what is wanted of named days, put in the order of partitions
+
+module _ (parts : List Partition) where
+  pub named_in : (p : Partition) → Contains parts p → Contains (map named_day parts) (named_day p)
+  named_in p (k, h, e) = (k, rw (length-map parts named_day) h, get_or-map named_day parts k p ∙ ap named_day e)
+
+  pub unnamed_in : (p : Partition) → Contains (map named_day parts) (named_day p) → Contains parts p
+  unnamed_in p (k, h, e) = (k, rw (length-map parts named_day) at h, named_once (slice_index_or parts k p) p (sym (get_or-map named_day parts k p) ∙ e))
+
+same_named : (p q : Partition) → eq_by_cmp named_cmp (named_day p) (named_day q) ≡ false → eq_by_cmp partition_cmp p q ≡ false
+same_named p q apart = not_true (eq_by_cmp partition_cmp p q) (λ same. (let one = tells_apart exact_partitions p q same in let itself = (eq_by_cmp_equiv named_cmp_total).refl (named_day q) in let no : eq_by_cmp named_cmp (named_day q) (named_day q) ≡ false = rw one at apart in cc))
+
+apart_from_all : (p : Partition) (parts : List Partition) → AllByRecursion (λ y. eq_by_cmp named_cmp (named_day p) y ≡ false) (map named_day parts) → AllByRecursion (λ y. eq_by_cmp partition_cmp p y ≡ false) parts
+apart_from_all p [] all = tt
+apart_from_all p (q ∷ parts) all = (same_named p q all.0, apart_from_all p parts all.1)
+
+distinct_parts : (parts : List Partition) → IsDistinct (eq_by_cmp named_cmp) (map named_day parts) → IsDistinct (eq_by_cmp partition_cmp) parts
+unfolding IsDistinct
+distinct_parts [] apart = tt
+distinct_parts (p ∷ parts) apart = (apart_from_all p parts apart.0, distinct_parts parts apart.1)
+
+-- partitions that are sorted and apart rise
+rising_from_sorted : (parts : List Partition) → IsSorted partition_cmp parts → IsDistinct (eq_by_cmp partition_cmp) parts → AreRising parts
+rising_from_sorted parts sorted apart = sorted_from_all_adjacent partition_cmp_total parts none (λ k h. less (slice_index_or parts k none) (slice_index_or parts (k + 1) none)
+    (sorted_far (λ x y. is_lt (partition_cmp x y)) (ranks_by partition_cmp_total (λ x. x)) parts sorted k (k + 1) none (omega arith) h)
+    (apart_from_distinct (eq_by_cmp partition_cmp) parts k (k + 1) none apart (omega arith) h))
+  where
+    none : Partition
+    none = record { day = pos 0; pname = 0 }
+
+    less : (p q : Partition) → is_lt (partition_cmp q p) ≡ false → eq_by_cmp partition_cmp p q ≡ false → partition_cmp p q ≡ Less
+    less p q not_less not_same = by (partition_cmp p q) refl
+      where
+        by : (r : Ordering) → partition_cmp p q ≡ r → r ≡ Less
+        by Less e = refl
+        by Equal e = absurd (let no : is_eq (partition_cmp p q) ≡ false = not_same in cc)
+        by Greater e = absurd (let under = flip_greater partition_cmp_total p q e in cc)
+
+module _ (test : NamedDay → Bool) (by_day : Listing Partition Unit) (by_name : Listing NamedDay Unit) (are : AreTheSame by_day by_name)
+    (parts sorted : List Partition) (named : map named_day parts ≡ filter test (keys_of by_name.entries)) (same : IsPermutation parts sorted) where
+  pub sorted_exactly : (p : Partition) → Contains sorted p ↔ (Contains (keys_of by_day.entries) p × (test (named_day p) ≡ true))
+  sorted_exactly p = (to, from)
+    where
+      to : Contains sorted p → Contains (keys_of by_day.entries) p × (test (named_day p) ≡ true)
+      to is = let both = (filter_has test (keys_of by_name.entries) (named_day p)).0 (rw named at (named_in parts p (Contains-permutation sorted parts p (IsPermutation-sym parts sorted same) is))) in ((are.same p).0 both.0, both.1)
+
+      from : Contains (keys_of by_day.entries) p × (test (named_day p) ≡ true) → Contains sorted p
+      from both = Contains-permutation parts sorted p same (unnamed_in parts p (rw named ((filter_has test (keys_of by_name.entries) (named_day p)).1 ((are.same p).1 both.0, both.1))))
+
+  pub sorted_rises : IsSorted partition_cmp sorted → AreRising sorted
+  sorted_rises up =
+      let rises = IsStrictlySortedBy-filter named_cmp test (keys_of by_name.entries) (sorted_from_rising named_cmp by_name.entries are.by_name_rises) in
+      let apart = distinct_parts parts (rw named (IsDistinct-from_sorted named_cmp (filter test (keys_of by_name.entries)) rises)) in
+      rising_from_sorted sorted up (IsDistinct-IsPermutation (eq_by_cmp partition_cmp) (eq_by_cmp_equiv partition_cmp_total).symm parts sorted same apart)
+
+-- ---- the rest of what calls need
+
+-- what is given exactly by one fact is so by an equal one
+pub exactly_by : {T P : Partition → Type 0} (given held : List Partition) → ((p : Partition) → T p ↔ P p) → ((p : Partition) → Contains given p ↔ (Contains held p × T p)) →
+    (p : Partition) → Contains given p ↔ (Contains held p × P p)
+exactly_by given held means is p = (λ at. (let both = (is p).0 at in (both.0, (means p).0 both.1)), λ both. (is p).1 (both.0, (means p).1 both.1))
+
+-- both indexes stay the same ones when room is made for the first and then maybe for the second
+pub roomier : (old_day new_day : Listing Partition Unit) (old_name new_name : Listing NamedDay Unit) (rows : ℕ) {E : Type 0} (r : Result Unit E) → AreTheSame old_day old_name →
+    new_day ≡ record { entries = old_day.entries; room = max old_day.room rows } → OnOk r (new_name ≡ record { entries = old_name.entries; room = max old_name.room rows }) →
+    OnErr r (new_name ≡ old_name) → AreTheSame new_day new_name
+roomier old_day new_day old_name new_name rows (Ok v) are day ok err = rw (day, ok) (record { by_day_rises = are.by_day_rises; by_name_rises = are.by_name_rises; same = are.same; fits = omega (arith, are.fits) })
+roomier old_day new_day old_name new_name rows (Err e) are day ok err = rw (day, err) (record { by_day_rises = are.by_day_rises; by_name_rises = are.by_name_rises; same = are.same; fits = omega (arith, are.fits) })
+
+-- a partition that isn't there yet goes into both indexes
+pub both_added : (old_day new_day : Listing Partition Unit) (old_name new_name : Listing NamedDay Unit) (part : Partition) (key : NamedDay) (r s : Option Unit) → key ≡ named_day part →
+    AreTheSame old_day old_name → is_some r ≡ false → r ≡ lookup (is_at (partition_cmp part)) old_day.entries → IfNone r (IsAddedTo partition_cmp old_day new_day part tt) →
+    IsRising partition_cmp new_day.entries → s ≡ lookup (is_at (named_cmp key)) old_name.entries → IfNone s (IsAddedTo named_cmp old_name new_name key tt) → IsRising named_cmp new_name.entries →
+    AreTheSame new_day new_name × IsAdded (held_in old_day old_name) (held_in new_day new_name) part
+both_added old_day new_day old_name new_name part key (Some v) s same are none found_day added_day day_rises found_name absent_name name_rises = cc
+both_added old_day new_day old_name new_name part key None s same are none found_day added_day day_rises found_name absent_name name_rises =
+    let into : IsAddedTo named_cmp old_name new_name (named_day part) tt =
+    added_name old_day new_day old_name new_name part are found_day added_day day_rises s (subst (λ (k : NamedDay). s ≡ lookup (is_at (named_cmp k)) old_name.entries) same found_name)
+    (subst (λ (k : NamedDay). IfNone s (IsAddedTo named_cmp old_name new_name k tt)) same absent_name) in
+    (still_the_same old_day new_day old_name new_name part are found_day added_day day_rises into name_rises, newly_held old_day new_day old_name new_name part are found_day added_day day_rises into name_rises)
+
+-- one that is there changes nothing
+pub none_added : (old_day new_day : Listing Partition Unit) (by_name : Listing NamedDay Unit) (part : Partition) (r : Option Unit) → AreTheSame old_day by_name → is_some r ≡ true →
+    r ≡ lookup (is_at (partition_cmp part)) old_day.entries → IfSome r (λ _. new_day ≡ old_day) → IsAdded (held_in old_day by_name) (held_in new_day by_name) part
+none_added old_day new_day by_name part None are some found_day present = cc
+none_added old_day new_day by_name part (Some v) are some found_day present =
+    subst (λ (l : Listing Partition Unit). IsAdded (held_in old_day by_name) (held_in l by_name) part) (sym present) (still_held old_day by_name part are (rw (← found_day) refl))

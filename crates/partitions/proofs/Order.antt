@@ -1,12 +1,9 @@
 -- The order of partitions, in words of days and numbers.
-use Rattle.std.proofs.Common.{◌≡◌, ℕ, ℤ, Bool, true, false, ◌&&◌, nat_eq, ◌<ℤ◌, ◌<◌, ◌≤◌, ◌⊎◌, inl, inr, refl, subst, sym, ◌∙◌, ap, arith}
-use Rattle.std.specs.Ordering.{nat_cmp, int_cmp, int_eq, ordering_then, MatchOrdering}
-use Rattle.std.specs.Cmp.{IsTotalOrder, then_total, on_total, int_cmp_total, nat_cmp_total, int_ranks, ranks, signed_Decides, nat_eq_equiv}
+use Rattle.std.proofs.Common.{◌≡◌, ℕ, ℤ, ◌<ℤ◌, ◌<◌, ◌≤◌, ◌⊎◌, inl, inr, refl, subst, sym, ◌∙◌, ap, arith}
+use Rattle.std.specs.Ordering.{nat_cmp, int_cmp, ordering_then, MatchOrdering}
+use Rattle.std.specs.Cmp.{IsTotalOrder, then_total, on_total, int_cmp_total, nat_cmp_total, int_ranks, ranks}
 use Rattle.std.specs.declared.cmp.Ordering.{Ordering}
 use Rattle.std.specs.declared.cmp.Ordering.TheVariants.{Less, Equal, Greater}
-use Rattle.std.proofs.lemmas.Bool.Decides.{nat_tests}
-use Rattle.std.proofs.lemmas.Cmp.{int_eq_equiv}
-use Rattle.std.proofs.lemmas.Int.{ints}
 use Rattle.std.proofs.lemmas.Map.Lookups.{CmpEqualImpliesEq}
 use Rattle.partitions.specs.declared.partition.Partition.{Partition}
 use Rattle.partitions.specs.Partition.{partition_cmp}
@@ -52,41 +49,10 @@ module _ (a b : Partition) where
   pub no_later : (partition_cmp a b ≡ Greater → ⊥) → IsNoLater a b
   no_later not = no_later_by (partition_cmp a b) refl not
 
-  crossed : IsNoLater a b → IsBefore b a → ⊥
-  crossed (inl x) (inl y) = omega (arith, ints, x, y)
-  crossed (inl x) (inr y) = omega (arith, ints, x, y.0)
-  crossed (inr x) (inl y) = omega (arith, ints, x.0, y)
-  crossed (inr x) (inr y) = omega (arith, x.1, y.1)
-
-  pub not_greater : IsNoLater a b → partition_cmp a b ≡ Greater → ⊥
-  not_greater up greater = crossed up (ranked_as Greater greater)
-
 -- partitions of one day and one number are the same
-together : (x y : Partition) → x.day ≡ y.day → x.pname ≡ y.pname → x ≡ y
+pub together : (x y : Partition) → x.day ≡ y.day → x.pname ≡ y.pname → x ≡ y
 together x y days numbers = ap (λ (d : ℤ). let q : Partition = record { day = d; pname = x.pname } in q) days ∙ ap (λ (n : ℕ). let q : Partition = record { day = y.day; pname = n } in q) numbers
 
 -- partitions that compare equal are the same
 pub exact_partitions : CmpEqualImpliesEq partition_cmp
 exact_partitions a b same = let e = ranked_as a b Equal same in together a b e.0 e.1
-
-module _ (a b : Partition) where
-  -- what `==` of partitions tells
-  pub same_by_test : true ≡ (int_eq a.day b.day && nat_eq a.pname b.pname) → a ≡ b
-  same_by_test test = by (int_eq a.day b.day) (nat_eq a.pname b.pname) refl refl test
-    where
-      by : (x y : Bool) → int_eq a.day b.day ≡ x → nat_eq a.pname b.pname ≡ y → true ≡ (x && y) → a ≡ b
-      by true true days numbers test = together a b ((signed_Decides a.day b.day).0 days) (grind (arith, nat_tests))
-      by true false days numbers test = cc
-      by false y days numbers test = cc
-
-  -- one that is no later, and not the same, comes before
-  pub less_by_test : (partition_cmp a b ≡ Greater → ⊥) → false ≡ (int_eq b.day a.day && nat_eq b.pname a.pname) → partition_cmp a b ≡ Less
-  less_by_test up test = by (partition_cmp a b) refl
-    where
-      by : (r : Ordering) → partition_cmp a b ≡ r → r ≡ Less
-      by Less e = refl
-      by Equal e = absurd (let same = ranked_as a b Equal e in
-          let days : int_eq b.day a.day ≡ true = rw same.0 (int_eq_equiv.refl b.day) in
-          let numbers : nat_eq b.pname a.pname ≡ true = rw same.1 (nat_eq_equiv.refl b.pname) in
-          let both : (int_eq b.day a.day && nat_eq b.pname a.pname) ≡ true = rw (days, numbers) refl in cc)
-      by Greater e = absurd (up e)

@@ -1,4 +1,5 @@
 pub mod Partition
+pub mod NamedDay
 pub mod Bounds
 pub mod Names
 pub mod Wanted

@@ -1,11 +1,13 @@
 -- What contracts see of the partitions that hold a row.
-use Rattle.std.specs.Prelude.{◌≡◌, ◌↔◌, ◌⊎◌, ℕ, ◌+◌, List, [], Option, Some, None, Contains}
+use Rattle.std.specs.Prelude.{◌≡◌, ◌↔◌, ◌⊎◌, ℕ, ◌+◌, ◌≤◌, List, [], Option, Some, None, Contains}
 use Rattle.std.specs.Map.{keys_of}
 use Rattle.std.specs.List.Sorted.{IsStrictlySortedBy}
 use Rattle.block_map.specs.Index.{Listing}
 use Rattle.block_map.specs.Rising.{IsRising}
 use Rattle.partitions.specs.declared.partition.Partition.{Partition}
+use Rattle.partitions.specs.declared.named_day.NamedDay.{NamedDay}
 use Rattle.partitions.specs.Partition.{partition_cmp}
+use Rattle.partitions.specs.NamedDay.{named_cmp, named_day}
 
 -- the partitions that hold a row, and how many more may come to without memory
 pub record Holding : Type 0 where
@@ -23,17 +25,14 @@ pub record IsAdded (old new : Holding) (part : Partition) : Type 0 where
   pub known : Contains old.parts part → new ≡ old
   pub fresh : (Contains old.parts part → ⊥) → new.room + 1 ≡ old.room
 
--- the keys of an index, which is there once room was made
-abbrev pub parts_of : Option (Listing Partition Unit) → List Partition
-parts_of None = []
-parts_of (Some index) = keys_of index.entries
+-- two indexes hold the same partitions, each in its order; what fits into the second fits into the first
+pub record AreTheSame (by_day : Listing Partition Unit) (by_name : Listing NamedDay Unit) : Type 0 where
+  pub by_day_rises : IsRising partition_cmp by_day.entries
+  pub by_name_rises : IsRising named_cmp by_name.entries
+  pub same : (p : Partition) → Contains (keys_of by_name.entries) (named_day p) ↔ Contains (keys_of by_day.entries) p
+  pub fits : by_name.room ≤ by_day.room
 
--- the room of an index
-abbrev pub room_of : Option (Listing Partition Unit) → ℕ
-room_of None = 0
-room_of (Some index) = index.room
-
--- an index has its keys in their order
-abbrev pub IsInOrder : Option (Listing Partition Unit) → Type 0
-IsInOrder None = Unit {0}
-IsInOrder (Some index) = IsRising partition_cmp index.entries
+-- what is held in two orders, which are there once room was made
+abbrev pub held_of : Option Holding → Holding
+held_of None = record { parts = []; room = 0 }
+held_of (Some held) = held

@@ -1,22 +1,27 @@
 -- Partitions that are wanted, by their days and packet names.
-use Rattle.std.specs.Prelude.{◌≡◌, ℕ, List, Option, Some, None, Bool, true, false, not, ◌&&◌, int_lt, nat_eq}
+use Rattle.std.specs.Prelude.{◌≡◌, ℤ, Option, Some, None, Bool, true, false, not, ◌&&◌, int_lt, nat_eq}
 use Rattle.std.specs.List.{list_any}
+use Rattle.std.specs.declared.cmp.Ordering.{Ordering}
 use Rattle.std.specs.declared.cmp.Ordering.TheVariants.{Less, Greater}
 use Rattle.partitions.specs.declared.partition.Partition.{Partition}
+use Rattle.partitions.specs.declared.named_day.NamedDay.{NamedDay}
+use Rattle.partitions.specs.declared.days.Days.{Days}
 use Rattle.partitions.specs.declared.wanted.Wanted.{Wanted}
-use Rattle.partitions.specs.Partition.{partition_cmp}
 
--- whether a packet name is among those listed; where there is no list, each is
-abbrev pub is_among : Option (List ℕ) → ℕ → Bool
-is_among None pname = true
-is_among (Some names) pname = list_any (nat_eq pname) names
+-- whether a day is one of those in a row
+abbrev pub is_on : Days → ℤ → Bool
+is_on days day = not (int_lt day days.first) && not (int_lt days.last day)
 
--- whether a partition has one of the days and one of the packet names that are wanted
-abbrev pub is_wanted : Wanted → Partition → Bool
-is_wanted wanted part = not (int_lt part.day wanted.first) && not (int_lt wanted.last part.day) && is_among wanted.names part.pname
+-- whether a partition's day is
+abbrev pub is_on_days : Days → Partition → Bool
+is_on_days days part = is_on days part.day
 
--- the first partition that passes a test, from a partition on, or that there is none
-abbrev pub IsFirstFrom : (Partition → Bool) → Partition → Option Partition → Type 0
-IsFirstFrom test part None = (p : Partition) → (partition_cmp part p ≡ Greater → ⊥) → test p ≡ false
-IsFirstFrom test part (Some next) = (partition_cmp part next ≡ Greater → ⊥) × (test next ≡ true) ×
-    ((p : Partition) → (partition_cmp part p ≡ Greater → ⊥) → partition_cmp p next ≡ Less → test p ≡ false)
+-- whether a named day has one of the days and one of the packet names that are wanted
+abbrev pub is_wanted : Wanted → NamedDay → Bool
+is_wanted wanted at = is_on wanted.days at.day && list_any (nat_eq at.pname) wanted.names
+
+-- the first key that passes a test, from a key on, or that there is none
+abbrev pub IsFirstFrom : {K : Type 0} → (K → K → Ordering) → (K → Bool) → K → Option K → Type 0
+IsFirstFrom {K} cmp test key None = (k : K) → (cmp key k ≡ Greater → ⊥) → test k ≡ false
+IsFirstFrom {K} cmp test key (Some next) = (cmp key next ≡ Greater → ⊥) × (test next ≡ true) ×
+    ((k : K) → (cmp key k ≡ Greater → ⊥) → cmp k next ≡ Less → test k ≡ false)

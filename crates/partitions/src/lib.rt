@@ -5,15 +5,21 @@
 // them in which a row may stand that has its time and its packet name in given bounds, so that a reader passes over all others.
 // Callers: the store adds each row's partition, replays and scripts ask for the partitions of their bounds.
 //
-// `pruned` goes through two rising lists at once, the partitions that hold a row and those that the bounds want, and leaps in each to
-// where the other stands. The one idea of its proof: what is given so far, and those of the entries left that are wanted, are together
-// all entries that are wanted (proofs/Leaps.antt); so what a leap passes over has only to be unwanted.
-// To be changed together: the order of `Partition`'s fields, `partition_cmp`, and `Wanted::first_from`, which leaps in that order.
+// The partitions stand in two indexes, by day and by packet name, which hold the same ones (`AreTheSame`, specs/Partitions.antt). Without
+// a list of names `pruned` walks the days of the first. With one it goes through two rising lists at once, the second index and the
+// named days that are wanted, and leaps in each to where the other stands; what it gathers it puts in order. The one idea of its
+// proof: what is given so far, and those of the entries left that are wanted, are together all entries that are wanted
+// (proofs/Leaps.antt); so what a leap passes over has only to be unwanted.
+// To be changed together: the order of `Partition`'s fields and `partition_cmp`; that of `NamedDay`'s, `named_cmp`, and
+// `Wanted::first_from`, which leaps in that order.
 #![tactic(auto)]
 
 pub mod bounds;
+mod days;
 pub mod lists;
+mod named_day;
 mod names;
+mod orders;
 pub mod partition;
 pub mod partitions;
 #[cfg(test)]

@@ -1,6 +1,8 @@
 //! Lists of packet names and of partitions.
 
 ghost use Rattle.std.specs.Prelude.{◌≡◌, IfOk, OnOk, OnErr, ◌++◌, [], ◌∷◌};
+ghost use Rattle.std.specs.List.Sorted.{IsPermutation, IsSorted};
+ghost use Rattle.partitions.specs.Partition.{partition_cmp};
 
 use crate::partition::Partition;
 use std::alloc::{AllocError, Global};
@@ -92,6 +94,14 @@ impl PartList {
     {
         self.items.push(part)?;
         Ok(())
+    }
+
+    /// Puts the partitions in their order.
+    pub(crate) fn sort(&mut self)
+        ensures same { IsPermutation self.old self.new }
+        ensures sorted { IsSorted partition_cmp self.new }
+    {
+        self.items.sort_unstable();
     }
 
     /// An equal value.

@@ -1,7 +1,8 @@
 //! Packet names in the order of their numbers.
 
-ghost use Rattle.std.specs.Prelude.{◌≡◌, ℕ, IfOk, nat_eq};
+ghost use Rattle.std.specs.Prelude.{◌≡◌, ◌+◌, ℕ, IfOk, nat_eq};
 ghost use Rattle.std.specs.List.{list_any};
+ghost use Rattle.std.specs.List.Sorted.{IsNonDecreasing};
 ghost use Rattle.partitions.specs.Names.{IsLeastFrom};
 
 use std::alloc::{AllocError, Global};
@@ -43,4 +44,20 @@ impl SortedNames {
             Err(at) => self.items.get(at).copied(),
         }
     }
+
+    /// The least of the names that is above this number.
+    pub(crate) fn first_after(&self, pname: u16) -> Option<u16>
+        ensures { IsLeastFrom (λ p. list_any (nat_eq p) self.now) (pname + 1) result }
+    {
+        first_above(self.items.as_slice(), pname)
+    }
+}
+
+/// The first item above a number.
+fn first_above(items: &[u16], pname: u16) -> Option<u16>
+    requires { IsNonDecreasing items.now }
+    ensures { IsLeastFrom (λ p. list_any (nat_eq p) items.now) (pname + 1) result }
+{
+    let at = items.partition_point(|item| *item <= pname);
+    items.get(at).copied()
 }

@@ -1,17 +1,17 @@
 //! The partitions that hold a row.
 
-ghost use Rattle.std.specs.Prelude.{◌≡◌, ◌+◌, ◌<◌, ◌≤◌, ◌↔◌, [], max, filter, IfOk, OnOk, OnErr, Contains};
-ghost use Rattle.std.specs.Map.{keys_of};
+ghost use Rattle.std.specs.Prelude.{◌≡◌, ◌+◌, ◌<◌, ◌≤◌, ◌↔◌, [], max, IfOk, OnOk, OnErr, Contains};
 ghost use Rattle.partitions.specs.Partition.{partition_of};
 ghost use Rattle.partitions.specs.Bounds.{MayHold};
-ghost use Rattle.partitions.specs.Wanted.{is_wanted};
 ghost use Rattle.partitions.specs.Partitions.{AreRising, IsAdded};
 
 use crate::bounds::Bounds;
+use crate::days::Days;
 use crate::lists::PartList;
+use crate::names::SortedNames;
+use crate::orders::Orders;
 use crate::partition::{Partition, partition_of};
 use crate::wanted::Wanted;
-use block_map::index::Index;
 use std::alloc::{AllocError, Global};
 use std::marker::Model;
 
@@ -20,37 +20,15 @@ use std::marker::Model;
 pub struct Partitions {
     alloc: Global,
     /// There once room was made.
-    index: Option<Index<Partition, ()>>,
+    orders: Option<Orders>,
 }
 
 impl Model for Partitions {
-    ghost use Rattle.partitions.specs.Partitions.{Holding, parts_of, room_of, IsInOrder};
+    ghost use Rattle.partitions.specs.Partitions.{Holding, held_of};
 
     ghost Value = { Holding };
 
-    ghost view = { λ p. record { parts = parts_of p.index; room = room_of p.index } };
-
-    ghost invariant = { λ p. IsInOrder p.index };
-}
-
-/// The partitions of an index that are wanted. Where an entry isn't, the next one looked at is the first that may be.
-fn wanted_of(
-    alloc: Global,
-    index: &Index<Partition, ()>,
-    wanted: &Wanted,
-) -> Result<PartList, AllocError>
-    ensures { IfOk result (λ parts. parts ≡ filter (is_wanted wanted.now) (keys_of index.now.entries)) }
-{
-    let mut parts = PartList::new(alloc);
-    let mut entries = index.iter();
-    while let Some(&(part, ())) = entries.next() {
-        match wanted.first_from(part) {
-            Some(next) if next == part => parts.push(part)?,
-            Some(next) => entries = index.from_key(next),
-            None => break,
-        }
-    }
-    Ok(parts)
+    ghost view = { λ p. held_of p.orders };
 }
 
 impl Partitions {
@@ -58,7 +36,10 @@ impl Partitions {
     pub fn new(alloc: Global) -> Self
         ensures { result ≡ record { parts = []; room = 0 } }
     {
-        Partitions { alloc, index: None }
+        Partitions {
+            alloc,
+            orders: None,
+        }
     }
 
     /// Makes the room at least `rows`. The one error is want of memory, and then all is as before.
@@ -68,13 +49,13 @@ impl Partitions {
         ensures full { OnErr result (self.old.room < rows) }
     {
         let rows = rows as usize;
-        match &mut self.index {
-            Some(index) => index.reserve(rows),
+        match &mut self.orders {
+            Some(orders) => orders.reserve(rows),
             None if rows == 0 => Ok(()),
             None => {
-                let mut index = Index::new(self.alloc)?;
-                index.reserve(rows)?;
-                self.index = Some(index);
+                let mut orders = Orders::new(self.alloc)?;
+                orders.reserve(rows)?;
+                self.orders = Some(orders);
                 Ok(())
             }
         }
@@ -86,8 +67,8 @@ impl Partitions {
         ensures added { IsAdded self.old self.new (partition_of time pname) }
         ensures left { self.old.room ≤ self.new.room + 1 }
     {
-        if let Some(index) = &mut self.index {
-            let _ = index.insert(partition_of(time, pname), ());
+        if let Some(orders) = &mut self.orders {
+            orders.add(partition_of(time, pname));
         }
     }
 
@@ -97,9 +78,16 @@ impl Partitions {
         ensures exactly { IfOk result (λ parts. (p : Partition) → Contains parts p ↔ (Contains self.now.parts p × MayHold bounds.now p)) }
         ensures rising { IfOk result (λ parts. AreRising parts) }
     {
-        match &self.index {
-            Some(index) if bounds.from < bounds.to => {
-                wanted_of(self.alloc, index, &Wanted::of(self.alloc, bounds)?)
+        match &self.orders {
+            Some(orders) if bounds.from < bounds.to => {
+                let days = Days::of(bounds);
+                match &bounds.names {
+                    Some(names) => {
+                        let names = SortedNames::of(self.alloc, names.as_slice())?;
+                        orders.of_names(self.alloc, &Wanted { days, names })
+                    }
+                    None => orders.on_days(self.alloc, &days),
+                }
             }
             _ => Ok(PartList::new(self.alloc)),
         }

@@ -1,0 +1,11 @@
+use Rattle.std.proofs.Common.{length, map}
+use Rattle.partitions.specs.NamedDay.{named_day}
+use Rattle.partitions.specs.Wanted.{is_wanted}
+use Rattle.partitions.proofs.Leaps.{IsUnderWay}
+use Rattle.partitions.proofs.orders.of_names.Given as goal
+
+abbrev pub invariant-loop-at : goal.invariant-loop-at
+invariant-loop-at l = IsUnderWay (is_wanted l.wanted) l.index.entries l.entries (map named_day l.parts)
+
+abbrev pub decreases-loop-at : goal.decreases-loop-at
+decreases-loop-at l = length l.entries
