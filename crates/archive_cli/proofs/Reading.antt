@@ -1,5 +1,5 @@
 -- The refusals of an input that can't be read.
-use Rattle.std.proofs.Common.{◌≡◌, ℕ, List, Option, inl, inr, refl}
+use Rattle.std.proofs.Common.{ℕ, List, Option, inl, inr, refl}
 use Rattle.arch_types.specs.declared.refusal.Refusal.{Refusal}
 use Rattle.arch_types.specs.declared.refusal.Which.{Which}
 use Rattle.arch_types.specs.Limits.{limit_of}
