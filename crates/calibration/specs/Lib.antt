@@ -1,0 +1,3 @@
+pub mod Calibrated
+pub mod Admitted
+pub mod Carried

@@ -1,0 +1,16 @@
+// The engineering value of a raw number by its parameter's calibration.
+//
+// The definition is `calibrated` in specs/Calibrated.antt: whole-number arithmetic in millionths, so that no value is rounded but by the
+// quotient between two points, which is rounded down. Extraction calls `calibrate` for each entry, and readers of stored raw numbers call it again.
+//
+// `calibrate` takes no memory and never refuses: the rules of the sheets keep every sum and product within 128 bits and every value
+// within 64 (specs/Admitted.antt says which rules). Among points it finds the raw number's two neighbours by halving, which is right since
+// points rise. proofs/Rules.antt shows that a checked database keeps these rules; a change of a rule of calibrations or parameters in
+// mdb_model touches it and the bounds in proofs/Bounds.antt.
+#![tactic(auto)]
+
+mod calibrated;
+mod points;
+mod polynomial;
+
+pub use calibrated::calibrate;

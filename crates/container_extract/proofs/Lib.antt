@@ -1,0 +1,10 @@
+pub mod Numbers
+pub mod Widths
+pub mod Rules
+pub mod Chains
+pub mod Walk
+pub mod Taking
+pub mod Down
+pub mod Names
+pub mod Places
+pub mod Children

@@ -1,0 +1,7 @@
+pub mod Bits
+pub mod Values
+pub mod Places
+pub mod Chain
+pub mod Step
+pub mod Extraction
+pub mod Laws

@@ -1,0 +1,25 @@
+// What a packet's octets say by a mission database: bit fields, the chain of containers, and the values of their entries.
+//
+// The definitions stand in specs/: Bits takes the packet as one number and says what a field is (CCSDS 133.0-B counts bits from the first one
+// on), Values says what an entry's value is and when a condition holds, Chain is a relation between a packet and a list of container numbers
+// (`IsChain`, of which `laws` says that there is exactly one), and Extraction is the values along it. The archive calls `packet_name` for each
+// arrival and `extract` for each packet that it reads, and counts the latter's steps.
+//
+// The idea of the proof: whatever goes on from the containers so far makes a chain (proofs/Walk.antt), so that the walk ends with one.
+// A container's children all stand after it in the sheet, so the walk ends. Who changes the rules of containers in mdb_model touches proofs/Rules.antt.
+#![tactic(auto)]
+
+pub mod chain;
+mod conditions;
+mod containers;
+mod entries;
+mod extraction;
+mod fields;
+pub mod laws;
+mod taken;
+#[cfg(test)]
+mod tests;
+pub mod values;
+
+pub use extraction::{Extracted, extract, packet_name};
+pub use fields::bits;

@@ -1,0 +1,49 @@
+-- The sheets of a mission database, and why they aren't read.
+use Rattle.std.specs.Prelude.{◌≡◌, ℕ, ◌<◌, ◌≤◌, ◌⊎◌, List, Option, IfSome, IsNone, IsSomeAnd, length}
+use Rattle.std.specs.FinMap.{get}
+use Rattle.arch_types.specs.declared.refusal.Refusal.{Refusal}
+use Rattle.arch_types.specs.declared.refusal.Refusal.TheVariants.{Missing, ReadFault, Limit, OutOfMemory}
+use Rattle.arch_types.specs.declared.refusal.Which.TheVariants.{SheetOctets}
+use Rattle.arch_types.specs.Limits.{limit_of}
+use Rattle.csv.specs.Reading.{default_config, records, strip_bom}
+use Rattle.mdb_model.specs.declared.sheet.RawMdb.{RawMdb}
+use Rattle.outer_traits.specs.Outside.{Files, HasRisen}
+use Rattle.outer_traits.specs.Whole.{IsThere}
+
+-- a record of a sheet: the octets of each field
+abbrev pub Fields : Type 0
+Fields = List (List ℕ)
+
+-- the records of octets in the default form of `csv`, none taken as a header
+unfoldable pub sheet_of : List ℕ → List Fields
+sheet_of octets = records default_config (strip_bom octets)
+
+-- the named input isn't longer than a sheet may be, and these are the records of its octets
+abbrev pub IsSheet : Option Files → List ℕ → List Fields → Type 0
+IsSheet files name sheet = IfSome files (λ all. IsSomeAnd (get all name) (λ octets. (length octets ≤ limit_of SheetOctets) × (sheet ≡ sheet_of octets)))
+
+-- the three sheets are those of the three names
+pub record AreSheets (files : Option Files) (parameters calibrations containers : List ℕ) (raw : RawMdb) : Type 0 where
+  pub parameters_sheet : IsSheet files parameters raw.parameters
+  pub calibrations_sheet : IsSheet files calibrations raw.calibrations
+  pub containers_sheet : IsSheet files containers raw.containers
+
+-- there is an input of the name that isn't longer than a sheet may be
+abbrev pub HasSheet : Option Files → List ℕ → Type 0
+HasSheet files name = IfSome files (λ all. IsSomeAnd (get all name) (λ octets. length octets ≤ limit_of SheetOctets))
+
+-- why a sheet isn't read: there's none of the name, a call failed, it is longer than the limit, or there was no memory
+abbrev pub IsSheetRefusal : Option Files → List ℕ → ℕ → ℕ → Refusal → Type 0
+IsSheetRefusal files name faults faults' (Missing lacking) = (lacking ≡ name) × IfSome files (λ all. IsNone (get all name))
+IsSheetRefusal files name faults faults' ReadFault = HasRisen faults faults' × IsThere files name
+IsSheetRefusal files name faults faults' (Limit which number) =
+    (which ≡ SheetOctets) × (number ≡ limit_of SheetOctets) × IfSome files (λ all. IsSomeAnd (get all name) (λ octets. limit_of SheetOctets < length octets))
+IsSheetRefusal files name faults faults' OutOfMemory = Unit {0}
+IsSheetRefusal files name faults faults' other = ⊥
+
+-- the refusal is that of the first sheet that isn't read
+abbrev pub IsRefusal : Option Files → List ℕ → List ℕ → List ℕ → ℕ → ℕ → Refusal → Type 0
+IsRefusal files parameters calibrations containers faults faults' refusal =
+    IsSheetRefusal files parameters faults faults' refusal
+    ⊎ (HasSheet files parameters × IsSheetRefusal files calibrations faults faults' refusal)
+    ⊎ (HasSheet files parameters × HasSheet files calibrations × IsSheetRefusal files containers faults faults' refusal)

@@ -1,0 +1,38 @@
+//! The three sheets of a mission database.
+
+ghost use Rattle.std.specs.Prelude.{◌≡◌, ◌+◌, ◌<◌, ◌≤◌, ◌^◌, IfOk, IfErr};
+ghost use Rattle.outer_traits.specs.Outside.{Stays};
+ghost use Rattle.mdb_sheets.specs.Sheets.{AreSheets, IsRefusal};
+
+use crate::sheet::read_sheet;
+use arch_types::refusal::Refusal;
+use mdb_model::RawMdb;
+use outer_traits::inputs::Inputs;
+use std::alloc::Global;
+
+/// The records of the three named sheets, which are read in this order. Of the first that isn't read it answers `Missing` where no input has
+/// the name, `ReadFault` where a call failed, and `Limit` of `SheetOctets` where it is longer than 4,194,304 octets, whichever its reads meet
+/// first. Each source that was opened is closed.
+pub fn read_mdb<I: Inputs>(
+    alloc: Global,
+    inputs: &mut I,
+    parameters: &str,
+    calibrations: &str,
+    containers: &str,
+) -> Result<RawMdb, Refusal>
+    ensures sheets { IfOk result (AreSheets (I.files inputs.old) parameters.now calibrations.now containers.now) }
+    ensures refused { IfErr result (IsRefusal (I.files inputs.old) parameters.now calibrations.now containers.now (I.faults inputs.old) (I.faults inputs.new)) }
+    ensures same { I.files inputs.new ≡ I.files inputs.old }
+    ensures closed { I.open_sources inputs.old + 1 < 2 ^ 64 → I.open_sources inputs.new ≡ I.open_sources inputs.old }
+    ensures later { I.faults inputs.old ≤ I.faults inputs.new }
+    ensures steady { I.never_fails inputs.old → I.never_fails inputs.new × Stays (I.faults inputs.old) (I.faults inputs.new) }
+{
+    let parameter_sheet = read_sheet(alloc, inputs, parameters)?;
+    let calibration_sheet = read_sheet(alloc, inputs, calibrations)?;
+    let container_sheet = read_sheet(alloc, inputs, containers)?;
+    Ok(RawMdb {
+        parameters: parameter_sheet,
+        calibrations: calibration_sheet,
+        containers: container_sheet,
+    })
+}

@@ -1,0 +1,43 @@
+//! The records of octets.
+
+ghost use Rattle.std.specs.Prelude.{◌≡◌, IfOk};
+ghost use Rattle.csv.specs.Records.{fields_of};
+ghost use Rattle.mdb_sheets.specs.Sheets.{sheet_of};
+
+use csv::{ByteRecord, ReaderBuilder};
+use mdb_model::{Record, Sheet};
+use std::alloc::{AllocError, Global};
+
+/// The records of a sheet's octets, each field copied once. `csv` can fail over octets in memory only where there's no memory left.
+pub(crate) fn records(alloc: Global, octets: &[u8]) -> Result<Sheet, AllocError>
+    ensures { IfOk result (λ sheet. sheet ≡ sheet_of octets.now) }
+{
+    let mut reader = ReaderBuilder::new()
+        .has_headers(false)
+        .flexible(true)
+        .from_reader(alloc, octets);
+    let mut row = ByteRecord::new(alloc);
+    let mut sheet = Sheet::new(alloc);
+    loop {
+        let Ok(found) = reader.read_byte_record(&mut row) else {
+            return Err(AllocError);
+        };
+        if !found {
+            return Ok(sheet);
+        }
+        let next = record_of(alloc, &row)?;
+        sheet.push(next)?;
+    }
+}
+
+/// The record with the fields of a row.
+fn record_of(alloc: Global, row: &ByteRecord) -> Result<Record, AllocError>
+    ensures { IfOk result (λ copy. copy ≡ fields_of row.now) }
+{
+    let mut copy = Record::new(alloc);
+    for octets in row {
+        let field = Vec::from_slice(alloc, octets)?;
+        copy.push(field)?;
+    }
+    Ok(copy)
+}

@@ -1,0 +1,35 @@
+//! One sheet.
+
+ghost use Rattle.std.specs.Prelude.{◌≡◌, ◌+◌, ◌<◌, ◌≤◌, ◌^◌, IfOk, IfErr};
+ghost use Rattle.outer_traits.specs.Outside.{Stays};
+ghost use Rattle.mdb_sheets.specs.Sheets.{IsSheet, IsSheetRefusal};
+
+use crate::records::records;
+use crate::refusal::refusal;
+use arch_types::refusal::{Refusal, Which};
+use mdb_model::Sheet;
+use outer_traits::inputs::Inputs;
+use outer_traits::whole::read_input;
+use std::alloc::Global;
+
+/// The records of the named sheet. Its source is closed whatever comes.
+pub(crate) fn read_sheet<I: Inputs>(
+    alloc: Global,
+    inputs: &mut I,
+    name: &str,
+) -> Result<Sheet, Refusal>
+    ensures sheet { IfOk result (IsSheet (I.files inputs.old) name.now) }
+    ensures refused { IfErr result (IsSheetRefusal (I.files inputs.old) name.now (I.faults inputs.old) (I.faults inputs.new)) }
+    ensures same { I.files inputs.new ≡ I.files inputs.old }
+    ensures closed { I.open_sources inputs.old + 1 < 2 ^ 64 → I.open_sources inputs.new ≡ I.open_sources inputs.old }
+    ensures later { I.faults inputs.old ≤ I.faults inputs.new }
+    ensures steady { I.never_fails inputs.old → I.never_fails inputs.new × Stays (I.faults inputs.old) (I.faults inputs.new) }
+{
+    match read_input(alloc, inputs, name, Which::SheetOctets.limit() as usize) {
+        Ok(octets) => match records(alloc, octets.as_slice()) {
+            Ok(sheet) => Ok(sheet),
+            Err(_) => Err(Refusal::OutOfMemory),
+        },
+        Err(fault) => Err(refusal(alloc, fault, name)),
+    }
+}
