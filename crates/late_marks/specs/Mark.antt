@@ -1,5 +1,5 @@
 -- The mark of an interval that has rows.
-use Rattle.std.specs.Prelude.{ℕ, ◌≤◌, ◌&&◌, Bool, true, false, not, List, max, nat_le, Option, Some, None, Contains}
+use Rattle.std.specs.Prelude.{◌≡◌, ℕ, ◌≤◌, ◌&&◌, Bool, true, false, not, List, [], max, nat_le, Option, Some, None, Contains}
 use Rattle.late_marks.specs.declared.mark.Mark.{Mark}
 
 -- an interval whose rows stand at these positions is late: some row stands at or after the base of its last fill, or there is a row
@@ -12,6 +12,11 @@ IsLateBy positions (Some base) = (p : ℕ) × Contains positions p × (base ≤ 
 pub record IsLast (positions : List ℕ) (last : ℕ) : Type 0 where
   pub there : Contains positions last
   pub greatest : (p : ℕ) → Contains positions p → p ≤ last
+
+-- an interval's rows stand at these positions, as far as its mark tells: at none where it has no mark, and else the mark has the greatest
+abbrev pub StandAt : Option Mark → List ℕ → Type 0
+StandAt None positions = positions ≡ []
+StandAt (Some m) positions = IsLast positions m.last
 
 -- the last row stands at or after the base, or there is none
 abbrev pub is_late_by : ℕ → Option ℕ → Bool

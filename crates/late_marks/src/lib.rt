@@ -3,7 +3,8 @@
 // An interval with rows is late where it was never filled, or where one of its rows stands in the history at or after the base of
 // its last fill. Contracts see `LateMarks` as the mark of each interval that has rows: the position of the last one, the base of the
 // last fill, and whether somebody has taken the interval to fill it (specs/Mark.antt, specs/Marks.antt). That the greatest position
-// decides as all of them do (`IsLateBy`) is shown in proofs/Positions.antt.
+// decides as all of them do (`IsLateBy`) is a clause of `touch` and of `is_late`, over every list of positions that a mark may stand for
+// (`StandAt`).
 // Callers: the store, which touches the interval of each row, notes fills, and asks for the next interval to fill.
 //
 // The marks stand in one ordered index, and the intervals that are late and free in a second one, so that the least of them is

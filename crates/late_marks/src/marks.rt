@@ -1,7 +1,7 @@
 //! The late marks.
 
-ghost use Rattle.std.specs.Prelude.{◌≡◌, ◌+◌, ◌<◌, ◌≤◌, ◌≤ℤ◌, [], max, true, false, Some, IfOk, OnOk, OnErr, IfSome};
-ghost use Rattle.late_marks.specs.Mark.{touched};
+ghost use Rattle.std.specs.Prelude.{◌≡◌, ℕ, ◌+◌, ◌<◌, ◌≤◌, ◌≤ℤ◌, ◌↔◌, List, [], ◌∷◌, ◌++◌, max, true, false, Some, IfOk, OnOk, OnErr, IfSome};
+ghost use Rattle.late_marks.specs.Mark.{touched, StandAt, IsLateBy};
 ghost use Rattle.late_marks.specs.Marks.{mark_of, has_rows, last_of, base_of, is_late, is_late_free, Marked, IsLeast};
 
 use crate::books::Books;
@@ -58,6 +58,7 @@ impl LateMarks {
     pub fn touch(&mut self, interval: Interval, position: u64)
         requires { 0 < self.old.room }
         ensures marked { Marked self.old self.new interval (touched (mark_of self.old interval) position) }
+        ensures rows { (positions : List ℕ) → StandAt (mark_of self.old interval) positions → StandAt (mark_of self.new interval) (positions ++ position ∷ []) }
         ensures known { has_rows self.old interval ≡ true → self.new.room ≡ self.old.room }
         ensures fresh { has_rows self.old interval ≡ false → self.new.room + 1 ≡ self.old.room }
     {
@@ -87,7 +88,8 @@ impl LateMarks {
 
     /// Whether the interval has rows, and was never filled or has one at or after the base of its last fill.
     pub fn is_late(&self, interval: Interval) -> bool
-        ensures { result ≡ is_late self.now interval }
+        ensures mark { result ≡ is_late self.now interval }
+        ensures rows { (positions : List ℕ) → StandAt (mark_of self.now interval) positions → (result ≡ true) ↔ IsLateBy positions (base_of self.now interval) }
     {
         match self.mark(interval) {
             Some(mark) => mark.is_late(),
