@@ -14,7 +14,7 @@ returns-clause-rows c =
       | in-Some w ↦
           let held : w.in-Some.books ≡ c.args.self.now = sym (ap marks_of w.in-Some.is) ∙ c.self.view_is in
           rw (w.self-inside-is, ← held) (λ positions stand. subst (λ (m : Option Mark). StandAt m (positions ++ c.args.position ∷ [])) (sym w.touch.ensures.marked.set)
-              (rows_touched (mark_of w.in-Some.books c.args.interval) c.args.position positions stand))
+          (rows_touched (mark_of w.in-Some.books c.args.interval) c.args.position positions stand))
       | in_default w ↦
           let none = ap (λ (m : Marks). m.room) c.self.view_is in
           let empty = ap (λ b. (marks_of b).room) w.in_default.is in
