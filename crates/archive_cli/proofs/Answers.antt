@@ -9,9 +9,8 @@ use Rattle.arch_types.specs.declared.refusal.BadKind.{BadKind}
 use Rattle.arch_types.specs.Dump.{IsDump}
 use Rattle.arch_types.proofs.Dumps.{dump_is_one}
 use Rattle.outer_traits.specs.Outside.{Files, HasRisen}
-use Rattle.outer_traits.specs.Whole.{IsInput}
 use Rattle.archive_cli.specs.Job.{Job, Scan, job_of}
-use Rattle.archive_cli.specs.Call.{Call, IsSilent}
+use Rattle.archive_cli.specs.Call.{Call, IsInput, IsSilent}
 use Rattle.archive_cli.specs.Ending.{dump_limit, Received, IsBadRest, IsScanEnding, IsJobEnding, IsEnding}
 use Rattle.archive_cli.specs.Expected.{IsOrMemory, NoFault, ending_of_rest, IsJobExpected, IsExpected}
 use Rattle.archive_cli.specs.Reading.{IsReadRefusal}
@@ -119,10 +118,10 @@ pub expected : (call : Call) (ending : Option Refusal) → IsEnding call ending 
 expected call ending h = expected_cases call call.files (job_of call.words) ending refl h
 
 -- an input that wasn't read to its end ends the scan
-pub read_ending : (call : Call) (name : List ℕ) (refusal : Refusal) → IsReadRefusal call.files name DumpOctets call.read_faults call.read_faults' refusal →
+pub read_ending : (call : Call) (name : List ℕ) (refusal : Refusal) → IsReadRefusal call.files name DumpOctets dump_limit call.read_faults call.read_faults' refusal →
     IsSilent call → IsScanEnding call name (Some refusal)
 read_ending call name (Missing lacking) h s = (h.0, h.1, s)
 read_ending call name ReadFault h s = (h.0, h.1, s)
-read_ending call name (Limit which number) h s = (h.0, h.1, h.2, s)
+read_ending call name (Limit which number) h s = let is = h.1 in (h.0, h.1, rw is h.2, s)
 read_ending call name OutOfMemory h s = s
 read_ending call name other h s = absurd h

@@ -1,5 +1,5 @@
 pub mod Pieces
-pub mod Reading
+pub mod Inputs
 pub mod Answers
 pub mod Gathered
 pub mod Shown

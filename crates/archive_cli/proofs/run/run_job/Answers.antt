@@ -7,9 +7,5 @@ returns-in-Scan g c =
     let job : job_of (map (λ w. string_bytes w) c.args.words.now) ≡ Some (Scan c.in-Scan.dump.now) = sym (rw c.in-Scan.is at c.command_of.ensures) in
     record {
       ended = rw job (c.scan.ensures.ended (map (λ w. string_bytes w) c.args.words.now));
-      same = c.scan.ensures.same;
-      closed = c.scan.ensures.closed;
-      later = c.scan.ensures.later;
-      writes_later = c.scan.ensures.writes_later;
       steady = c.scan.ensures.steady;
     }

@@ -1,0 +1,16 @@
+use Rattle.std.proofs.Common.{◌≤◌, ◌<◌, ◌-◌, vec_len}
+use Rattle.outer_traits.specs.Outside.{Stays}
+use Rattle.archive_cli.specs.Reading.{IsTaken}
+use Rattle.archive_cli.proofs.read.read_all.Given as goal
+
+abbrev pub invariant-loop-n : goal.invariant-loop-n
+invariant-loop-n g l = record {
+  piece : 0 < vec_len l.piece;
+  within : vec_len l.octets ≤ l.limit;
+  told : IsTaken (g.S.Source.left l.fn.source) l.octets.items (g.S.Source.left l.source);
+  later : g.S.Source.faults l.fn.source ≤ g.S.Source.faults l.source;
+  steady : g.S.Source.never_fails l.fn.source → g.S.Source.never_fails l.source × Stays (g.S.Source.faults l.fn.source) (g.S.Source.faults l.source);
+}
+
+abbrev pub decreases-loop-n : goal.decreases-loop-n
+decreases-loop-n g l = l.limit - vec_len l.octets
