@@ -1,0 +1,83 @@
+-- The last row of an interval decides whether it is late.
+use Rattle.std.proofs.Common.{◌≡◌, ℕ, zero, suc, ◌+◌, ◌≤◌, List, [], ◌∷◌, ◌++◌, length, Bool, true, false, eqb, leb, true≢false, Option, Some, None, refl, sym, ap, subst, ◌∙◌, arith, add-one}
+use Rattle.std.specs.Prelude.{slice_get, if◌then◌else◌, ◌&&◌, ◌↔◌, IsTrue, MatchOption, ⊤}
+use Rattle.std.specs.Ordering.{int_eq}
+use Rattle.std.proofs.lemmas.Bool.{eqb-true, leb-true, le-leb}
+use Rattle.std.proofs.lemmas.Bool.Decides.{Decides-int_eq, nat_tests}
+use Rattle.arch_types.specs.declared.interval.Interval.{Interval}
+use Rattle.arch_types.specs.Interval.{interval_of}
+use Rattle.archive_core.specs.declared.fills.Fill.{Fill}
+use Rattle.archive_core.specs.Items.{Item, is_row_of_interval}
+use Rattle.archive_core.specs.Fills.{base_of}
+use Rattle.archive_core.specs.Places.{last_place, last_with}
+use Rattle.archive_core.specs.Late.{StandsIn, IsLate, IsLastIn, last_in, is_late_by, is_late}
+use Rattle.archive_core.proofs.Places.{last_push}
+
+and_true : (a b : Bool) → (a && b) ≡ true → (a ≡ true) × (b ≡ true)
+and_true true b e = (refl, e)
+and_true false b e = absurd cc
+
+some_is : {A : Type 0} (x y : A) → ◌≡◌ {A = Option A} (Some x) (Some y) → x ≡ y
+some_is x y e = cc
+
+-- an item that passes stands in the interval
+stands_here : (interval : Interval) (history : List Item) (position : ℕ) (item : Item) → slice_get history position ≡ Some item → is_row_of_interval interval item ≡ true → StandsIn interval position history
+stands_here interval history position item at passes =
+    let p = and_true (eqb item.table 0) (int_eq (interval_of item.key.time) interval.0) passes in
+    record { row = item; there = at; table = eqb-true item.table 0 p.0; time = (Decides-int_eq (interval_of item.key.time) interval.0).0 p.1 }
+
+-- an item that stands in the interval passes
+passes_there : (interval : Interval) (item : Item) → item.table ≡ 0 → interval_of item.key.time ≡ interval.0 → is_row_of_interval interval item ≡ true
+passes_there interval item table time =
+    let one : eqb item.table 0 ≡ true = grind (arith, nat_tests) in
+    let two : int_eq (interval_of item.key.time) interval.0 ≡ true = (Decides-int_eq (interval_of item.key.time) interval.0).1 time in
+    rw (one, two) refl
+
+behind : (interval : Interval) (x : Item) (xs : List Item) (position : ℕ) → StandsIn interval (suc position) (x ∷ xs) → StandsIn interval position xs
+behind interval x xs position s = record { row = s.row; there = s.there; table = s.table; time = s.time }
+
+ahead : (interval : Interval) (x : Item) (xs : List Item) (position : ℕ) → StandsIn interval position xs → StandsIn interval (position + 1) (x ∷ xs)
+ahead interval x xs position s = record { row = s.row; there = ap (λ (p : ℕ). slice_get (x ∷ xs) p) (add-one position) ∙ s.there; table = s.table; time = s.time }
+
+pub last_is_greatest : (interval : Interval) (history : List Item) → IsLastIn interval history (last_in interval history)
+last_is_greatest interval [] = λ position s. let at = s.there in absurd cc
+last_is_greatest interval (x ∷ xs) = go (is_row_of_interval interval x) refl (last_in interval xs) (last_is_greatest interval xs)
+  where
+    greatest : (last : ℕ) → ((position : ℕ) → StandsIn interval position xs → position ≤ last) → (position : ℕ) → StandsIn interval position (x ∷ xs) → position ≤ last + 1
+    greatest last most zero s = omega arith
+    greatest last most (suc position) s = omega (arith, most position (behind interval x xs position s))
+
+    only : ((position : ℕ) → StandsIn interval position xs → ⊥) → (position : ℕ) → StandsIn interval position (x ∷ xs) → position ≤ 0
+    only none zero s = omega arith
+    only none (suc position) s = absurd (none position (behind interval x xs position s))
+
+    nowhere : is_row_of_interval interval x ≡ false → ((position : ℕ) → StandsIn interval position xs → ⊥) → (position : ℕ) → StandsIn interval position (x ∷ xs) → ⊥
+    nowhere fails none zero s =
+        let same : x ≡ s.row = some_is x s.row s.there in
+        true≢false (sym (ap (is_row_of_interval interval) same ∙ passes_there interval s.row s.table s.time) ∙ fails)
+    nowhere fails none (suc position) s = none position (behind interval x xs position s)
+
+    go : (b : Bool) → is_row_of_interval interval x ≡ b → (o : Option ℕ) → IsLastIn interval xs o → IsLastIn interval (x ∷ xs) (last_with b o)
+    go b is (Some last) is_last = (ahead interval x xs last is_last.0, greatest last is_last.1)
+    go true is None is_last = (stands_here interval (x ∷ xs) 0 x refl is, only is_last)
+    go false is None is_last = nowhere is is_last
+
+pub last_after_item : (interval : Interval) (history : List Item) (item : Item) →
+    last_in interval (history ++ item ∷ []) ≡ (if is_row_of_interval interval item then Some (length history) else last_in interval history)
+last_after_item interval history item = last_push (is_row_of_interval interval) history item
+
+pub late_by_last : (interval : Interval) (history : List Item) (fills : List Fill) → IsTrue (is_late interval history fills) ↔ IsLate interval history fills
+late_by_last interval history fills = (there (last_in interval history) (last_is_greatest interval history) (base_of interval fills) refl, back (last_in interval history) (last_is_greatest interval history) (base_of interval fills) refl)
+  where
+    there : (o : Option ℕ) → IsLastIn interval history o → (base : Option ℕ) → base_of interval fills ≡ base → IsTrue (is_late_by o base) → IsLate interval history fills
+    there None is_last base is late = absurd (true≢false (sym late))
+    there (Some last) is_last None is late = record { position = last; stands = is_last.0; unseen = subst (λ (o : Option ℕ). MatchOption o ⊤ (λ base. base ≤ last)) (sym is) tt }
+    there (Some last) is_last (Some base) is late = record { position = last; stands = is_last.0; unseen = subst (λ (o : Option ℕ). MatchOption o ⊤ (λ base. base ≤ last)) (sym is) (grind arith) }
+
+    back : (o : Option ℕ) → IsLastIn interval history o → (base : Option ℕ) → base_of interval fills ≡ base → IsLate interval history fills → IsTrue (is_late_by o base)
+    back None is_last base is late = absurd (is_last late.position late.stands)
+    back (Some last) is_last None is late = refl
+    back (Some last) is_last (Some base) is late =
+        let seen : base ≤ late.position = subst (λ (o : Option ℕ). MatchOption o ⊤ (λ base. base ≤ late.position)) is late.unseen in
+        let le : base ≤ last = omega (arith, seen, is_last.1 late.position late.stands) in
+        grind arith

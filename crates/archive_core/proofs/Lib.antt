@@ -1,0 +1,4 @@
+pub mod Places
+pub mod Outcomes
+pub mod Late
+pub mod FillLists

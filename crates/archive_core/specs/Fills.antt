@@ -1,0 +1,77 @@
+-- What a fill list tells: bases of fills, flights, and faults.
+use Rattle.std.specs.Prelude.{◌≡◌, ℕ, ◌+◌, ◌-◌, ◌^◌, ◌≤◌, Bool, true, false, List, [], ◌∷◌, fold, map, min, Option, Some, None, if◌then◌else◌}
+use Rattle.std.specs.Ordering.{int_eq}
+use Rattle.arch_types.specs.declared.interval.Interval.{Interval}
+use Rattle.archive_core.specs.declared.fills.Fill.{Fill}
+use Rattle.archive_core.specs.declared.fills.Fill.TheVariants.{Begun, Done, Freed, Fault}
+use Rattle.archive_core.specs.Items.{Item, items_of}
+
+-- whether two are one interval
+abbrev pub is_same : Interval → Interval → Bool
+is_same a b = int_eq a.0 b.0
+
+-- ---- fills
+
+-- the base of an interval's last fill after one more item, given the one before
+abbrev pub base_after : Interval → Option ℕ → Fill → Option ℕ
+base_after interval base (Begun i b) = base
+base_after interval base (Done i b) = if is_same interval i then Some b else base
+base_after interval base (Freed i) = base
+base_after interval base (Fault count wrote rows) = base
+
+-- the base of the last Done of an interval
+abbrev pub base_of : Interval → List Fill → Option ℕ
+base_of interval fills = fold (base_after interval) None fills
+
+-- the base of an interval's flight after one more item, given the one before: the last item that names the interval decides
+abbrev pub flight_after : Interval → Option ℕ → Fill → Option ℕ
+flight_after interval base (Begun i b) = if is_same interval i then Some b else base
+flight_after interval base (Done i b) = if is_same interval i then None else base
+flight_after interval base (Freed i) = if is_same interval i then None else base
+flight_after interval base (Fault count wrote rows) = base
+
+-- the base of an interval that is in flight: the last item that names it is Begun, with this base
+abbrev pub in_flight : Interval → List Fill → Option ℕ
+in_flight interval fills = fold (flight_after interval) None fills
+
+-- ---- faults
+
+-- the items that each fault holds
+abbrev pub held : List Fill → List (List Item)
+held [] = []
+held (Begun i b ∷ fills) = held fills
+held (Done i b ∷ fills) = held fills
+held (Freed i ∷ fills) = held fills
+held (Fault count wrote rows ∷ fills) = items_of rows ∷ held fills
+
+-- the count of the first fault after whose failed write no reopen has succeeded
+abbrev pub standing : List Fill → Option ℕ
+standing [] = None
+standing (Begun i b ∷ fills) = standing fills
+standing (Done i b ∷ fills) = standing fills
+standing (Freed i ∷ fills) = standing fills
+standing (Fault count true rows ∷ fills) = Some count
+standing (Fault count false rows ∷ fills) = standing fills
+
+-- an item after a reopen that succeeded
+abbrev pub settled : Fill → Fill
+settled (Begun i b) = Begun i b
+settled (Done i b) = Done i b
+settled (Freed i) = Freed i
+settled (Fault count wrote rows) = Fault count false rows
+
+-- a fill list after a reopen that succeeded
+abbrev pub reopened : List Fill → List Fill
+reopened fills = map settled fills
+
+-- the next value of a counter that stands still at its last one
+abbrev pub above : ℕ → ℕ
+above count = min (count + 1) (2 ^ 64 - 1)
+
+-- the counts of faults rise from the first number, and none is above the last
+abbrev pub Rising : ℕ → ℕ → List Fill → Type 0
+Rising low high [] = Unit {0}
+Rising low high (Begun i b ∷ fills) = Rising low high fills
+Rising low high (Done i b ∷ fills) = Rising low high fills
+Rising low high (Freed i ∷ fills) = Rising low high fills
+Rising low high (Fault count wrote rows ∷ fills) = (low ≤ count) × (count ≤ high) × Rising (above count) high fills

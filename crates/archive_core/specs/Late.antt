@@ -1,0 +1,42 @@
+-- Late intervals.
+use Rattle.std.specs.Prelude.{◌≡◌, ℕ, ◌≤◌, List, slice_get, Bool, true, false, Option, Some, None, MatchOption, ⊤, nat_le}
+use Rattle.arch_types.specs.declared.interval.Interval.{Interval}
+use Rattle.arch_types.specs.Interval.{interval_of}
+use Rattle.archive_core.specs.declared.fills.Fill.{Fill}
+use Rattle.archive_core.specs.Items.{Item, is_row_of_interval}
+use Rattle.archive_core.specs.Fills.{base_of}
+use Rattle.archive_core.specs.Places.{last_place}
+
+-- a row of table `tm`, the first table, with its time in the interval stands at this position
+pub record StandsIn (interval : Interval) (position : ℕ) (history : List Item) : Type 0 where
+  pub row : Item
+  pub there : slice_get history position ≡ Some row
+  pub table : row.table ≡ 0
+  pub time : interval_of row.key.time ≡ interval.0
+
+-- an interval is late where such a row stands at or after the base of its last fill, or where it has one and was never filled
+pub record IsLate (interval : Interval) (history : List Item) (fills : List Fill) : Type 0 where
+  pub position : ℕ
+  pub stands : StandsIn interval position history
+  pub unseen : MatchOption (base_of interval fills) ⊤ (λ base. base ≤ position)
+
+-- ---- lateness by the last row alone
+
+-- the position of the last row of `tm` in the interval
+abbrev pub last_in : Interval → List Item → Option ℕ
+last_in interval history = last_place (is_row_of_interval interval) history
+
+-- no such row stands anywhere, or one stands there and none after it
+abbrev pub IsLastIn : Interval → List Item → Option ℕ → Type 0
+IsLastIn interval history None = (position : ℕ) → StandsIn interval position history → ⊥
+IsLastIn interval history (Some last) = StandsIn interval last history × ((position : ℕ) → StandsIn interval position history → position ≤ last)
+
+-- by the position of the last row, and the base of the last fill
+abbrev pub is_late_by : Option ℕ → Option ℕ → Bool
+is_late_by None base = false
+is_late_by (Some last) None = true
+is_late_by (Some last) (Some base) = nat_le base last
+
+-- whether an interval is late
+abbrev pub is_late : Interval → List Item → List Fill → Bool
+is_late interval history fills = is_late_by (last_in interval history) (base_of interval fills)

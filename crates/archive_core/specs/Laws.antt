@@ -1,0 +1,77 @@
+-- What holds of outcomes, late intervals and fill lists.
+use Rattle.std.specs.Prelude.{◌≡◌, ◌↔◌, ℕ, ◌+◌, ◌<◌, ◌≤◌, List, [], ◌∷◌, ◌++◌, length, take, slice_get, Option, Some, None, Bool, true, IsTrue, if◌then◌else◌}
+use Rattle.std.specs.Option.{option_or}
+use Rattle.arch_types.specs.declared.interval.Interval.{Interval}
+use Rattle.arch_types.specs.declared.inserted.Inserted.{Inserted}
+use Rattle.arch_types.specs.declared.row.Row.{Row}
+use Rattle.arch_types.specs.History.{ingested, IsHistory}
+use Rattle.archive_core.specs.declared.fills.Fill.{Fill}
+use Rattle.archive_core.specs.declared.fills.Fill.TheVariants.{Fault}
+use Rattle.archive_core.specs.Items.{Item, is_row_of_interval}
+use Rattle.archive_core.specs.Outcomes.{outcomes_of, fresh_of, Says}
+use Rattle.archive_core.specs.Fills.{base_of, base_after, in_flight, flight_after, held, standing, reopened, above, Rising}
+use Rattle.archive_core.specs.Late.{IsLate, IsLastIn, last_in, is_late}
+
+-- ---- outcomes
+
+-- a batch has one outcome per row
+abbrev pub OneOutcomePerRow : Type 0
+OneOutcomePerRow = (history : List Item) (rows : List Row) → length (outcomes_of history rows) ≡ length rows
+
+-- an outcome is answered for a row exactly where it says the truth of the row and what stands before it
+abbrev pub OutcomesSay : Type 0
+OutcomesSay = (history : List Item) (rows : List Row) (i : ℕ) (row : Row) (outcome : Inserted) → IsHistory history → slice_get rows i ≡ Some row →
+    (slice_get (outcomes_of history rows) i ≡ Some outcome) ↔ Says (ingested history (take i rows)) row outcome
+
+-- an ingest puts the rows that are new behind the history
+abbrev pub FreshRowsAreAdded : Type 0
+FreshRowsAreAdded = (history : List Item) (rows : List Row) → ingested history rows ≡ history ++ fresh_of history rows
+
+-- the rows that are new are a batch of which each is new
+abbrev pub FreshRowsAreNew : Type 0
+FreshRowsAreNew = (history : List Item) (rows : List Row) →
+    (ingested history (fresh_of history rows) ≡ history ++ fresh_of history rows) × (length (fresh_of history rows) ≤ length rows)
+
+-- each row of two batches is new exactly where each of the first is, and each of the second after them
+abbrev pub NewInTurn : Type 0
+NewInTurn = (history : List Item) (first second : List Row) →
+    (ingested history (first ++ second) ≡ history ++ (first ++ second)) ↔ ((ingested history first ≡ history ++ first) × (ingested (history ++ first) second ≡ (history ++ first) ++ second))
+
+-- ---- late intervals
+
+-- the position of the last row is that of a row of `tm` in the interval, and the greatest
+abbrev pub LastIsGreatest : Type 0
+LastIsGreatest = (interval : Interval) (history : List Item) → IsLastIn interval history (last_in interval history)
+
+-- one item more
+abbrev pub LastAfterItem : Type 0
+LastAfterItem = (interval : Interval) (history : List Item) (item : Item) →
+    last_in interval (history ++ item ∷ []) ≡ (if is_row_of_interval interval item then Some (length history) else last_in interval history)
+
+-- the last row decides whether an interval is late
+abbrev pub LateByLast : Type 0
+LateByLast = (interval : Interval) (history : List Item) (fills : List Fill) → IsTrue (is_late interval history fills) ↔ IsLate interval history fills
+
+-- ---- fill lists
+
+-- one item more
+abbrev pub BasesAfterItem : Type 0
+BasesAfterItem = (interval : Interval) (fills : List Fill) (item : Fill) →
+    (base_of interval (fills ++ item ∷ []) ≡ base_after interval (base_of interval fills) item)
+    × (in_flight interval (fills ++ item ∷ []) ≡ flight_after interval (in_flight interval fills) item)
+
+-- what more items hold comes after what is held, and the first count that stands stays
+abbrev pub FaultsAfterItems : Type 0
+FaultsAfterItems = (fills more : List Fill) →
+    (held (fills ++ more) ≡ held fills ++ held more) × (standing (fills ++ more) ≡ option_or (standing fills) (standing more))
+
+-- counts go on rising over items whose counts rise from above the last count
+abbrev pub CountsGoOn : Type 0
+CountsGoOn = (low high next : ℕ) (fills more : List Fill) → low ≤ above high → high ≤ next → Rising low high fills → Rising (above high) next more → Rising low next (fills ++ more)
+
+-- a reopen takes away what stands, and nothing else
+abbrev pub ReopenSettles : Type 0
+ReopenSettles = (fills : List Fill) →
+    (standing (reopened fills) ≡ None) × (held (reopened fills) ≡ held fills) × (length (reopened fills) ≡ length fills)
+    × ((low high : ℕ) → Rising low high fills → Rising low high (reopened fills))
+    × ((interval : Interval) → (base_of interval (reopened fills) ≡ base_of interval fills) × (in_flight interval (reopened fills) ≡ in_flight interval fills))

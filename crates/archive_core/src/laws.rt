@@ -1,0 +1,64 @@
+//! Laws of the definitions, carried by functions that do nothing.
+
+ghost use Rattle.archive_core.specs.Laws.{OneOutcomePerRow, OutcomesSay, FreshRowsAreAdded, FreshRowsAreNew, NewInTurn, LastIsGreatest, LastAfterItem, LateByLast, BasesAfterItem, FaultsAfterItems, CountsGoOn, ReopenSettles};
+
+/// A batch has one outcome per row.
+pub fn one_outcome_per_row()
+    ensures { OneOutcomePerRow }
+{}
+
+/// New is answered exactly where the row is appended at that position, and Duplicate exactly where the row at that position has its
+/// table and key.
+pub fn outcomes_say()
+    ensures { OutcomesSay }
+{}
+
+/// An ingest puts the rows that are new behind the history.
+pub fn fresh_rows_are_added()
+    ensures { FreshRowsAreAdded }
+{}
+
+/// The rows that are new are a batch of which each is new.
+pub fn fresh_rows_are_new()
+    ensures { FreshRowsAreNew }
+{}
+
+/// Rows are all new exactly where each is, in turn.
+pub fn new_in_turn()
+    ensures { NewInTurn }
+{}
+
+/// The last row of an interval has the greatest position.
+pub fn last_is_greatest()
+    ensures { LastIsGreatest }
+{}
+
+/// The last row of an interval after one more item.
+pub fn last_after_item()
+    ensures { LastAfterItem }
+{}
+
+/// The last row of an interval decides whether it is late.
+pub fn late_by_last()
+    ensures { LateByLast }
+{}
+
+/// Bases and flights after one more item.
+pub fn bases_after_item()
+    ensures { BasesAfterItem }
+{}
+
+/// What is held and what stands after more items.
+pub fn faults_after_items()
+    ensures { FaultsAfterItems }
+{}
+
+/// Counts of faults go on rising.
+pub fn counts_go_on()
+    ensures { CountsGoOn }
+{}
+
+/// A reopen takes away what stands, and nothing else.
+pub fn reopen_settles()
+    ensures { ReopenSettles }
+{}

@@ -1,0 +1,116 @@
+-- The kind of an entry, and what stands behind it.
+use Rattle.std.proofs.Common.{◌≡◌, ℕ, ◌<◌, ◌^◌, List, [], ◌∷◌, ◌++◌, Option, Some, None, Err, refl, sym, ap, subst, ◌∙◌, append-nil, arith}
+use Rattle.std.specs.Int.{w8}
+use Rattle.arch_types.specs.declared.row.Row.{Row}
+use Rattle.mdb_model.specs.Database.{Database, IsDatabase}
+use Rattle.mdb_model.specs.Spelling.{database_octets}
+use Rattle.mdb_model.proofs.DatabaseOctets.{database_fits}
+use Rattle.mdb_model.proofs.ItemOctets.{database_exact}
+use Rattle.octet_fields.specs.declared.fault.DecodeError.{DecodeError}
+use Rattle.octet_fields.specs.declared.fault.DecodeError.TheVariants as fields
+use Rattle.octet_fields.specs.Answers.{Fails}
+use Rattle.octet_fields.specs.Exact.{IsOctets, IsExact}
+use Rattle.octet_fields.specs.Reading.{Reader, number_at}
+use Rattle.octet_fields.specs.Spelling.{number}
+use Rattle.octet_fields.proofs.Exact.{one_form, some_is}
+use Rattle.octet_fields.proofs.Numbers.{exact8}
+use Rattle.field_codec.specs.declared.entry.Entry.{Entry}
+use Rattle.field_codec.specs.declared.entry.Entry.TheVariants.{Head, Rows}
+use Rattle.field_codec.specs.declared.fault.NotAnEntry.TheVariants.{OutOfMemory}
+use Rattle.field_codec.specs.Entries.{AreStored, AreTables, IsEntry}
+use Rattle.field_codec.specs.Faults.{fault_of}
+use Rattle.field_codec.specs.Reading.{IsHead, head_of, opening_at}
+use Rattle.field_codec.specs.Spelling.{body_octets, entry_octets, head_octets, kind_of, opening_octets, rows_octets}
+use Rattle.field_codec.proofs.Openings.{opening_exact}
+use Rattle.field_codec.proofs.RowFields.{rows_exact}
+
+kind_small : (a : Entry) → kind_of a < 2 ^ 8
+kind_small (Head tables mdb) = omega arith
+kind_small (Rows rows) = omega arith
+
+-- ---- one spelling
+
+-- the spellings of a value that is read exactly are one
+once : {A : Type 0} {Fits : A → Type 0} {spell : A → List ℕ} {read : Reader A} → IsExact Fits spell read → (a b : A) → Fits a → Fits b → spell a ≡ spell b → a ≡ b
+once {spell = spell} exact a b fa fb e = (one_form exact a b [] [] fa fb (append-nil (spell a) ∙ e ∙ sym (append-nil (spell b)))).0
+
+parts : (a b : Entry) → entry_octets a ≡ entry_octets b → (kind_of a ≡ kind_of b) × (body_octets a ≡ body_octets b)
+parts a b e = one_form exact8 (kind_of a) (kind_of b) (body_octets a) (body_octets b) (kind_small a) (kind_small b) e
+
+head_once : (s t : List (List ℕ)) (d e : Database) → AreTables s → AreTables t → IsDatabase d → IsDatabase e → head_octets s d ≡ head_octets t e → (s ≡ t) × (d ≡ e)
+head_once s t d e fs ft fd fe is =
+    let p = one_form opening_exact s t (database_octets d) (database_octets e) fs ft is in
+    (p.0, once database_exact d e (database_fits d fd) (database_fits e fe) p.1)
+
+pub one_spelling : (a b : Entry) → IsEntry a → IsEntry b → entry_octets a ≡ entry_octets b → a ≡ b
+one_spelling (Head s d) (Head t e) fa fb is =
+    let p = head_once s t d e fa.0 fb.0 fa.1 fb.1 (parts (Head s d) (Head t e) is).1 in
+    ap (λ x. Head x d) p.0 ∙ ap (λ x. Head t x) p.1
+one_spelling (Head s d) (Rows rows) fa fb is = let kind : 1 ≡ 2 = (parts (Head s d) (Rows rows) is).0 in absurd (omega (arith, kind))
+one_spelling (Rows rows) (Head t e) fa fb is = let kind : 2 ≡ 1 = (parts (Rows rows) (Head t e) is).0 in absurd (omega (arith, kind))
+one_spelling (Rows r) (Rows s) fa fb is = ap Rows (once rows_exact r s fa fb (parts (Rows r) (Rows s) is).1)
+
+-- ---- a head whose opening was read
+
+abbrev Found : Type 0
+Found = List (List ℕ) × List ℕ
+
+-- what was read is the head's tables, and what follows is its database
+pub opening_read : (octets : List ℕ) (tables : List (List ℕ)) (rest : List ℕ) (a : List (List ℕ) × Database) → opening_at octets ≡ Some (tables, rest) → IsHead a → octets ≡ head_of a → (tables ≡ a.0) × (rest ≡ database_octets a.1)
+opening_read octets tables rest a e fits is =
+    let same : ◌≡◌ {A = Option Found} (Some (tables, rest)) (Some (a.0, database_octets a.1)) = sym e ∙ ap opening_at is ∙ opening_exact.again a.0 (database_octets a.1) tt fits.0 in
+    let p = some_is (tables, rest) (a.0, database_octets a.1) same in
+    (ap (λ q. q.0) p, ap (λ q. q.1) p)
+
+pub opening_memory : (octets : List ℕ) (e : DecodeError) (a : List (List ℕ) × Database) → Fails e (opening_at octets) → IsHead a → octets ≡ head_of a → e ≡ fields.Memory
+opening_memory octets fields.Memory a f fits is = refl
+opening_memory octets fields.Malformed a f fits is = absurd (cc (sym f ∙ ap opening_at is ∙ opening_exact.again a.0 (database_octets a.1) tt fits.0))
+
+pub head_whole : (octets : List ℕ) (tables : List (List ℕ)) (rest : List ℕ) (mdb : Database) → IsOctets octets → opening_at octets ≡ Some (tables, rest) → IsDatabase mdb × (rest ≡ database_octets mdb) → IsHead (tables, mdb) × (octets ≡ head_octets tables mdb)
+head_whole octets tables rest mdb are e h =
+    let t = opening_exact.takes octets (tables, rest) are e in
+    ((t.1, h.0), t.0 ∙ ap (λ (l : List ℕ). opening_octets tables ++ l) h.1)
+
+-- ---- an entry whose kind was read
+
+-- what was read is the entry's kind, and what follows is its body
+pub kind_read : (octets : List ℕ) (kind : ℕ) (rest : List ℕ) (a : Entry) → number_at w8 octets ≡ Some (kind, rest) → octets ≡ entry_octets a → (kind ≡ kind_of a) × (rest ≡ body_octets a)
+kind_read octets kind rest a e is =
+    let same : ◌≡◌ {A = Option (ℕ × List ℕ)} (Some (kind, rest)) (Some (kind_of a, body_octets a)) = sym e ∙ ap (number_at w8) is ∙ exact8.again (kind_of a) (body_octets a) tt (kind_small a) in
+    let p = some_is (kind, rest) (kind_of a, body_octets a) same in
+    (ap (λ q. q.0) p, ap (λ q. q.1) p)
+
+-- an entry has a kind
+pub no_kind : (octets : List ℕ) (a : Entry) → number_at w8 octets ≡ None → octets ≡ entry_octets a → ⊥
+no_kind octets a e is = absurd (cc (sym e ∙ ap (number_at w8) is ∙ exact8.again (kind_of a) (body_octets a) tt (kind_small a)))
+
+-- there is no other kind
+pub no_other : (a : Entry) (kind : ℕ) → kind ≡ kind_of a → (kind ≡ 1 → ⊥) → (kind ≡ 2 → ⊥) → ⊥
+no_other (Head tables mdb) kind e one two = one e
+no_other (Rows rows) kind e one two = two e
+
+-- the octets behind a kind, and it
+behind_kind : (octets rest : List ℕ) (kind : ℕ) (body : List ℕ) → IsOctets octets → number_at w8 octets ≡ Some (kind, rest) → rest ≡ body → octets ≡ number w8 kind ++ body
+behind_kind octets rest kind body are e is = (exact8.takes octets (kind, rest) are e).0 ∙ ap (λ (l : List ℕ). number w8 kind ++ l) is
+
+pub rows_entry : (octets rest : List ℕ) (kind : ℕ) (rows : List Row) → IsOctets octets → number_at w8 octets ≡ Some (kind, rest) → kind ≡ 2 → AreStored rows × (rest ≡ rows_octets rows) → IsEntry (Rows rows) × (octets ≡ entry_octets (Rows rows))
+rows_entry octets rest kind rows are e two h = (h.0, behind_kind octets rest kind (rows_octets rows) are e h.1 ∙ ap (λ (n : ℕ). number w8 n ++ rows_octets rows) two)
+
+pub head_entry : (octets rest : List ℕ) (kind : ℕ) (tables : List (List ℕ)) (mdb : Database) → IsOctets octets → number_at w8 octets ≡ Some (kind, rest) → kind ≡ 1 → IsHead (tables, mdb) × (rest ≡ head_octets tables mdb) → IsEntry (Head tables mdb) × (octets ≡ entry_octets (Head tables mdb))
+head_entry octets rest kind tables mdb are e one h = (h.0, behind_kind octets rest kind (head_octets tables mdb) are e h.1 ∙ ap (λ (n : ℕ). number w8 n ++ head_octets tables mdb) one)
+
+pub rows_read : (rest : List ℕ) (rows : List Row) (a : Entry) → ((r : List Row) → AreStored r → rest ≡ rows_octets r → rows ≡ r) → IsEntry a → 2 ≡ kind_of a → rest ≡ body_octets a → Rows rows ≡ a
+rows_read rest rows (Head tables mdb) each fits kind is = absurd (omega (arith, kind))
+rows_read rest rows (Rows r) each fits kind is = ap Rows (each r fits is)
+
+pub rows_memory : (rest : List ℕ) (f : DecodeError) (a : Entry) → ((r : List Row) → AreStored r → rest ≡ rows_octets r → f ≡ fields.Memory) → IsEntry a → 2 ≡ kind_of a → rest ≡ body_octets a → fault_of f ≡ OutOfMemory
+rows_memory rest f (Head tables mdb) each fits kind is = absurd (omega (arith, kind))
+rows_memory rest f (Rows r) each fits kind is = ap fault_of (each r fits is)
+
+pub head_read : (rest : List ℕ) (tables : List (List ℕ)) (mdb : Database) (a : Entry) → ((h : List (List ℕ) × Database) → IsHead h → rest ≡ head_of h → (tables, mdb) ≡ h) → IsEntry a → 1 ≡ kind_of a → rest ≡ body_octets a → Head tables mdb ≡ a
+head_read rest tables mdb (Head t d) each fits kind is = ap (λ (h : List (List ℕ) × Database). Head h.0 h.1) (each (t, d) fits is)
+head_read rest tables mdb (Rows r) each fits kind is = absurd (omega (arith, kind))
+
+pub head_memory : (rest : List ℕ) (f : DecodeError) (a : Entry) → ((h : List (List ℕ) × Database) → IsHead h → rest ≡ head_of h → f ≡ fields.Memory) → IsEntry a → 1 ≡ kind_of a → rest ≡ body_octets a → fault_of f ≡ OutOfMemory
+head_memory rest f (Head t d) each fits kind is = ap fault_of (each (t, d) fits is)
+head_memory rest f (Rows r) each fits kind is = absurd (omega (arith, kind))

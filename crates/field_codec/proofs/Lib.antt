@@ -1,0 +1,7 @@
+pub mod Ends
+pub mod RowFields
+pub mod Openings
+pub mod EntryKinds
+pub mod Lengths
+pub mod DatabaseSizes
+pub mod Sizes

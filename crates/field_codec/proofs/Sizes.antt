@@ -1,0 +1,62 @@
+-- How long the spelling of an entry is.
+use Rattle.std.proofs.Common.{◌≡◌, ℕ, true, ◌+◌, ◌*◌, ◌<◌, ◌≤◌, ◌^◌, List, [], ◌∷◌, ◌++◌, length, length-append, arith}
+use Rattle.std.specs.Int.{w8, w64}
+use Rattle.std.specs.List.{AllByRecursion, flat_map}
+use Rattle.arch_types.specs.declared.row.Row.{Row}
+use Rattle.arch_types.specs.Name.{is_name}
+use Rattle.arch_types.specs.Packet.{IsPacket}
+use Rattle.mdb_model.specs.Database.{Database, IsDatabase}
+use Rattle.mdb_model.specs.Spelling.{database_octets}
+use Rattle.octet_fields.specs.Exact.{IsOctets}
+use Rattle.octet_fields.specs.Spelling.{counted, name, number, signed}
+use Rattle.field_codec.specs.declared.entry.Entry.{Entry}
+use Rattle.field_codec.specs.declared.entry.Entry.TheVariants.{Head, Rows}
+use Rattle.field_codec.specs.Entries.{AreTables, IsEntry, IsStored}
+use Rattle.field_codec.specs.Laws.{HasOctets}
+use Rattle.field_codec.specs.Spelling.{entry_octets, head_octets, opening_octets, row_octets, rows_octets}
+use Rattle.field_codec.proofs.DatabaseSizes.{database_short}
+use Rattle.field_codec.proofs.Lengths.{counted_8, counted_16, each_most}
+
+-- ---- rows
+
+pub row_size : (row : Row) → length (row_octets row) ≡ 12 + length row.packet
+unfolding row_octets number signed
+row_size row = omega arith
+
+pub packet_short : (p : List ℕ) → IsPacket p → IsOctets p → length p ≤ 65542
+packet_short p is are = let whole = is.whole in omega (arith, whole, are 4, are 5)
+
+rows_short : (rows : List Row) → AllByRecursion IsStored rows → AllByRecursion (λ row. IsOctets row.packet) rows → length (flat_map row_octets rows) ≤ 65554 * length rows
+rows_short [] stored octets = omega arith
+rows_short (row ∷ rows) stored octets =
+    omega (arith, length-append (row_octets row) (flat_map row_octets rows), row_size row, packet_short row.packet stored.0.packet octets.0, rows_short rows stored.1 octets.1)
+
+pub rows_size : (rows : List Row) → length (number w8 2 ++ rows_octets rows) ≡ 3 + length (flat_map row_octets rows)
+unfolding number
+rows_size rows = omega (arith, counted_16 row_octets rows)
+
+-- ---- names
+
+pub name_size : (text : List ℕ) → length (name text) ≡ 1 + length text
+unfolding name number
+name_size text = omega arith
+
+pub name_most : (text : List ℕ) → is_name text ≡ true → length text ≤ 64
+name_most text is = grind arith
+
+table_size : (text : List ℕ) → is_name text ≡ true → length (name text) ≤ 65
+table_size text is = omega (arith, name_size text, name_most text is)
+
+opening_short : (tables : List (List ℕ)) → AreTables tables → length (opening_octets tables) ≤ 1043
+unfolding opening_octets number
+opening_short tables are = let few = are.few in omega (arith, few, counted_8 name tables, each_most name 65 (λ t. is_name t ≡ true) table_size tables are.names)
+
+-- ---- entries
+
+pub head_short : (tables : List (List ℕ)) (mdb : Database) → AreTables tables → IsDatabase mdb → length (number w8 1 ++ head_octets tables mdb) < 2 ^ 30
+unfolding number
+head_short tables mdb are is = omega (arith, length-append (opening_octets tables) (database_octets mdb), opening_short tables are, database_short mdb is)
+
+pub short : (entry : Entry) → IsEntry entry → HasOctets entry → length (entry_octets entry) < 2 ^ 30
+short (Head tables mdb) is octets = head_short tables mdb is.0 is.1
+short (Rows rows) stored octets = let few = stored.few in omega (arith, few, rows_size rows, rows_short rows stored.each octets)

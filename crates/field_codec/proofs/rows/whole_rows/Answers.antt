@@ -1,0 +1,6 @@
+use Rattle.std.specs.Int.{w16}
+use Rattle.field_codec.proofs.Ends.{behind_number}
+use Rattle.field_codec.proofs.rows.whole_rows.Goals as goal
+
+pub some_rows_at-requires : goal.some_rows_at-requires
+some_rows_at-requires c = behind_number w16 c.args.block.now c.args.octets.now (c.in_ok-count.count, c.in_ok-count.rest.now) c.requires c.in_ok-count.ensures

@@ -1,0 +1,57 @@
+-- Which entries the format of the archive's journal admits, whatever stands beside them.
+use Rattle.std.specs.Prelude.{◌≡◌, ◌≢◌, ℕ, ℤ, pos, ◌<◌, ◌≤◌, ◌^◌, ◌≤ℤ◌, List, [], ◌∷◌, length, slice_get, Some, true, false, codes}
+use Rattle.std.specs.List.{AllByRecursion}
+use Rattle.arch_types.specs.declared.row.Row.{Row}
+use Rattle.arch_types.specs.GenerationTime.{key_of}
+use Rattle.arch_types.specs.Name.{is_name}
+use Rattle.arch_types.specs.Packet.{IsPacket, is_idle}
+use Rattle.mdb_model.specs.Database.{IsDatabase}
+use Rattle.field_codec.specs.declared.entry.Entry.{Entry}
+use Rattle.field_codec.specs.declared.entry.Entry.TheVariants.{Head, Rows}
+
+-- ---- heads
+
+-- the name of the first table
+abbrev pub tm : List ℕ
+tm = codes "tm"
+
+-- no two are the same
+abbrev pub AreDistinct : List (List ℕ) → Type 0
+AreDistinct [] = Unit {0}
+AreDistinct (name ∷ names) = AllByRecursion (λ other. other ≢ name) names × AreDistinct names
+
+-- 1 to 16 distinct names, the first of them `tm`
+pub record AreTables (tables : List (List ℕ)) : Type 0 where
+  pub names : AllByRecursion (λ table. is_name table ≡ true) tables
+  pub few : length tables ≤ 16
+  pub first : slice_get tables 0 ≡ Some tm
+  pub distinct : AreDistinct tables
+
+-- ---- rows
+
+-- the range of the clock, in milliseconds since 1970
+abbrev pub IsClockTime : ℤ → Type 0
+IsClockTime time = (pos 0 ≤ℤ time) × (time ≤ℤ pos 253402300799999)
+
+-- a whole packet that isn't idle, received within the clock's range by a link from 1 to 255, with the key that it gives then
+pub record IsStored (row : Row) : Type 0 where
+  pub table : row.table < 2 ^ 8
+  pub rectime : IsClockTime row.rectime
+  pub link : (1 ≤ row.link) × (row.link < 2 ^ 8)
+  pub pname : row.pname < 2 ^ 16
+  pub packet : IsPacket row.packet
+  pub kept : is_idle row.packet ≡ false
+  pub key : row.key ≡ key_of row.packet row.rectime
+
+-- 1 to 1,024 such rows
+pub record AreStored (rows : List Row) : Type 0 where
+  pub some : 1 ≤ length rows
+  pub few : length rows ≤ 1024
+  pub each : AllByRecursion IsStored rows
+
+-- ---- entries
+
+-- what the format admits by itself: that tables and packet names exist, and that keys are new, is asked beside the archive
+abbrev pub IsEntry : Entry → Type 0
+IsEntry (Head tables mdb) = AreTables tables × IsDatabase mdb
+IsEntry (Rows rows) = AreStored rows

@@ -1,0 +1,9 @@
+-- Why octets are no entry, by why a field of them was not read.
+use Rattle.octet_fields.specs.declared.fault.DecodeError.{DecodeError}
+use Rattle.octet_fields.specs.declared.fault.DecodeError.TheVariants as fields
+use Rattle.field_codec.specs.declared.fault.NotAnEntry.{NotAnEntry}
+use Rattle.field_codec.specs.declared.fault.NotAnEntry.TheVariants.{Malformed, OutOfMemory}
+
+abbrev pub fault_of : DecodeError → NotAnEntry
+fault_of fields.Malformed = Malformed
+fault_of fields.Memory = OutOfMemory

@@ -1,0 +1,92 @@
+-- Reading an entry from left to right.
+use Rattle.std.specs.Prelude.{◌≡◌, ℕ, ℤ, pos, ◌+◌, List, [], ◌∷◌, ◌++◌, length, take, drop, slice_index, Option, Some, None, Bool, true, false, not, ◌&&◌, nat_lt, nat_le, int_lt, ◌==◌, if◌then◌else◌}
+use Rattle.std.specs.Int.{w8, w16, w64}
+use Rattle.std.specs.List.{list_any}
+use Rattle.std.specs.Str.{bytes_eq}
+use Rattle.arch_types.specs.declared.row.Row.{Row}
+use Rattle.arch_types.specs.GenerationTime.{key_of}
+use Rattle.arch_types.specs.Name.{is_name}
+use Rattle.arch_types.specs.Packet.{packet_length, is_idle}
+use Rattle.octet_fields.specs.Reading.{Reader, both_at, counted_at, mapped_at, name_at, number_at, signed_at, tested_at, times_at}
+use Rattle.field_codec.specs.declared.rows.Fields.{Fields as StoredFields}
+use Rattle.mdb_model.specs.Database.{Database, IsDatabase}
+use Rattle.field_codec.specs.Entries.{tm, AreTables}
+use Rattle.field_codec.specs.Spelling.{head_octets}
+
+-- ---- the opening of a head
+
+abbrev pub is_distinct : List (List ℕ) → Bool
+is_distinct [] = true
+is_distinct (name ∷ names) = not (list_any (bytes_eq name) names) && is_distinct names
+
+abbrev pub begins_with_tm : List (List ℕ) → Bool
+begins_with_tm [] = false
+begins_with_tm (name ∷ names) = bytes_eq name tm
+
+unfoldable pub are_tables : List (List ℕ) → Bool
+are_tables tables = begins_with_tm tables && (nat_le (length tables) 16 && is_distinct tables)
+
+unfoldable pub table_at : Reader (List ℕ)
+table_at = tested_at is_name name_at
+
+unfoldable pub tables_at : Reader (List (List ℕ))
+tables_at = tested_at are_tables (counted_at w8 table_at)
+
+-- a number that has to be this one
+unfoldable pub this_at : ℕ → Reader ℕ
+this_at n = tested_at (λ m. m == n) (number_at w8)
+
+unfoldable pub opening_at : Reader (List (List ℕ))
+opening_at = mapped_at (λ p. p.1.1) (both_at (this_at 1) (λ _. both_at (this_at 22) (λ _. tables_at)))
+
+-- what stands behind the kind of a head
+abbrev pub IsHead : List (List ℕ) × Database → Type 0
+IsHead head = AreTables head.0 × IsDatabase head.1
+
+abbrev pub head_of : List (List ℕ) × Database → List ℕ
+head_of head = head_octets head.0 head.1
+
+-- ---- rows
+
+-- a whole packet
+unfoldable pub packet_at : Reader (List ℕ)
+packet_at octets =
+    if nat_lt (length octets) 7 then None
+    else (if nat_le 32 (slice_index octets 0) then None
+    else (if nat_lt (length octets) (packet_length octets) then None
+    else Some (take (packet_length octets) octets, drop (packet_length octets) octets)))
+
+-- table, reception time, link, packet name, packet
+abbrev pub Fields : Type 0
+Fields = ℕ × (ℤ × (ℕ × (ℕ × List ℕ)))
+
+-- the fields that were read, and the packet
+abbrev pub seen : StoredFields → List ℕ → Fields
+seen f packet = (f.table, (f.rectime, (f.link, (f.pname, packet))))
+
+unfoldable pub fields_at : Reader Fields
+fields_at = both_at (number_at w8) (λ _. both_at (signed_at w64) (λ _. both_at (number_at w8) (λ _. both_at (number_at w16) (λ _. packet_at))))
+
+unfoldable pub is_clock_time : ℤ → Bool
+is_clock_time time = not (int_lt time (pos 0)) && int_lt time (pos 253402300800000)
+
+abbrev pub is_stored : Fields → Bool
+is_stored f = nat_le 1 f.1.1.0 && (is_clock_time f.1.0 && not (is_idle f.1.1.1.1))
+
+abbrev pub row_of : Fields → Row
+row_of f = record { key = key_of f.1.1.1.1 f.1.0; rectime = f.1.0; packet = f.1.1.1.1; link = f.1.1.0; pname = f.1.1.1.0; table = f.0 }
+
+unfoldable pub row_at : Reader Row
+row_at = mapped_at row_of (tested_at is_stored fields_at)
+
+abbrev pub is_count : ℕ → Bool
+is_count n = nat_le 1 n && nat_le n 1024
+
+unfoldable pub rows_at : Reader (List Row)
+rows_at = mapped_at (λ p. p.1) (both_at (tested_at is_count (number_at w16)) (λ n. times_at row_at n))
+
+-- ---- places
+
+-- these octets are an end of the others
+abbrev pub IsEndOf : List ℕ → List ℕ → Type 0
+IsEndOf rest octets = (front : List ℕ) × (octets ≡ front ++ rest)

@@ -1,0 +1,39 @@
+-- The one spelling of an entry.
+use Rattle.std.specs.Prelude.{ℕ, List, ◌++◌}
+use Rattle.std.specs.Int.{w8, w16, w64}
+use Rattle.arch_types.specs.declared.row.Row.{Row}
+use Rattle.mdb_model.specs.Database.{Database}
+use Rattle.mdb_model.specs.Spelling.{database_octets}
+use Rattle.octet_fields.specs.Spelling.{counted, name, number, signed}
+use Rattle.field_codec.specs.declared.entry.Entry.{Entry}
+use Rattle.field_codec.specs.declared.entry.Entry.TheVariants.{Head, Rows}
+
+-- u8 format 1, u8 interval exponent 22, u8 count and names of the tables
+unfoldable pub opening_octets : List (List ℕ) → List ℕ
+opening_octets tables = number w8 1 ++ (number w8 22 ++ counted w8 name tables)
+
+-- the opening, and the octets of the database
+abbrev pub head_octets : List (List ℕ) → Database → List ℕ
+head_octets tables mdb = opening_octets tables ++ database_octets mdb
+
+-- u8 table, i64 reception time, u8 link, u16 packet name, and the packet, whose own length field ends it
+unfoldable pub row_octets : Row → List ℕ
+row_octets row = number w8 row.table ++ (signed w64 row.rectime ++ (number w8 row.link ++ (number w16 row.pname ++ row.packet)))
+
+-- u16 count, and the rows
+abbrev pub rows_octets : List Row → List ℕ
+rows_octets rows = counted w16 row_octets rows
+
+-- the number of an entry's kind
+abbrev pub kind_of : Entry → ℕ
+kind_of (Head tables mdb) = 1
+kind_of (Rows rows) = 2
+
+-- what stands behind the kind
+abbrev pub body_octets : Entry → List ℕ
+body_octets (Head tables mdb) = head_octets tables mdb
+body_octets (Rows rows) = rows_octets rows
+
+-- u8 kind, and what stands behind it
+abbrev pub entry_octets : Entry → List ℕ
+entry_octets entry = number w8 (kind_of entry) ++ body_octets entry

@@ -1,0 +1,14 @@
+//! What a record of the archive's journal holds.
+
+use arch_types::name::Names;
+use arch_types::row::Rows;
+use mdb_model::Mdb;
+
+/// An entry of the archive's journal.
+#[derive(Drop)]
+pub enum Entry {
+    /// The first entry of an archive, and no other: its tables and its mission database.
+    Head { tables: Names, mdb: Mdb },
+    /// Rows in the order in which they came to the history.
+    Rows(Rows),
+}

@@ -1,0 +1,33 @@
+//! Writes an entry.
+
+ghost use Rattle.std.specs.Prelude.{◌≡◌, ◌<◌, ◌^◌, length, IfOk};
+ghost use Rattle.field_codec.specs.Entries.{IsEntry};
+ghost use Rattle.field_codec.specs.Spelling.{entry_octets};
+
+use crate::entry::Entry;
+use crate::head::write_head;
+use crate::rows::write_rows;
+use arch_types::octets::Octets;
+use std::alloc::{AllocError, Global};
+
+/// The octets of an entry that the format admits.
+fn octets_of(alloc: Global, entry: &Entry) -> Result<Vec<u8>, AllocError>
+    requires { IsEntry entry.now }
+    ensures octets { IfOk result (λ out. out.items ≡ entry_octets entry.now) }
+    ensures short { IfOk result (λ out. length out.items < 2 ^ 30) }
+{
+    match entry {
+        Entry::Head { tables, mdb } => write_head(alloc, tables.as_slice(), mdb),
+        Entry::Rows(rows) => write_rows(alloc, rows.as_slice()),
+    }
+}
+
+/// The one spelling of an entry that the format admits.
+pub fn write_entry(alloc: Global, entry: &Entry) -> Result<Octets, AllocError>
+    requires { IsEntry entry.now }
+    ensures octets { IfOk result (λ octets. octets ≡ entry_octets entry.now) }
+    ensures short { IfOk result (λ octets. length octets < 2 ^ 30) }
+{
+    let out = octets_of(alloc, entry)?;
+    Octets::from_vec(alloc, out)
+}
