@@ -1,44 +1,22 @@
 -- Which answer has to come, by the causes of all answers.
-use Rattle.std.proofs.Common.{◌≡◌, ℕ, ◌-◌, ◌<◌, ◌≤◌, List, [], ◌∷◌, length, Option, Some, None, inl, inr, sym, ◌∙◌, ap, refl, arith}
-use Rattle.std.specs.Prelude.{IfSome, IsSome, IsNone, IsSomeAnd}
+use Rattle.std.proofs.Common.{◌≡◌, ℕ, ◌<◌, ◌≤◌, List, [], length, Option, Some, None, inl, inr, sym, ◌∙◌, ap, refl, arith}
+use Rattle.std.specs.Prelude.{IfSome, IsNone}
 use Rattle.std.specs.FinMap.{get}
 use Rattle.arch_types.specs.declared.refusal.Refusal.{Refusal}
 use Rattle.arch_types.specs.declared.refusal.Refusal.TheVariants.{Missing, ReadFault, WriteFault, BadPacket, Limit, OutOfMemory}
 use Rattle.arch_types.specs.declared.refusal.Which.TheVariants.{DumpOctets}
-use Rattle.arch_types.specs.declared.refusal.BadKind.{BadKind}
 use Rattle.arch_types.specs.Dump.{IsDump}
-use Rattle.arch_types.proofs.Dumps.{dump_is_one}
-use Rattle.outer_traits.specs.Outside.{Files, HasRisen}
-use Rattle.archive_cli.specs.Job.{Job, Scan, job_of}
-use Rattle.archive_cli.specs.Call.{Call, IsInput, IsSilent}
-use Rattle.archive_cli.specs.Ending.{dump_limit, Received, IsBadRest, IsScanEnding, IsJobEnding, IsEnding}
-use Rattle.archive_cli.specs.Expected.{IsOrMemory, NoFault, ending_of_rest, IsJobExpected, IsExpected}
+use Rattle.outer_traits.specs.Outside.{Files}
+use Rattle.archive_cli.specs.Job.{Job, Scan, Values, job_of}
+use Rattle.archive_cli.specs.Call.{Call, IsSilent}
+use Rattle.archive_cli.specs.Ending.{IsJobEnding, IsEnding}
+use Rattle.archive_cli.specs.Expected.{IsJobExpected, IsExpected}
+use Rattle.archive_cli.specs.Expecting.{IsOrMemory, NoFault, ending_of_rest}
+use Rattle.archive_cli.specs.Received.{dump_limit}
+use Rattle.archive_cli.specs.ScanEnding.{IsScanEnding}
 use Rattle.archive_cli.specs.Reading.{IsReadRefusal}
-
-not_risen : (before now : ℕ) → NoFault before now → HasRisen before now → ⊥
-not_risen before now s r = let e = s.0 in let up = r s.1 in omega arith
-
-none_some : {X : Type 0} (o : Option X) → IsNone o → IsSome o → ⊥
-none_some None n s = cc
-none_some (Some x) n s = cc
-
-none_some_and : {X : Type 0} (P : X → Type 0) (o : Option X) → IsNone o → IsSomeAnd o P → ⊥
-none_some_and P None n s = absurd s
-none_some_and P (Some x) n s = cc
-
--- the told input of a name
-told_input : (files : Option Files) (all : Files) (name dump : List ℕ) → files ≡ Some all → IsInput files name dump → get all name ≡ Some dump
-told_input files all name dump e i = rw e at i
-
-some_none : {X : Type 0} (o : Option X) (x : X) → o ≡ Some x → IsNone o → ⊥
-some_none None x e n = cc
-some_none (Some y) x e n = cc
-
-same_some : {X : Type 0} (o : Option X) (x y : X) → o ≡ Some x → o ≡ Some y → x ≡ y
-same_some o x y e f = let g = sym e ∙ f in cc
-
-some_and : {X : Type 0} (P : X → Type 0) (o : Option X) (x : X) → o ≡ Some x → IsSomeAnd o P → P x
-some_and P o x e s = rw e at s
+use Rattle.archive_cli.proofs.Told.{not_risen, none_some, none_some_and, told_input, some_none, some_and, too_long, same_rest, bad_ending}
+use Rattle.archive_cli.proofs.ValuesAnswers.{values_missing, values_refused, values_split}
 
 missing_or : (call : Call) (all : Files) (name : List ℕ) (ending : Option Refusal) → call.files ≡ Some all → IsScanEnding call name ending → IsNone (get all name) →
     IsOrMemory ending (Some (Missing name))
@@ -51,13 +29,6 @@ missing_or call all name (Some WriteFault) e h n = absurd (some_none (get all na
 missing_or call all name (Some OutOfMemory) e h n = inr refl
 missing_or call all name (Some other) e h n = absurd h
 
-too_long : (call : Call) (all : Files) (name dump : List ℕ) (r : Received call name) → call.files ≡ Some all → get all name ≡ Some dump → dump_limit < length dump → ⊥
-too_long call all name dump r e d long =
-    let same : r.dump ≡ dump = same_some (get all name) r.dump dump (told_input call.files all name r.dump e r.input) d in
-    let len : length r.dump ≡ length dump = ap length same in
-    let short = r.short in
-    omega arith
-
 long_or : (call : Call) (all : Files) (name : List ℕ) (ending : Option Refusal) → call.files ≡ Some all → IsScanEnding call name ending → (dump : List ℕ) → get all name ≡ Some dump →
     NoFault call.read_faults call.read_faults' → dump_limit < length dump → IsOrMemory ending (Some (Limit DumpOctets dump_limit))
 long_or call all name None e h dump d calm long = absurd (too_long call all name dump h.0 e d long)
@@ -68,20 +39,6 @@ long_or call all name (Some (BadPacket at kind)) e h dump d calm long = absurd (
 long_or call all name (Some WriteFault) e h dump d calm long = absurd (too_long call all name dump h.0 e d long)
 long_or call all name (Some OutOfMemory) e h dump d calm long = inr refl
 long_or call all name (Some other) e h dump d calm long = absurd h
-
--- the rest of what was received is the dump's
-same_rest : (call : Call) (all : Files) (name dump : List ℕ) (packets : List (List ℕ)) (rest : List ℕ) (r : Received call name) → call.files ≡ Some all →
-    get all name ≡ Some dump → IsDump dump packets rest → (r.dump ≡ dump) × (r.rest ≡ rest)
-same_rest call all name dump packets rest r e d parts =
-    let same : r.dump ≡ dump = same_some (get all name) r.dump dump (told_input call.files all name r.dump e r.input) d in
-    let mine : IsDump dump r.packets r.rest = rw same at r.parts in
-    (same, (dump_is_one dump r.packets packets r.rest rest mine parts).1)
-
-bad_ending : (dump rest : List ℕ) (at : ℕ) (kind : BadKind) → IsBadRest dump rest at kind → Some (BadPacket at kind) ≡ ending_of_rest dump rest
-bad_ending dump [] at kind h = absurd h
-bad_ending dump (octet ∷ rest) at kind h =
-    let place : at ≡ length dump - length (octet ∷ rest) = let sum = h.0 in omega arith in
-    let why = h.1 in cc
 
 split_or : (call : Call) (all : Files) (name : List ℕ) (ending : Option Refusal) → call.files ≡ Some all → IsScanEnding call name ending →
     (dump : List ℕ) (packets : List (List ℕ)) (rest : List ℕ) → get all name ≡ Some dump → NoFault call.read_faults call.read_faults' → length dump ≤ dump_limit →
@@ -112,16 +69,21 @@ expected_cases call (Some all) (Some (Scan name)) ending e h = record {
   long = long_or call all name ending e h;
   split = split_or call all name ending e h;
 }
+expected_cases call (Some all) (Some (Values words)) ending e h = record {
+  missing = values_missing call all words ending e h;
+  refused = values_refused call all words ending e h;
+  split = values_split call all words ending e h;
+}
 
 -- the answer that has to come does, since each other one has a cause that isn't there
 pub expected : (call : Call) (ending : Option Refusal) → IsEnding call ending → IsExpected call ending
 expected call ending h = expected_cases call call.files (job_of call.words) ending refl h
 
 -- an input that wasn't read to its end ends the scan
-pub read_ending : (call : Call) (name : List ℕ) (refusal : Refusal) → IsReadRefusal call.files name DumpOctets dump_limit call.read_faults call.read_faults' refusal →
+pub read_ending : (call : Call) (name : List ℕ) (refusal : Refusal) → IsReadRefusal call.files name DumpOctets call.read_faults call.read_faults' refusal →
     IsSilent call → IsScanEnding call name (Some refusal)
 read_ending call name (Missing lacking) h s = (h.0, h.1, s)
 read_ending call name ReadFault h s = (h.0, h.1, s)
-read_ending call name (Limit which number) h s = let is = h.1 in (h.0, h.1, rw is h.2, s)
+read_ending call name (Limit which number) h s = (h.0, h.1, h.2, s)
 read_ending call name OutOfMemory h s = s
 read_ending call name other h s = absurd h

@@ -1,7 +1,14 @@
 pub mod Pieces
-pub mod Inputs
-pub mod Answers
+pub mod Reading
+pub mod Jobs
 pub mod Gathered
 pub mod Shown
+pub mod Told
 pub mod Scanned
-pub mod WordLists
+pub mod PacketNames
+pub mod Labels
+pub mod Parameters
+pub mod CellCounts
+pub mod Valued
+pub mod ValuesAnswers
+pub mod Answers

@@ -1,5 +1,5 @@
 -- Texts that are written piece by piece.
-use Rattle.std.proofs.Common.{◌≡◌, ℕ, ◌+◌, List, [], ◌∷◌, ◌++◌, take, drop, Option, Some, None, append_assoc, append-nil, refl}
+use Rattle.std.proofs.Common.{◌≡◌, ℕ, ◌+◌, List, [], ◌∷◌, ◌++◌, take, drop, Option, Some, None, append_assoc, append-nil, refl, sym}
 use Rattle.std.proofs.lemmas.List.{take-append-drop}
 use Rattle.std.proofs.Math.Seq.{take-add}
 use Rattle.outer_traits.specs.Outside.{Writes, WritesSome}
@@ -7,7 +7,6 @@ use Rattle.archive_cli.specs.Call.{Appends}
 use Rattle.archive_cli.specs.Printing.{HasMoved}
 use Rattle.std.specs.Prelude.{flat_map, Result, Ok, Err, OnOk, OnErr}
 use Rattle.arch_types.specs.declared.row.Row.{Row}
-use Rattle.archive_cli.specs.Text.{row_line}
 
 pub wrote_none : (first : Option (List ℕ)) → Appends first first []
 wrote_none None = refl
@@ -58,13 +57,14 @@ pub moved_all : (first now new : Option (List ℕ)) (all held : List ℕ) → Ha
 moved_all first now new all held h k = rw h.1 (wrote_both first now new h.0 held h.2 k)
 
 -- the first of the rows that are left, its line beside what is held
-pub regroup : (first now : Option (List ℕ)) (all held : List ℕ) (rows rest : List Row) (row : Row) → rows ≡ row ∷ rest →
-    HasMoved first now all (held ++ flat_map row_line rows) → HasMoved first now all ((held ++ row_line row) ++ flat_map row_line rest)
-regroup first now all held rows rest row step h = let h' = rw step at h in rw (append_assoc held (row_line row) (flat_map row_line rest)) h'
+pub regroup : (line : Row → List ℕ) (first now : Option (List ℕ)) (all held : List ℕ) (rows rest : List Row) (row : Row) → rows ≡ row ∷ rest →
+    HasMoved first now all (held ++ flat_map line rows) → HasMoved first now all ((held ++ line row) ++ flat_map line rest)
+regroup line first now all held rows rest row step h = let h' = rw step at h in rw (append_assoc held (line row) (flat_map line rest)) h'
 
--- nothing is left but what is held
-pub regroup_end : (first now : Option (List ℕ)) (all held : List ℕ) (rows : List Row) → rows ≡ [] → HasMoved first now all (held ++ flat_map row_line rows) → HasMoved first now all held
-regroup_end first now all held rows none h = let h' = rw none at h in rw (append-nil held) at h'
+-- a front went on
+pub moved_front : (first now : Option (List ℕ)) (all left : List ℕ) → HasMoved first now all left → WritesSome first now all
+moved_front None now all left h = h.2
+moved_front (Some before) now all left h = (h.0, left, sym h.1, h.2)
 
 -- nothing went on yet
 pub moved_none : (first : Option (List ℕ)) (text : List ℕ) → HasMoved first first text text

@@ -13,11 +13,13 @@ use Rattle.space_packet.specs.declared.dump.Why.{Why}
 use Rattle.space_packet.specs.declared.dump.Why.TheVariants as why
 use Rattle.space_packet.specs.Rest.{why_of}
 use Rattle.yarch_table.specs.declared.table.Stored.{Stored}
+use Rattle.outer_traits.specs.Whole.{IsInput}
 use Rattle.archive_cli.specs.declared.counts.Counts.{Counts}
 use Rattle.archive_cli.specs.declared.rows.Loaded.{Loaded}
 use Rattle.archive_cli.specs.Text.{scanned_rows, row_line, row_lines, counts_line, last_line, scan_text}
-use Rattle.archive_cli.specs.Call.{Call, Prints, PrintsSome, WritesFailed, IsInput, IsMomentOf}
-use Rattle.archive_cli.specs.Ending.{dump_limit, Received, IsBadRest, IsScanEnding}
+use Rattle.archive_cli.specs.Call.{Call, Prints, PrintsSome, WritesFailed, IsMomentOf}
+use Rattle.archive_cli.specs.Received.{dump_limit, Received, IsBadRest, IsReceived, ending_of}
+use Rattle.archive_cli.specs.ScanEnding.{IsScanEnding}
 use Rattle.archive_cli.specs.Loaded.{HasCounts, IsGathered, IsLoaded}
 use Rattle.archive_cli.specs.Printing.{lines_of, end_of, text_of_loaded}
 use Rattle.archive_cli.proofs.Shown.{table-all}
@@ -61,7 +63,7 @@ received call name dump moment loaded i s m l = record {
 text_of_received : (dump : List ℕ) (moment : ℤ) (loaded : Loaded) (l : IsLoaded dump moment loaded) → text_of_loaded loaded ≡ scan_text l.packets (drop loaded.at dump) moment
 text_of_received dump moment loaded l = text_is l.packets (drop loaded.at dump) moment loaded.table.stored loaded.counts loaded.why l.gathered l.why
 
-rest_is_none : (rest : List ℕ) → why.End ≡ why_of rest → rest ≡ []
+pub rest_is_none : (rest : List ℕ) → why.End ≡ why_of rest → rest ≡ []
 rest_is_none [] e = refl
 rest_is_none (octet ∷ rest) e = absurd (none_cases (nat_lt octet 32) e)
   where
@@ -80,19 +82,23 @@ kind_cases true bad.Truncated e = refl
 kind_cases false bad.Version e = refl
 kind_cases false bad.Truncated e = cc
 
-bad_rest : (dump rest : List ℕ) (at : ℕ) (kind : BadKind) → at + length rest ≡ length dump → why_bad kind ≡ why_of rest → IsBadRest dump rest at kind
+pub bad_rest : (dump rest : List ℕ) (at : ℕ) (kind : BadKind) → at + length rest ≡ length dump → why_bad kind ≡ why_of rest → IsBadRest dump rest at kind
 bad_rest dump [] at bad.Version len e = cc
 bad_rest dump [] at bad.Truncated len e = cc
 bad_rest dump (octet ∷ rest) at kind len e = (len, kind_cases (nat_lt octet 32) kind e)
 
+-- where a rest begins, and its length
+pub end_is : (dump : List ℕ) (at : ℕ) → at ≤ length dump → at + length (drop at dump) ≡ length dump
+end_is dump at within = let len = length-drop at dump in omega (arith, len, within)
+
 -- the dump was read and printed to its end
-pub scan_whole : (call : Call) (name dump : List ℕ) (moment : ℤ) (loaded : Loaded) → IsInput call.files name dump → length dump ≤ dump_limit → IsMomentOf call.moment moment →
+scan_whole : (call : Call) (name dump : List ℕ) (moment : ℤ) (loaded : Loaded) → IsInput call.files name dump → length dump ≤ dump_limit → IsMomentOf call.moment moment →
     IsLoaded dump moment loaded → loaded.why ≡ why.End → Prints call (text_of_loaded loaded) → IsScanEnding call name None
 scan_whole call name dump moment loaded i s m l e p =
     (received call name dump moment loaded i s m l, rest_is_none (drop loaded.at dump) (sym e ∙ l.why), rw (text_of_received dump moment loaded l) at p)
 
 -- its rows were printed, and a rest is left
-pub scan_bad : (call : Call) (name dump : List ℕ) (moment : ℤ) (loaded : Loaded) (kind : BadKind) → IsInput call.files name dump → length dump ≤ dump_limit → IsMomentOf call.moment moment →
+scan_bad : (call : Call) (name dump : List ℕ) (moment : ℤ) (loaded : Loaded) (kind : BadKind) → IsInput call.files name dump → length dump ≤ dump_limit → IsMomentOf call.moment moment →
     IsLoaded dump moment loaded → loaded.why ≡ why_bad kind → Prints call (text_of_loaded loaded) → IsScanEnding call name (Some (BadPacket loaded.at kind))
 scan_bad call name dump moment loaded kind i s m l e p =
     let len = length-drop loaded.at dump in
@@ -100,11 +106,24 @@ scan_bad call name dump moment loaded kind i s m l e p =
     let sum : loaded.at + length (drop loaded.at dump) ≡ length dump = omega (arith, len, within) in
     (received call name dump moment loaded i s m l, bad_rest dump (drop loaded.at dump) loaded.at kind sum (sym e ∙ l.why), rw (text_of_received dump moment loaded l) at p)
 
+abbrev pub received_of : (call : Call) (name : List ℕ) (loaded : Loaded) → IsReceived call.files call.moment name loaded → Received call name
+received_of call name loaded r = received call name r.dump r.moment loaded r.input r.short r.told r.rows
+
+scan_cases : (call : Call) (name : List ℕ) (loaded : Loaded) (reason : Why) → IsReceived call.files call.moment name loaded → loaded.why ≡ reason → Prints call (text_of_loaded loaded) →
+    IsScanEnding call name (ending_of reason loaded.at)
+scan_cases call name loaded why.End r e p = scan_whole call name r.dump r.moment loaded r.input r.short r.told r.rows e p
+scan_cases call name loaded why.Version r e p = scan_bad call name r.dump r.moment loaded bad.Version r.input r.short r.told r.rows e p
+scan_cases call name loaded why.Truncated r e p = scan_bad call name r.dump r.moment loaded bad.Truncated r.input r.short r.told r.rows e p
+
+-- its rows were printed
+pub scan_ended : (call : Call) (name : List ℕ) (loaded : Loaded) → IsReceived call.files call.moment name loaded → Prints call (text_of_loaded loaded) →
+    IsScanEnding call name (ending_of loaded.why loaded.at)
+scan_ended call name loaded r p = scan_cases call name loaded loaded.why r refl p
+
 -- a part of it was printed
-pub scan_some : (call : Call) (name dump : List ℕ) (moment : ℤ) (loaded : Loaded) → IsInput call.files name dump → length dump ≤ dump_limit → IsMomentOf call.moment moment →
-    IsLoaded dump moment loaded → WritesFailed call → PrintsSome call (text_of_loaded loaded) → IsScanEnding call name (Some WriteFault)
-scan_some call name dump moment loaded i s m l f p =
-    (received call name dump moment loaded i s m l, f, rw (text_of_received dump moment loaded l) at p)
+pub scan_some : (call : Call) (name : List ℕ) (loaded : Loaded) → IsReceived call.files call.moment name loaded → WritesFailed call → PrintsSome call (text_of_loaded loaded) →
+    IsScanEnding call name (Some WriteFault)
+scan_some call name loaded r f p = (received_of call name loaded r, f, rw (text_of_received r.dump r.moment loaded r.rows) at p)
 
 -- a call, by its parts
 abbrev pub call_of : List (List ℕ) → Option Files → Option ℤ → ℕ → ℕ → Option (List ℕ) → Option (List ℕ) → ℕ → ℕ → Call

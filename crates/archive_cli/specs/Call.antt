@@ -1,6 +1,5 @@
 -- All that the contract of `run` speaks of.
-use Rattle.std.specs.Prelude.{◌≡◌, ℕ, ℤ, List, ◌++◌, Option, Some, None, IfSome}
-use Rattle.std.specs.FinMap.{get}
+use Rattle.std.specs.Prelude.{◌≡◌, ℕ, ℤ, List, ◌++◌, Option, Some, None}
 use Rattle.outer_traits.specs.Outside.{Files, HasRisen, IsMoment, WritesSome}
 
 -- the words, and what the inputs, the clock and the sink tell, before and after
@@ -39,10 +38,6 @@ ReadsFailed call = HasRisen call.read_faults call.read_faults'
 -- the count of the sink rose
 abbrev pub WritesFailed : Call → Type 0
 WritesFailed call = HasRisen call.write_faults call.write_faults'
-
--- the named input has these octets, where the inputs are told
-abbrev pub IsInput : Option Files → List ℕ → List ℕ → Type 0
-IsInput files name octets = IfSome files (λ all. get all name ≡ Some octets)
 
 -- the moment that the clock tells, or some moment
 abbrev pub IsMomentOf : Option ℤ → ℤ → Type 0

@@ -63,5 +63,6 @@ pub record IsLoaded (dump : List ℕ) (moment : ℤ) (loaded : Loaded) : Type 0 
   pub packets : List (List ℕ)
   pub within : loaded.at ≤ length dump
   pub parts : IsDump dump packets (drop loaded.at dump)
+  pub few : length packets ≤ length dump
   pub why : loaded.why ≡ why_of (drop loaded.at dump)
   pub gathered : IsGathered packets moment loaded.table.stored loaded.counts

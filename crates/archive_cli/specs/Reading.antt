@@ -1,21 +1,26 @@
--- An input that is read piece by piece.
-use Rattle.std.specs.Prelude.{◌≡◌, ℕ, ◌<◌, List, ◌++◌, Option, Some, None, IfSome, IsNone, IsSome, IsSomeAnd, length}
+-- The refusals of an input that can't be read.
+use Rattle.std.specs.Prelude.{◌≡◌, ℕ, ◌<◌, List, Option, IfSome, IsNone, IsSome, IsSomeAnd, length, ◌⊎◌}
 use Rattle.std.specs.FinMap.{get}
 use Rattle.arch_types.specs.declared.refusal.Refusal.{Refusal}
 use Rattle.arch_types.specs.declared.refusal.Refusal.TheVariants.{Missing, ReadFault, Limit, OutOfMemory}
 use Rattle.arch_types.specs.declared.refusal.Which.{Which}
+use Rattle.arch_types.specs.Limits.{limit_of}
 use Rattle.outer_traits.specs.Outside.{Files, HasRisen}
+use Rattle.outer_traits.specs.declared.whole.ReadFault as fault
+use Rattle.outer_traits.specs.declared.whole.ReadFault.TheVariants as faulted
 
--- of the octets that were left at first these were taken, and the others are left, where they are told
-abbrev pub IsTaken : Option (List ℕ) → List ℕ → Option (List ℕ) → Type 0
-IsTaken None taken left = left ≡ None
-IsTaken (Some octets) taken left = (more : List ℕ) × (octets ≡ taken ++ more) × (left ≡ Some more)
+-- the refusal of a fault of reading, or want of memory for the name that is missing
+abbrev pub IsRefusalOf : List ℕ → Which → fault.ReadFault → Refusal → Type 0
+IsRefusalOf name which faulted.Missing refusal = (refusal ≡ Missing name) ⊎ (refusal ≡ OutOfMemory)
+IsRefusalOf name which faulted.Failed refusal = refusal ≡ ReadFault
+IsRefusalOf name which faulted.TooLong refusal = refusal ≡ Limit which (limit_of which)
+IsRefusalOf name which faulted.OutOfMemory refusal = refusal ≡ OutOfMemory
 
 -- why an input wasn't read to its end: there's none of the name, a call failed, or it is longer than its limit
-abbrev pub IsReadRefusal : Option Files → List ℕ → Which → ℕ → ℕ → ℕ → Refusal → Type 0
-IsReadRefusal files name which limit faults faults' (Missing lacking) = (lacking ≡ name) × IfSome files (λ all. IsNone (get all name))
-IsReadRefusal files name which limit faults faults' ReadFault = HasRisen faults faults' × IfSome files (λ all. IsSome (get all name))
-IsReadRefusal files name which limit faults faults' (Limit passed number) =
-    (passed ≡ which) × (number ≡ limit) × IfSome files (λ all. IsSomeAnd (get all name) (λ octets. limit < length octets))
-IsReadRefusal files name which limit faults faults' OutOfMemory = Unit {0}
-IsReadRefusal files name which limit faults faults' other = ⊥
+abbrev pub IsReadRefusal : Option Files → List ℕ → Which → ℕ → ℕ → Refusal → Type 0
+IsReadRefusal files name which faults faults' (Missing lacking) = (lacking ≡ name) × IfSome files (λ all. IsNone (get all name))
+IsReadRefusal files name which faults faults' ReadFault = HasRisen faults faults' × IfSome files (λ all. IsSome (get all name))
+IsReadRefusal files name which faults faults' (Limit passed number) =
+    (passed ≡ which) × (number ≡ limit_of which) × IfSome files (λ all. IsSomeAnd (get all name) (λ octets. number < length octets))
+IsReadRefusal files name which faults faults' OutOfMemory = Unit {0}
+IsReadRefusal files name which faults faults' other = ⊥

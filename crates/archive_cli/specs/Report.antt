@@ -3,7 +3,7 @@ use Rattle.std.specs.Prelude.{◌≡◌, ℕ, Option, Some, None, false}
 use Rattle.arch_types.specs.declared.refusal.Refusal.{Refusal}
 use Rattle.arch_types.specs.Refusal.{status_of}
 use Rattle.archive_cli.specs.declared.report.Report.{Report}
-use Rattle.archive_cli.specs.Job.{Job, Scan}
+use Rattle.archive_cli.specs.Job.{Job, Scan, Values}
 
 -- the exit status: 0 exactly where there's no refusal
 abbrev pub status_at : Option Refusal → ℕ
@@ -18,3 +18,4 @@ unopened refusal = record { refusal = refusal; opened = false; link = None; befo
 abbrev pub IsReport : Option Job → Report → Type 0
 IsReport None report = report ≡ unopened report.refusal
 IsReport (Some (Scan name)) report = report ≡ unopened report.refusal
+IsReport (Some (Values words)) report = report ≡ unopened report.refusal

@@ -1,23 +1,32 @@
 // The program of the archive: it reads the words of its command line, does what they ask, and says how that ended.
 //
 // `run` is the top call. Its contract (specs/Ending.antt) has for each job one equation per answer: the cause of the answer, and what was
-// written. specs/Job.antt says which words are a job, specs/Text.antt what it prints, and specs/Expected.antt which answer has to come,
-// where the inputs tell their contents. A later command adds its case to each of these.
+// written. specs/Job.antt says which words are a job, by what clap finds in them (specs/Words.antt), specs/Text.antt and
+// specs/ValuesText.antt what the jobs print, and specs/Expected.antt which answer has to come, where the inputs tell their contents. A later
+// command adds its case to each of these.
 //
-// The way of a dump: `read` takes it in, `rows` cuts it into packets and keeps the rows of a table that share its octets, `piece` gathers
-// the lines of the rows in key order and writes them in pieces of 64 KiB. All memory is taken before the first write, so a scan that wants
-// memory has written nothing.
+// The way of a dump: `receive` takes it in, and `rows` cuts it into packets and keeps the rows of a table that share its octets. `scan` prints
+// them in key order, and `values` the cells that `cells` extracts from them. `piece` gathers the lines and writes them in pieces of 64 KiB.
+// All memory of a scan is taken before the first write, so a scan that wants memory has written nothing; `values` takes that of each extraction
+// as it prints.
 //
 // The one idea of the proof: what was sent and what is still held, joined, is the text of the rows so far (`HasMoved`). That the right
-// answer comes follows from the causes of all answers, since a dump has one list of packets (`dump_is_one` of arch_types).
+// answer comes follows from the causes of all answers, since a dump has one list of packets (`dump_is_one` of arch_types). The rows have no
+// packet names, since no cell depends on them (proofs/PacketNames.antt).
 //
 // `main` and `real` are the edge to the system, whose files, output and clock tell no contents.
 #![tactic(auto)]
 
+mod cell_text;
+mod cells;
 mod counts;
+mod job;
+mod parameter;
 mod piece;
+mod print_fault;
 mod read;
 mod real;
+mod receive;
 mod report;
 mod rows;
 mod run;
@@ -25,6 +34,9 @@ mod scan;
 #[cfg(test)]
 mod tests;
 mod text;
+mod values;
+#[cfg(test)]
+mod values_tests;
 mod words;
 mod write;
 

@@ -47,7 +47,7 @@ impl Piece {
     }
 
     /// Adds octets for which there's room.
-    fn put(&mut self, octets: &[u8])
+    pub(crate) fn put(&mut self, octets: &[u8])
         requires { length self.old + length octets.now ≤ 65792 }
         ensures { self.new ≡ self.old ++ octets.now }
     {
@@ -57,7 +57,7 @@ impl Piece {
     }
 
     /// Adds a label, and a number after it.
-    fn put_number<I: Integer>(&mut self, label: &[u8], number: I)
+    pub(crate) fn put_number<I: Integer>(&mut self, label: &[u8], number: I)
         requires { length self.old + length label.now + 40 ≤ 65792 }
         ensures text { self.new ≡ self.old ++ label.now ++ I.text number }
         ensures short { length self.new ≤ length self.old + length label.now + 40 }

@@ -43,6 +43,7 @@ impl<F: Read> Source for RealSource<F> {
 #[derive(Drop)]
 pub struct RealInputs<'a, R> {
     rt: &'a R,
+    held: u64,
     faults: u64,
 }
 
@@ -50,7 +51,11 @@ impl<'a, R> RealInputs<'a, R> {
     pub fn new(rt: &'a R) -> Self
         ensures { result.faults ≡ 0 }
     {
-        RealInputs { rt, faults: 0 }
+        RealInputs {
+            rt,
+            held: 0,
+            faults: 0,
+        }
     }
 }
 
@@ -61,9 +66,14 @@ impl<'a, R: Files> Inputs for RealInputs<'a, R> {
 
     ghost faults = { λ inputs. inputs.faults };
 
+    ghost open_sources = { λ inputs. inputs.held };
+
     fn open(&mut self, _alloc: Global, name: &str) -> Result<RealSource<R::File>, OpenFault> {
         match fs::open(self.rt, name) {
-            Ok(file) => Ok(RealSource { file, faults: 0 }),
+            Ok(file) => {
+                self.held = self.held.saturating_add(1);
+                Ok(RealSource { file, faults: 0 })
+            }
             Err(error) => {
                 if matches!(error.kind(), ErrorKind::NotFound | ErrorKind::NotADirectory) {
                     return Err(OpenFault::Missing);
@@ -75,6 +85,7 @@ impl<'a, R: Files> Inputs for RealInputs<'a, R> {
     }
 
     fn close(&mut self, source: RealSource<R::File>) {
+        self.held = self.held.saturating_sub(1);
         if source.faults > 0 {
             self.faults = raised(self.faults);
         }

@@ -1,6 +1,6 @@
 //! The top call.
 
-ghost use Rattle.std.specs.Prelude.{◌≡◌, map, string_bytes};
+ghost use Rattle.std.specs.Prelude.{◌≡◌, map, string_bytes, ◌+◌, ◌<◌, ◌≤◌, ◌^◌};
 ghost use Rattle.outer_traits.specs.Outside.{Stays};
 ghost use Rattle.archive_cli.specs.Job.{job_of};
 ghost use Rattle.archive_cli.specs.Ending.{IsEnding};
@@ -8,9 +8,10 @@ ghost use Rattle.archive_cli.specs.Expected.{IsExpected};
 ghost use Rattle.archive_cli.specs.Report.{status_at, IsReport};
 ghost use Rattle.std.specs.Result.{result_err};
 
+use crate::job::{Job, job_of};
 use crate::report::{Ended, Report};
 use crate::scan::scan;
-use crate::words::{Command, command_of};
+use crate::values::values;
 use arch_types::refusal::Refusal;
 use outer_traits::clock::Clock;
 use outer_traits::inputs::Inputs;
@@ -55,6 +56,12 @@ pub fn run<I: Inputs, K: Sink, C: Clock>(
     ensures status { result.status ≡ status_at result.report.refusal }
     ensures report { IsReport (job_of (map (λ w. string_bytes w) words.now)) result.report }
 
+    // Each source that was opened is closed again, the inputs are as they were, and no count falls.
+    ensures same { I.files inputs.new ≡ I.files inputs.old }
+    ensures closed { I.open_sources inputs.old + 1 < 2 ^ 64 → I.open_sources inputs.new ≡ I.open_sources inputs.old }
+    ensures later { I.faults inputs.old ≤ I.faults inputs.new }
+    ensures writes_later { K.faults sink.old ≤ K.faults sink.new }
+
     // Inputs that never fail have no more faults than before.
     ensures steady { I.never_fails inputs.old → Stays (I.faults inputs.old) (I.faults inputs.new) }
 {
@@ -88,10 +95,15 @@ fn run_job<I: Inputs, K: Sink, C: Clock>(
       write_faults = K.faults sink.old;
       write_faults' = K.faults sink.new;
     }) (result_err result) }
+    ensures same { I.files inputs.new ≡ I.files inputs.old }
+    ensures closed { I.open_sources inputs.old + 1 < 2 ^ 64 → I.open_sources inputs.new ≡ I.open_sources inputs.old }
+    ensures later { I.faults inputs.old ≤ I.faults inputs.new }
+    ensures writes_later { K.faults sink.old ≤ K.faults sink.new }
     ensures steady { I.never_fails inputs.old → Stays (I.faults inputs.old) (I.faults inputs.new) }
 {
-    match command_of(words) {
-        Command::Usage => Err(Refusal::Usage),
-        Command::Scan { dump } => scan(alloc, dump, inputs, sink, clock),
+    let job = job_of(alloc, words)?;
+    match job {
+        Job::Scan { dump } => scan(alloc, dump, inputs, sink, clock),
+        Job::Values(words) => values(alloc, words, inputs, sink, clock),
     }
 }

@@ -24,7 +24,7 @@ const LONGEST: [u8; 6] = [8, 0x64, 0xC0, 0, 0xFF, 0xFF];
 /// An idle packet, and one without a secondary header.
 const UNTIMED: [u8; 14] = [7, 0xFF, 0xC0, 0, 0, 0, 0, 0, 0x65, 0xC0, 1, 0, 0, 7];
 
-fn words_of(alloc: Global, texts: &[&str]) -> Result<Vec<String>, AllocError> {
+pub(crate) fn words_of(alloc: Global, texts: &[&str]) -> Result<Vec<String>, AllocError> {
     let mut words = Vec::new(alloc);
     for text in texts {
         words.push(String::from_str(alloc, text)?)?;
@@ -43,7 +43,7 @@ fn files_of(alloc: Global, dump: &[u8]) -> Result<Vec<File>, AllocError> {
 }
 
 /// The text of an ending's refusal.
-fn fault_of(alloc: Global, ended: &Ended) -> Result<String, AllocError> {
+pub(crate) fn fault_of(alloc: Global, ended: &Ended) -> Result<String, AllocError> {
     match &ended.report.refusal {
         None => String::from_str(alloc, ""),
         Some(refusal) => format!(in alloc; "{}", FaultText(refusal)),
@@ -144,6 +144,17 @@ fn reads_words(rt: HostRuntime) -> Result<(), Fail> {
         (["scan", "x", "--"].as_slice(), "no input x"),
         (["scan", "--", "-x"].as_slice(), "no input -x"),
         (["scan", "--", "--"].as_slice(), "no input --"),
+        (["scan", "--dump=x"].as_slice(), "usage"),
+        (["values"].as_slice(), "usage"),
+        (["values", "p", "c", "k", "d"].as_slice(), "usage"),
+        (["values", "p", "c", "k", "d", "n", "m"].as_slice(), "usage"),
+        (["values", "p", "c", "k", "d", "-n"].as_slice(), "usage"),
+        (["values", "p", "c", "k", "d", ""].as_slice(), "usage"),
+        (["values", "p", "c", "k", "d", "n"].as_slice(), "no input p"),
+        (
+            ["values", "p", "c", "k", "d", "--", "-n"].as_slice(),
+            "no input p",
+        ),
     ] {
         expect(&rt, words, &P1, 1, "", fault)?;
     }
@@ -245,6 +256,13 @@ fn names_each_refusal(rt: HostRuntime) -> Result<(), Fail> {
                 number: 268_435_456,
             },
             "limit DumpOctets 268435456",
+        ),
+        (
+            Refusal::Limit {
+                which: Which::SheetOctets,
+                number: 4_194_304,
+            },
+            "limit SheetOctets 4194304",
         ),
         (
             Refusal::Mismatch {

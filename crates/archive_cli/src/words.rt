@@ -1,76 +1,172 @@
-//! The words of a command line, read by hand.
+//! The words behind a command, read by clap.
 
-ghost use Rattle.std.specs.Prelude.{◌≡◌, map, string_bytes, option_map, Some, nat_eq, codes};
-ghost use Rattle.std.specs.List.{starts_with};
-ghost use Rattle.std.specs.Option.{option_copied};
-ghost use Rattle.archive_cli.specs.Job.{Scan, job_of, free_words, only_word, is_none_left};
-ghost use Rattle.archive_cli.specs.Asked.{asked};
+ghost use Rattle.std.specs.Prelude.{◌≡◌, ◌≢◌, map, string_bytes, Some, IfOk, IfErr, true, not, nat_eq, codes, ◌&&◌, ◌⊎◌};
+ghost use Rattle.std.specs.List.{list_all};
+ghost use Rattle.std.specs.Str.{bytes_eq};
+ghost use Rattle.clap.specs.Words.{app_of, is_simple, rows_of, found_of};
+ghost use Rattle.clap.specs.Faults.{is_simple_and_free};
+ghost use Rattle.clap.specs.Walk.{rule_of, is_empty};
+ghost use Rattle.archive_cli.specs.Words.{are_plain, are_filled, are_whole, is_whole, word_rule, words_app, rows_of_words, IsNotFound};
 
-/// What the words ask.
-#[derive(Debug)]
-pub enum Command<'a> {
-    /// They are no command.
-    Usage,
-    /// The rows of a dump, printed in key order.
-    Scan { dump: &'a str },
+use arch_types::refusal::Refusal;
+use clap::error::ErrorKind;
+use clap::{Arg, ArgAction, ArgMatches, Command};
+use std::alloc::{AllocError, Global};
+
+/// A command of one level that wants these words, and has no options.
+fn words_command<'a>(
+    alloc: Global,
+    name: &'a str,
+    ids: &[&'a str],
+) -> Result<Command<'a>, AllocError>
+    ensures { IfOk result (λ command. app_of command ≡ words_app name.entry.now (map (λ id. id.now) ids.now)) }
+{
+    let mut command = plain_command(alloc, name);
+    for id in ids {
+        command = command.arg(word(alloc, id))?;
+    }
+    Ok(command)
 }
 
-/// What the words behind the program's name ask.
-pub fn command_of(words: &[String]) -> Command<'_>
-    ensures { asked result ≡ job_of (map (λ w. string_bytes w) words.now) }
+/// A command without words. It has no flags of clap's own.
+fn plain_command<'a>(alloc: Global, name: &'a str) -> Command<'a>
+    ensures { app_of result ≡ plain_app name.entry.now }
 {
-    match scanned_dump(words) {
-        Some(dump) => Command::Scan { dump },
-        None => Command::Usage,
+    Command::new(alloc, name)
+        .no_binary_name(true)
+        .disable_help_flag(true)
+        .disable_version_flag(true)
+}
+
+ghost use Rattle.archive_cli.specs.Words.{plain_app};
+
+/// A word that has to come.
+fn word<'a>(alloc: Global, id: &'a str) -> Arg<'a>
+    ensures rule { rule_of result ≡ word_rule id.entry.now }
+    ensures local { result.global ≡ false }
+{
+    Arg::new(alloc, id).action(ArgAction::Set).required(true)
+}
+
+ghost use Rattle.std.specs.Prelude.{false};
+
+/// What clap finds in the words behind a command that wants these words, and has no options.
+pub fn found_words<'a>(
+    alloc: Global,
+    name: &'a str,
+    ids: &[&'a str],
+    words: &'a [String],
+) -> Result<ArgMatches<'a>, Refusal>
+    requires simple { is_simple (words_app name.now (map (λ id. id.now) ids.now)) ≡ true }
+    requires free { is_simple_and_free (words_app name.now (map (λ id. id.now) ids.now)) ≡ true }
+    ensures found { IfOk result (λ found. rows_of_words (words_app name.entry.now (map (λ id. id.now) ids.now)) (map (λ w. string_bytes w) words.entry.now) ≡ Some (rows_of (found_of found))) }
+    ensures none { IfErr result (IsNotFound (rows_of_words (words_app name.entry.now (map (λ id. id.now) ids.now)) (map (λ w. string_bytes w) words.entry.now))) }
+{
+    match words_command(alloc, name, ids) {
+        Ok(command) => read_words(command, words),
+        Err(_) => Err(Refusal::OutOfMemory),
     }
 }
 
-/// The dump that the words ask to scan.
-fn scanned_dump(words: &[String]) -> Option<&str>
-    ensures { option_map Scan (option_copied result) ≡ job_of (map (λ w. string_bytes w) words.now) }
+/// The word that was found for an id.
+pub fn word_of<'a>(found: &ArgMatches<'a>, id: &str) -> Result<&'a str, Refusal>
+    ensures word { IfOk result (λ word. first_of id.now (rows_of (found_of found.now)) ≡ Some word.now) }
+    ensures none { IfErr result (λ refusal. (refusal ≡ Refusal.Usage) × (first_of id.now (rows_of (found_of found.now)) ≡ None)) }
 {
-    let (command, rest) = words.split_first()?;
-    if command.as_str() != "scan" {
-        return None;
+    match found.get_str(id) {
+        Some(word) => Ok(word),
+        None => Err(Refusal::Usage),
     }
-    only_word(rest)
 }
 
-/// The one word of a command without options, which isn't empty: `--` ends the options, and stands for no word itself.
-fn only_word(words: &[String]) -> Option<&str>
-    ensures { option_copied result ≡ only_word (free_words (map (λ w. string_bytes w) words.now)) }
+ghost use Rattle.std.specs.Prelude.{None};
+ghost use Rattle.clap.specs.Walk.{first_of};
+
+/// What clap finds in the words, where they are plain.
+fn read_words<'a>(command: Command<'a>, words: &'a [String]) -> Result<ArgMatches<'a>, Refusal>
+    requires simple { is_simple (app_of command) ≡ true }
+    requires free { is_simple_and_free (app_of command) ≡ true }
+    ensures found { IfOk result (λ found. rows_of_words (app_of command.entry) (map (λ w. string_bytes w) words.entry.now) ≡ Some (rows_of (found_of found))) }
+    ensures none { IfErr result (IsNotFound (rows_of_words (app_of command.entry) (map (λ w. string_bytes w) words.entry.now))) }
 {
-    let (first, rest) = words.split_first()?;
-    let word = first.as_str();
-    if word == "--" {
-        return lone_word(rest);
+    if !are_plain(words) {
+        return Err(Refusal::Usage);
     }
-    if is_option(word) || word.is_empty() || !is_end(rest) {
-        return None;
+    match command.try_get_matches_from(words) {
+        Ok(found) => Ok(found),
+        Err(error) => Err(refusal_of(error.kind())),
     }
-    Some(word)
 }
 
-/// The only word of these, which isn't empty.
-fn lone_word(words: &[String]) -> Option<&str>
-    ensures { option_copied result ≡ only_word (Some (map (λ w. string_bytes w) words.now)) }
+/// The refusal of words in which clap finds a fault.
+fn refusal_of(kind: ErrorKind) -> Refusal
+    ensures { ((result ≡ Refusal.Usage) × (kind ≢ ErrorKind.OutOfMemory)) ⊎ (result ≡ Refusal.OutOfMemory) }
 {
-    if words.len() != 1 || words[0].as_str().is_empty() {
-        return None;
+    match kind {
+        ErrorKind::OutOfMemory => Refusal::OutOfMemory,
+        _ => Refusal::Usage,
     }
-    Some(words[0].as_str())
 }
 
-/// Whether a word is an option where options may stand.
-fn is_option(word: &str) -> bool
-    ensures { result ≡ starts_with nat_eq word.now (codes "-") }
+/// Whether clap may read the words: it takes empty words and values, and a lone `-`.
+fn are_plain(words: &[String]) -> bool
+    ensures { result ≡ are_plain (map (λ w. string_bytes w) words.now) }
 {
-    word.starts_with('-')
+    are_filled(words) && are_whole(words)
 }
 
-/// Whether no word follows, or only the end of the options.
-fn is_end(words: &[String]) -> bool
-    ensures { result ≡ is_none_left (free_words (map (λ w. string_bytes w) words.now)) }
+/// Whether no word is empty.
+fn are_filled(words: &[String]) -> bool
+    ensures { result ≡ are_filled (map (λ w. string_bytes w) words.now) }
 {
-    words.is_empty() || (words.len() == 1 && words[0].as_str() == "--")
+    for word in words {
+        if word.is_empty() {
+            return false;
+        }
+    }
+    true
 }
+
+/// Whether the words are whole up to the end of the options.
+fn are_whole(words: &[String]) -> bool
+    ensures { result ≡ are_whole (map (λ w. string_bytes w) words.now) }
+{
+    for word in words {
+        if word.as_str() == "--" {
+            return true;
+        }
+        if !is_whole(word.as_str()) {
+            return false;
+        }
+    }
+    true
+}
+
+/// Whether a word may stand where options may: it's no lone `-`, and no option with an empty value.
+#[tactic(auto, unfolding(crate::specs::Words::is_whole))]
+fn is_whole(word: &str) -> bool
+    ensures { result ≡ is_whole word.now }
+{
+    word != "-" && !(word.starts_with("--") && ends_at_equals(word))
+}
+
+/// Whether the first `=` of a word is its last octet.
+fn ends_at_equals(word: &str) -> bool
+    ensures { result ≡ is_last (position (λ octet. octet == 61) word.now) word.now }
+{
+    match first_equals(word) {
+        None => false,
+        Some(at) => at + 1 == word.len(),
+    }
+}
+
+/// The place of the first `=` of a word.
+fn first_equals(word: &str) -> Option<usize>
+    ensures value { result ≡ position (λ octet. octet == 61) word.now }
+    ensures within { IfSome result (λ at. at < length word.now) }
+{
+    word.as_bytes().iter().position(|octet| *octet == b'=')
+}
+
+ghost use Rattle.std.specs.Prelude.{position, ◌==◌, ◌<◌, length, IfSome};
+ghost use Rattle.archive_cli.specs.Words.{is_last};

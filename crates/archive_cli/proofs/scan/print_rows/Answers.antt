@@ -19,7 +19,7 @@ loop-row-init g c =
 pub loop-row-preserved : goal.loop-row-preserved
 loop-row-preserved g c =
     let step : c.loop-row.row-iterator ≡ c.in-Some.row.now ∷ c.next.new.self = let s = c.in-Some.ensures.steps in cc in
-    let before = regroup (g.K.Sink.written c.args.sink.now) (g.K.Sink.written c.loop-row.sink) (lines_of c.args.table.now.stored) c.loop-row.piece c.loop-row.row-iterator c.next.new.self c.in-Some.row.now step c.loop-row.invariant.moved in
+    let before = regroup row_line (g.K.Sink.written c.args.sink.now) (g.K.Sink.written c.loop-row.sink) (lines_of c.args.table.now.stored) c.loop-row.piece c.loop-row.row-iterator c.next.new.self c.in-Some.row.now step c.loop-row.invariant.moved in
     let poured : HasMoved (g.K.Sink.written c.loop-row.sink) (g.K.Sink.written c.pour.new.sink) (c.loop-row.piece ++ row_line c.in-Some.row.now) c.pour.new.self = rw c.put_row.ensures at c.in_ok-pour.ensures.moved in
     record {
       moved = moved_more (g.K.Sink.written c.args.sink.now) (g.K.Sink.written c.loop-row.sink) (g.K.Sink.written c.pour.new.sink) (lines_of c.args.table.now.stored) (c.loop-row.piece ++ row_line c.in-Some.row.now) c.pour.new.self (flat_map row_line c.next.new.self) before poured;
@@ -30,7 +30,7 @@ loop-row-preserved g c =
 pub returns-in_err-pour-clause-some : goal.returns-in_err-pour-clause-some
 returns-in_err-pour-clause-some g c =
     let step : c.loop-row.row-iterator ≡ c.in-Some.row.now ∷ c.next.new.self = let s = c.in-Some.ensures.steps in cc in
-    let before = regroup (g.K.Sink.written c.args.sink.now) (g.K.Sink.written c.loop-row.sink) (lines_of c.args.table.now.stored) c.loop-row.piece c.loop-row.row-iterator c.next.new.self c.in-Some.row.now step c.loop-row.invariant.moved in
+    let before = regroup row_line (g.K.Sink.written c.args.sink.now) (g.K.Sink.written c.loop-row.sink) (lines_of c.args.table.now.stored) c.loop-row.piece c.loop-row.row-iterator c.next.new.self c.in-Some.row.now step c.loop-row.invariant.moved in
     let some = rw c.put_row.ensures at c.in_err-pour.ensures.some in
     let p = err_from_is_err_and c.from_residual.result c.from_residual.ensures.1 in
     rw p.1 (moved_some (g.K.Sink.written c.args.sink.now) (g.K.Sink.written c.loop-row.sink) (g.K.Sink.written c.pour.new.sink) (lines_of c.args.table.now.stored) (c.loop-row.piece ++ row_line c.in-Some.row.now) (flat_map row_line c.next.new.self) before some)

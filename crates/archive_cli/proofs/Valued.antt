@@ -1,0 +1,190 @@
+-- From the rows of a dump to the ending of its values.
+use Rattle.std.proofs.Common.{◌≡◌, ◌∙◌, ◌≤◌, ℕ, ℤ, List, [], ◌∷◌, ◌++◌, length, drop, Bool, true, false, Option, Some, None, inl, inr, sym, ap, refl, append-nil}
+use Rattle.std.specs.Prelude.{◌⊎◌, IfSome, flat_map, if◌then◌else◌, nat_lt}
+use Rattle.std.specs.List.{cons_option, filter_map}
+use Rattle.arch_types.specs.declared.cell.Cell.{Cell}
+use Rattle.arch_types.specs.declared.row.Row.{Row}
+use Rattle.arch_types.specs.declared.refusal.Refusal.{Refusal}
+use Rattle.arch_types.specs.declared.refusal.Refusal.TheVariants.{WriteFault, BadPacket, OutOfMemory}
+use Rattle.arch_types.specs.declared.refusal.BadKind.TheVariants as bad
+use Rattle.arch_types.specs.Table.{sorted, table_of}
+use Rattle.mdb_model.specs.declared.calibration.Calibration.{Calibration}
+use Rattle.mdb_model.specs.declared.fault.MdbLimit.{MdbLimit}
+use Rattle.mdb_model.specs.declared.sheet.RawMdb.{RawMdb}
+use Rattle.mdb_model.specs.Database.{Broken, Database, limit_passed}
+use Rattle.mdb_model.specs.Sheets.{sheets_database, sheets_fault}
+use Rattle.container_extract.specs.Extraction.{cell_of}
+use Rattle.outer_traits.specs.Outside.{Files}
+use Rattle.outer_traits.specs.Whole.{IsInput}
+use Rattle.space_packet.specs.declared.dump.Why.{Why}
+use Rattle.space_packet.specs.declared.dump.Why.TheVariants as why
+use Rattle.space_packet.specs.Rest.{why_of}
+use Rattle.yarch_table.specs.declared.table.Stored.{Stored}
+use Rattle.yarch_table.specs.Stored.{rows_of}
+use Rattle.archive_cli.specs.declared.counts.Counts.{Counts}
+use Rattle.archive_cli.specs.declared.print_fault.PrintFault.{PrintFault}
+use Rattle.archive_cli.specs.declared.print_fault.PrintFault.TheVariants as printing
+use Rattle.archive_cli.specs.declared.rows.Loaded.{Loaded}
+use Rattle.archive_cli.specs.Call.{Call, IsSilent, Prints, PrintsSome, WritesFailed}
+use Rattle.archive_cli.specs.CellText.{cell_line}
+use Rattle.archive_cli.specs.Job.{ValuesWords}
+use Rattle.archive_cli.specs.Loaded.{IsGathered}
+use Rattle.archive_cli.specs.Parameter.{IsNoParameter, IsParameter, first_refusal, number_named, parameter_refusal}
+use Rattle.archive_cli.specs.Received.{dump_limit, IsReceived, ending_of}
+use Rattle.archive_cli.specs.ValuesEnding.{AreSheetsOf, Asked, HasDump, IsInputRefused, IsParameterRefused, IsValuesEnding, text_of_asked}
+use Rattle.archive_cli.specs.ValuesPrinting.{cells_of_stored, end_of_cells, line_if, line_of, lines_of_cells, refusal_of_print, text_of_cells}
+use Rattle.archive_cli.specs.ValuesText.{calibration_numbered, cell_lines, cells_of, values_line, values_text}
+use Rattle.archive_cli.proofs.PacketNames.{cells_are}
+use Rattle.archive_cli.proofs.Scanned.{bad_rest, rest_is_none, received_of, end_is}
+use Rattle.archive_cli.proofs.Shown.{table-all}
+
+-- ---- the text
+
+line-cases : (calibration : Option Calibration) (o : Option Cell) (cells : List Cell) (text : List ℕ) → text ≡ flat_map (cell_line calibration) cells →
+    line_if calibration o ++ text ≡ flat_map (cell_line calibration) (cons_option o cells)
+line-cases calibration None cells text e = e
+line-cases calibration (Some cell) cells text e = ap (λ (more : List ℕ). cell_line calibration cell ++ more) e
+
+lines-are : (db : Database) (number : ℕ) (rows : List Row) →
+    flat_map (line_of db number) rows ≡ flat_map (cell_line (calibration_numbered db number)) (filter_map (cell_of db number) rows)
+unfolding line_of
+lines-are db number [] = refl
+lines-are db number (row ∷ rows) =
+    line-cases (calibration_numbered db number) (cell_of db number row) (filter_map (cell_of db number) rows) (flat_map (line_of db number) rows) (lines-are db number rows)
+
+cells-stored : (db : Database) (number : ℕ) (packets : List (List ℕ)) (moment : ℤ) (stored : List Stored) (counts : Counts) → IsGathered packets moment stored counts →
+    cells_of_stored db number stored ≡ cells_of db number packets moment
+cells-stored db number packets moment stored counts g =
+    ap (λ (rows : List Row). filter_map (cell_of db number) rows) (sym (table-all stored g.shown) ∙ ap (table_of 0) g.rows_are) ∙ cells_are db number packets moment
+
+text-by : (db : Database) (number : ℕ) (packets : List (List ℕ)) (moment : ℤ) (stored : List Stored) → cells_of_stored db number stored ≡ cells_of db number packets moment →
+    lines_of_cells db number stored ≡ cell_lines db number (cells_of db number packets moment)
+text-by db number packets moment stored e = lines-are db number (sorted (rows_of stored)) ∙ ap (cell_lines db number) e
+
+no-end : (b : Bool) (reason : Why) (count : ℕ) → reason ≡ (if b then why.Truncated else why.Version) → end_of_cells reason count ≡ []
+no-end true reason count e = rw e
+no-end false reason count e = rw e
+
+text-is : (db : Database) (number : ℕ) (packets : List (List ℕ)) (rest : List ℕ) (moment : ℤ) (stored : List Stored) (reason : Why) →
+    cells_of_stored db number stored ≡ cells_of db number packets moment → reason ≡ why_of rest →
+    text_of_cells db number stored reason ≡ values_text db number packets rest moment
+text-is db number packets [] moment stored reason cells e =
+    let end : end_of_cells reason (length (cells_of_stored db number stored)) ≡ values_line (length (cells_of db number packets moment)) =
+    ap (λ (r : Why). end_of_cells r (length (cells_of_stored db number stored))) e ∙ ap (λ (c : List Cell). values_line (length c)) cells in
+    ap (λ (more : List ℕ). lines_of_cells db number stored ++ more) end ∙
+    ap (λ (lines : List ℕ). lines ++ values_line (length (cells_of db number packets moment))) (text-by db number packets moment stored cells)
+text-is db number packets (octet ∷ rest) moment stored reason cells e =
+    ap (λ (more : List ℕ). lines_of_cells db number stored ++ more) (no-end (nat_lt octet 32) reason (length (cells_of_stored db number stored)) e) ∙
+    append-nil (lines_of_cells db number stored) ∙ text-by db number packets moment stored cells
+
+-- ---- the ending
+
+-- what was asked
+abbrev pub asked_of : (call : Call) (words : ValuesWords) (raw : RawMdb) (db : Database) (number : ℕ) (loaded : Loaded) → AreSheetsOf call words raw →
+    IsParameter raw words.name db number → IsReceived call.files call.moment words.dump loaded → Asked call words
+asked_of call words raw db number loaded s p r = record {
+  raw = raw;
+  db = db;
+  number = number;
+  sheets = s;
+  parameter = p;
+  received = received_of call words.dump loaded r;
+}
+
+text-of : (call : Call) (words : ValuesWords) (raw : RawMdb) (db : Database) (number : ℕ) (loaded : Loaded) (s : AreSheetsOf call words raw)
+    (p : IsParameter raw words.name db number) (r : IsReceived call.files call.moment words.dump loaded) →
+    text_of_cells db number loaded.table.stored loaded.why ≡ text_of_asked (asked_of call words raw db number loaded s p r)
+text-of call words raw db number loaded s p r =
+    text-is db number r.rows.packets (drop loaded.at r.dump) r.moment loaded.table.stored loaded.why
+    (cells-stored db number r.rows.packets r.moment loaded.table.stored loaded.counts r.rows.gathered) r.rows.why
+
+ended-cases : (call : Call) (words : ValuesWords) (raw : RawMdb) (db : Database) (number : ℕ) (loaded : Loaded) (reason : Why) (s : AreSheetsOf call words raw)
+    (p : IsParameter raw words.name db number) (r : IsReceived call.files call.moment words.dump loaded) → loaded.why ≡ reason →
+    Prints call (text_of_asked (asked_of call words raw db number loaded s p r)) → IsValuesEnding call words (ending_of reason loaded.at)
+ended-cases call words raw db number loaded why.End s p r e text =
+    (asked_of call words raw db number loaded s p r, rest_is_none (drop loaded.at r.dump) (sym e ∙ r.rows.why), text)
+ended-cases call words raw db number loaded why.Version s p r e text =
+    (asked_of call words raw db number loaded s p r, bad_rest r.dump (drop loaded.at r.dump) loaded.at bad.Version (end_is r.dump loaded.at r.rows.within) (sym e ∙ r.rows.why), text)
+ended-cases call words raw db number loaded why.Truncated s p r e text =
+    (asked_of call words raw db number loaded s p r, bad_rest r.dump (drop loaded.at r.dump) loaded.at bad.Truncated (end_is r.dump loaded.at r.rows.within) (sym e ∙ r.rows.why), text)
+
+-- the cells were printed
+pub values_ended : (call : Call) (words : ValuesWords) (raw : RawMdb) (db : Database) (number : ℕ) (loaded : Loaded) → AreSheetsOf call words raw → IsParameter raw words.name db number →
+    IsReceived call.files call.moment words.dump loaded → Prints call (text_of_cells db number loaded.table.stored loaded.why) → IsValuesEnding call words (ending_of loaded.why loaded.at)
+values_ended call words raw db number loaded s p r text =
+    ended-cases call words raw db number loaded loaded.why s p r refl (rw (text-of call words raw db number loaded s p r) at text)
+
+-- a write failed
+values_some : (call : Call) (words : ValuesWords) (raw : RawMdb) (db : Database) (number : ℕ) (loaded : Loaded) → AreSheetsOf call words raw → IsParameter raw words.name db number →
+    IsReceived call.files call.moment words.dump loaded → WritesFailed call → PrintsSome call (text_of_cells db number loaded.table.stored loaded.why) → IsValuesEnding call words (Some WriteFault)
+values_some call words raw db number loaded s p r failed some =
+    (asked_of call words raw db number loaded s p r, failed, rw (text-of call words raw db number loaded s p r) at some)
+
+-- memory was wanting while the cells were printed
+values_memory : (call : Call) (words : ValuesWords) (raw : RawMdb) (db : Database) (number : ℕ) (loaded : Loaded) → AreSheetsOf call words raw → IsParameter raw words.name db number →
+    IsReceived call.files call.moment words.dump loaded → PrintsSome call (text_of_cells db number loaded.table.stored loaded.why) → IsValuesEnding call words (Some OutOfMemory)
+values_memory call words raw db number loaded s p r some =
+    inr (asked_of call words raw db number loaded s p r, rw (text-of call words raw db number loaded s p r) at some)
+
+-- the text wasn't printed to its end
+pub values_unprinted : (call : Call) (words : ValuesWords) (raw : RawMdb) (db : Database) (number : ℕ) (loaded : Loaded) (fault : PrintFault) → AreSheetsOf call words raw →
+    IsParameter raw words.name db number → IsReceived call.files call.moment words.dump loaded → (fault ≡ printing.Write → WritesFailed call) →
+    PrintsSome call (text_of_cells db number loaded.table.stored loaded.why) → IsValuesEnding call words (Some (refusal_of_print fault))
+values_unprinted call words raw db number loaded printing.Write s p r failed some = values_some call words raw db number loaded s p r (failed refl) some
+values_unprinted call words raw db number loaded printing.OutOfMemory s p r failed some = values_memory call words raw db number loaded s p r some
+
+-- ---- refusals before it
+
+no-input : {A B C D D' D'' E F : Type 0} → (A → ⊥) → (C → ⊥) → (E → ⊥) → (F → ⊥) → (A ⊎ (B × C) ⊎ (D × D' × E)) ⊎ (D'' × F) → ⊥
+no-input a c e f (inl (inl x)) = a x
+no-input a c e f (inl (inr (inl x))) = c x.1
+no-input a c e f (inl (inr (inr x))) = e x.2
+no-input a c e f (inr x) = f x.1
+
+-- an input wasn't read
+pub values_input : (call : Call) (words : ValuesWords) (refusal : Refusal) → IsInputRefused call words refusal → IsSilent call → IsValuesEnding call words (Some refusal)
+values_input call words (BadPacket at kind) h s = absurd (no-input (λ x. x) (λ x. x) (λ x. x) (λ x. x) h)
+values_input call words WriteFault h s = absurd (no-input (λ x. x) (λ x. x) (λ x. x) (λ x. x) h)
+values_input call words OutOfMemory h s = inl s
+values_input call words refusal h s = (inl h, s)
+
+abbrev IsOther : Refusal → Type 0
+IsOther (BadPacket at kind) = ⊥
+IsOther WriteFault = ⊥
+IsOther refusal = Unit {0}
+
+other-refusal : (broken : Option Broken) (passed : Option (MdbLimit × ℕ)) (number : Option ℕ) → IfSome (first_refusal broken passed number) IsOther
+other-refusal (Some b) passed number = tt
+other-refusal None (Some p) number = tt
+other-refusal None None None = tt
+other-refusal None None (Some n) = tt
+
+other-some : (o : Option Refusal) (refusal : Refusal) → IfSome o IsOther → o ≡ Some refusal → IsOther refusal
+other-some o refusal h e = rw e at h
+
+other-parameter : (raw : RawMdb) (name : List ℕ) (refusal : Refusal) → parameter_refusal raw name ≡ Some refusal → IsOther refusal
+unfolding parameter_refusal
+other-parameter raw name refusal e =
+    other-some (parameter_refusal raw name) refusal (other-refusal (sheets_fault raw) (limit_passed (sheets_database raw)) (number_named (sheets_database raw) name)) e
+
+parameter-cases : (call : Call) (words : ValuesWords) (refusal : Refusal) → IsOther refusal → IsParameterRefused call words refusal → IsSilent call → IsValuesEnding call words (Some refusal)
+parameter-cases call words (BadPacket at kind) o h s = absurd o
+parameter-cases call words WriteFault o h s = absurd o
+parameter-cases call words OutOfMemory o h s = inl s
+parameter-cases call words refusal o h s = (inr h, s)
+
+has-dump : (files : Option Files) (name dump : List ℕ) → IsInput files name dump → length dump ≤ dump_limit → HasDump files name
+has-dump None name dump i short = tt
+has-dump (Some all) name dump i short = rw i short
+
+-- there's no parameter
+pub values_unknown : (call : Call) (words : ValuesWords) (raw : RawMdb) (loaded : Loaded) (refusal : Refusal) → AreSheetsOf call words raw →
+    IsReceived call.files call.moment words.dump loaded → IsNoParameter raw words.name refusal → IsSilent call → IsValuesEnding call words (Some refusal)
+values_unknown call words raw loaded refusal s r (inl cause) silent =
+    parameter-cases call words refusal (other-parameter raw words.name refusal cause) (record {
+      raw = raw;
+      sheets = s;
+      dump = has-dump call.files words.dump r.dump r.input r.short;
+      cause = cause;
+    }) silent
+values_unknown call words raw loaded refusal s r (inr memory) silent = rw memory (inl silent)

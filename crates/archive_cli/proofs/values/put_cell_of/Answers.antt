@@ -1,0 +1,37 @@
+use Rattle.std.proofs.Common.{◌≡◌, ◌∙◌, ◌++◌, ap, append-nil, sym, Option, Some, None}
+use Rattle.arch_types.specs.declared.cell.Cell.{Cell}
+use Rattle.mdb_model.specs.declared.calibration.Calibration.{Calibration}
+use Rattle.container_extract.specs.Extraction.{cell_of}
+use Rattle.archive_cli.specs.CellText.{cell_line}
+use Rattle.archive_cli.specs.ValuesPrinting.{count_if, count_of, line_if, line_of}
+use Rattle.archive_cli.specs.ValuesText.{calibration_numbered}
+use Rattle.archive_cli.proofs.values.put_cell_of.Goals as goal
+
+pub returns-in-None-clause-line : goal.returns-in-None-clause-line
+unfolding line_of
+returns-in-None-clause-line c =
+    let db = c.args.known.now.mdb in
+    let number = c.args.known.now.number in
+    let none : cell_of db number c.args.row.now ≡ None = sym c.in_ok-cell.ensures ∙ c.in-None.is in
+    sym (ap (λ (o : Option Cell). c.args.piece.now ++ line_if (calibration_numbered db number) o) none ∙ append-nil c.args.piece.now)
+
+pub returns-in-None-clause-count : goal.returns-in-None-clause-count
+unfolding count_of
+returns-in-None-clause-count c =
+    let none : cell_of c.args.known.now.mdb c.args.known.now.number c.args.row.now ≡ None = sym c.in_ok-cell.ensures ∙ c.in-None.is in
+    sym (ap count_if none)
+
+pub returns-in-Some-clause-line : goal.returns-in-Some-clause-line
+unfolding line_of
+returns-in-Some-clause-line c =
+    let db = c.args.known.now.mdb in
+    let number = c.args.known.now.number in
+    let some : cell_of db number c.args.row.now ≡ Some c.in-Some.cell = sym c.in_ok-cell.ensures ∙ c.in-Some.is in
+    c.put_cell.ensures ∙ ap (λ (calibration : Option Calibration). c.args.piece.now ++ cell_line calibration c.in-Some.cell) c.calibration_of.ensures.value ∙
+    sym (ap (λ (o : Option Cell). c.args.piece.now ++ line_if (calibration_numbered db number) o) some)
+
+pub returns-in-Some-clause-count : goal.returns-in-Some-clause-count
+unfolding count_of
+returns-in-Some-clause-count c =
+    let some : cell_of c.args.known.now.mdb c.args.known.now.number c.args.row.now ≡ Some c.in-Some.cell = sym c.in_ok-cell.ensures ∙ c.in-Some.is in
+    sym (ap count_if some)

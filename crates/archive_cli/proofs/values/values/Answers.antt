@@ -1,0 +1,87 @@
+use Rattle.std.proofs.Common.{◌∙◌, ap, inl, inr, refl, Err}
+use Rattle.std.proofs.lemmas.Result.{err_from_is_err_and}
+use Rattle.archive_cli.specs.Asked.{words_of}
+use Rattle.archive_cli.specs.Received.{IsReceived}
+use Rattle.archive_cli.proofs.CellCounts.{rows_few}
+use Rattle.archive_cli.proofs.Parameters.{number_within}
+use Rattle.archive_cli.proofs.Reading.{read_later}
+use Rattle.archive_cli.proofs.Scanned.{call_of}
+use Rattle.archive_cli.proofs.Valued.{values_ended, values_input, values_unknown, values_unprinted}
+use Rattle.archive_cli.proofs.values.values.Goals as goal
+
+pub print-requires : goal.print-requires
+print-requires g c =
+    let received = c.in_ok-reception.ensures.received in record {
+      empty = c.in_ok-reception.ensures.empty;
+      shown = received.rows.gathered.shown;
+      few = rows_few received.dump received.moment c.in_ok-reception.reception.loaded received.rows received.short;
+      number = number_within c.in_ok-sheets.sheets c.args.words.name.now c.in_ok-known.known.mdb c.in_ok-known.known.number c.in_ok-known.ensures.known;
+    }
+
+pub returns-in_err-sheets-clause-ended : goal.returns-in_err-sheets-clause-ended
+returns-in_err-sheets-clause-ended g c =
+    let p = err_from_is_err_and c.from_residual.result c.from_residual.ensures.1 in
+    rw (p.1, p.2) (λ given.
+    let call = call_of given (g.I.Inputs.files c.args.inputs.now) (g.C.Clock.next c.args.clock.now) (g.I.Inputs.faults c.args.inputs.now) (g.I.Inputs.faults c.read_mdb.new.inputs)
+    (g.K.Sink.written c.args.sink.now) (g.K.Sink.written c.args.sink.now) (g.K.Sink.faults c.args.sink.now) (g.K.Sink.faults c.args.sink.now) in
+    values_input call (words_of c.args.words) _ (inl c.in_err-sheets.ensures.refused) refl)
+
+pub returns-in_err-sheets-clause-steady : goal.returns-in_err-sheets-clause-steady
+returns-in_err-sheets-clause-steady g c = λ s. (c.read_mdb.ensures.steady s).1
+
+pub returns-in_err-reception-clause-ended : goal.returns-in_err-reception-clause-ended
+returns-in_err-reception-clause-ended g c =
+    let p = err_from_is_err_and c.from_residual-in_err-reception.result c.from_residual-in_err-reception.ensures.1 in
+    rw (p.1, p.2) (λ given.
+    let call = call_of given (g.I.Inputs.files c.args.inputs.now) (g.C.Clock.next c.args.clock.now) (g.I.Inputs.faults c.args.inputs.now) (g.I.Inputs.faults c.receive.new.inputs)
+    (g.K.Sink.written c.args.sink.now) (g.K.Sink.written c.args.sink.now) (g.K.Sink.faults c.args.sink.now) (g.K.Sink.faults c.args.sink.now) in
+    values_input call (words_of c.args.words) _
+    (inr (
+      (c.in_ok-sheets.sheets, c.in_ok-sheets.ensures.sheets),
+      read_later (g.I.Inputs.files c.args.inputs.now) (g.I.Inputs.files c.read_mdb.new.inputs) c.args.words.dump.now _ _ _ _ _ c.read_mdb.ensures.same c.read_mdb.ensures.later
+          c.in_err-reception.ensures.refused,
+    )) refl)
+
+pub returns-in_err-reception-clause-steady : goal.returns-in_err-reception-clause-steady
+returns-in_err-reception-clause-steady g c = λ s. (let m = c.read_mdb.ensures.steady s in c.receive.ensures.steady m.0 ∙ m.1)
+
+pub returns-in_err-known-clause-ended : goal.returns-in_err-known-clause-ended
+returns-in_err-known-clause-ended g c =
+    let received : IsReceived (g.I.Inputs.files c.args.inputs.now) (g.C.Clock.next c.args.clock.now) c.args.words.dump.now c.in_ok-reception.reception.loaded =
+    rw c.read_mdb.ensures.same at c.in_ok-reception.ensures.received in
+    let p = err_from_is_err_and c.from_residual-in_err-known.result c.from_residual-in_err-known.ensures.1 in
+    rw (p.1, p.2) (λ given.
+    let call = call_of given (g.I.Inputs.files c.args.inputs.now) (g.C.Clock.next c.args.clock.now) (g.I.Inputs.faults c.args.inputs.now) (g.I.Inputs.faults c.receive.new.inputs)
+    (g.K.Sink.written c.args.sink.now) (g.K.Sink.written c.args.sink.now) (g.K.Sink.faults c.args.sink.now) (g.K.Sink.faults c.args.sink.now) in
+    values_unknown call (words_of c.args.words) c.in_ok-sheets.sheets c.in_ok-reception.reception.loaded _ c.in_ok-sheets.ensures.sheets received c.in_err-known.ensures.refused refl)
+
+pub returns-in_err-known-clause-steady : goal.returns-in_err-known-clause-steady
+returns-in_err-known-clause-steady g c = λ s. (let m = c.read_mdb.ensures.steady s in c.receive.ensures.steady m.0 ∙ m.1)
+
+pub returns-in-Ok-clause-ended : goal.returns-in-Ok-clause-ended
+returns-in-Ok-clause-ended g c =
+    let received : IsReceived (g.I.Inputs.files c.args.inputs.now) (g.C.Clock.next c.args.clock.now) c.args.words.dump.now c.in_ok-reception.reception.loaded =
+    rw c.read_mdb.ensures.same at c.in_ok-reception.ensures.received in
+    λ given.
+    let call = call_of given (g.I.Inputs.files c.args.inputs.now) (g.C.Clock.next c.args.clock.now) (g.I.Inputs.faults c.args.inputs.now) (g.I.Inputs.faults c.receive.new.inputs)
+    (g.K.Sink.written c.args.sink.now) (g.K.Sink.written c.print.new.sink) (g.K.Sink.faults c.args.sink.now) (g.K.Sink.faults c.print.new.sink) in
+    rw c.ended.ensures
+    (values_ended call (words_of c.args.words) c.in_ok-sheets.sheets c.in_ok-known.known.mdb c.in_ok-known.known.number c.in_ok-reception.reception.loaded
+    c.in_ok-sheets.ensures.sheets c.in_ok-known.ensures.known received c.in-Ok.ensures.all)
+
+pub returns-in-Ok-clause-steady : goal.returns-in-Ok-clause-steady
+returns-in-Ok-clause-steady g c = λ s. (let m = c.read_mdb.ensures.steady s in c.receive.ensures.steady m.0 ∙ m.1)
+
+pub returns-clause-ended : goal.returns-clause-ended
+returns-clause-ended g c =
+    let received : IsReceived (g.I.Inputs.files c.args.inputs.now) (g.C.Clock.next c.args.clock.now) c.args.words.dump.now c.in_ok-reception.reception.loaded =
+    rw c.read_mdb.ensures.same at c.in_ok-reception.ensures.received in
+    λ given.
+    let call = call_of given (g.I.Inputs.files c.args.inputs.now) (g.C.Clock.next c.args.clock.now) (g.I.Inputs.faults c.args.inputs.now) (g.I.Inputs.faults c.receive.new.inputs)
+    (g.K.Sink.written c.args.sink.now) (g.K.Sink.written c.print.new.sink) (g.K.Sink.faults c.args.sink.now) (g.K.Sink.faults c.print.new.sink) in
+    rw c.refusal_of.ensures
+    (values_unprinted call (words_of c.args.words) c.in_ok-sheets.sheets c.in_ok-known.known.mdb c.in_ok-known.known.number c.in_ok-reception.reception.loaded c.in-Err.fault
+    c.in_ok-sheets.ensures.sheets c.in_ok-known.ensures.known received (λ e. c.in-Err.ensures.failed (ap Err e)) c.in-Err.ensures.some)
+
+pub returns-clause-steady : goal.returns-clause-steady
+returns-clause-steady g c = λ s. (let m = c.read_mdb.ensures.steady s in c.receive.ensures.steady m.0 ∙ m.1)

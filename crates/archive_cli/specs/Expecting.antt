@@ -1,0 +1,18 @@
+-- What answers that have to come are said with.
+use Rattle.std.specs.Prelude.{◌≡◌, ℕ, ◌+◌, ◌^◌, ◌<◌, ◌-◌, List, [], ◌∷◌, length, Option, Some, None, ◌⊎◌}
+use Rattle.arch_types.specs.declared.refusal.Refusal.{Refusal}
+use Rattle.arch_types.specs.declared.refusal.Refusal.TheVariants.{BadPacket, OutOfMemory}
+use Rattle.archive_cli.specs.Received.{kind_of}
+
+-- this ending, or want of memory
+abbrev pub IsOrMemory : Option Refusal → Option Refusal → Type 0
+IsOrMemory ending expected = (ending ≡ expected) ⊎ (ending ≡ Some OutOfMemory)
+
+-- a count of faults didn't rise, and stands below its last value
+abbrev pub NoFault : ℕ → ℕ → Type 0
+NoFault before now = (now ≡ before) × (now + 1 < 2 ^ 64)
+
+-- the ending by the rest of a dump
+abbrev pub ending_of_rest : List ℕ → List ℕ → Option Refusal
+ending_of_rest dump [] = None
+ending_of_rest dump (octet ∷ rest) = Some (BadPacket (length dump - length (octet ∷ rest)) (kind_of octet))

@@ -1,0 +1,58 @@
+-- How `values` ends: for each answer its cause, and what was written.
+use Rattle.std.specs.Prelude.{◌≡◌, ◌≤◌, ◌⊎◌, ℕ, List, [], length, Option, Some, None, IfSome, IsSomeAnd}
+use Rattle.std.specs.FinMap.{get}
+use Rattle.arch_types.specs.declared.refusal.Refusal.{Refusal}
+use Rattle.arch_types.specs.declared.refusal.Refusal.TheVariants.{WriteFault, BadPacket, OutOfMemory}
+use Rattle.arch_types.specs.declared.refusal.Which.TheVariants.{DumpOctets}
+use Rattle.mdb_model.specs.declared.sheet.RawMdb.{RawMdb}
+use Rattle.mdb_model.specs.Database.{Database}
+use Rattle.mdb_sheets.specs.Sheets.{AreSheets, IsRefusal}
+use Rattle.outer_traits.specs.Outside.{Files}
+use Rattle.archive_cli.specs.Call.{Call, IsSilent, Prints, PrintsSome, WritesFailed}
+use Rattle.archive_cli.specs.Job.{ValuesWords}
+use Rattle.archive_cli.specs.Parameter.{IsParameter, parameter_refusal}
+use Rattle.archive_cli.specs.Reading.{IsReadRefusal}
+use Rattle.archive_cli.specs.Received.{dump_limit, Received, IsBadRest}
+use Rattle.archive_cli.specs.ValuesText.{values_text}
+
+-- the three sheets were read
+abbrev pub AreSheetsOf : Call → ValuesWords → RawMdb → Type 0
+AreSheetsOf call words raw = AreSheets call.files words.parameters words.calibrations words.containers raw
+
+-- there is a dump of the name that isn't longer than a dump may be, where the inputs are told
+abbrev pub HasDump : Option Files → List ℕ → Type 0
+HasDump files name = IfSome files (λ all. IsSomeAnd (get all name) (λ octets. length octets ≤ dump_limit))
+
+-- a parameter of the sheets' database, and the dump over which it is asked
+pub record Asked (call : Call) (words : ValuesWords) : Type 0 where
+  pub raw : RawMdb
+  pub db : Database
+  pub number : ℕ
+  pub sheets : AreSheetsOf call words raw
+  pub parameter : IsParameter raw words.name db number
+  pub received : Received call words.dump
+
+-- what is printed of them
+abbrev pub text_of_asked : {call : Call} {words : ValuesWords} → Asked call words → List ℕ
+text_of_asked a = values_text a.db a.number a.received.packets a.received.rest a.received.moment
+
+-- the sheets and the dump were read, and the sheets or the name are refused
+pub record IsParameterRefused (call : Call) (words : ValuesWords) (refusal : Refusal) : Type 0 where
+  pub raw : RawMdb
+  pub sheets : AreSheetsOf call words raw
+  pub dump : HasDump call.files words.dump
+  pub cause : parameter_refusal raw words.name ≡ Some refusal
+
+-- an input wasn't read: the first of the three sheets, or else the dump
+abbrev pub IsInputRefused : Call → ValuesWords → Refusal → Type 0
+IsInputRefused call words refusal =
+    IsRefusal call.files words.parameters words.calibrations words.containers call.read_faults call.read_faults' refusal
+    ⊎ (((raw : RawMdb) × AreSheetsOf call words raw) × IsReadRefusal call.files words.dump DumpOctets call.read_faults call.read_faults' refusal)
+
+-- the ending of `values`
+abbrev pub IsValuesEnding : Call → ValuesWords → Option Refusal → Type 0
+IsValuesEnding call words None = (a : Asked call words) × (a.received.rest ≡ []) × Prints call (text_of_asked a)
+IsValuesEnding call words (Some (BadPacket at kind)) = (a : Asked call words) × IsBadRest a.received.dump a.received.rest at kind × Prints call (text_of_asked a)
+IsValuesEnding call words (Some WriteFault) = (a : Asked call words) × WritesFailed call × PrintsSome call (text_of_asked a)
+IsValuesEnding call words (Some OutOfMemory) = IsSilent call ⊎ ((a : Asked call words) × PrintsSome call (text_of_asked a))
+IsValuesEnding call words (Some refusal) = (IsInputRefused call words refusal ⊎ IsParameterRefused call words refusal) × IsSilent call

@@ -1,0 +1,84 @@
+//! The rows of a dump that is received now.
+
+ghost use Rattle.std.specs.Prelude.{◌≡◌, ◌+◌, ◌<◌, ◌≤◌, ◌^◌, [], IfOk, IfErr};
+ghost use Rattle.std.specs.Result.{result_err};
+ghost use Rattle.outer_traits.specs.Outside.{Stays};
+ghost use Rattle.archive_cli.specs.Reading.{IsReadRefusal};
+ghost use Rattle.archive_cli.specs.Received.{IsReceived, ending_of};
+
+use crate::piece::Piece;
+use crate::read::read_limited;
+use crate::rows::{Loaded, load_rows};
+use arch_types::octets::Octets;
+use arch_types::refusal::{BadKind, Refusal, Which};
+use outer_traits::clock::Clock;
+use outer_traits::inputs::Inputs;
+use space_packet::dump::Why;
+use std::alloc::{AllocError, Global};
+
+/// The rows of a dump that was received, and room for a piece of text.
+#[derive(Drop)]
+pub struct Reception {
+    pub loaded: Loaded,
+    pub piece: Piece,
+}
+
+/// Receives the named dump, which comes when it was read to its end.
+pub fn receive<I: Inputs, C: Clock>(
+    alloc: Global,
+    inputs: &mut I,
+    name: &str,
+    clock: &mut C,
+) -> Result<Reception, Refusal>
+    ensures received { IfOk result (λ reception. IsReceived (I.files inputs.old) (C.next clock.old) name.now reception.loaded) }
+    ensures empty { IfOk result (λ reception. reception.piece ≡ []) }
+    ensures refused { IfErr result (IsReadRefusal (I.files inputs.old) name.now Which.DumpOctets (I.faults inputs.old) (I.faults inputs.new)) }
+    ensures same { I.files inputs.new ≡ I.files inputs.old }
+    ensures closed { I.open_sources inputs.old + 1 < 2 ^ 64 → I.open_sources inputs.new ≡ I.open_sources inputs.old }
+    ensures later { I.faults inputs.old ≤ I.faults inputs.new }
+    ensures steady { I.never_fails inputs.old → Stays (I.faults inputs.old) (I.faults inputs.new) }
+{
+    let dump = read_limited(alloc, inputs, name, Which::DumpOctets)?;
+    let moment = clock.now();
+    match prepare(alloc, dump, moment) {
+        Ok(reception) => Ok(reception),
+        Err(_) => Err(Refusal::OutOfMemory),
+    }
+}
+
+/// The rows of a dump, and room for a piece of text.
+fn prepare(alloc: Global, dump: Vec<u8>, moment: i64) -> Result<Reception, AllocError>
+    requires { vec_len dump ≤ dump_limit }
+    ensures loaded { IfOk result (λ reception. IsLoaded dump.items moment reception.loaded) }
+    ensures empty { IfOk result (λ reception. reception.piece ≡ []) }
+{
+    let dump = Octets::from_vec(alloc, dump)?;
+    let loaded = load_rows(alloc, &dump, moment)?;
+    let piece = Piece::new(alloc)?;
+    Ok(Reception { loaded, piece })
+}
+
+ghost use Rattle.std.specs.Prelude.{vec_len};
+ghost use Rattle.archive_cli.specs.Loaded.{IsLoaded};
+ghost use Rattle.archive_cli.specs.Received.{dump_limit};
+
+/// How a command ends that printed the rows of a dump.
+pub fn ended(loaded: &Loaded) -> Result<(), Refusal>
+    ensures { result_err result ≡ ending_of loaded.now.why loaded.now.at }
+{
+    match loaded.why {
+        Why::End => Ok(()),
+        Why::Version => Err(bad_packet(loaded.at, BadKind::Version)),
+        Why::Truncated => Err(bad_packet(loaded.at, BadKind::Truncated)),
+    }
+}
+
+/// The refusal of a dump that has no packet at an octet.
+fn bad_packet(at: usize, kind: BadKind) -> Refusal
+    ensures { result ≡ Refusal.BadPacket at kind }
+{
+    Refusal::BadPacket {
+        at: at as u64,
+        kind,
+    }
+}

@@ -1,0 +1,166 @@
+//! The command `values`: the cells of a parameter over a dump, as text.
+
+ghost use Rattle.std.specs.Prelude.{◌≡◌, ◌<◌, ◌≤◌, ◌+◌, ◌^◌, ◌++◌, [], OnOk, OnErr, IsErrOf, IfOk, length};
+ghost use Rattle.std.specs.List.{AllByRecursion};
+ghost use Rattle.std.specs.Result.{result_err};
+ghost use Rattle.outer_traits.specs.Outside.{HasRisen, Stays, WritesSome};
+ghost use Rattle.arch_types.specs.Table.{sorted};
+ghost use Rattle.yarch_table.specs.Stored.{rows_of};
+ghost use Rattle.archive_cli.specs.Asked.{words_of};
+ghost use Rattle.archive_cli.specs.Call.{Appends};
+ghost use Rattle.archive_cli.specs.Loaded.{IsShown};
+ghost use Rattle.archive_cli.specs.Printing.{HasMoved};
+ghost use Rattle.archive_cli.specs.ValuesEnding.{IsValuesEnding};
+ghost use Rattle.archive_cli.specs.ValuesPrinting.{line_of, count_of, cells_of_stored, lines_of_cells, end_of_cells, text_of_cells, refusal_of_print};
+
+use crate::cells::{calibration_of, cell_of};
+use crate::job::ValuesWords;
+use crate::parameter::{KnownParameter, known_parameter};
+use crate::piece::Piece;
+use crate::print_fault::PrintFault;
+use crate::receive::{ended, receive};
+use crate::rows::Loaded;
+use arch_types::refusal::Refusal;
+use arch_types::row::Row;
+use mdb_sheets::read_mdb;
+use outer_traits::clock::Clock;
+use outer_traits::inputs::Inputs;
+use outer_traits::sink::Sink;
+use space_packet::dump::Why;
+use std::alloc::{AllocError, Global};
+use yarch_table::table::Table;
+
+/// Reads three sheets and a dump, and prints the cells of one parameter in key order, duplicates dropped.
+pub fn values<I: Inputs, K: Sink, C: Clock>(
+    alloc: Global,
+    words: ValuesWords<'_>,
+    inputs: &mut I,
+    sink: &mut K,
+    clock: &mut C,
+) -> Result<(), Refusal>
+    ensures ended { (given : _) → IsValuesEnding (record {
+      words = given;
+      files = I.files inputs.old;
+      moment = C.next clock.old;
+      read_faults = I.faults inputs.old;
+      read_faults' = I.faults inputs.new;
+      written = K.written sink.old;
+      written' = K.written sink.new;
+      write_faults = K.faults sink.old;
+      write_faults' = K.faults sink.new;
+    }) (words_of words.entry) (result_err result) }
+    ensures same { I.files inputs.new ≡ I.files inputs.old }
+    ensures closed { I.open_sources inputs.old + 1 < 2 ^ 64 → I.open_sources inputs.new ≡ I.open_sources inputs.old }
+    ensures later { I.faults inputs.old ≤ I.faults inputs.new }
+    ensures writes_later { K.faults sink.old ≤ K.faults sink.new }
+    ensures steady { I.never_fails inputs.old → Stays (I.faults inputs.old) (I.faults inputs.new) }
+{
+    let sheets = read_mdb(
+        alloc,
+        inputs,
+        words.parameters,
+        words.calibrations,
+        words.containers,
+    )?;
+    let mut reception = receive(alloc, inputs, words.dump, clock)?;
+    let known = known_parameter(alloc, &sheets, words.name)?;
+    match print(alloc, &known, &reception.loaded, &mut reception.piece, sink) {
+        Ok(()) => ended(&reception.loaded),
+        Err(fault) => Err(refusal_of(fault)),
+    }
+}
+
+/// The refusal of a text that isn't printed.
+fn refusal_of(fault: PrintFault) -> Refusal
+    ensures { result ≡ refusal_of_print fault }
+{
+    match fault {
+        PrintFault::Write => Refusal::WriteFault,
+        PrintFault::OutOfMemory => Refusal::OutOfMemory,
+    }
+}
+
+/// Prints the cells in key order, and where nothing is left of the dump how many there are.
+fn print<K: Sink>(
+    alloc: Global,
+    known: &KnownParameter,
+    loaded: &Loaded,
+    piece: &mut Piece,
+    sink: &mut K,
+) -> Result<(), PrintFault>
+    requires empty { piece.old ≡ [] }
+    requires shown { AllByRecursion IsShown loaded.now.table.stored }
+    requires few { length (sorted (rows_of loaded.now.table.stored)) < 2 ^ 64 }
+    requires number { known.now.number < length known.now.mdb.parameters }
+    ensures all { OnOk result (Appends (K.written sink.old) (K.written sink.new) (text_of_cells known.now.mdb known.now.number loaded.now.table.stored loaded.now.why)) }
+    ensures some { OnErr result (WritesSome (K.written sink.old) (K.written sink.new) (text_of_cells known.now.mdb known.now.number loaded.now.table.stored loaded.now.why)) }
+    ensures later { K.faults sink.old ≤ K.faults sink.new }
+    ensures failed { IsErrOf result PrintFault.Write → HasRisen (K.faults sink.old) (K.faults sink.new) }
+{
+    let count = print_cells(alloc, known, &loaded.table, piece, sink)?;
+    put_end(piece, loaded.why, count);
+    piece.flush(sink)?;
+    Ok(())
+}
+
+/// Adds the last line where nothing is left of the dump.
+fn put_end(piece: &mut Piece, why: Why, count: u64)
+    requires { length piece.old < 65536 }
+    ensures { piece.new ≡ piece.old ++ end_of_cells why count }
+{
+    match why {
+        Why::End => piece.put_values(count),
+        Why::Version | Why::Truncated => {}
+    }
+}
+
+/// Prints the cells of a table's rows in key order, of which the last may still be held, and counts them.
+fn print_cells<K: Sink>(
+    alloc: Global,
+    known: &KnownParameter,
+    table: &Table,
+    piece: &mut Piece,
+    sink: &mut K,
+) -> Result<u64, PrintFault>
+    requires empty { piece.old ≡ [] }
+    requires shown { AllByRecursion IsShown table.now.stored }
+    requires few { length (sorted (rows_of table.now.stored)) < 2 ^ 64 }
+    requires number { known.now.number < length known.now.mdb.parameters }
+    ensures moved { OnOk result (HasMoved (K.written sink.old) (K.written sink.new) (lines_of_cells known.now.mdb known.now.number table.now.stored) piece.new) }
+    ensures room { OnOk result (length piece.new < 65536) }
+    ensures count { IfOk result (λ count. count ≡ length (cells_of_stored known.now.mdb known.now.number table.now.stored)) }
+    ensures some { OnErr result (WritesSome (K.written sink.old) (K.written sink.new) (lines_of_cells known.now.mdb known.now.number table.now.stored)) }
+    ensures later { K.faults sink.old ≤ K.faults sink.new }
+    ensures failed { IsErrOf result PrintFault.Write → HasRisen (K.faults sink.old) (K.faults sink.new) }
+{
+    let mut count = 0;
+    for row in table.rows_at(u64::MAX) {
+        let found = put_cell_of(alloc, known, row, piece)?;
+        count += found;
+        piece.pour(sink)?;
+    }
+    Ok(count)
+}
+
+/// Adds the line of the cell in the packet of a row, where there is one, and says how many there are.
+fn put_cell_of(
+    alloc: Global,
+    known: &KnownParameter,
+    row: &Row,
+    piece: &mut Piece,
+) -> Result<u64, AllocError>
+    requires room { length piece.old < 65536 }
+    requires number { known.now.number < length known.now.mdb.parameters }
+    ensures line { OnOk result (piece.new ≡ piece.old ++ line_of known.now.mdb known.now.number row.now) }
+    ensures count { IfOk result (λ count. count ≡ count_of known.now.mdb known.now.number row.now) }
+    ensures kept { OnErr result (piece.new ≡ piece.old) }
+{
+    let cell = cell_of(alloc, known, row)?;
+    match cell {
+        None => Ok(0),
+        Some(cell) => {
+            piece.put_cell(cell, calibration_of(known));
+            Ok(1)
+        }
+    }
+}
