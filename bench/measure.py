@@ -18,19 +18,21 @@ def once(words):
 
 
 def main():
-    folder, program, sizes = sys.argv[1], sys.argv[2], " ".join(sys.argv[3:]).split()
+    folder, program, sheets, sizes = sys.argv[1], sys.argv[2], sys.argv[3], " ".join(sys.argv[4:]).split()
+    sheets = [f"{sheets}/{name}.csv" for name in ("parameters", "calibrations", "containers")]
     print("command packets  program-cpu-s peer-cpu-s ratio  program-MB peer-MB ratio  same")
     for size in sizes:
         dump = f"{folder}/{size}.dump"
         if not os.path.exists(dump):
             subprocess.check_call([f"{folder}/dumps", dump, size])
-        ours, peers = [], []
-        for _ in range(3):
-            ours.append(once([program, "scan", dump]))
-            peers.append(once([f"{folder}/plain", "scan", dump]))
-        a, b = min(x[0] for x in ours), min(x[0] for x in peers)
-        m, n = min(x[1] for x in ours), min(x[1] for x in peers)
-        print(f"scan {size}  {a:.2f} {b:.2f} {a / b:.2f}  {m:.0f} {n:.0f} {m / n:.2f}  {ours[0][2] == peers[0][2]}")
+        for words in (["scan", dump], ["values", *sheets, dump, "temp"]):
+            ours, peers = [], []
+            for _ in range(3):
+                ours.append(once([program, *words]))
+                peers.append(once([f"{folder}/plain", *words]))
+            a, b = min(x[0] for x in ours), min(x[0] for x in peers)
+            m, n = min(x[1] for x in ours), min(x[1] for x in peers)
+            print(f"{words[0]} {size}  {a:.2f} {b:.2f} {a / b:.2f}  {m:.0f} {n:.0f} {m / n:.2f}  {ours[0][2] == peers[0][2]}")
 
 
 main()

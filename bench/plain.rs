@@ -1,39 +1,257 @@
-//! The plain peer of `scan`: `plain scan DUMP`.
+//! The plain peers of `scan` and `values`: `plain scan DUMP` and `plain values PARAMETERS CALIBRATIONS CONTAINERS DUMP NAME`.
 
+use std::collections::btree_map::Entry;
 use std::collections::BTreeMap;
 use std::io::Write;
+use std::ops::Range;
 
 fn number(octets: &[u8]) -> u64 {
     octets.iter().fold(0, |high, o| high << 8 | u64::from(*o))
 }
 
-fn main() {
-    let words: Vec<String> = std::env::args().collect();
-    assert_eq!(words[1], "scan");
-    let dump = std::fs::read(&words[2]).unwrap();
-    let mut rows: BTreeMap<(i64, u32), usize> = BTreeMap::new();
-    let (mut at, mut packets, mut duplicates, mut idle) = (0, 0u64, 0u64, 0u64);
+/// What is kept of a dump's packets, in key order, and how many there are, repeat a key, and are idle.
+struct Rows<T> {
+    rows: BTreeMap<(i64, u32), T>,
+    packets: u64,
+    duplicates: u64,
+    idle: u64,
+}
+
+fn rows_of<T>(dump: &[u8], keep: impl Fn(Range<usize>) -> T) -> Rows<T> {
+    let mut all = Rows { rows: BTreeMap::new(), packets: 0, duplicates: 0, idle: 0 };
+    let mut at = 0;
     while at < dump.len() {
         let length = 7 + number(&dump[at + 4..at + 6]) as usize;
         let p = &dump[at..at + length];
         at += length;
-        packets += 1;
+        all.packets += 1;
         if number(&p[..2]) & 2047 == 2047 {
-            idle += 1;
+            all.idle += 1;
             continue;
         }
         let time = 1000 * number(&p[6..10]) + number(&p[10..12]) * 1000 / 65_536;
-        match rows.entry((time as i64, number(&p[..4]) as u32)) {
-            std::collections::btree_map::Entry::Vacant(place) => {
-                place.insert(length);
+        match all.rows.entry((time as i64, number(&p[..4]) as u32)) {
+            Entry::Vacant(place) => {
+                place.insert(keep(at - length..at));
             }
-            std::collections::btree_map::Entry::Occupied(_) => duplicates += 1,
+            Entry::Occupied(_) => all.duplicates += 1,
         }
     }
-    let mut out = std::io::BufWriter::with_capacity(65_536, std::io::stdout().lock());
-    for ((time, seq), length) in &rows {
+    all
+}
+
+enum Calibration {
+    Poly([i128; 4]),
+    Points(Vec<(i128, i128)>),
+    Enum(Vec<(i128, String)>),
+}
+
+struct Parameter {
+    name: String,
+    signed: bool,
+    little: bool,
+    bits: u32,
+    calibration: Option<usize>,
+}
+
+struct Container {
+    name: String,
+    parent: Option<usize>,
+    condition: Vec<(usize, String, i128)>,
+    entries: Vec<(usize, u32)>,
+    children: Vec<usize>,
+}
+
+#[derive(Default)]
+struct Database {
+    parameters: Vec<Parameter>,
+    calibrations: Vec<(String, Calibration)>,
+    containers: Vec<Container>,
+}
+
+fn sheet(name: &str) -> Vec<Vec<String>> {
+    let text = std::fs::read_to_string(name).unwrap();
+    text.lines().skip(1).map(|line| line.split(',').map(String::from).collect()).collect()
+}
+
+fn millionths(text: &str) -> i128 {
+    let (sign, digits) = text.strip_prefix('-').map_or((1, text), |d| (-1, d));
+    let (whole, fraction) = digits.split_once('.').unwrap_or((digits, ""));
+    sign * (whole.parse::<i128>().unwrap() * 1_000_000 + format!("{fraction:0<6}").parse::<i128>().unwrap())
+}
+
+fn comparison(parameters: &[Parameter], text: &str) -> (usize, String, i128) {
+    let start = text.find(['=', '!', '<', '>']).unwrap();
+    let end = text.rfind(['=', '<', '>']).unwrap() + 1;
+    let name = text[..start].trim();
+    let parameter = parameters.iter().position(|p| p.name == name).unwrap();
+    (parameter, text[start..end].to_string(), text[end..].trim().parse().unwrap())
+}
+
+impl Database {
+    fn read(words: &[String]) -> Database {
+        let mut db = Database::default();
+        for row in sheet(&words[1]) {
+            if db.calibrations.last().is_none_or(|(name, _)| *name != row[0]) {
+                let empty = match row[1].as_str() {
+                    "poly" => Calibration::Poly([0; 4]),
+                    "points" => Calibration::Points(Vec::new()),
+                    _ => Calibration::Enum(Vec::new()),
+                };
+                db.calibrations.push((row[0].clone(), empty));
+            }
+            match &mut db.calibrations.last_mut().unwrap().1 {
+                Calibration::Poly(a) => a[row[2].parse::<usize>().unwrap()] = millionths(&row[3]),
+                Calibration::Points(points) => points.push((row[2].parse().unwrap(), millionths(&row[3]))),
+                Calibration::Enum(labels) => labels.push((row[2].parse().unwrap(), row[3].clone())),
+            }
+        }
+        for row in sheet(&words[0]) {
+            let calibration = db.calibrations.iter().position(|(name, _)| *name == row[3]);
+            db.parameters.push(Parameter {
+                name: row[0].clone(),
+                signed: row[1].starts_with("int"),
+                little: row[1].ends_with("LE"),
+                bits: row[2].parse().unwrap(),
+                calibration,
+            });
+        }
+        let mut ends: Vec<u32> = Vec::new();
+        for row in sheet(&words[2]) {
+            if !row[0].is_empty() {
+                let parent = db.containers.iter().position(|c| c.name == row[1]);
+                let comparisons = row[2].split(';').filter(|text| !text.trim().is_empty());
+                let condition = comparisons.map(|text| comparison(&db.parameters, text)).collect();
+                let number = db.containers.len();
+                ends.push(parent.map_or(0, |p| ends[p]));
+                db.containers.push(Container { name: row[0].clone(), parent, condition, entries: Vec::new(), children: Vec::new() });
+                if let Some(parent) = parent {
+                    db.containers[parent].children.push(number);
+                }
+            }
+            if row[4].is_empty() {
+                continue;
+            }
+            let end = ends.last_mut().unwrap();
+            let at = match row[5].strip_prefix('+') {
+                Some(more) => *end + more.parse::<u32>().unwrap(),
+                None => row[5].parse().unwrap_or(*end),
+            };
+            let parameter = db.parameters.iter().position(|p| p.name == row[4]).unwrap();
+            *end = at + db.parameters[parameter].bits;
+            db.containers.last_mut().unwrap().entries.push((parameter, at));
+        }
+        assert!(db.containers.iter().skip(1).all(|c| c.parent.is_some()));
+        db
+    }
+
+    fn raw(&self, packet: &[u8], parameter: &Parameter, at: u32) -> i128 {
+        let (first, last) = (at / 8, (at + parameter.bits).div_ceil(8));
+        let field = packet[first as usize..last as usize].iter().fold(0u128, |high, o| high << 8 | u128::from(*o));
+        let mut value = field >> (8 * last - at - parameter.bits) & ((1 << parameter.bits) - 1);
+        if parameter.little {
+            let octets = parameter.bits / 8;
+            value = (0..octets).fold(0, |low, i| low << 8 | value >> (8 * i) & 255);
+        }
+        if parameter.signed && value >> (parameter.bits - 1) == 1 {
+            return value as i128 - (1 << parameter.bits);
+        }
+        value as i128
+    }
+
+    /// The values of a packet's parameters, and whether nothing passes its end.
+    fn extract(&self, packet: &[u8], container: &Container, values: &mut Vec<(usize, i128)>) -> bool {
+        for (number, at) in &container.entries {
+            let parameter = &self.parameters[*number];
+            if at + parameter.bits > 8 * packet.len() as u32 {
+                return false;
+            }
+            values.push((*number, self.raw(packet, parameter, *at)));
+        }
+        true
+    }
+
+    fn holds(&self, container: &Container, values: &[(usize, i128)]) -> bool {
+        container.condition.iter().all(|(parameter, operator, number)| {
+            values.iter().find(|v| v.0 == *parameter).is_some_and(|(_, raw)| match operator.as_str() {
+                "==" => raw == number,
+                "!=" => raw != number,
+                "<" => raw < number,
+                "<=" => raw <= number,
+                ">" => raw > number,
+                _ => raw >= number,
+            })
+        })
+    }
+
+    fn values(&self, packet: &[u8], values: &mut Vec<(usize, i128)>) {
+        values.clear();
+        let mut container = &self.containers[0];
+        while self.extract(packet, container, values) {
+            match container.children.iter().find(|c| self.holds(&self.containers[**c], values)) {
+                Some(child) => container = &self.containers[*child],
+                None => return,
+            }
+        }
+    }
+
+    fn write(&self, out: &mut impl Write, parameter: &Parameter, raw: i128) {
+        let fixed = match parameter.calibration.map(|c| &self.calibrations[c].1) {
+            None => return write!(out, "{raw}").unwrap(),
+            Some(Calibration::Enum(labels)) => {
+                let label = labels.iter().find(|(x, _)| *x == raw).map_or("UNDEF", |(_, label)| label);
+                return out.write_all(label.as_bytes()).unwrap();
+            }
+            Some(Calibration::Poly(a)) => a.iter().rev().fold(0, |sum, a| sum * raw + a),
+            Some(Calibration::Points(points)) => {
+                let after = points.partition_point(|(x, _)| *x <= raw);
+                if after == 0 {
+                    points[0].1
+                } else if after == points.len() {
+                    points[after - 1].1
+                } else {
+                    let ((x0, y0), (x1, y1)) = (points[after - 1], points[after]);
+                    y0 + ((y1 - y0) * (raw - x0)).div_euclid(x1 - x0)
+                }
+            }
+        };
+        let (sign, size) = (if fixed < 0 { "-" } else { "" }, fixed.unsigned_abs());
+        write!(out, "{sign}{}.{:06}", size / 1_000_000, size % 1_000_000).unwrap();
+    }
+}
+
+fn scan(words: &[String], out: &mut impl Write) {
+    let dump = std::fs::read(&words[0]).unwrap();
+    let all = rows_of(&dump, |packet| packet.len());
+    for ((time, seq), length) in &all.rows {
         writeln!(out, "row {time} {seq} {length}").unwrap();
     }
-    let count = rows.len();
-    writeln!(out, "scan packets {packets} rows {count} duplicates {duplicates} idle {idle}").unwrap();
+    let count = all.rows.len();
+    writeln!(out, "scan packets {} rows {count} duplicates {} idle {}", all.packets, all.duplicates, all.idle).unwrap();
+}
+
+fn values(words: &[String], out: &mut impl Write) {
+    let db = Database::read(words);
+    let dump = std::fs::read(&words[3]).unwrap();
+    let asked = db.parameters.iter().position(|p| p.name == words[4]).unwrap();
+    let (mut values, mut count) = (Vec::new(), 0u64);
+    for ((time, seq), packet) in rows_of(&dump, |packet| packet).rows {
+        db.values(&dump[packet], &mut values);
+        if let Some((_, raw)) = values.iter().find(|v| v.0 == asked) {
+            write!(out, "cell {time} {seq} {raw} ").unwrap();
+            db.write(out, &db.parameters[asked], *raw);
+            out.write_all(b"\n").unwrap();
+            count += 1;
+        }
+    }
+    writeln!(out, "values {count}").unwrap();
+}
+
+fn main() {
+    let words: Vec<String> = std::env::args().skip(1).collect();
+    let mut out = std::io::BufWriter::with_capacity(65_536, std::io::stdout().lock());
+    match words[0].as_str() {
+        "scan" => scan(&words[1..], &mut out),
+        _ => values(&words[1..], &mut out),
+    }
 }

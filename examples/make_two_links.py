@@ -1,5 +1,6 @@
 #!/usr/bin/env python3
-"""Makes two-links.dump, and two-links.scan, what `cudrakh scan` prints of it. The expected text is computed here, by nothing of the program.
+"""Makes two-links.dump, and what `cudrakh` prints of it: two-links.scan for `scan`, and two-links.values for `values` by the sheets that lie beside
+them, of the parameters mode, temp, volt and current one after the other. The expected texts are computed here, by nothing of the program.
 
 A satellite is heard by two ground stations, one after the other, for a few minutes each, with half a minute in common. Housekeeping (APID 100)
 comes every second, science (APID 101) every three. While the second station listens, the satellite also plays back an hour that nobody heard.
@@ -74,6 +75,44 @@ def scan(packets):
     return "".join(line + "\n" for line in lines)
 
 
+def decimal(millionths):
+    return f"{'-' if millionths < 0 else ''}{abs(millionths) // 10**6}.{abs(millionths) % 10**6:06}"
+
+
+def volts(raw):
+    """The line through (0, 0) and (2600, 26.2), and that one and (3500, 34.9), rounded down; above it stays."""
+    if raw < 2600:
+        return 26200000 * raw // 2600
+    return min(26200000 + (34900000 - 26200000) * (raw - 2600) // (3500 - 2600), 34900000)
+
+
+def cell(name, p):
+    """The raw number and the text of a parameter in a packet of housekeeping, where it is there."""
+    mode, temp, volt = struct.unpack(">BhH", p[12:17])
+    if name == "mode":
+        return mode, ("SAFE", "NOMINAL", "PAYLOAD")[mode]
+    if name == "temp":
+        return temp, decimal(temp * 100000 - 12500000)
+    if name == "volt":
+        return volt >> 4, decimal(volts(volt >> 4))
+    if mode != 2:
+        return None
+    (current,) = struct.unpack("<h", p[17:19])
+    return current, current
+
+
+def values(packets, name):
+    first = {}
+    for p in packets:
+        if (p[0] & 7) << 8 | p[1] == 100:
+            seconds, fraction = struct.unpack(">IH", p[6:12])
+            first.setdefault((1000 * seconds + fraction * 1000 // 65536, struct.unpack(">I", p[:4])[0]), p)
+    cells = [(key, cell(name, p)) for key, p in sorted(first.items())]
+    lines = [f"cell {time} {seq} {c[0]} {c[1]}" for (time, seq), c in cells if c]
+    return "".join(line + "\n" for line in lines + [f"values {len(lines)}"])
+
+
 packets = dump()
 open("two-links.dump", "wb").write(b"".join(packets))
 open("two-links.scan", "w").write(scan(packets))
+open("two-links.values", "w").write("".join(values(packets, name) for name in ("mode", "temp", "volt", "current")))
