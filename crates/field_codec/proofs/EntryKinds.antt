@@ -16,6 +16,7 @@ use Rattle.octet_fields.proofs.Exact.{one_form, some_is}
 use Rattle.octet_fields.proofs.Numbers.{exact8}
 use Rattle.field_codec.specs.declared.entry.Entry.{Entry}
 use Rattle.field_codec.specs.declared.entry.Entry.TheVariants.{Head, Rows}
+use Rattle.field_codec.specs.declared.fault.NotAnEntry.{NotAnEntry}
 use Rattle.field_codec.specs.declared.fault.NotAnEntry.TheVariants.{OutOfMemory}
 use Rattle.field_codec.specs.Entries.{AreStored, AreTables, IsEntry}
 use Rattle.field_codec.specs.Faults.{fault_of}
@@ -111,6 +112,6 @@ pub head_read : (rest : List ℕ) (tables : List (List ℕ)) (mdb : Database) (a
 head_read rest tables mdb (Head t d) each fits kind is = ap (λ (h : List (List ℕ) × Database). Head h.0 h.1) (each (t, d) fits is)
 head_read rest tables mdb (Rows r) each fits kind is = absurd (omega (arith, kind))
 
-pub head_memory : (rest : List ℕ) (f : DecodeError) (a : Entry) → ((h : List (List ℕ) × Database) → IsHead h → rest ≡ head_of h → f ≡ fields.Memory) → IsEntry a → 1 ≡ kind_of a → rest ≡ body_octets a → fault_of f ≡ OutOfMemory
-head_memory rest f (Head t d) each fits kind is = ap fault_of (each (t, d) fits is)
+pub head_memory : (rest : List ℕ) (f : NotAnEntry) (a : Entry) → ((h : List (List ℕ) × Database) → IsHead h → rest ≡ head_of h → f ≡ OutOfMemory) → IsEntry a → 1 ≡ kind_of a → rest ≡ body_octets a → f ≡ OutOfMemory
+head_memory rest f (Head t d) each fits kind is = each (t, d) fits is
 head_memory rest f (Rows r) each fits kind is = absurd (omega (arith, kind))

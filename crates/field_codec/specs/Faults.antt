@@ -1,4 +1,6 @@
--- Why octets are no entry, by why a field of them was not read.
+-- Why octets are no entry, by why a field or the database of them was not read.
+use Rattle.mdb_model.specs.declared.not_mdb.NotMdb.{NotMdb}
+use Rattle.mdb_model.specs.declared.not_mdb.NotMdb.TheVariants as database
 use Rattle.octet_fields.specs.declared.fault.DecodeError.{DecodeError}
 use Rattle.octet_fields.specs.declared.fault.DecodeError.TheVariants as fields
 use Rattle.field_codec.specs.declared.fault.NotAnEntry.{NotAnEntry}
@@ -7,3 +9,7 @@ use Rattle.field_codec.specs.declared.fault.NotAnEntry.TheVariants.{Malformed, O
 abbrev pub fault_of : DecodeError → NotAnEntry
 fault_of fields.Malformed = Malformed
 fault_of fields.Memory = OutOfMemory
+
+abbrev pub fault_of_database : NotMdb → NotAnEntry
+fault_of_database database.Malformed = Malformed
+fault_of_database database.OutOfMemory = OutOfMemory

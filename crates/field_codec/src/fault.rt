@@ -2,8 +2,9 @@
 
 ghost use Rattle.std.specs.Prelude.{◌≡◌};
 ghost use Rattle.field_codec.specs.declared.fault.NotAnEntry.TheVariants.{Malformed, OutOfMemory};
-ghost use Rattle.field_codec.specs.Faults.{fault_of};
+ghost use Rattle.field_codec.specs.Faults.{fault_of, fault_of_database};
 
+use mdb_model::NotMdb;
 use octet_fields::{DecodeError, Short};
 use std::alloc::AllocError;
 use thiserror::Error;
@@ -25,6 +26,17 @@ impl From<DecodeError> for NotAnEntry {
         match fault {
             DecodeError::Malformed => NotAnEntry::Malformed,
             DecodeError::Memory => NotAnEntry::OutOfMemory,
+        }
+    }
+}
+
+impl From<NotMdb> for NotAnEntry {
+    ghost from_gives = { λ fault e. e ≡ fault_of_database fault };
+
+    fn from(fault: NotMdb) -> NotAnEntry {
+        match fault {
+            NotMdb::Malformed => NotAnEntry::Malformed,
+            NotMdb::OutOfMemory => NotAnEntry::OutOfMemory,
         }
     }
 }

@@ -2,22 +2,23 @@
 
 ghost use Rattle.std.specs.Prelude.{◌≡◌, ◌<◌, ◌^◌, ◌++◌, length, IfOk};
 ghost use Rattle.std.specs.Int.{w8};
-ghost use Rattle.octet_fields.specs.declared.fault.DecodeError.TheVariants.{Memory};
 ghost use Rattle.octet_fields.specs.Answers.{ReadsEach, ReadsOnly};
 ghost use Rattle.octet_fields.specs.Spelling.{number};
+ghost use Rattle.field_codec.specs.declared.fault.NotAnEntry.TheVariants.{OutOfMemory};
 ghost use Rattle.field_codec.specs.Spelling.{head_octets};
 ghost use Rattle.field_codec.specs.Reading.{IsHead, head_of};
 
+use crate::fault::NotAnEntry;
 use crate::opening::{opening_at, opening_size, put_opening};
 use arch_types::name::{Name, Names};
 use mdb_model::Mdb;
-use octet_fields::{DecodeError, put_u8};
+use octet_fields::put_u8;
 use std::alloc::{AllocError, Global};
 
 /// The tables and the database that octets spell.
-pub(crate) fn read_head(alloc: Global, octets: &[u8]) -> Result<(Names, Mdb), DecodeError>
+pub(crate) fn read_head(alloc: Global, octets: &[u8]) -> Result<(Names, Mdb), NotAnEntry>
     ensures spelled { ReadsOnly IsHead head_of (λ x. (x.0, x.1)) octets.now result }
-    ensures each { ReadsEach IsHead head_of (λ x. (x.0, x.1)) (λ e. e ≡ Memory) octets.now result }
+    ensures each { ReadsEach IsHead head_of (λ x. (x.0, x.1)) (λ e. e ≡ OutOfMemory) octets.now result }
 {
     let (tables, rest) = opening_at(alloc, octets)?;
     let mdb = Mdb::from_bytes(alloc, rest)?;

@@ -1,6 +1,6 @@
 -- The decoded lists, taken in again, are the database where they are one.
 use Rattle.std.proofs.Common.{◌≡◌, ◌∙◌, ◌<◌, ℕ, List, [], ◌∷◌, length, map, Option, Some, None, Err, Bool, true, false, refl, ap, sym, arith, subst}
-use Rattle.std.specs.Prelude.{option_map, flat_map, nat_lt, ◌==◌}
+use Rattle.std.specs.Prelude.{option_map, flat_map, is_some, nat_lt, ◌==◌}
 use Rattle.std.specs.List.{AllByRecursion, list_all}
 use Rattle.std.proofs.lemmas.Bool.{lt-ltb, ltb-true}
 use Rattle.mdb_model.specs.declared.calibration.Calibration.{Calibration}
@@ -109,6 +109,10 @@ refuse_containers d ps e ep refused =
 pub same_lists : (d : Database) (cs : List Calibration) (ps : List Parameter) (ks : List Container) → cs ≡ calibrations_of (flat_map rows_of_calibration d.calibrations) → ps ≡ d.parameters → ks ≡ containers_of (flat_map rows_of_container d.containers)
     → IsDatabase d → ◌≡◌ {A = Database} (record { parameters = ps; calibrations = cs; containers = ks }) d
 same_lists d cs ps ks ec ep ek is = sym (all_spelled d cs ps ks ec ep ek) ∙ is.spelled
+
+-- Lists that pass a limit are no database.
+pub refuse_passed : (d : Database) → is_some (limit_passed d) ≡ true → IsDatabase d → ⊥
+refuse_passed d passed is = true_not_false (is_some (limit_passed d)) passed (ap is_some is.small)
 
 -- A limit that is passed is passed by the database.
 pub refuse_limits : (d made : Database) (fault : MdbFault) → (IsDatabase d → made ≡ d) → LimitsGive made (Err fault) → Refused (refusal fault) (IsDatabase d → ⊥)

@@ -16,5 +16,6 @@ pub mod Inside
 pub mod Given
 pub mod Spelling
 pub mod Reading
+pub mod Refusals
 pub mod Retaking
 pub mod Structure

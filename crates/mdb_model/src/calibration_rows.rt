@@ -302,7 +302,7 @@ impl Calibrations {
             name: MdbName::from_slice(alloc, name)?,
             table: empty_table(alloc, cells),
         })?;
-        self.numbers.clear();
+        self.numbers = Numbers::new(alloc);
         Ok(())
     }
 

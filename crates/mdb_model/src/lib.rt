@@ -2,8 +2,9 @@
 // they stand (XTCE's terms). `Mdb::check` takes three sheets of octet fields, and answers the first rule that they
 // break, or else the first limit that they pass. `Mdb::to_bytes` and `Mdb::from_bytes` spell a database in octets.
 // A database's type keeps what `IsDatabase` of specs/Database.antt says: its own rows spell it, they break no rule, and
-// it passes no limit. Beside the containers it keeps the numbers of those directly below each. The rules stand in specs/CalibrationRows.antt, ParameterRows.antt and ContainerRows.antt, each as
-// a list of numbered tests of one row below the items above it.
+// it passes no limit. Beside the containers it keeps the numbers of those directly below each. `laws` says what callers
+// need of any database. The rules stand in specs/CalibrationRows.antt, ParameterRows.antt and ContainerRows.antt, each
+// as a list of numbered tests of one row below the items above it.
 // The one idea of the proof: reading, checking and decoding all take rows in one after the other, below what those
 // before them spell, so one law of a row's tests serves each. Decoded lists go through the same tests, and are accepted
 // where they are spelled as the octets were.
@@ -26,6 +27,7 @@ mod limits;
 mod mdb;
 mod name;
 mod names;
+mod not_mdb;
 mod parameter;
 mod parameter_rows;
 mod reading;
@@ -45,7 +47,6 @@ pub use fault::{MdbFault, MdbLimit, MdbSheet};
 pub use items::Items;
 pub use mdb::Mdb;
 pub use name::MdbName;
-pub use names::{Names, Numbers};
-pub use octet_fields::DecodeError as NotMdb;
+pub use not_mdb::NotMdb;
 pub use parameter::{Coding, Parameter};
 pub use sheet::{RawMdb, Record, Sheet};

@@ -1,6 +1,7 @@
 //! The checked mission database.
 
-ghost use Rattle.std.specs.Prelude.{◌≡◌, ◌<◌, IfOk, Some, length, map, slice_get};
+ghost use Rattle.std.specs.Prelude.{◌≡◌, ◌<◌, IfOk, Some, is_some, length, map, slice_get};
+ghost use Rattle.mdb_model.specs.declared.not_mdb.NotMdb.TheVariants.{OutOfMemory};
 ghost use Rattle.mdb_model.specs.Children.{children_of};
 ghost use Rattle.mdb_model.specs.Database.{IsDatabase, limit_passed};
 ghost use Rattle.mdb_model.specs.Given.{AreGiven, GivenCalibrations, GivenContainers, GivenParameters, LimitsGive, database_from};
@@ -9,7 +10,6 @@ ghost use Rattle.mdb_model.specs.Sheets.{SheetsGive};
 ghost use Rattle.mdb_model.specs.Spelling.{database_octets};
 ghost use Rattle.mdb_model.specs.Texts.{place_of};
 ghost use Rattle.octet_fields.specs.Answers.{ReadsEach, ReadsOnly};
-ghost use Rattle.octet_fields.specs.declared.fault.DecodeError.TheVariants.{Memory};
 
 use crate::calibration::Calibration;
 use crate::calibration_rows::Calibrations;
@@ -21,6 +21,7 @@ use crate::fault::{MdbFault, MdbLimit, MdbSheet};
 use crate::items::Items;
 use crate::limits::limit_passed;
 use crate::names::Names;
+use crate::not_mdb::NotMdb;
 use crate::parameter::Parameter;
 use crate::parameter_rows::Parameters;
 use crate::reading::{ItemLists, item_lists};
@@ -298,11 +299,22 @@ fn refusal(fault: MdbFault) -> DecodeError
     }
 }
 
+/// The decoded lists pass a limit.
+fn pass_limit(lists: &ItemLists) -> bool
+    ensures { result ≡ is_some (limit_passed (record { parameters = lists.now.parameters.items; calibrations = lists.now.calibrations.items; containers = lists.now.containers.items })) }
+{
+    limit_passed(&lists.parameters, &lists.calibrations, &lists.containers).is_some()
+}
+
 impl Mdb {
-    /// The database of decoded lists, whose items are taken in again by the rules of the sheets.
+    /// The database of decoded lists, whose items are taken in again by the rules of the sheets, once the limits were
+    /// asked.
     fn of_lists(alloc: Global, lists: &ItemLists) -> Result<Mdb, DecodeError>
         ensures { ListsRetaken (record { parameters = lists.now.parameters.items; calibrations = lists.now.calibrations.items; containers = lists.now.containers.items }) result }
     {
+        if pass_limit(lists) {
+            return Err(DecodeError::Malformed);
+        }
         if !have_rows(&lists.calibrations) {
             return Err(DecodeError::Malformed);
         }
@@ -324,15 +336,15 @@ impl Mdb {
 
     /// The database that all of the octets spell: exactly what `to_bytes` gives is accepted. What was decoded is
     /// spelled anew, since lists that break no rule may spell a database whose own octets are others.
-    pub fn from_bytes(alloc: Global, octets: &[u8]) -> Result<Mdb, DecodeError>
+    pub fn from_bytes(alloc: Global, octets: &[u8]) -> Result<Mdb, NotMdb>
         ensures spelled { ReadsOnly IsDatabase database_octets (λ m. m) octets.now result }
-        ensures each { ReadsEach IsDatabase database_octets (λ m. m) (λ e. e ≡ Memory) octets.now result }
+        ensures each { ReadsEach IsDatabase database_octets (λ m. m) (λ e. e ≡ OutOfMemory) octets.now result }
     {
         let lists = item_lists(alloc, octets)?;
         let mdb = Mdb::of_lists(alloc, &lists)?;
         let own = mdb.to_bytes(alloc)?;
         if own.as_slice() != octets {
-            return Err(DecodeError::Malformed);
+            return Err(NotMdb::Malformed);
         }
         Ok(mdb)
     }

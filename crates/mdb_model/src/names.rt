@@ -11,7 +11,7 @@ use std::marker::Model;
 
 /// Distinct names, numbered in the order in which they were first seen.
 #[derive(Drop)]
-pub struct Names {
+pub(crate) struct Names {
     set: IndexSet<Vec<u8>>,
 }
 
@@ -63,7 +63,7 @@ impl Names {
 
 /// Distinct numbers in the order in which they were first seen.
 #[derive(Drop)]
-pub struct Numbers {
+pub(crate) struct Numbers {
     set: IndexSet<i128>,
 }
 
@@ -88,13 +88,6 @@ impl Numbers {
         ensures { result ≡ has_number number self.now }
     {
         self.set.contains(&number)
-    }
-
-    /// Forgets every number.
-    pub fn clear(&mut self)
-        ensures { self.new ≡ [] }
-    {
-        self.set.clear();
     }
 
     /// Adds a number that is not there. It goes last. Where there's no memory the numbers stay as they were.

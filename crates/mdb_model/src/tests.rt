@@ -200,18 +200,18 @@ fn broken_rules(rt: HostRuntime) -> Result<(), Fail> {
     Ok(())
 }
 
-/// A header, and so many records, each a name and these texts.
+/// A text, and so many records after it, each its number between these texts.
 fn listed(
     alloc: Global,
-    header: &str,
+    first: &str,
     count: usize,
     before: &str,
     after: &str,
 ) -> Result<String, AllocError> {
     let mut text = String::new(alloc);
-    text.push_str(header)?;
+    text.push_str(first)?;
     for number in 0..count {
-        let record = format!(in alloc; "|n{number}{before}{after}")?;
+        let record = format!(in alloc; "|{before}{number}{after}")?;
         text.push_str(record.as_str())?;
     }
     Ok(text)
@@ -225,16 +225,16 @@ fn limits_in_their_order(rt: HostRuntime) -> Result<(), Fail> {
         (4096, 4097, 4097, MdbLimit::Parameters),
         (4096, 4096, 4097, MdbLimit::Containers),
     ] {
-        let calibrations = listed(alloc, "name,kind,x,y", calibrations, ",enum,0,A", "")?;
+        let calibrations = listed(alloc, "name,kind,x,y", calibrations, "n", ",enum,0,A")?;
         let parameters = listed(
             alloc,
             "name,coding,bits,calibration",
             parameters,
+            "n",
             ",uint,8,",
-            "",
         )?;
         let header = "container,parent,condition,archive,entry,position|root,,,,,";
-        let containers = listed(alloc, header, containers - 1, ",root,,,", ",")?;
+        let containers = listed(alloc, header, containers - 1, "n", ",root,,,,")?;
         let passed = check(
             alloc,
             parameters.as_str(),
@@ -247,6 +247,91 @@ fn limits_in_their_order(rt: HostRuntime) -> Result<(), Fail> {
         };
         assert_eq!(rt; passed.err(), Some(limit));
     }
+    Ok(())
+}
+
+#[test]
+fn most_calibration_rows(rt: HostRuntime) -> Result<(), Fail> {
+    let alloc = rt.alloc();
+    let most = listed(alloc, "name,kind,x,y", 65_536, "k,enum,", ",A")?;
+    let more = listed(alloc, "name,kind,x,y", 65_537, "k,enum,", ",A")?;
+    let limit = MdbFault::Limit {
+        which: MdbLimit::CalibrationRows,
+        number: 65_536,
+    };
+    assert_eq!(rt; fault(alloc, MdbSheet::Calibrations, most.as_str())?, None);
+    assert_eq!(rt;
+        fault(alloc, MdbSheet::Calibrations, more.as_str())?,
+        Some(limit)
+    );
+    Ok(())
+}
+
+/// What is answered where these are the containers, over 257 parameters.
+fn many(alloc: Global, containers: &str) -> Result<Option<MdbFault>, AllocError> {
+    let parameters = listed(alloc, "name,coding,bits,calibration", 257, "n", ",uint,8,")?;
+    let header = "container,parent,condition,archive,entry,position";
+    let whole = format!(in alloc; "{header}{containers}")?;
+    Ok(check(alloc, parameters.as_str(), CALIBRATIONS, whole.as_str()).err())
+}
+
+#[test]
+fn most_entries(rt: HostRuntime) -> Result<(), Fail> {
+    let alloc = rt.alloc();
+    let full = listed(alloc, ",root,,,,", 256, ",,,,n", ",")?;
+    let mut text = listed(alloc, "|root,,,,,", 256, "c", full.as_str())?;
+    let limit = MdbFault::Limit {
+        which: MdbLimit::Entries,
+        number: 65_536,
+    };
+    assert_eq!(rt; many(alloc, text.as_str())?, None);
+    text.push_str("|one,root,,,n0,")?;
+    assert_eq!(rt; many(alloc, text.as_str())?, Some(limit));
+    Ok(())
+}
+
+#[test]
+fn most_entries_of_a_path(rt: HostRuntime) -> Result<(), Fail> {
+    let alloc = rt.alloc();
+    let mut text = listed(alloc, "|root,,,,,", 256, ",,,,n", ",")?;
+    let bad = MdbFault::Bad {
+        sheet: MdbSheet::Containers,
+        row: 259,
+        rule: 29,
+    };
+    assert_eq!(rt; many(alloc, text.as_str())?, None);
+    text.push_str("|one,root,,,n256,")?;
+    assert_eq!(rt; many(alloc, text.as_str())?, Some(bad));
+    Ok(())
+}
+
+/// A root, and a container below it with so many comparisons.
+fn comparing(alloc: Global, count: usize) -> Result<String, AllocError> {
+    let mut text = String::new(alloc);
+    text.push_str("|HDR,,,,apid,5|A,HDR,apid!=0")?;
+    for number in 1..count {
+        let comparison = format!(in alloc; ";apid!={number}")?;
+        text.push_str(comparison.as_str())?;
+    }
+    text.push_str(",,v,96")?;
+    Ok(text)
+}
+
+#[test]
+fn most_comparisons(rt: HostRuntime) -> Result<(), Fail> {
+    let alloc = rt.alloc();
+    let most = comparing(alloc, 255)?;
+    let more = comparing(alloc, 256)?;
+    let bad = MdbFault::Bad {
+        sheet: MdbSheet::Containers,
+        row: 3,
+        rule: 20,
+    };
+    assert_eq!(rt; fault(alloc, MdbSheet::Containers, most.as_str())?, None);
+    assert_eq!(rt;
+        fault(alloc, MdbSheet::Containers, more.as_str())?,
+        Some(bad)
+    );
     Ok(())
 }
 
@@ -367,7 +452,7 @@ fn is_refused_or_own(alloc: Global, octets: &[u8]) -> Result<bool, AllocError> {
     match Mdb::from_bytes(alloc, octets) {
         Ok(mdb) => Ok(mdb.to_bytes(alloc)?.as_slice() == octets),
         Err(NotMdb::Malformed) => Ok(true),
-        Err(NotMdb::Memory) => Err(AllocError),
+        Err(NotMdb::OutOfMemory) => Err(AllocError),
     }
 }
 
