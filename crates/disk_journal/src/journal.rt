@@ -3,7 +3,7 @@ ghost use Rattle.std.specs.Prelude.{◌≡◌, ◌+◌, ◌<◌, ◌≤◌, ◌�
 ghost use Rattle.arch_disk.specs.Image.{Image, AgreesBut};
 ghost use Rattle.arch_disk.specs.Disk.{IsDurable, LeavesOnly, Looked, HasCause, raised};
 ghost use Rattle.disk_journal.specs.Format.{HasRecords, IsDamagedAt, HoldsNone};
-ghost use Rattle.disk_journal.specs.State.{IsOldBut};
+ghost use Rattle.disk_journal.specs.State.{IsOldBut, IsUntouched};
 
 use crate::steps::{flush, len_of, octet_at, octets_at, put};
 use crate::{Frame, JournalFault, Opening};
@@ -65,8 +65,10 @@ fn prepare<D: Disk>(disk: &mut D, file: u32) -> Result<(), JournalFault>
     ensures elsewhere { LeavesOnly D.device disk.old disk.new (IsOldBut D.device file disk.old) }
     ensures reads { IsTrue D.device.tells → AgreesBut file (D.device.reads disk.old) (D.device.reads disk.new) }
     ensures only { IfErr result (λ e. (e ≡ JournalFault.Exists) ⊎ (e ≡ JournalFault.DiskFault)) }
+    ensures kept { IsTrue D.device.tells → 2 ≤ length (D.device.reads disk.old file) → get_or (D.device.reads disk.old file) 0 0 ≡ 1 → IsUntouched D.device disk.old disk.new }
     ensures cause { result ≡ Err JournalFault.DiskFault → raised (D.device.fault_count disk.old) ≤ D.device.fault_count disk.new }
     ensures later { D.device.fault_count disk.old ≤ D.device.fault_count disk.new }
+    ensures writes_later { D.device.failed_writes disk.old ≤ D.device.failed_writes disk.new }
 {
     flush(disk, file)?;
     let len = len_of(disk, file)?;
@@ -98,6 +100,9 @@ impl Journal {
         ensures none { IsTrue D.device.tells → OnOk result (HoldsNone (D.device.reads disk.old file)) }
         ensures exists { IsTrue D.device.tells → result ≡ Err JournalFault.Exists → (2 ≤ length (D.device.reads disk.old file)) × (get_or (D.device.reads disk.old file) 0 0 ≡ 1) × (D.device.reads disk.new ≡ D.device.reads disk.old) }
 
+        // A file that holds a journal is left as it is, whatever the call answers.
+        ensures kept { IsTrue D.device.tells → 2 ≤ length (D.device.reads disk.old file) → get_or (D.device.reads disk.old file) 0 0 ≡ 1 → IsUntouched D.device disk.old disk.new }
+
         // A crash at any moment of the call leaves no archive or one record, or what it could have left before.
         ensures any_moment { IsTrue D.device.tells → HoldsNone (D.device.reads disk.old file)
             → LeavesOnly D.device disk.old disk.new (λ c. D.device.images disk.old c ⊎ (HoldsNone (c file) ⊎ HasRecords (c file) (first.now ∷ []))) }
@@ -106,6 +111,8 @@ impl Journal {
 
         ensures only { IfErr result (λ e. (e ≡ JournalFault.Exists) ⊎ ((e ≡ JournalFault.DiskFault) ⊎ (e ≡ JournalFault.OutOfMemory))) }
         ensures cause { result ≡ Err JournalFault.DiskFault → raised (D.device.fault_count disk.old) ≤ D.device.fault_count disk.new }
+        ensures later { D.device.fault_count disk.old ≤ D.device.fault_count disk.new }
+        ensures writes_later { D.device.failed_writes disk.old ≤ D.device.failed_writes disk.new }
         ensures memory { result ≡ Err JournalFault.OutOfMemory → disk.new ≡ disk.old }
     {
         let _size = first.len();

@@ -161,7 +161,8 @@ kept_test stored key p (k, s, within, is, both) =
     let position : (s.position == p) ≡ true = grind (arith, nat_tests, both.1) in
     list_any-from_Any (is_kept_at key p) stored (k, s, within, is, rw (both.0, position))
 
-kept_placed : (history : List Row) (row : Row) (p : ℕ) → IsKeptAt (placed row.table history) row.key p →
+-- the row at a position that has a key, where the history has the row of its table
+pub kept_placed : (history : List Row) (row : Row) (p : ℕ) → IsKeptAt (placed row.table history) row.key p →
     (p < length history) × ((d : Row) → is_duplicate_of row (slice_index_or history p d) ≡ true)
 kept_placed history row p kept = place_of (stands_from 0 p history row (kept_test (placed row.table history) row.key p kept))
   where

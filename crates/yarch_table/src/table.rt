@@ -1,7 +1,9 @@
 //! A table.
 
-ghost use Rattle.std.specs.Prelude.{◌≡◌, ◌+◌, ◌<◌, ◌≤◌, [], max, IfOk, OnOk, OnErr, length};
-ghost use Rattle.yarch_table.specs.Stored.{seen_at, seen_between, IsInserted};
+ghost use Rattle.std.specs.Prelude.{◌≡◌, ◌+◌, ◌<◌, ◌≤◌, [], max, false, IfOk, OnOk, OnErr, IfSome, IfNone, length};
+ghost use Rattle.std.specs.List.{list_any};
+ghost use Rattle.arch_types.specs.History.{has_key};
+ghost use Rattle.yarch_table.specs.Stored.{seen_at, seen_between, rows_of, IsInserted, IsKeptAt};
 
 use crate::rows::{TableRows, Window};
 use arch_types::inserted::Inserted;
@@ -76,6 +78,17 @@ impl Table {
                 self.stored.push_reserved(Stored { row, position });
                 Inserted::New(position)
             }
+        }
+    }
+
+    /// The position of the row that has a key.
+    pub fn position(&self, key: Key) -> Option<u64>
+        ensures some { IfSome result (IsKeptAt self.now.stored key) }
+        ensures none { IfNone result (list_any (has_key key) (rows_of self.now.stored) ≡ false) }
+    {
+        match self.index.get(key) {
+            Some(i) => Some(self.stored[i].position),
+            None => None,
         }
     }
 
