@@ -1,9 +1,11 @@
 -- What the calls on the outside do, where its content is told, and when they fail.
-use Rattle.std.specs.Prelude.{◌≡◌, ℕ, ℤ, pos, ◌+◌, ◌-◌, ◌^◌, min, ◌<◌, ◌≤◌, ◌≤ℤ◌, List, ◌++◌, length, take, drop, Option, Some, None, IsSomeAnd}
+use Rattle.std.specs.Prelude.{◌≡◌, ℕ, ℤ, pos, ◌+◌, ◌-◌, ◌^◌, min, ◌<◌, ◌≤◌, ◌≤ℤ◌, List, ◌++◌, length, take, drop, Option, Some, None, Result, Err, IsSomeAnd}
 use Rattle.std.specs.Option.{is_some}
 use Rattle.std.specs.Ordering.{nat_cmp}
 use Rattle.std.specs.Cmp.Lexicographic.{slice_cmp}
 use Rattle.std.specs.FinMap.{FinMap, get}
+use Rattle.outer_traits.specs.declared.fault.OpenFault.{OpenFault}
+use Rattle.outer_traits.specs.declared.fault.OpenFault.TheVariants.{Failed}
 
 -- a count of faults has risen, or stands at the last value of its type
 abbrev pub HasRisen : ℕ → ℕ → Type 0
@@ -12,6 +14,11 @@ HasRisen before now = now + 1 < 2 ^ 64 → before < now
 -- a count of faults is as before
 abbrev pub Stays : ℕ → ℕ → Type 0
 Stays before now = now ≡ before
+
+-- a count of faults has risen where an opening failed, and else is as before
+abbrev pub OpeningCounted : {X : Type 0} → Result X OpenFault → ℕ → ℕ → Type 0
+OpeningCounted (Err Failed) before now = HasRisen before now
+OpeningCounted other before now = Stays before now
 
 -- one more, where the counter isn't at its last value
 abbrev pub one_more : ℕ → ℕ

@@ -1,9 +1,9 @@
 -- Inputs that are read to their end.
-use Rattle.std.specs.Prelude.{◌≡◌, ℕ, ◌<◌, List, ◌++◌, Option, Some, None, IfSome, IsNone, IsSome, IsSomeAnd, length}
+use Rattle.std.specs.Prelude.{◌≡◌, ℕ, ◌<◌, List, ◌++◌, Option, Some, None, IfSome, IsNone, IsSome, IsSomeAnd, Result, Err, length}
 use Rattle.std.specs.FinMap.{get}
 use Rattle.outer_traits.specs.declared.whole.ReadFault.{ReadFault}
 use Rattle.outer_traits.specs.declared.whole.ReadFault.TheVariants.{Missing, Failed, TooLong, OutOfMemory}
-use Rattle.outer_traits.specs.Outside.{Files, HasRisen}
+use Rattle.outer_traits.specs.Outside.{Files, HasRisen, Stays}
 
 -- of the octets that were left at first these were taken, and the others are left, where they are told
 abbrev pub IsTaken : Option (List ℕ) → List ℕ → Option (List ℕ) → Type 0
@@ -24,3 +24,8 @@ IsReadFault files name limit faults faults' Missing = IfSome files (λ all. IsNo
 IsReadFault files name limit faults faults' Failed = HasRisen faults faults' × IsThere files name
 IsReadFault files name limit faults faults' TooLong = IfSome files (λ all. IsSomeAnd (get all name) (λ octets. limit < length octets))
 IsReadFault files name limit faults faults' OutOfMemory = IsThere files name
+
+-- a count of faults has risen where a reading failed, and else is as before
+abbrev pub ReadingCounted : {X : Type 0} → Result X ReadFault → ℕ → ℕ → Type 0
+ReadingCounted (Err Failed) before now = HasRisen before now
+ReadingCounted other before now = Stays before now

@@ -2,7 +2,7 @@
 
 ghost use Rattle.std.specs.Prelude.{◌≡◌, ℕ, ◌-◌, ◌≤◌, ◌<◌, List, Option, IfOk, OnOk, OnErr, IfSome, IsNone, IsErrOf, ◌↔◌};
 ghost use Rattle.std.specs.FinMap.{get};
-ghost use Rattle.outer_traits.specs.Outside.{HasRisen, Files, Gives, Stays, one_more};
+ghost use Rattle.outer_traits.specs.Outside.{HasRisen, Files, Gives, OpeningCounted, Stays, one_more};
 
 use crate::fault::OpenFault;
 use crate::source::Source;
@@ -24,7 +24,7 @@ pub trait Inputs {
     /// Whether they are known never to fail, as inputs in memory.
     ghost never_fails: { Self → Type 0 } = { λ _. ⊥ };
 
-    /// A source at the start of the named octets.
+    /// A source at the start of the named octets. The count rises exactly where the answer is `Failed`.
     fn open(&mut self, alloc: Global, name: &str) -> Result<Self::Source, OpenFault>
         ensures found { IfOk result (λ source. Gives (files self.old) name.now (Self.Source.left source)) }
         ensures fresh { IfOk result (λ source. Self.Source.faults source ≡ 0) }
@@ -33,7 +33,7 @@ pub trait Inputs {
         ensures later { faults self.old ≤ faults self.new }
         ensures opened { OnOk result (open_sources self.new ≡ one_more (open_sources self.old)) }
         ensures unopened { OnErr result (open_sources self.new ≡ open_sources self.old) }
-        ensures failed { IsErrOf result OpenFault.Failed → HasRisen (faults self.old) (faults self.new) }
+        ensures counted { OpeningCounted result (faults self.old) (faults self.new) }
         ensures steady { never_fails self.old → never_fails self.new × Stays (faults self.old) (faults self.new) }
         ensures steady_source { never_fails self.old → IfOk result (λ source. Self.Source.never_fails source) };
 

@@ -2,9 +2,10 @@
 //
 // Contracts see an object of the outside through what it tells: the octets that a source has left, the files of the inputs, what a sink
 // has written, the moment of a clock. Forms in memory tell it, and real ones don't (specs/Outside.antt has what each call does with it;
-// whether an object tells never changes). Beside it each has a count of faults, which never falls, and a call answers `Failed` only
-// where the count rose, or stands at the last value of its type. So a caller can say of each failure which object it came from.
-// Inputs also count their open sources, so that a caller can promise to close each one.
+// whether an object tells never changes). Beside it each has a count of faults, which never falls, and rises exactly where a call fails
+// (a write also where it takes nothing of a piece), unless it stands at the last value of its type. So a caller can say of each failure
+// which object it came from, and that no failure was passed over. Inputs also count their open sources, so that a caller can promise to
+// close each one.
 //
 // `mem_inputs`, `mem_sink` and `FixedClock` are the forms in memory, whose calls can be told to fail. They are for tests, and show that the
 // contracts can be met. `whole` reads an input to its end, where it isn't longer than a limit.

@@ -1,6 +1,6 @@
 //! A source of octets.
 
-ghost use Rattle.std.specs.Prelude.{◌≡◌, ℕ, ◌≤◌, ◌<◌, List, [], length, Option, IfOk, IsErr, OnErr, IfSome, Ok};
+ghost use Rattle.std.specs.Prelude.{◌≡◌, ℕ, ◌≤◌, ◌<◌, List, [], length, Option, IfOk, IsErr, OnOk, OnErr, IfSome, Ok};
 ghost use Rattle.outer_traits.specs.Outside.{HasRisen, Reads, Stays};
 
 use crate::fault::Failed;
@@ -10,7 +10,7 @@ pub trait Source {
     /// The octets that are left, where the source tells them.
     ghost left: { Self → Option (List ℕ) };
 
-    /// How often it has failed.
+    /// How often it has failed: a call raises it exactly where it fails.
     ghost faults: { Self → ℕ };
 
     /// Whether it's known never to fail, as a source in memory.
@@ -25,5 +25,6 @@ pub trait Source {
         ensures kept { OnErr result (left self.new ≡ left self.old) }
         ensures later { faults self.old ≤ faults self.new }
         ensures failed { IsErr result → HasRisen (faults self.old) (faults self.new) }
+        ensures quiet { OnOk result (Stays (faults self.old) (faults self.new)) }
         ensures steady { never_fails self.old → never_fails self.new × Stays (faults self.old) (faults self.new) };
 }

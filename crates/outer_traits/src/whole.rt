@@ -1,8 +1,8 @@
 //! Sources that are read to their end.
 
 ghost use Rattle.std.specs.Prelude.{◌≡◌, ◌+◌, ◌^◌, ◌≤◌, ◌<◌, length, IfOk, IfErr, IsErrOf, IfSome, vec_len};
-ghost use Rattle.outer_traits.specs.Outside.{HasRisen, Stays};
-ghost use Rattle.outer_traits.specs.Whole.{IsInput, IsReadFault};
+ghost use Rattle.outer_traits.specs.Outside.{Stays};
+ghost use Rattle.outer_traits.specs.Whole.{IsInput, IsReadFault, ReadingCounted};
 
 use crate::fault::OpenFault;
 use crate::inputs::Inputs;
@@ -34,7 +34,8 @@ impl From<AllocError> for ReadFault {
     }
 }
 
-/// All octets that the named input has, of which there may be `limit`. The source is closed whatever comes.
+/// All octets that the named input has, of which there may be `limit`. The source is closed whatever comes. The count of faults rises exactly
+/// where the answer is `Failed`.
 pub fn read_input<I: Inputs>(
     alloc: Global,
     inputs: &mut I,
@@ -46,6 +47,7 @@ pub fn read_input<I: Inputs>(
     ensures fault { IfErr result (IsReadFault (I.files inputs.old) name.now limit (I.faults inputs.old) (I.faults inputs.new)) }
     ensures same { I.files inputs.new ≡ I.files inputs.old }
     ensures closed { I.open_sources inputs.old + 1 < 2 ^ 64 → I.open_sources inputs.new ≡ I.open_sources inputs.old }
+    ensures counted { ReadingCounted result (I.faults inputs.old) (I.faults inputs.new) }
     ensures later { I.faults inputs.old ≤ I.faults inputs.new }
     ensures steady { I.never_fails inputs.old → I.never_fails inputs.new × Stays (I.faults inputs.old) (I.faults inputs.new) }
 {
@@ -62,7 +64,7 @@ pub fn read_input<I: Inputs>(
     }
 }
 
-/// All octets that a source has left, of which there may be `limit`.
+/// All octets that a source has left, of which there may be `limit`. The count of faults rises exactly where the answer is `Failed`.
 pub fn read_whole<S: Source>(
     alloc: Global,
     source: &mut S,
@@ -71,7 +73,7 @@ pub fn read_whole<S: Source>(
     ensures whole { IfOk result (λ octets. IfSome (S.left source.old) (λ left. left ≡ octets.items)) }
     ensures short { IfOk result (λ octets. vec_len octets ≤ limit) }
     ensures long { IsErrOf result ReadFault.TooLong → IfSome (S.left source.old) (λ left. limit < length left) }
-    ensures failed { IsErrOf result ReadFault.Failed → HasRisen (S.faults source.old) (S.faults source.new) }
+    ensures counted { ReadingCounted result (S.faults source.old) (S.faults source.new) }
     ensures not_missing { IsErrOf result ReadFault.Missing → ⊥ }
     ensures later { S.faults source.old ≤ S.faults source.new }
     ensures steady { S.never_fails source.old → S.never_fails source.new × Stays (S.faults source.old) (S.faults source.new) }

@@ -7,7 +7,7 @@ loop-n-init g c = record {
   piece = omega (arith, c.in_ok-piece.ensures);
   within = omega (arith, c.new-octets.ensures.len);
   told = rw c.new-octets.ensures.items (taken_none (g.S.Source.left c.args.source.now));
-  later = omega arith;
+  quiet = refl;
   steady = λ s. (s, refl);
 }
 
@@ -26,6 +26,6 @@ loop-n-preserved g c = record {
   piece = c.loop-n.invariant.piece;
   within = omega (arith, c.if-n-limit.false, c.len.ensures, c.in_ok-extend_from_slice.ensures.len, c.split_at.ensures.front_len);
   told = rw (c.in_ok-extend_from_slice.ensures.items, c.split_at.ensures.front) (taken_more (g.S.Source.left c.args.source.now) (g.S.Source.left c.loop-n.source) (g.S.Source.left c.read.new.self) c.loop-n.octets.items c.read.new.into c.in-Ok.n c.loop-n.invariant.told c.in-Ok.ensures.taken);
-  later = omega (arith, c.in-Ok.ensures.later, c.loop-n.invariant.later);
+  quiet = c.in-Ok.ensures.quiet ∙ c.loop-n.invariant.quiet;
   steady = λ s. (let before = c.loop-n.invariant.steady s in let now = c.in-Ok.ensures.steady before.0 in (now.0, now.1 ∙ before.1));
 }

@@ -8,7 +8,7 @@ invariant-loop-n g l = record {
   piece : 0 < vec_len l.piece;
   within : vec_len l.octets ≤ l.limit;
   told : IsTaken (g.S.Source.left l.fn.source) l.octets.items (g.S.Source.left l.source);
-  later : g.S.Source.faults l.fn.source ≤ g.S.Source.faults l.source;
+  quiet : Stays (g.S.Source.faults l.fn.source) (g.S.Source.faults l.source);
   steady : g.S.Source.never_fails l.fn.source → g.S.Source.never_fails l.source × Stays (g.S.Source.faults l.fn.source) (g.S.Source.faults l.source);
 }
 
