@@ -21,5 +21,5 @@ mod tests;
 mod writing;
 
 pub use day::{day_name, day_of};
-pub use reading::{BadTime, read_time};
+pub use reading::{BadTime, read_time, read_time_octets};
 pub use writing::write_time;

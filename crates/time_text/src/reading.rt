@@ -14,12 +14,19 @@ pub struct BadTime;
 
 /// Reads a moment, in milliseconds since 1970: an optional minus and 1 to 15 digits, which are milliseconds, or
 /// `YYYY-MM-DDTHH:MM:SS`, optionally a point and 1 to 3 digits, optionally `Z`, in the years 1970 to 9999.
-#[tactic(auto, unfolding(crate::specs::TimeText::time_of))]
 pub fn read_time(text: &str) -> Result<i64, BadTime>
     ensures time { IfOk result (λ time. time_of text.now ≡ Some time) }
     ensures none { OnErr result (time_of text.now ≡ None) }
 {
-    let text = text.as_bytes();
+    read_time_octets(text.as_bytes())
+}
+
+/// Reads a moment of a text's octets.
+#[tactic(auto, unfolding(crate::specs::TimeText::time_of))]
+pub fn read_time_octets(text: &[u8]) -> Result<i64, BadTime>
+    ensures time { IfOk result (λ time. time_of text.now ≡ Some time) }
+    ensures none { OnErr result (time_of text.now ≡ None) }
+{
     if let Some(time) = count(text) {
         return Ok(time);
     }
