@@ -1,5 +1,5 @@
 -- The sheets of a mission database, and why they aren't read.
-use Rattle.std.specs.Prelude.{◌≡◌, ℕ, ◌<◌, ◌≤◌, ◌⊎◌, List, Option, IfSome, IsNone, IsSomeAnd, length}
+use Rattle.std.specs.Prelude.{◌≡◌, ℕ, ◌<◌, ◌≤◌, ◌⊎◌, List, Option, Some, IfSome, IsNone, IsSomeAnd, length}
 use Rattle.std.specs.FinMap.{get}
 use Rattle.arch_types.specs.declared.refusal.Refusal.{Refusal}
 use Rattle.arch_types.specs.declared.refusal.Refusal.TheVariants.{Missing, ReadFault, Limit, OutOfMemory}
@@ -7,7 +7,7 @@ use Rattle.arch_types.specs.declared.refusal.Which.TheVariants.{SheetOctets}
 use Rattle.arch_types.specs.Limits.{limit_of}
 use Rattle.csv.specs.Reading.{default_config, records, strip_bom}
 use Rattle.mdb_model.specs.declared.sheet.RawMdb.{RawMdb}
-use Rattle.outer_traits.specs.Outside.{Files, HasRisen}
+use Rattle.outer_traits.specs.Outside.{Files, HasRisen, Stays}
 use Rattle.outer_traits.specs.Whole.{IsThere}
 
 -- a record of a sheet: the octets of each field
@@ -47,3 +47,8 @@ IsRefusal files parameters calibrations containers faults faults' refusal =
     IsSheetRefusal files parameters faults faults' refusal
     ⊎ (HasSheet files parameters × IsSheetRefusal files calibrations faults faults' refusal)
     ⊎ (HasSheet files parameters × HasSheet files calibrations × IsSheetRefusal files containers faults faults' refusal)
+
+-- a count of reads that failed has risen where the refusal is ReadFault, and else is as before
+abbrev pub ReadsCounted : Option Refusal → ℕ → ℕ → Type 0
+ReadsCounted (Some ReadFault) before now = HasRisen before now
+ReadsCounted other before now = Stays before now

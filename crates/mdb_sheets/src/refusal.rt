@@ -1,7 +1,7 @@
 //! The refusal of a sheet that wasn't read.
 
 ghost use Rattle.std.specs.Prelude.{◌≡◌, ◌⊎◌};
-ghost use Rattle.mdb_sheets.specs.Refusal.{refusal_of};
+ghost use Rattle.mdb_sheets.specs.Refusal.{IsRefusalOf};
 
 use arch_types::octets::Octets;
 use arch_types::refusal::{Refusal, Which};
@@ -10,7 +10,7 @@ use std::alloc::Global;
 
 /// The refusal of a sheet by the fault of reading it.
 pub(crate) fn refusal(alloc: Global, fault: ReadFault, name: &str) -> Refusal
-    ensures { (result ≡ refusal_of fault name.now) ⊎ (result ≡ Refusal.OutOfMemory) }
+    ensures { IsRefusalOf fault name.now result }
 {
     match fault {
         ReadFault::Missing => missing(alloc, name),

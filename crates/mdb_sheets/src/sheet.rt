@@ -1,8 +1,9 @@
 //! One sheet.
 
 ghost use Rattle.std.specs.Prelude.{◌≡◌, ◌+◌, ◌<◌, ◌≤◌, ◌^◌, IfOk, IfErr};
+ghost use Rattle.std.specs.Result.{result_err};
 ghost use Rattle.outer_traits.specs.Outside.{Stays};
-ghost use Rattle.mdb_sheets.specs.Sheets.{IsSheet, IsSheetRefusal};
+ghost use Rattle.mdb_sheets.specs.Sheets.{IsSheet, IsSheetRefusal, ReadsCounted};
 
 use crate::records::records;
 use crate::refusal::refusal;
@@ -12,7 +13,7 @@ use outer_traits::inputs::Inputs;
 use outer_traits::whole::read_input;
 use std::alloc::Global;
 
-/// The records of the named sheet. Its source is closed whatever comes.
+/// The records of the named sheet. Its source is closed whatever comes. The count of faults rises exactly where the answer is `ReadFault`.
 pub(crate) fn read_sheet<I: Inputs>(
     alloc: Global,
     inputs: &mut I,
@@ -22,6 +23,7 @@ pub(crate) fn read_sheet<I: Inputs>(
     ensures refused { IfErr result (IsSheetRefusal (I.files inputs.old) name.now (I.faults inputs.old) (I.faults inputs.new)) }
     ensures same { I.files inputs.new ≡ I.files inputs.old }
     ensures closed { I.open_sources inputs.old + 1 < 2 ^ 64 → I.open_sources inputs.new ≡ I.open_sources inputs.old }
+    ensures counted { ReadsCounted (result_err result) (I.faults inputs.old) (I.faults inputs.new) }
     ensures later { I.faults inputs.old ≤ I.faults inputs.new }
     ensures steady { I.never_fails inputs.old → I.never_fails inputs.new × Stays (I.faults inputs.old) (I.faults inputs.new) }
 {

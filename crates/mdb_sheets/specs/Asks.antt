@@ -1,0 +1,121 @@
+-- The sheet of asks: one row an ask.
+use Rattle.std.specs.Prelude.{◌≡◌, ℕ, suc, ◌<◌, ◌≤◌, ◌==◌, ◌&&◌, ◌||◌, not, Bool, true, false, List, [], ◌∷◌, length, map, drop, Option, Some, None, IfSome, is_some, option_map, unwrap_or, if◌then◌else◌, codes, pos, Result, Ok, Err}
+use Rattle.std.specs.Str.{bytes_eq}
+use Rattle.arch_types.specs.declared.ask.Ask.{Ask}
+use Rattle.arch_types.specs.declared.ask.Ask.TheVariants.{Values}
+use Rattle.arch_types.specs.declared.refusal.Refusal.{Refusal}
+use Rattle.arch_types.specs.declared.refusal.Refusal.TheVariants.{ReadFault, BadSheet, Limit, OutOfMemory}
+use Rattle.arch_types.specs.declared.refusal.Sheet.TheVariants as sheet
+use Rattle.arch_types.specs.declared.refusal.Which.{Which}
+use Rattle.arch_types.specs.declared.refusal.Which.TheVariants.{SheetOctets}
+use Rattle.arch_types.specs.declared.refusal.Which.TheVariants as which
+use Rattle.arch_types.specs.Limits.{limit_of}
+use Rattle.arch_types.specs.Name.{is_name}
+use Rattle.mdb_model.specs.Checks.{Checks, first_broken, or_else}
+use Rattle.mdb_model.specs.Lists.{is_empty}
+use Rattle.mdb_model.specs.Sheets.{are_texts}
+use Rattle.mdb_model.specs.Texts.{digits_at_most, field}
+use Rattle.outer_traits.specs.Outside.{HasRisen}
+use Rattle.time_text.specs.TimeText.{time_of}
+use Rattle.mdb_sheets.specs.declared.ask_row.AskFault.{AskFault}
+use Rattle.mdb_sheets.specs.declared.ask_row.AskFault.TheVariants as fault
+use Rattle.mdb_sheets.specs.Sheets.{Fields, sheet_of}
+
+-- desc, or asc or empty, which is asc
+abbrev pub descending_of : List ℕ → Option Bool
+descending_of text = if is_empty text || bytes_eq text (codes "asc") then Some false else (if bytes_eq text (codes "desc") then Some true else None)
+
+abbrev pub most_from : Option ℕ → Option (Option ℕ)
+most_from None = None
+most_from (Some n) = Some (Some n)
+
+-- empty, or 1 to 18 digits
+abbrev pub most_of : List ℕ → Option (Option ℕ)
+most_of text = if is_empty text then Some None else most_from (digits_at_most 18 text)
+
+-- the rules of a row: kind, name, from, to, order, limit, names
+unfoldable pub ask_checks : Fields → Checks
+ask_checks row =
+    -- the record hasn't seven fields
+    (2, not (length row == 7))
+    -- the kind isn't values
+    ∷ (30, not (bytes_eq (field row 0) (codes "values")))
+    -- the name isn't a name
+    ∷ (3, not (is_name (field row 1)))
+    -- a bound isn't a time
+    ∷ (31, not (is_some (time_of (field row 2))))
+    ∷ (31, not (is_some (time_of (field row 3))))
+    -- the order isn't asc, desc or empty
+    ∷ (32, not (is_some (descending_of (field row 4))))
+    -- the limit isn't empty, and no number of 1 to 18 digits
+    ∷ (33, not (is_some (most_of (field row 5))))
+    -- values are asked with names
+    ∷ (34, not (is_empty (field row 6)))
+    ∷ []
+
+-- the ask that a row spells
+unfoldable pub ask_of : Fields → Ask
+ask_of row = Values (record {
+  parameter = field row 1;
+  from = unwrap_or (time_of (field row 2)) (pos 0);
+  to = unwrap_or (time_of (field row 3)) (pos 0);
+  descending = unwrap_or (descending_of (field row 4)) false;
+  limit = unwrap_or (most_of (field row 5)) None;
+})
+
+-- the ask of a row that breaks no rule, or the first rule that it breaks
+abbrev pub AskGiven : Fields → Result Ask AskFault → Type 0
+AskGiven row (Ok ask) = (first_broken (ask_checks row) ≡ None) × (ask ≡ ask_of row)
+AskGiven row (Err (fault.Broken rule)) = first_broken (ask_checks row) ≡ Some rule
+AskGiven row (Err fault.OutOfMemory) = Unit {0}
+
+-- `kind,name,from,to,order,limit,names`
+abbrev pub is_ask_header : Fields → Bool
+is_ask_header row =
+    (length row == 7)
+    && (are_texts row 0 (codes "kind") (codes "name") && (are_texts row 2 (codes "from") (codes "to") && (are_texts row 4 (codes "order") (codes "limit") && bytes_eq (field row 6) (codes "names"))))
+
+-- the first row that breaks a rule, counted from a number, and that rule
+unfoldable pub rows_fault : ℕ → List Fields → Option (ℕ × ℕ)
+rows_fault number [] = None
+rows_fault number (row ∷ rows) = or_else (option_map (λ rule. (number, rule)) (first_broken (ask_checks row))) (rows_fault (suc number) rows)
+
+-- the first rule broken: the header's, or else that of the first row that breaks one
+abbrev pub sheet_fault : List Fields → Option (ℕ × ℕ)
+sheet_fault [] = Some (1, 1)
+sheet_fault (header ∷ rows) = if is_ask_header header then rows_fault 2 rows else Some (1, 1)
+
+-- the asks of the rows below the header, or the first rule that they break
+abbrev pub RowsGiven : List Fields → Result (List Ask) Refusal → Type 0
+RowsGiven rows (Ok asks) = (rows_fault 2 rows ≡ None) × (asks ≡ map ask_of rows)
+RowsGiven rows (Err (BadSheet name row rule)) = (name ≡ sheet.Asks) × (rows_fault 2 rows ≡ Some (row, rule))
+RowsGiven rows (Err OutOfMemory) = Unit {0}
+RowsGiven rows (Err other) = ⊥
+
+-- the asks of a sheet, or the first rule that it breaks, or where none the limit of asks where it has more; for want of memory nothing is said
+abbrev pub AsksGiven : List Fields → Result (List Ask) Refusal → Type 0
+AsksGiven records (Ok asks) = (sheet_fault records ≡ None) × (asks ≡ map ask_of (drop 1 records)) × (length asks ≤ limit_of which.Asks)
+AsksGiven records (Err (BadSheet name row rule)) = (name ≡ sheet.Asks) × (sheet_fault records ≡ Some (row, rule))
+AsksGiven records (Err (Limit quantity number)) =
+    (quantity ≡ which.Asks) × (number ≡ limit_of which.Asks) × (sheet_fault records ≡ None) × (limit_of which.Asks < length (drop 1 records))
+AsksGiven records (Err OutOfMemory) = Unit {0}
+AsksGiven records (Err other) = ⊥
+
+-- the asks of the sheet that a source has left
+abbrev pub AreAsks : Option (List ℕ) → List Ask → Type 0
+AreAsks left asks = IfSome left (λ octets. (length octets ≤ limit_of SheetOctets) × AsksGiven (sheet_of octets) (Ok asks))
+
+-- the sheet is longer than its limit, or has more asks than theirs and breaks no rule
+abbrev pub PassesLimit : Which → List ℕ → Type 0
+PassesLimit SheetOctets octets = limit_of SheetOctets < length octets
+PassesLimit which.Asks octets = (length octets ≤ limit_of SheetOctets) × (sheet_fault (sheet_of octets) ≡ None) × (limit_of which.Asks < length (drop 1 (sheet_of octets)))
+PassesLimit other octets = ⊥
+
+-- why a sheet of asks isn't read: the source failed, the first rule that it breaks, the limit that it passes, or there was no memory
+abbrev pub IsAsksRefusal : Option (List ℕ) → ℕ → ℕ → Refusal → Type 0
+IsAsksRefusal left faults faults' ReadFault = HasRisen faults faults'
+IsAsksRefusal left faults faults' (BadSheet name row rule) =
+    (name ≡ sheet.Asks) × IfSome left (λ octets. (length octets ≤ limit_of SheetOctets) × (sheet_fault (sheet_of octets) ≡ Some (row, rule)))
+IsAsksRefusal left faults faults' (Limit quantity number) = (number ≡ limit_of quantity) × IfSome left (PassesLimit quantity)
+IsAsksRefusal left faults faults' OutOfMemory = Unit {0}
+IsAsksRefusal left faults faults' other = ⊥
