@@ -1,5 +1,6 @@
 pub mod Pieces
 pub mod Reading
+pub mod Counted
 pub mod Jobs
 pub mod Gathered
 pub mod Shown

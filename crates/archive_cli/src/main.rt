@@ -14,7 +14,7 @@
 // answer comes follows from the causes of all answers, since a dump has one list of packets (`dump_is_one` of arch_types). The rows have no
 // packet names, since no cell depends on them (proofs/PacketNames.antt).
 //
-// `main` and `real` are the edge to the system, whose files, output and clock tell no contents.
+// `main` is the edge to the system: it hands the objects of `outer_real` to `run`, files, output and clock that tell no contents.
 #![tactic(auto)]
 
 mod cell_text;
@@ -25,7 +25,6 @@ mod parameter;
 mod piece;
 mod print_fault;
 mod read;
-mod real;
 mod receive;
 mod report;
 mod rows;
@@ -40,10 +39,10 @@ mod values_tests;
 mod words;
 mod write;
 
-use crate::real::{RealClock, RealInputs, RealSink};
 use crate::run::run;
 use crate::text::FaultText;
 use arch_types::refusal::Refusal;
+use outer_real::{RealClock, RealInputs, RealSink};
 use std::env;
 use std::process::ExitCode;
 
@@ -57,7 +56,7 @@ fn main(rt: HostRuntime) -> ExitCode {
     };
     let mut inputs = RealInputs::new(&rt);
     let mut sink = RealSink::new(&rt);
-    let mut clock = RealClock { rt: &rt };
+    let mut clock = RealClock::new(&rt);
     let ended = run(
         rt.alloc(),
         words.as_slice(),

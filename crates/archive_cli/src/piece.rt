@@ -1,7 +1,7 @@
 //! Text on its way to a sink, gathered into pieces of about 64 KiB.
 
 ghost use Rattle.std.specs.Prelude.{◌≡◌, ◌+◌, ◌<◌, ◌≤◌, [], ◌++◌, length, IfOk, OnOk, OnErr, IsErr, codes, decimal};
-ghost use Rattle.outer_traits.specs.Outside.{HasRisen, WritesSome};
+ghost use Rattle.outer_traits.specs.Outside.{HasRisen, Stays, WritesSome};
 ghost use Rattle.archive_cli.specs.Call.{Appends};
 ghost use Rattle.archive_cli.specs.Text.{row_line, counts_line};
 ghost use Rattle.archive_cli.specs.Printing.{HasMoved};
@@ -113,6 +113,7 @@ impl Piece {
         ensures some { OnErr result (WritesSome (K.written sink.old) (K.written sink.new) self.old) }
         ensures later { K.faults sink.old ≤ K.faults sink.new }
         ensures failed { IsErr result → HasRisen (K.faults sink.old) (K.faults sink.new) }
+        ensures quiet { OnOk result (Stays (K.faults sink.old) (K.faults sink.new)) }
     {
         if self.octets.len() < FULL {
             return Ok(());
@@ -127,6 +128,7 @@ impl Piece {
         ensures some { OnErr result (WritesSome (K.written sink.old) (K.written sink.new) self.old) }
         ensures later { K.faults sink.old ≤ K.faults sink.new }
         ensures failed { IsErr result → HasRisen (K.faults sink.old) (K.faults sink.new) }
+        ensures quiet { OnOk result (Stays (K.faults sink.old) (K.faults sink.new)) }
     {
         write_all(sink, self.octets.as_slice())?;
         self.octets.clear();

@@ -2,6 +2,8 @@
 
 ghost use Rattle.std.specs.Prelude.{◌≡◌, ◌+◌, ◌<◌, ◌≤◌, ◌^◌, IfOk, IfErr, vec_len};
 ghost use Rattle.arch_types.specs.Limits.{limit_of};
+ghost use Rattle.std.specs.Result.{result_err};
+ghost use Rattle.mdb_sheets.specs.Sheets.{ReadsCounted};
 ghost use Rattle.outer_traits.specs.Outside.{Stays};
 ghost use Rattle.outer_traits.specs.Whole.{IsInput};
 ghost use Rattle.archive_cli.specs.Reading.{IsReadRefusal, IsRefusalOf};
@@ -12,7 +14,8 @@ use outer_traits::inputs::Inputs;
 use outer_traits::whole::{ReadFault, read_input};
 use std::alloc::Global;
 
-/// The octets of a named input, which may be as many as the quantity's limit. The source is closed whatever comes.
+/// The octets of a named input, which may be as many as the quantity's limit. The source is closed whatever comes. The count of faults rises
+/// exactly where the answer is `ReadFault`.
 pub fn read_limited<I: Inputs>(
     alloc: Global,
     inputs: &mut I,
@@ -24,8 +27,9 @@ pub fn read_limited<I: Inputs>(
     ensures refused { IfErr result (IsReadRefusal (I.files inputs.old) name.now which (I.faults inputs.old) (I.faults inputs.new)) }
     ensures same { I.files inputs.new ≡ I.files inputs.old }
     ensures closed { I.open_sources inputs.old + 1 < 2 ^ 64 → I.open_sources inputs.new ≡ I.open_sources inputs.old }
+    ensures counted { ReadsCounted (result_err result) (I.faults inputs.old) (I.faults inputs.new) }
     ensures later { I.faults inputs.old ≤ I.faults inputs.new }
-    ensures steady { I.never_fails inputs.old → Stays (I.faults inputs.old) (I.faults inputs.new) }
+    ensures steady { I.never_fails inputs.old → I.never_fails inputs.new × Stays (I.faults inputs.old) (I.faults inputs.new) }
 {
     match read_input(alloc, inputs, name, which.limit() as usize) {
         Ok(octets) => Ok(octets),

@@ -2,6 +2,8 @@
 
 ghost use Rattle.std.specs.Prelude.{◌≡◌, map, string_bytes, ◌+◌, ◌<◌, ◌≤◌, ◌^◌};
 ghost use Rattle.outer_traits.specs.Outside.{Stays};
+ghost use Rattle.mdb_sheets.specs.Sheets.{ReadsCounted};
+ghost use Rattle.archive_cli.specs.Call.{WritesCounted};
 ghost use Rattle.archive_cli.specs.Job.{job_of};
 ghost use Rattle.archive_cli.specs.Ending.{IsEnding};
 ghost use Rattle.archive_cli.specs.Expected.{IsExpected};
@@ -62,6 +64,10 @@ pub fn run<I: Inputs, K: Sink, C: Clock>(
     ensures later { I.faults inputs.old ≤ I.faults inputs.new }
     ensures writes_later { K.faults sink.old ≤ K.faults sink.new }
 
+    // The counts rise exactly where the answer is ReadFault or WriteFault: no call that failed is passed over, and no later refusal takes its place.
+    ensures reads_counted { ReadsCounted result.report.refusal (I.faults inputs.old) (I.faults inputs.new) }
+    ensures writes_counted { WritesCounted result.report.refusal (K.faults sink.old) (K.faults sink.new) }
+
     // Inputs that never fail have no more faults than before.
     ensures steady { I.never_fails inputs.old → Stays (I.faults inputs.old) (I.faults inputs.new) }
 {
@@ -97,6 +103,8 @@ fn run_job<I: Inputs, K: Sink, C: Clock>(
     }) (result_err result) }
     ensures same { I.files inputs.new ≡ I.files inputs.old }
     ensures closed { I.open_sources inputs.old + 1 < 2 ^ 64 → I.open_sources inputs.new ≡ I.open_sources inputs.old }
+    ensures reads_counted { ReadsCounted (result_err result) (I.faults inputs.old) (I.faults inputs.new) }
+    ensures writes_counted { WritesCounted (result_err result) (K.faults sink.old) (K.faults sink.new) }
     ensures later { I.faults inputs.old ≤ I.faults inputs.new }
     ensures writes_later { K.faults sink.old ≤ K.faults sink.new }
     ensures steady { I.never_fails inputs.old → Stays (I.faults inputs.old) (I.faults inputs.new) }

@@ -3,7 +3,8 @@
 ghost use Rattle.std.specs.Prelude.{◌≡◌, ◌<◌, ◌≤◌, OnOk, OnErr, IsErr, length, ◌++◌, ◌+◌, ◌^◌};
 ghost use Rattle.std.specs.Result.{result_err};
 ghost use Rattle.outer_traits.specs.Outside.{HasRisen, Stays, WritesSome};
-ghost use Rattle.archive_cli.specs.Call.{Appends};
+ghost use Rattle.mdb_sheets.specs.Sheets.{ReadsCounted};
+ghost use Rattle.archive_cli.specs.Call.{Appends, WritesCounted};
 ghost use Rattle.archive_cli.specs.ScanEnding.{IsScanEnding};
 ghost use Rattle.archive_cli.specs.Printing.{lines_of, end_of, text_of_loaded};
 
@@ -41,6 +42,8 @@ pub fn scan<I: Inputs, K: Sink, C: Clock>(
     }) name.now (result_err result) }
     ensures same { I.files inputs.new ≡ I.files inputs.old }
     ensures closed { I.open_sources inputs.old + 1 < 2 ^ 64 → I.open_sources inputs.new ≡ I.open_sources inputs.old }
+    ensures reads_counted { ReadsCounted (result_err result) (I.faults inputs.old) (I.faults inputs.new) }
+    ensures writes_counted { WritesCounted (result_err result) (K.faults sink.old) (K.faults sink.new) }
     ensures later { I.faults inputs.old ≤ I.faults inputs.new }
     ensures writes_later { K.faults sink.old ≤ K.faults sink.new }
     ensures steady { I.never_fails inputs.old → Stays (I.faults inputs.old) (I.faults inputs.new) }
@@ -60,6 +63,7 @@ fn print<K: Sink>(loaded: &Loaded, piece: &mut Piece, sink: &mut K) -> Result<()
     ensures some { OnErr result (WritesSome (K.written sink.old) (K.written sink.new) (text_of_loaded loaded.now)) }
     ensures later { K.faults sink.old ≤ K.faults sink.new }
     ensures failed { IsErr result → HasRisen (K.faults sink.old) (K.faults sink.new) }
+    ensures quiet { OnOk result (Stays (K.faults sink.old) (K.faults sink.new)) }
 {
     print_rows(&loaded.table, piece, sink)?;
     put_end(piece, loaded);
@@ -86,6 +90,7 @@ fn print_rows<K: Sink>(table: &Table, piece: &mut Piece, sink: &mut K) -> Result
     ensures some { OnErr result (WritesSome (K.written sink.old) (K.written sink.new) (lines_of table.now.stored)) }
     ensures later { K.faults sink.old ≤ K.faults sink.new }
     ensures failed { IsErr result → HasRisen (K.faults sink.old) (K.faults sink.new) }
+    ensures quiet { OnOk result (Stays (K.faults sink.old) (K.faults sink.new)) }
 {
     for row in table.rows_at(u64::MAX) {
         piece.put_row(row);

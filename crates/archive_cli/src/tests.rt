@@ -24,21 +24,28 @@ const LONGEST: [u8; 6] = [8, 0x64, 0xC0, 0, 0xFF, 0xFF];
 /// An idle packet, and one without a secondary header.
 const UNTIMED: [u8; 14] = [7, 0xFF, 0xC0, 0, 0, 0, 0, 0, 0x65, 0xC0, 1, 0, 0, 7];
 
-pub(crate) fn words_of(alloc: Global, texts: &[&str]) -> Result<Vec<String>, AllocError> {
+/// The words of a line, between its blanks; an empty line has none.
+pub(crate) fn words_of(alloc: Global, line: &str) -> Result<Vec<String>, AllocError> {
     let mut words = Vec::new(alloc);
-    for text in texts {
-        words.push(String::from_str(alloc, text)?)?;
+    if line.is_empty() {
+        return Ok(words);
+    }
+    for word in line.split(' ') {
+        words.push(String::from_str(alloc, word)?)?;
     }
     Ok(words)
+}
+
+pub(crate) fn file_of(alloc: Global, name: &str, octets: &[u8]) -> Result<File, AllocError> {
+    let name = String::from_str(alloc, name)?;
+    let octets = Vec::from_slice(alloc, octets)?;
+    Ok(File { name, octets })
 }
 
 /// One file `dump`.
 fn files_of(alloc: Global, dump: &[u8]) -> Result<Vec<File>, AllocError> {
     let mut files = Vec::new(alloc);
-    files.push(File {
-        name: String::from_str(alloc, "dump")?,
-        octets: Vec::from_slice(alloc, dump)?,
-    })?;
+    files.push(file_of(alloc, "dump", dump)?)?;
     Ok(files)
 }
 
@@ -53,14 +60,14 @@ pub(crate) fn fault_of(alloc: Global, ended: &Ended) -> Result<String, AllocErro
 /// A call of the program with one file `dump`, at 9 s. It has to end with this status and fault, and to have printed this text.
 fn expect(
     rt: &(impl Abort + AllocGlobal),
-    words: &[&str],
+    line: &str,
     dump: &[u8],
     status: u8,
     text: &str,
     fault: &str,
 ) -> Result<(), Fail> {
     let alloc = rt.alloc();
-    let words = words_of(alloc, words)?;
+    let words = words_of(alloc, line)?;
     let mut inputs = MemInputs::new(alloc, files_of(alloc, dump)?);
     let mut sink = MemSink::new(alloc);
     let mut clock = FixedClock::new(9000);
@@ -121,42 +128,39 @@ fn prints_rows(rt: HostRuntime) -> Result<(), Fail> {
             "",
         ),
     ] {
-        expect(&rt, &["scan", "dump"], dump, status, text, fault)?;
+        expect(&rt, "scan dump", dump, status, text, fault)?;
     }
     Ok(())
 }
 
 #[test]
 fn reads_words(rt: HostRuntime) -> Result<(), Fail> {
-    for (words, fault) in [
-        ([].as_slice(), "usage"),
-        (["frobnicate"].as_slice(), "usage"),
-        (["scan"].as_slice(), "usage"),
-        (["scan", ""].as_slice(), "usage"),
-        (["scan", "-"].as_slice(), "usage"),
-        (["scan", "-x"].as_slice(), "usage"),
-        (["scan", "--help"].as_slice(), "usage"),
-        (["scan", "--"].as_slice(), "usage"),
-        (["scan", "--", ""].as_slice(), "usage"),
-        (["scan", "dump", "dump"].as_slice(), "usage"),
-        (["--", "scan", "dump"].as_slice(), "usage"),
-        (["scan", "x"].as_slice(), "no input x"),
-        (["scan", "x", "--"].as_slice(), "no input x"),
-        (["scan", "--", "-x"].as_slice(), "no input -x"),
-        (["scan", "--", "--"].as_slice(), "no input --"),
-        (["scan", "--dump=x"].as_slice(), "usage"),
-        (["values"].as_slice(), "usage"),
-        (["values", "p", "c", "k", "d"].as_slice(), "usage"),
-        (["values", "p", "c", "k", "d", "n", "m"].as_slice(), "usage"),
-        (["values", "p", "c", "k", "d", "-n"].as_slice(), "usage"),
-        (["values", "p", "c", "k", "d", ""].as_slice(), "usage"),
-        (["values", "p", "c", "k", "d", "n"].as_slice(), "no input p"),
-        (
-            ["values", "p", "c", "k", "d", "--", "-n"].as_slice(),
-            "no input p",
-        ),
+    for (line, fault) in [
+        ("", "usage"),
+        ("frobnicate", "usage"),
+        ("scan", "usage"),
+        ("scan ", "usage"),
+        ("scan -", "usage"),
+        ("scan -x", "usage"),
+        ("scan --help", "usage"),
+        ("scan --", "usage"),
+        ("scan -- ", "usage"),
+        ("scan dump dump", "usage"),
+        ("-- scan dump", "usage"),
+        ("scan x", "no input x"),
+        ("scan x --", "no input x"),
+        ("scan -- -x", "no input -x"),
+        ("scan -- --", "no input --"),
+        ("scan --dump=x", "usage"),
+        ("values", "usage"),
+        ("values p c k d", "usage"),
+        ("values p c k d n m", "usage"),
+        ("values p c k d -n", "usage"),
+        ("values p c k d ", "usage"),
+        ("values p c k d n", "no input p"),
+        ("values p c k d -- -n", "no input p"),
     ] {
-        expect(&rt, words, &P1, 1, "", fault)?;
+        expect(&rt, line, &P1, 1, "", fault)?;
     }
     Ok(())
 }
@@ -168,7 +172,7 @@ fn scan_failing(
     reads: &[FailingCall],
     writes: &[u64],
 ) -> Result<(u8, usize), AllocError> {
-    let words = words_of(alloc, &["scan", "dump"])?;
+    let words = words_of(alloc, "scan dump")?;
     let reads = Vec::from_slice(alloc, reads)?;
     let mut inputs = MemInputs::failing(files_of(alloc, dump)?, reads);
     let mut sink = MemSink::failing(alloc, Vec::from_slice(alloc, writes)?);
@@ -207,77 +211,107 @@ fn expect_text(rt: &(impl Abort + AllocGlobal), refusal: Refusal, want: &str) ->
     Ok(())
 }
 
+/// A refusal that tells nothing more, by its place in a list.
+fn plain_refusal(place: usize) -> Refusal {
+    match place {
+        0 => Refusal::Usage,
+        1 => Refusal::ReadFault,
+        2 => Refusal::WriteFault,
+        3 => Refusal::NoArchive,
+        4 => Refusal::Exists,
+        5 => Refusal::DiskFault,
+        6 => Refusal::UnknownParameter,
+        _ => Refusal::OutOfMemory,
+    }
+}
+
 #[test]
-fn names_each_refusal(rt: HostRuntime) -> Result<(), Fail> {
+fn names_plain_refusals(rt: HostRuntime) -> Result<(), Fail> {
+    let texts = [
+        "usage",
+        "read fault",
+        "write fault",
+        "no archive",
+        "archive exists",
+        "disk fault",
+        "unknown parameter",
+        "out of memory",
+    ];
+    for (place, want) in texts.iter().enumerate() {
+        expect_text(&rt, plain_refusal(place), want)?;
+    }
+    Ok(())
+}
+
+/// A refusal that tells numbers, by its place in a list.
+fn numbered_refusal(place: usize) -> Refusal {
+    match place {
+        0 => Refusal::BadPacket {
+            at: 7,
+            kind: BadKind::Version,
+        },
+        1 => Refusal::BadSheet {
+            sheet: Sheet::Asks,
+            row: 2,
+            rule: 34,
+        },
+        2 => Refusal::BadSql { at: 7, rule: 2 },
+        3 => Refusal::Damaged { file: 3, at: 9 },
+        4 => Refusal::NeedsReopen { faults: 1 },
+        5 => Refusal::BadRange { from: 5, to: -4 },
+        6 => Refusal::Late {
+            interval: Interval(-2),
+        },
+        7 => limit(Which::DumpOctets),
+        _ => limit(Which::SheetOctets),
+    }
+}
+
+/// The refusal of what passes a limit.
+fn limit(which: Which) -> Refusal {
+    Refusal::Limit {
+        which,
+        number: which.limit(),
+    }
+}
+
+#[test]
+fn names_numbered_refusals(rt: HostRuntime) -> Result<(), Fail> {
+    let texts = [
+        "bad packet at 7: version",
+        "bad sheet asks row 2 rule 34",
+        "bad sql at 7 rule 2",
+        "damaged file 3 at 9",
+        "reopen after 1 faults",
+        "bad range 5 -4",
+        "late interval -2",
+        "limit DumpOctets 268435456",
+        "limit SheetOctets 4194304",
+    ];
+    for (place, want) in texts.iter().enumerate() {
+        expect_text(&rt, numbered_refusal(place), want)?;
+    }
+    Ok(())
+}
+
+#[test]
+fn names_refusals_with_names(rt: HostRuntime) -> Result<(), Fail> {
     let alloc = rt.alloc();
-    let Some(table) = Name::of(Octets::from_slice(alloc, b"nothing")?) else {
+    let name = Octets::from_slice(alloc, "d\u{e9}p\u{f4}t".as_bytes())?;
+    expect_text(&rt, Refusal::Missing { name }, "no input d\u{e9}p\u{f4}t")?;
+    let Some(name) = Name::of(Octets::from_slice(alloc, b"nothing")?) else {
         return Ok(());
     };
+    expect_text(&rt, Refusal::UnknownTable { name }, "unknown table nothing")?;
     let Some(parameter) = Name::of(Octets::from_slice(alloc, b"v")?) else {
         return Ok(());
     };
-    let interval = Interval(-2);
-    let name = Octets::from_slice(alloc, "d\u{e9}p\u{f4}t".as_bytes())?;
-    for (refusal, want) in [
-        (Refusal::Usage, "usage"),
-        (Refusal::Missing { name }, "no input d\u{e9}p\u{f4}t"),
-        (Refusal::ReadFault, "read fault"),
-        (Refusal::WriteFault, "write fault"),
-        (
-            Refusal::BadPacket {
-                at: 7,
-                kind: BadKind::Version,
-            },
-            "bad packet at 7: version",
-        ),
-        (
-            Refusal::BadSheet {
-                sheet: Sheet::Asks,
-                row: 2,
-                rule: 34,
-            },
-            "bad sheet asks row 2 rule 34",
-        ),
-        (Refusal::BadSql { at: 7, rule: 2 }, "bad sql at 7 rule 2"),
-        (Refusal::NoArchive, "no archive"),
-        (Refusal::Exists, "archive exists"),
-        (Refusal::Damaged { file: 3, at: 9 }, "damaged file 3 at 9"),
-        (Refusal::DiskFault, "disk fault"),
-        (Refusal::NeedsReopen { faults: 1 }, "reopen after 1 faults"),
-        (Refusal::UnknownParameter, "unknown parameter"),
-        (Refusal::BadRange { from: 5, to: -4 }, "bad range 5 -4"),
-        (
-            Refusal::UnknownTable { name: table },
-            "unknown table nothing",
-        ),
-        (
-            Refusal::Limit {
-                which: Which::DumpOctets,
-                number: 268_435_456,
-            },
-            "limit DumpOctets 268435456",
-        ),
-        (
-            Refusal::Limit {
-                which: Which::SheetOctets,
-                number: 4_194_304,
-            },
-            "limit SheetOctets 4194304",
-        ),
-        (
-            Refusal::Mismatch {
-                interval,
-                parameter,
-                key: Key { time: 0, seq: 0 },
-                stored: Some(43),
-                replayed: None,
-            },
-            "mismatch in interval -2",
-        ),
-        (Refusal::Late { interval }, "late interval -2"),
-        (Refusal::OutOfMemory, "out of memory"),
-    ] {
-        expect_text(&rt, refusal, want)?;
-    }
-    Ok(())
+    let mismatch = Refusal::Mismatch {
+        interval: Interval(-2),
+        parameter,
+        key: Key { time: 0, seq: 0 },
+        stored: Some(43),
+        replayed: None,
+    };
+    expect_text(&rt, mismatch, "mismatch in interval -2")
 }

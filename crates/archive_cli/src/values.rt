@@ -1,17 +1,18 @@
 //! The command `values`: the cells of a parameter over a dump, as text.
 
-ghost use Rattle.std.specs.Prelude.{◌≡◌, ◌<◌, ◌≤◌, ◌+◌, ◌^◌, ◌++◌, [], OnOk, OnErr, IsErrOf, IfOk, length};
+ghost use Rattle.std.specs.Prelude.{◌≡◌, ◌<◌, ◌≤◌, ◌+◌, ◌^◌, ◌++◌, [], OnOk, OnErr, IfOk, length};
 ghost use Rattle.std.specs.List.{AllByRecursion};
 ghost use Rattle.std.specs.Result.{result_err};
-ghost use Rattle.outer_traits.specs.Outside.{HasRisen, Stays, WritesSome};
+ghost use Rattle.outer_traits.specs.Outside.{Stays, WritesSome};
 ghost use Rattle.arch_types.specs.Table.{sorted};
+ghost use Rattle.mdb_sheets.specs.Sheets.{ReadsCounted};
 ghost use Rattle.yarch_table.specs.Stored.{rows_of};
 ghost use Rattle.archive_cli.specs.Asked.{words_of};
-ghost use Rattle.archive_cli.specs.Call.{Appends};
+ghost use Rattle.archive_cli.specs.Call.{Appends, WritesCounted};
 ghost use Rattle.archive_cli.specs.Loaded.{IsShown};
 ghost use Rattle.archive_cli.specs.Printing.{HasMoved};
 ghost use Rattle.archive_cli.specs.ValuesEnding.{IsValuesEnding};
-ghost use Rattle.archive_cli.specs.ValuesPrinting.{line_of, count_of, cells_of_stored, lines_of_cells, end_of_cells, text_of_cells, refusal_of_print};
+ghost use Rattle.archive_cli.specs.ValuesPrinting.{PrintCounted, line_of, count_of, cells_of_stored, lines_of_cells, end_of_cells, text_of_cells, refusal_of_print};
 
 use crate::cells::{calibration_of, cell_of};
 use crate::job::ValuesWords;
@@ -51,6 +52,8 @@ pub fn values<I: Inputs, K: Sink, C: Clock>(
     }) (words_of words.entry) (result_err result) }
     ensures same { I.files inputs.new ≡ I.files inputs.old }
     ensures closed { I.open_sources inputs.old + 1 < 2 ^ 64 → I.open_sources inputs.new ≡ I.open_sources inputs.old }
+    ensures reads_counted { ReadsCounted (result_err result) (I.faults inputs.old) (I.faults inputs.new) }
+    ensures writes_counted { WritesCounted (result_err result) (K.faults sink.old) (K.faults sink.new) }
     ensures later { I.faults inputs.old ≤ I.faults inputs.new }
     ensures writes_later { K.faults sink.old ≤ K.faults sink.new }
     ensures steady { I.never_fails inputs.old → Stays (I.faults inputs.old) (I.faults inputs.new) }
@@ -95,7 +98,7 @@ fn print<K: Sink>(
     ensures all { OnOk result (Appends (K.written sink.old) (K.written sink.new) (text_of_cells known.now.mdb known.now.number loaded.now.table.stored loaded.now.why)) }
     ensures some { OnErr result (WritesSome (K.written sink.old) (K.written sink.new) (text_of_cells known.now.mdb known.now.number loaded.now.table.stored loaded.now.why)) }
     ensures later { K.faults sink.old ≤ K.faults sink.new }
-    ensures failed { IsErrOf result PrintFault.Write → HasRisen (K.faults sink.old) (K.faults sink.new) }
+    ensures counted { PrintCounted (result_err result) (K.faults sink.old) (K.faults sink.new) }
 {
     let count = print_cells(alloc, known, &loaded.table, piece, sink)?;
     put_end(piece, loaded.why, count);
@@ -131,7 +134,7 @@ fn print_cells<K: Sink>(
     ensures count { IfOk result (λ count. count ≡ length (cells_of_stored known.now.mdb known.now.number table.now.stored)) }
     ensures some { OnErr result (WritesSome (K.written sink.old) (K.written sink.new) (lines_of_cells known.now.mdb known.now.number table.now.stored)) }
     ensures later { K.faults sink.old ≤ K.faults sink.new }
-    ensures failed { IsErrOf result PrintFault.Write → HasRisen (K.faults sink.old) (K.faults sink.new) }
+    ensures counted { PrintCounted (result_err result) (K.faults sink.old) (K.faults sink.new) }
 {
     let mut count = 0;
     for row in table.rows_at(u64::MAX) {

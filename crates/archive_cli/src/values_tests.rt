@@ -1,7 +1,7 @@
 //! The text that `values` prints, its refusals, and faults of the outside.
 
 use crate::run::run;
-use crate::tests::{fault_of, words_of};
+use crate::tests::{fault_of, file_of, words_of};
 use outer_traits::clock::FixedClock;
 use outer_traits::mem_inputs::{FailingCall, File, MemInputs};
 use outer_traits::mem_sink::MemSink;
@@ -115,10 +115,7 @@ fn files_of(alloc: Global, sheets: Sheets, dump: &[u8]) -> Result<Vec<File>, All
         ("containers", sheets[2].as_bytes()),
         ("dump", dump),
     ] {
-        files.push(File {
-            name: String::from_str(alloc, name)?,
-            octets: Vec::from_slice(alloc, octets)?,
-        })?;
+        files.push(file_of(alloc, name, octets)?)?;
     }
     Ok(files)
 }
@@ -126,13 +123,13 @@ fn files_of(alloc: Global, sheets: Sheets, dump: &[u8]) -> Result<Vec<File>, All
 /// A call of the program with these files at 9 s. It has to end with this status and fault, and to have printed this text.
 fn expect(
     rt: &(impl Abort + AllocGlobal),
-    words: &[&str],
+    line: &str,
     sheets: Sheets,
     dump: &[u8],
     want: (u8, &str, &str),
 ) -> Result<(), Fail> {
     let alloc = rt.alloc();
-    let words = words_of(alloc, words)?;
+    let words = words_of(alloc, line)?;
     let mut inputs = MemInputs::new(alloc, files_of(alloc, sheets, dump)?);
     let mut sink = MemSink::new(alloc);
     let mut clock = FixedClock::new(9000);
@@ -145,15 +142,8 @@ fn expect(
 }
 
 /// The words of `values` for a parameter of the four files.
-fn asking(name: &str) -> [&str; 6] {
-    [
-        "values",
-        "parameters",
-        "calibrations",
-        "containers",
-        "dump",
-        name,
-    ]
+fn asking(alloc: Global, name: &str) -> Result<String, AllocError> {
+    format!(in alloc; "values parameters calibrations containers dump {name}")
 }
 
 #[test]
@@ -204,39 +194,24 @@ fn prints_cells(rt: HostRuntime) -> Result<(), Fail> {
             "cell 1000 140820480 1 ON\ncell 1000 140820481 2 UNDEF\nvalues 2\n",
         ),
     ] {
-        expect(&rt, &asking(name), sheets, dump, (0, text, ""))?;
+        let line = asking(rt.alloc(), name)?;
+        expect(&rt, line.as_str(), sheets, dump, (0, text, ""))?;
     }
     Ok(())
 }
 
 #[test]
 fn refuses_inputs(rt: HostRuntime) -> Result<(), Fail> {
-    for (words, fault) in [
+    for (line, fault) in [
+        ("values x y containers dump v", "no input x"),
+        ("values parameters y x dump v", "no input y"),
+        ("values parameters calibrations x y v", "no input x"),
         (
-            ["values", "x", "y", "containers", "dump", "v"],
-            "no input x",
-        ),
-        (
-            ["values", "parameters", "y", "x", "dump", "v"],
-            "no input y",
-        ),
-        (
-            ["values", "parameters", "calibrations", "x", "y", "v"],
-            "no input x",
-        ),
-        (
-            [
-                "values",
-                "parameters",
-                "calibrations",
-                "containers",
-                "x",
-                "v",
-            ],
+            "values parameters calibrations containers x v",
             "no input x",
         ),
     ] {
-        expect(&rt, &words, NO_PARENT, BOTH, (1, "", fault))?;
+        expect(&rt, line, NO_PARENT, BOTH, (1, "", fault))?;
     }
     Ok(())
 }
@@ -265,7 +240,7 @@ fn refuses_sheets_and_packets(rt: HostRuntime) -> Result<(), Fail> {
         (
             TWO_GROUPS,
             BOTH_AND_MORE,
-            "no name!",
+            "no!name",
             (1, "", "unknown parameter"),
         ),
         (
@@ -289,7 +264,8 @@ fn refuses_sheets_and_packets(rt: HostRuntime) -> Result<(), Fail> {
             ),
         ),
     ] {
-        expect(&rt, &asking(name), sheets, dump, want)?;
+        let line = asking(rt.alloc(), name)?;
+        expect(&rt, line.as_str(), sheets, dump, want)?;
     }
     Ok(())
 }
@@ -297,28 +273,52 @@ fn refuses_sheets_and_packets(rt: HostRuntime) -> Result<(), Fail> {
 /// The status of a call where these calls fail, and how many octets it printed.
 fn failing(
     alloc: Global,
+    line: &str,
+    sheets: Sheets,
     reads: &[FailingCall],
     writes: &[u64],
 ) -> Result<(u8, usize), AllocError> {
-    let words = words_of(alloc, &asking("v"))?;
+    let words = words_of(alloc, line)?;
     let reads = Vec::from_slice(alloc, reads)?;
-    let mut inputs = MemInputs::failing(files_of(alloc, TWO_GROUPS, BOTH)?, reads);
+    let mut inputs = MemInputs::failing(files_of(alloc, sheets, BOTH)?, reads);
     let mut sink = MemSink::failing(alloc, Vec::from_slice(alloc, writes)?);
     let mut clock = FixedClock::new(9000);
     let ended = run(alloc, words.as_slice(), &mut inputs, &mut sink, &mut clock);
     Ok((ended.status, sink.octets.len()))
 }
 
+/// The words of `values` for `v`.
+const SOUND: &str = "values parameters calibrations containers dump v";
+
+/// The same with a last sheet that isn't there.
+const LACKING: &str = "values parameters calibrations x dump v";
+
 #[test]
 fn fails_with_the_outside(rt: HostRuntime) -> Result<(), Fail> {
     let alloc = rt.alloc();
     for opening in 1..5 {
         for read in 0..3 {
-            let ended = failing(alloc, &[FailingCall { opening, read }], &[])?;
+            let call = FailingCall { opening, read };
+            let ended = failing(alloc, SOUND, TWO_GROUPS, &[call], &[])?;
             assert_eq!(rt; ended, (3, 0), "at read {read} of input {opening}");
         }
     }
-    assert_eq!(rt; failing(alloc, &[], &[1])?, (4, 0));
-    assert_eq!(rt; failing(alloc, &[], &[])?, (0, 59));
+    let unwritten = failing(alloc, SOUND, TWO_GROUPS, &[], &[1])?;
+    assert_eq!(rt; unwritten, (4, 0));
+    let sound = failing(alloc, SOUND, TWO_GROUPS, &[], &[])?;
+    assert_eq!(rt; sound, (0, 59));
+    Ok(())
+}
+
+#[test]
+fn answers_the_failed_read_first(rt: HostRuntime) -> Result<(), Fail> {
+    let alloc = rt.alloc();
+    for read in 0..3 {
+        let call = FailingCall { opening: 1, read };
+        let lacking = failing(alloc, LACKING, TWO_GROUPS, &[call], &[])?;
+        assert_eq!(rt; lacking, (3, 0));
+        let broken = failing(alloc, SOUND, NO_PARENT, &[call], &[])?;
+        assert_eq!(rt; broken, (3, 0));
+    }
     Ok(())
 }

@@ -1,18 +1,19 @@
 //! Writes all of a text.
 
 ghost use Rattle.std.specs.Prelude.{◌≤◌, OnOk, OnErr, IsErr};
-ghost use Rattle.outer_traits.specs.Outside.{HasRisen, WritesSome};
+ghost use Rattle.outer_traits.specs.Outside.{HasRisen, Stays, WritesSome};
 ghost use Rattle.archive_cli.specs.Call.{Appends};
 
 use outer_traits::fault::Failed;
 use outer_traits::sink::Sink;
 
-/// Appends all of a text, or where a write fails or takes nothing a prefix of it.
+/// Appends all of a text, or where a write fails or takes nothing a prefix of it. The count of faults rises exactly there.
 pub fn write_all<K: Sink>(sink: &mut K, text: &[u8]) -> Result<(), Failed>
     ensures all { OnOk result (Appends (K.written sink.old) (K.written sink.new) text.now) }
     ensures some { OnErr result (WritesSome (K.written sink.old) (K.written sink.new) text.now) }
     ensures later { K.faults sink.old ≤ K.faults sink.new }
     ensures failed { IsErr result → HasRisen (K.faults sink.old) (K.faults sink.new) }
+    ensures quiet { OnOk result (Stays (K.faults sink.old) (K.faults sink.new)) }
 {
     let mut at = 0;
     while at < text.len() {

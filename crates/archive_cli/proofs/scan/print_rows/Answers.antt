@@ -1,4 +1,4 @@
-use Rattle.std.proofs.Common.{◌≡◌, ◌++◌, ◌∷◌, arith}
+use Rattle.std.proofs.Common.{◌≡◌, ◌∙◌, ◌++◌, ◌∷◌, arith, refl}
 use Rattle.std.specs.Prelude.{flat_map}
 use Rattle.std.proofs.lemmas.Result.{err_from_is_err_and}
 use Rattle.archive_cli.specs.Text.{row_line}
@@ -13,7 +13,7 @@ loop-row-init g c =
     record {
       moved = rw (c.requires.empty, c.into_iter-row-iterator.ensures.into_iter_gives, c.rows_at-row-items.ensures, seen) (moved_none (g.K.Sink.written c.args.sink.now) (lines_of c.args.table.now.stored));
       room = rw c.requires.empty (omega arith);
-      later = omega arith;
+      quiet = refl;
     }
 
 pub loop-row-preserved : goal.loop-row-preserved
@@ -24,7 +24,7 @@ loop-row-preserved g c =
     record {
       moved = moved_more (g.K.Sink.written c.args.sink.now) (g.K.Sink.written c.loop-row.sink) (g.K.Sink.written c.pour.new.sink) (lines_of c.args.table.now.stored) (c.loop-row.piece ++ row_line c.in-Some.row.now) c.pour.new.self (flat_map row_line c.next.new.self) before poured;
       room = c.in_ok-pour.ensures.room;
-      later = omega (arith, c.in_ok-pour.ensures.later, c.loop-row.invariant.later);
+      quiet = c.in_ok-pour.ensures.quiet ∙ c.loop-row.invariant.quiet;
     }
 
 pub returns-in_err-pour-clause-some : goal.returns-in_err-pour-clause-some

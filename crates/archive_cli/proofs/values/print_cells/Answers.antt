@@ -1,4 +1,4 @@
-use Rattle.std.proofs.Common.{◌≡◌, ◌++◌, ◌∷◌, arith}
+use Rattle.std.proofs.Common.{◌≡◌, ◌∙◌, ◌++◌, ◌∷◌, arith, refl}
 use Rattle.std.specs.Prelude.{flat_map}
 use Rattle.std.proofs.lemmas.Result.{err_from_is_err_and}
 use Rattle.arch_types.specs.Table.{sorted}
@@ -17,7 +17,7 @@ loop-row-init g c =
           (moved_none (g.K.Sink.written c.args.sink.now) (lines_of_cells c.args.known.now.mdb c.args.known.now.number c.args.table.now.stored));
       room = rw c.requires.empty (omega arith);
       counted = rw (c.into_iter-row-iterator.ensures.into_iter_gives, c.rows_at-row-items.ensures, seen) (omega arith);
-      later = omega arith;
+      quiet = refl;
     }
 
 pub overflow_add-count : goal.overflow_add-count
@@ -46,7 +46,7 @@ loop-row-preserved g c =
           (flat_map (line_of db number) c.next.new.self) before poured;
       room = c.in_ok-pour.ensures.room;
       counted = omega (arith, total, next, c.in_ok-found.ensures.count);
-      later = omega (arith, c.in_ok-pour.ensures.later, c.loop-row.invariant.later);
+      quiet = c.in_ok-pour.ensures.quiet ∙ c.loop-row.invariant.quiet;
     }
 
 pub returns-in_err-found-clause-some : goal.returns-in_err-found-clause-some

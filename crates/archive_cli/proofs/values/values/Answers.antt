@@ -1,8 +1,9 @@
-use Rattle.std.proofs.Common.{◌∙◌, ap, inl, inr, refl, Err}
+use Rattle.std.proofs.Common.{◌∙◌, inl, inr, refl, Some}
 use Rattle.std.proofs.lemmas.Result.{err_from_is_err_and}
 use Rattle.archive_cli.specs.Asked.{words_of}
-use Rattle.archive_cli.specs.Received.{IsReceived}
+use Rattle.archive_cli.specs.Received.{IsReceived, ending_of}
 use Rattle.archive_cli.proofs.CellCounts.{rows_few}
+use Rattle.archive_cli.proofs.Counted.{input_unwritten, parameter_quiet, print_reads, print_writes, reads_later, reads_quiet, rest_quiet, sheets_unwritten, writes_quiet}
 use Rattle.archive_cli.proofs.Parameters.{number_within}
 use Rattle.archive_cli.proofs.Reading.{read_later}
 use Rattle.archive_cli.proofs.Scanned.{call_of}
@@ -43,7 +44,7 @@ returns-in_err-reception-clause-ended g c =
     )) refl)
 
 pub returns-in_err-reception-clause-steady : goal.returns-in_err-reception-clause-steady
-returns-in_err-reception-clause-steady g c = λ s. (let m = c.read_mdb.ensures.steady s in c.receive.ensures.steady m.0 ∙ m.1)
+returns-in_err-reception-clause-steady g c = λ s. (let m = c.read_mdb.ensures.steady s in (c.receive.ensures.steady m.0).1 ∙ m.1)
 
 pub returns-in_err-known-clause-ended : goal.returns-in_err-known-clause-ended
 returns-in_err-known-clause-ended g c =
@@ -56,7 +57,7 @@ returns-in_err-known-clause-ended g c =
     values_unknown call (words_of c.args.words) c.in_ok-sheets.sheets c.in_ok-reception.reception.loaded _ c.in_ok-sheets.ensures.sheets received c.in_err-known.ensures.refused refl)
 
 pub returns-in_err-known-clause-steady : goal.returns-in_err-known-clause-steady
-returns-in_err-known-clause-steady g c = λ s. (let m = c.read_mdb.ensures.steady s in c.receive.ensures.steady m.0 ∙ m.1)
+returns-in_err-known-clause-steady g c = λ s. (let m = c.read_mdb.ensures.steady s in (c.receive.ensures.steady m.0).1 ∙ m.1)
 
 pub returns-in-Ok-clause-ended : goal.returns-in-Ok-clause-ended
 returns-in-Ok-clause-ended g c =
@@ -70,7 +71,7 @@ returns-in-Ok-clause-ended g c =
     c.in_ok-sheets.ensures.sheets c.in_ok-known.ensures.known received c.in-Ok.ensures.all)
 
 pub returns-in-Ok-clause-steady : goal.returns-in-Ok-clause-steady
-returns-in-Ok-clause-steady g c = λ s. (let m = c.read_mdb.ensures.steady s in c.receive.ensures.steady m.0 ∙ m.1)
+returns-in-Ok-clause-steady g c = λ s. (let m = c.read_mdb.ensures.steady s in (c.receive.ensures.steady m.0).1 ∙ m.1)
 
 pub returns-clause-ended : goal.returns-clause-ended
 returns-clause-ended g c =
@@ -81,7 +82,56 @@ returns-clause-ended g c =
     (g.K.Sink.written c.args.sink.now) (g.K.Sink.written c.print.new.sink) (g.K.Sink.faults c.args.sink.now) (g.K.Sink.faults c.print.new.sink) in
     rw c.refusal_of.ensures
     (values_unprinted call (words_of c.args.words) c.in_ok-sheets.sheets c.in_ok-known.known.mdb c.in_ok-known.known.number c.in_ok-reception.reception.loaded c.in-Err.fault
-    c.in_ok-sheets.ensures.sheets c.in_ok-known.ensures.known received (λ e. c.in-Err.ensures.failed (ap Err e)) c.in-Err.ensures.some)
+    c.in_ok-sheets.ensures.sheets c.in_ok-known.ensures.known received (λ e. rw e at c.in-Err.ensures.counted) c.in-Err.ensures.some)
 
 pub returns-clause-steady : goal.returns-clause-steady
-returns-clause-steady g c = λ s. (let m = c.read_mdb.ensures.steady s in c.receive.ensures.steady m.0 ∙ m.1)
+returns-clause-steady g c = λ s. (let m = c.read_mdb.ensures.steady s in (c.receive.ensures.steady m.0).1 ∙ m.1)
+
+-- the counts
+
+pub returns-in_err-sheets-clause-writes_counted : goal.returns-in_err-sheets-clause-writes_counted
+returns-in_err-sheets-clause-writes_counted g c =
+    let p = err_from_is_err_and c.from_residual.result c.from_residual.ensures.1 in
+    rw (p.1, p.2) (sheets_unwritten _ _ _ _ _ _ _ _ c.in_err-sheets.ensures.refused)
+
+pub returns-in_err-reception-clause-reads_counted : goal.returns-in_err-reception-clause-reads_counted
+returns-in_err-reception-clause-reads_counted g c =
+    let p = err_from_is_err_and c.from_residual-in_err-reception.result c.from_residual-in_err-reception.ensures.1 in
+    rw (p.1, p.2) (reads_later (Some c.in_err-reception.field-0.0) (g.I.Inputs.faults c.args.inputs.now) (g.I.Inputs.faults c.read_mdb.new.inputs) (g.I.Inputs.faults c.receive.new.inputs)
+    c.in_ok-sheets.ensures.counted c.in_err-reception.ensures.counted)
+
+pub returns-in_err-reception-clause-writes_counted : goal.returns-in_err-reception-clause-writes_counted
+returns-in_err-reception-clause-writes_counted g c =
+    let p = err_from_is_err_and c.from_residual-in_err-reception.result c.from_residual-in_err-reception.ensures.1 in
+    rw (p.1, p.2) (input_unwritten _ _ _ _ _ _ _ c.in_err-reception.ensures.refused)
+
+pub returns-in_err-known-clause-reads_counted : goal.returns-in_err-known-clause-reads_counted
+returns-in_err-known-clause-reads_counted g c =
+    let p = err_from_is_err_and c.from_residual-in_err-known.result c.from_residual-in_err-known.ensures.1 in
+    rw (p.1, p.2) (reads_quiet (Some c.in_err-known.field-0.0) (g.I.Inputs.faults c.args.inputs.now) (g.I.Inputs.faults c.receive.new.inputs)
+    (parameter_quiet c.in_ok-sheets.sheets c.args.words.name.now c.in_err-known.field-0.0 c.in_err-known.ensures.refused)
+    (c.in_ok-reception.ensures.counted ∙ c.in_ok-sheets.ensures.counted))
+
+pub returns-in_err-known-clause-writes_counted : goal.returns-in_err-known-clause-writes_counted
+returns-in_err-known-clause-writes_counted g c =
+    let p = err_from_is_err_and c.from_residual-in_err-known.result c.from_residual-in_err-known.ensures.1 in
+    rw (p.1, p.2) (writes_quiet (Some c.in_err-known.field-0.0) (g.K.Sink.faults c.args.sink.now) (g.K.Sink.faults c.args.sink.now)
+    (parameter_quiet c.in_ok-sheets.sheets c.args.words.name.now c.in_err-known.field-0.0 c.in_err-known.ensures.refused) refl)
+
+pub returns-in-Ok-clause-reads_counted : goal.returns-in-Ok-clause-reads_counted
+returns-in-Ok-clause-reads_counted g c =
+    let loaded = c.in_ok-reception.reception.loaded in
+    rw c.ended.ensures
+    (reads_quiet (ending_of loaded.why loaded.at) _ _ (rest_quiet loaded.why loaded.at) (c.in_ok-reception.ensures.counted ∙ c.in_ok-sheets.ensures.counted))
+
+pub returns-in-Ok-clause-writes_counted : goal.returns-in-Ok-clause-writes_counted
+returns-in-Ok-clause-writes_counted g c =
+    let loaded = c.in_ok-reception.reception.loaded in
+    rw c.ended.ensures (writes_quiet (ending_of loaded.why loaded.at) _ _ (rest_quiet loaded.why loaded.at) c.in-Ok.ensures.counted)
+
+pub returns-clause-reads_counted : goal.returns-clause-reads_counted
+returns-clause-reads_counted g c =
+    rw c.refusal_of.ensures (print_reads c.in-Err.fault _ _ (c.in_ok-reception.ensures.counted ∙ c.in_ok-sheets.ensures.counted))
+
+pub returns-clause-writes_counted : goal.returns-clause-writes_counted
+returns-clause-writes_counted g c = rw c.refusal_of.ensures (print_writes c.in-Err.fault _ _ c.in-Err.ensures.counted)

@@ -1,4 +1,5 @@
 use Rattle.std.proofs.Common.{◌≤◌, ◌-◌, length, take}
+use Rattle.outer_traits.specs.Outside.{Stays}
 use Rattle.archive_cli.specs.Call.{Appends}
 use Rattle.archive_cli.proofs.write.write_all.Given as goal
 
@@ -6,7 +7,7 @@ abbrev pub invariant-loop-at : goal.invariant-loop-at
 invariant-loop-at g l = record {
   within : l.at ≤ length l.text;
   told : Appends (g.K.Sink.written l.fn.sink) (g.K.Sink.written l.sink) (take l.at l.text);
-  later : g.K.Sink.faults l.fn.sink ≤ g.K.Sink.faults l.sink;
+  quiet : Stays (g.K.Sink.faults l.fn.sink) (g.K.Sink.faults l.sink);
 }
 
 abbrev pub decreases-loop-at : goal.decreases-loop-at

@@ -1,20 +1,14 @@
-//! The files, the standard output and the clock of the system. They tell no contents, and count their faults.
+//! Files as inputs.
 
-ghost use Rattle.std.specs.Prelude.{◌≡◌, None};
+ghost use Rattle.std.specs.Prelude.{◌≡◌, ◌≤◌, length, IfOk};
 
-use outer_traits::clock::Clock;
 use outer_traits::fault::{Failed, OpenFault, raised};
 use outer_traits::inputs::Inputs;
-use outer_traits::sink::Sink;
 use outer_traits::source::Source;
 use std::alloc::Global;
 use std::fs;
-use std::io::{self, ErrorKind, Read, Write};
-use std::rt::{Clock as SystemClock, Files};
-use std::time::{SystemTime, UNIX_EPOCH};
-
-/// The last millisecond of the year 9999.
-const LAST_MOMENT: u128 = 253_402_300_799_999;
+use std::io::{self, ErrorKind, Read};
+use std::rt::Files;
 
 /// An open file.
 #[derive(Drop)]
@@ -23,13 +17,32 @@ pub struct RealSource<F> {
     faults: u64,
 }
 
+/// One read, made again as long as signals interrupt it.
+fn read_some<F: Read>(file: &mut F, into: &mut [u8]) -> io::Result<usize>
+    ensures { IfOk result (λ n. n ≤ length into.old) }
+{
+    for _ in 0..u64::MAX {
+        match file.read(into) {
+            Ok(n) => return Ok(n),
+            Err(error) => {
+                if error.kind() != ErrorKind::Interrupted {
+                    return Err(error);
+                }
+            }
+        }
+    }
+    Err(ErrorKind::Interrupted.into())
+}
+
 impl<F: Read> Source for RealSource<F> {
+    ghost use Rattle.std.specs.Prelude.{None};
+
     ghost left = { λ _. None };
 
     ghost faults = { λ source. source.faults };
 
     fn read(&mut self, into: &mut [u8]) -> Result<usize, Failed> {
-        match self.file.read(into) {
+        match read_some(&mut self.file, into) {
             Ok(n) => Ok(n),
             Err(_) => {
                 self.faults = raised(self.faults);
@@ -43,13 +56,14 @@ impl<F: Read> Source for RealSource<F> {
 #[derive(Drop)]
 pub struct RealInputs<'a, R> {
     rt: &'a R,
+    /// Sources that are open, up to the last value of the type.
     held: u64,
     faults: u64,
 }
 
 impl<'a, R> RealInputs<'a, R> {
     pub fn new(rt: &'a R) -> Self
-        ensures { result.faults ≡ 0 }
+        ensures { (result.held ≡ 0) × (result.faults ≡ 0) }
     {
         RealInputs {
             rt,
@@ -60,6 +74,8 @@ impl<'a, R> RealInputs<'a, R> {
 }
 
 impl<'a, R: Files> Inputs for RealInputs<'a, R> {
+    ghost use Rattle.std.specs.Prelude.{None};
+
     type Source = RealSource<R::File>;
 
     ghost files = { λ _. None };
@@ -68,6 +84,7 @@ impl<'a, R: Files> Inputs for RealInputs<'a, R> {
 
     ghost open_sources = { λ inputs. inputs.held };
 
+    /// `Missing` where there's no file of this path, a part of which may be a file in a folder's place.
     fn open(&mut self, _alloc: Global, name: &str) -> Result<RealSource<R::File>, OpenFault> {
         match fs::open(self.rt, name) {
             Ok(file) => {
@@ -89,60 +106,5 @@ impl<'a, R: Files> Inputs for RealInputs<'a, R> {
         if source.faults > 0 {
             self.faults = raised(self.faults);
         }
-    }
-}
-
-/// The standard output.
-#[derive(Drop)]
-pub struct RealSink<'a, R> {
-    rt: &'a R,
-    faults: u64,
-}
-
-impl<'a, R> RealSink<'a, R> {
-    pub fn new(rt: &'a R) -> Self
-        ensures { result.faults ≡ 0 }
-    {
-        RealSink { rt, faults: 0 }
-    }
-}
-
-impl<'a, R: Print> Sink for RealSink<'a, R> {
-    ghost written = { λ _. None };
-
-    ghost faults = { λ sink. sink.faults };
-
-    fn write(&mut self, piece: &[u8]) -> Result<usize, Failed> {
-        match io::writer(self.rt).write(piece) {
-            Ok(0) => {
-                self.faults = raised(self.faults);
-                Ok(0)
-            }
-            Ok(n) => Ok(n),
-            Err(_) => {
-                self.faults = raised(self.faults);
-                Err(Failed)
-            }
-        }
-    }
-}
-
-/// The system's clock, kept to the years 1970 to 9999. Where it can't be read it stands at the first moment.
-#[derive(Drop)]
-pub struct RealClock<'a, R> {
-    pub rt: &'a R,
-}
-
-impl<'a, R: SystemClock> Clock for RealClock<'a, R> {
-    ghost next = { λ _. None };
-
-    fn now(&mut self) -> i64 {
-        let Ok(now) = SystemTime::now(self.rt) else {
-            return 0;
-        };
-        let Ok(since) = now.duration_since(UNIX_EPOCH) else {
-            return 0;
-        };
-        since.as_millis().min(LAST_MOMENT) as i64
     }
 }

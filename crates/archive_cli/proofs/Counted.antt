@@ -1,0 +1,83 @@
+-- Counts of calls that failed.
+use Rattle.std.proofs.Common.{◌≡◌, ℕ, List, Option, Some, None, inl, inr, refl}
+use Rattle.std.specs.Prelude.{IfSome}
+use Rattle.arch_types.specs.declared.refusal.Refusal.{Refusal}
+use Rattle.arch_types.specs.declared.refusal.Refusal.TheVariants.{ReadFault, WriteFault}
+use Rattle.arch_types.specs.declared.refusal.Which.{Which}
+use Rattle.mdb_model.specs.declared.fault.MdbLimit.{MdbLimit}
+use Rattle.mdb_model.specs.declared.sheet.RawMdb.{RawMdb}
+use Rattle.mdb_model.specs.Database.{Broken, limit_passed}
+use Rattle.mdb_model.specs.Sheets.{sheets_database, sheets_fault}
+use Rattle.mdb_sheets.specs.Sheets.{IsRefusal, ReadsCounted}
+use Rattle.outer_traits.specs.Outside.{Files, HasRisen, Stays}
+use Rattle.space_packet.specs.declared.dump.Why.{Why}
+use Rattle.space_packet.specs.declared.dump.Why.TheVariants as why
+use Rattle.archive_cli.specs.declared.print_fault.PrintFault.{PrintFault}
+use Rattle.archive_cli.specs.declared.print_fault.PrintFault.TheVariants as printing
+use Rattle.archive_cli.specs.Call.{WritesCounted}
+use Rattle.archive_cli.specs.Parameter.{IsNoParameter, first_refusal, number_named, parameter_refusal}
+use Rattle.archive_cli.specs.Reading.{IsReadRefusal}
+use Rattle.archive_cli.specs.Received.{ending_of}
+use Rattle.archive_cli.specs.ValuesPrinting.{PrintCounted, refusal_of_print}
+
+-- an ending that speaks of no call that failed
+abbrev pub IsQuiet : Option Refusal → Type 0
+IsQuiet (Some ReadFault) = ⊥
+IsQuiet (Some WriteFault) = ⊥
+IsQuiet other = Unit {0}
+
+pub reads_quiet : (ending : Option Refusal) (before now : ℕ) → IsQuiet ending → Stays before now → ReadsCounted ending before now
+reads_quiet (Some ReadFault) before now quiet same = absurd quiet
+reads_quiet ending before now quiet same = same
+
+pub writes_quiet : (ending : Option Refusal) (before now : ℕ) → IsQuiet ending → Stays before now → WritesCounted ending before now
+writes_quiet (Some WriteFault) before now quiet same = absurd quiet
+writes_quiet ending before now quiet same = same
+
+-- reads that came before and didn't fail
+pub reads_later : (ending : Option Refusal) (first before now : ℕ) → Stays first before → ReadsCounted ending before now → ReadsCounted ending first now
+reads_later ending first before now same counted = rw same at counted
+
+-- the ending by what a dump's rest is
+pub rest_quiet : (reason : Why) (at : ℕ) → IsQuiet (ending_of reason at)
+rest_quiet why.End at = tt
+rest_quiet why.Version at = tt
+rest_quiet why.Truncated at = tt
+
+-- sheets and a name that give no parameter
+first_quiet : (broken : Option Broken) (passed : Option (MdbLimit × ℕ)) (number : Option ℕ) → IfSome (first_refusal broken passed number) (λ refusal. IsQuiet (Some refusal))
+first_quiet (Some b) passed number = tt
+first_quiet None (Some p) number = tt
+first_quiet None None None = tt
+first_quiet None None (Some n) = tt
+
+some_quiet : (o : Option Refusal) (refusal : Refusal) → IfSome o (λ refusal. IsQuiet (Some refusal)) → o ≡ Some refusal → IsQuiet (Some refusal)
+some_quiet o refusal h e = rw e at h
+
+pub parameter_quiet : (raw : RawMdb) (name : List ℕ) (refusal : Refusal) → IsNoParameter raw name refusal → IsQuiet (Some refusal)
+unfolding parameter_refusal
+parameter_quiet raw name refusal (inl cause) =
+    some_quiet (parameter_refusal raw name) refusal (first_quiet (sheets_fault raw) (limit_passed (sheets_database raw)) (number_named (sheets_database raw) name)) cause
+parameter_quiet raw name refusal (inr memory) = rw memory tt
+
+-- an input that wasn't read has nothing to do with writes
+pub sheets_unwritten : (files : Option Files) (parameters calibrations containers : List ℕ) (faults faults' : ℕ) (refusal : Refusal) (writes : ℕ) →
+    IsRefusal files parameters calibrations containers faults faults' refusal → WritesCounted (Some refusal) writes writes
+sheets_unwritten files parameters calibrations containers faults faults' WriteFault writes (inl h) = absurd h
+sheets_unwritten files parameters calibrations containers faults faults' WriteFault writes (inr (inl h)) = absurd h.1
+sheets_unwritten files parameters calibrations containers faults faults' WriteFault writes (inr (inr h)) = absurd h.2
+sheets_unwritten files parameters calibrations containers faults faults' refusal writes h = refl
+
+pub input_unwritten : (files : Option Files) (name : List ℕ) (which : Which) (faults faults' : ℕ) (refusal : Refusal) (writes : ℕ) →
+    IsReadRefusal files name which faults faults' refusal → WritesCounted (Some refusal) writes writes
+input_unwritten files name which faults faults' WriteFault writes h = absurd h
+input_unwritten files name which faults faults' refusal writes h = refl
+
+-- a text that wasn't printed
+pub print_writes : (fault : PrintFault) (before now : ℕ) → PrintCounted (Some fault) before now → WritesCounted (Some (refusal_of_print fault)) before now
+print_writes printing.Write before now counted = counted
+print_writes printing.OutOfMemory before now counted = counted
+
+pub print_reads : (fault : PrintFault) (before now : ℕ) → Stays before now → ReadsCounted (Some (refusal_of_print fault)) before now
+print_reads printing.Write before now same = same
+print_reads printing.OutOfMemory before now same = same

@@ -1,0 +1,107 @@
+//! A folder of the system as a disk.
+
+ghost use Rattle.std.specs.Prelude.{◌≡◌};
+ghost use Rattle.arch_disk.specs.Disk.{raised};
+
+use crate::folder::Folder;
+use arch_disk::{Disk, Failed};
+use std::alloc::Global;
+use std::fs::File;
+use std::rt::Files;
+
+/// Files of a folder, named by eight decimal digits. The folder is made by the first write, and a file by the first write to it; where they aren't
+/// there yet, a file has length 0. A read past the end of a file fails.
+#[derive(Drop)]
+pub struct RealDisk<'a, R> {
+    folder: Folder<'a, R>,
+    faults: u64,
+    failed_writes: u64,
+}
+
+impl<'a, R> RealDisk<'a, R> {
+    /// The files in the folder of this path. It asks nothing of the system.
+    pub fn new(alloc: Global, rt: &'a R, path: String) -> Self
+        ensures { (result.faults ≡ 0) × (result.failed_writes ≡ 0) }
+    {
+        RealDisk {
+            folder: Folder::new(alloc, rt, path),
+            faults: 0,
+            failed_writes: 0,
+        }
+    }
+}
+
+/// Counts a call that failed.
+fn fault(faults: &mut u64) -> Failed
+    ensures { faults.new ≡ raised faults.old }
+{
+    *faults = faults.saturating_add(1);
+    Failed
+}
+
+/// Counts a write, a cut or a sync that failed.
+fn failed_write(faults: &mut u64, failed_writes: &mut u64) -> Failed
+    ensures faults { faults.new ≡ raised faults.old }
+    ensures writes { failed_writes.new ≡ raised failed_writes.old }
+{
+    *failed_writes = failed_writes.saturating_add(1);
+    fault(faults)
+}
+
+impl<'a, R: Files<File = File>> Disk for RealDisk<'a, R> {
+    ghost use Rattle.std.specs.Prelude.{[], false};
+    ghost use Rattle.arch_disk.specs.Laws.{untold};
+
+    ghost device = { record {
+      tells = false;
+      reads = λ _ _. [];
+      images = λ _ _. ⊥;
+      moment = λ _. 0;
+      images_since = λ _ _ _. ⊥;
+      fault_count = λ disk. disk.faults;
+      failed_writes = λ disk. disk.failed_writes;
+      now_counts = λ _ _ _ _ left. left;
+      only_now = λ _ _ left. left;
+      reads_as_image = λ _ told. untold told;
+      lengths_fit = λ _ _ told. untold told;
+    } };
+
+    fn len(&mut self, file: u32) -> Result<u64, Failed> {
+        match self.folder.len(file) {
+            Ok(len) => Ok(len),
+            Err(_) => Err(fault(&mut self.faults)),
+        }
+    }
+
+    fn read_at(&mut self, file: u32, at: u64, into: &mut [u8]) -> Result<(), Failed> {
+        match self.folder.read_at(file, at, into) {
+            Ok(()) => Ok(()),
+            Err(_) => Err(fault(&mut self.faults)),
+        }
+    }
+
+    fn write_at(&mut self, file: u32, at: u64, from: &[u8]) -> Result<(), Failed> {
+        match self.folder.write_at(file, at, from) {
+            Ok(()) => Ok(()),
+            Err(_) => Err(failed_write(&mut self.faults, &mut self.failed_writes)),
+        }
+    }
+
+    fn cut(&mut self, file: u32, len: u64) -> Result<(), Failed> {
+        match self.folder.cut(file, len) {
+            Ok(()) => Ok(()),
+            Err(_) => Err(failed_write(&mut self.faults, &mut self.failed_writes)),
+        }
+    }
+
+    fn sync(&mut self, file: u32) -> Result<(), Failed> {
+        match self.folder.sync(file) {
+            Ok(()) => Ok(()),
+            Err(_) => Err(failed_write(&mut self.faults, &mut self.failed_writes)),
+        }
+    }
+
+    fn faults(&self) -> u64 {
+        self.faults
+    }
+}

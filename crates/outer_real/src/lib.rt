@@ -1,0 +1,25 @@
+// The edge to the system: files as inputs, the standard output, the clock, and a folder as a disk.
+//
+// What the crates below ask of the outside, `outer_traits` and `arch_disk` as traits, is met here by calls of the system. No contract can say
+// what a file holds or what a terminal takes. So these objects tell no contents, and their clauses on contents promise nothing: proved
+// are safety, the ranges of what they answer, and their counts of faults, each raised exactly where a call failed. That each method makes the
+// calls of the system that its name says, and that the system does them, is what a reader has to trust: src/ is short, to be read whole.
+//
+// A call that a signal interrupts is made again, and a write to the disk that took some octets goes on with the rest.
+//
+// `inputs`, `sink` and `clock` are the objects of a command that reads and prints. `disk` counts the failed calls of the disk, and `folder`
+// makes them. The program's `main` makes one of each and hands them to the top call; no other crate names these types.
+#![tactic(auto)]
+
+mod clock;
+mod disk;
+mod folder;
+mod inputs;
+mod sink;
+#[cfg(test)]
+mod tests;
+
+pub use clock::RealClock;
+pub use disk::RealDisk;
+pub use inputs::{RealInputs, RealSource};
+pub use sink::RealSink;
