@@ -1,0 +1,92 @@
+-- The rows of a batch are rows that a record may add.
+use Rattle.std.proofs.Common.{◌≡◌, ℕ, ℤ, ◌*◌, ◌<◌, ◌≤◌, ◌^◌, List, [], ◌∷◌, ◌++◌, length, map, refl, arith, length-append}
+use Rattle.std.specs.List.{flat_map, AllByRecursion}
+use Rattle.block_map.proofs.Rising.{all_append}
+use Rattle.arch_types.specs.declared.inserted.Inserted.{Inserted}
+use Rattle.arch_types.specs.declared.inserted.Inserted.TheVariants.{New, Duplicate}
+use Rattle.arch_types.specs.declared.row.Row.{Row}
+use Rattle.arch_types.specs.Packet.{IsPacket}
+use Rattle.archive_core.specs.Items.{Item, items_of}
+use Rattle.archive_core.specs.Outcomes.{answered_new, outcomes_of, fresh_of}
+use Rattle.archive_core.proofs.Outcomes.{fresh_new, length-fresh}
+use Rattle.field_codec.specs.declared.entry.Entry.TheVariants as entries
+use Rattle.field_codec.specs.Entries.{IsClockTime, IsStored, IsEntry}
+use Rattle.archive_store.specs.declared.batch.Arrival.{Arrival}
+use Rattle.archive_store.specs.declared.batch.Batch.{Batch}
+use Rattle.archive_store.specs.declared.head.Head.{Head}
+use Rattle.archive_store.specs.Batches.{arrival_row, arrival_rows, batch_rows, IsArrival, IsBatch}
+use Rattle.archive_store.specs.Entries.{archive, IsPlaced, AreAdmitted}
+use Rattle.archive_store.specs.Limits.{IsWithin}
+
+all_answered : (P : Row → Type 0) (outcomes : List Inserted) (rows : List Row) → AllByRecursion P rows → AllByRecursion P (answered_new outcomes rows)
+all_answered P [] rows all = tt
+all_answered P (o ∷ outcomes) [] all = tt
+all_answered P (New p ∷ outcomes) (row ∷ rows) all = (all.0, all_answered P outcomes rows all.1)
+all_answered P (Duplicate p ∷ outcomes) (row ∷ rows) all = all_answered P outcomes rows all.1
+
+all_weaker : {X : Type 0} (P Q : X → Type 0) (xs : List X) → ((x : X) → P x → Q x) → AllByRecursion P xs → AllByRecursion Q xs
+all_weaker P Q [] f all = tt
+all_weaker P Q (x ∷ xs) f all = (f x all.0, all_weaker P Q xs f all.1)
+
+module _ (head : Head) (rectime : ℤ) (clock : IsClockTime rectime) (few : length head.tables ≤ 16) (names : length head.mdb.containers < 2 ^ 16) where
+  -- a row that a record may hold, with its table and name
+  abbrev Fits : Row → Type 0
+  Fits row = IsStored row × IsPlaced head row
+
+  row_fits : (arrival : Arrival) (table : ℕ) → IsArrival head arrival → table < length head.tables → Fits (arrival_row rectime arrival table)
+  row_fits arrival table is within = (
+    record {
+      table = omega (arith, within, few);
+      rectime = clock;
+      link = (is.link_low, omega (arith, is.link_high));
+      pname = omega (arith, is.pname, names);
+      packet = is.packet;
+      kept = is.carries;
+      key = refl;
+    },
+    record { table = within; pname = is.pname },
+  )
+
+  tables_fit : (arrival : Arrival) (tables : List ℕ) → IsArrival head arrival → AllByRecursion (λ table. table < length head.tables) tables → AllByRecursion Fits (map (arrival_row rectime arrival) tables)
+  tables_fit arrival [] is all = tt
+  tables_fit arrival (t ∷ tables) is all = (row_fits arrival t is all.0, tables_fit arrival tables is all.1)
+
+  rows_fit : (arrivals : List Arrival) → AllByRecursion (IsArrival head) arrivals → AllByRecursion Fits (flat_map (arrival_rows rectime) arrivals)
+  rows_fit [] all = tt
+  rows_fit (a ∷ arrivals) all = all_append Fits (arrival_rows rectime a) (flat_map (arrival_rows rectime) arrivals) (tables_fit a a.tables all.0 all.0.tables) (rows_fit arrivals all.1)
+
+length-map-row : (f : ℕ → Row) (xs : List ℕ) → length (map f xs) ≡ length xs
+length-map-row f [] = refl
+length-map-row f (x ∷ xs) = omega (arith, length-map-row f xs)
+
+few_rows : (head : Head) (rectime : ℤ) (arrivals : List Arrival) → AllByRecursion (IsArrival head) arrivals → length (flat_map (arrival_rows rectime) arrivals) ≤ 16 * length arrivals
+few_rows head rectime [] all = omega arith
+few_rows head rectime (a ∷ arrivals) all =
+    omega (arith, few_rows head rectime arrivals all.1, length-append (arrival_rows rectime a) (flat_map (arrival_rows rectime) arrivals), length-map-row (arrival_row rectime a) a.tables, all.0.few_tables)
+
+-- the new rows of a batch may be added
+pub admitted : (head : Head) (history : List Item) (batch : Batch) → IsEntry (entries.Head head.tables head.mdb) → length head.mdb.containers < 2 ^ 16 → IsBatch head batch
+    → 1 ≤ length (fresh_of history (batch_rows batch)) → IsWithin (history ++ items_of (fresh_of history (batch_rows batch))) → AreAdmitted (archive head history) (fresh_of history (batch_rows batch))
+admitted head history batch fits names is some within =
+    let rows = batch_rows batch in
+    let all : AllByRecursion (Fits head batch.rectime is.rectime fits.0.few names) (fresh_of history rows) =
+    all_answered (Fits head batch.rectime is.rectime fits.0.few names) (outcomes_of history rows) rows (rows_fit head batch.rectime is.rectime fits.0.few names batch.arrivals is.each) in
+    record {
+      spelled = record {
+        some = some;
+        few = omega (arith, length-fresh history rows, few_rows head batch.rectime batch.arrivals is.each, is.few);
+        each = all_weaker (Fits head batch.rectime is.rectime fits.0.few names) IsStored (fresh_of history rows) (λ row p. p.0) all;
+      };
+      placed = all_weaker (Fits head batch.rectime is.rectime fits.0.few names) (IsPlaced head) (fresh_of history rows) (λ row p. p.1) all;
+      fresh = fresh_new history rows;
+      within = within;
+    }
+
+-- what the sorting of a batch needs
+pub sortable : (head : Head) (batch : Batch) (tables : ℕ) → tables ≡ length head.tables → IsBatch head batch → AllByRecursion (λ arrival. IsPacket arrival.packet × AllByRecursion (λ table. table < tables) arrival.tables) batch.arrivals
+sortable head batch tables same is = all_weaker (IsArrival head) (λ arrival. IsPacket arrival.packet × AllByRecursion (λ table. table < tables) arrival.tables) batch.arrivals
+    (λ arrival a. (a.packet, all_weaker (λ table. table < length head.tables) (λ table. table < tables) arrival.tables (λ t within. omega (arith, within, same)) a.tables)) is.each
+
+-- the tables of rows that are placed
+pub placed_tables : (head : Head) (rows : List Row) (tables : ℕ) → tables ≡ length head.tables → AllByRecursion (IsPlaced head) rows → AllByRecursion (λ row. row.table < tables) rows
+placed_tables head rows tables same all = all_weaker (IsPlaced head) (λ row. row.table < tables) rows (λ row p. omega (arith, p.table, same)) all

@@ -1,0 +1,35 @@
+-- What an ingest of sorted rows comes to.
+use Rattle.std.proofs.Common.{◌≡◌, ℕ, ◌<◌, List, [], ◌∷◌, ◌++◌, length, refl, sym, ◌∙◌, ap, subst, arith}
+use Rattle.std.proofs.lemmas.List.{append-nil}
+use Rattle.arch_types.specs.declared.refusal.Which.TheVariants as limits
+use Rattle.arch_types.specs.declared.row.Row.{Row}
+use Rattle.arch_types.specs.History.{ingested}
+use Rattle.arch_types.specs.Limits.{limit_of}
+use Rattle.archive_core.specs.Items.{Item, items_of}
+use Rattle.archive_core.specs.Outcomes.{fresh_of}
+use Rattle.archive_core.proofs.Outcomes.{fresh_added}
+use Rattle.archive_store.specs.Limits.{IsWithin, IsBelow}
+
+-- the history with the new rows is the ingested one
+pub added : (history : List Item) (rows fresh : List Row) → fresh ≡ fresh_of history rows → history ++ items_of fresh ≡ ingested history rows
+added history rows fresh is = ap (λ (l : List Row). history ++ l) is ∙ sym (fresh_added history rows)
+
+no_row : (fresh : List Row) → length fresh ≡ 0 → fresh ≡ []
+no_row [] none = refl
+no_row (row ∷ fresh) none = absurd (omega (arith, none))
+
+pub none_new : (history : List Item) (rows fresh : List Row) → fresh ≡ fresh_of history rows → length fresh ≡ 0 → fresh_of history rows ≡ []
+none_new history rows fresh is none = sym is ∙ no_row fresh none
+
+-- without new rows the history stays
+pub nothing_added : (history : List Item) (rows fresh : List Row) → fresh ≡ fresh_of history rows → length fresh ≡ 0 → history ≡ ingested history rows
+nothing_added history rows fresh is none = sym (append-nil history) ∙ ap (λ (l : List Row). history ++ l) (sym (no_row fresh none)) ∙ added history rows fresh is
+
+pub below_none : (records : ℕ) (history : List Item) (rows fresh : List Row) → fresh ≡ fresh_of history rows → length fresh ≡ 0 → IsWithin history → IsBelow records history rows
+below_none records history rows fresh is none within = record {
+  within = subst IsWithin (nothing_added history rows fresh is none) within;
+  records_left = λ some. absurd (some (none_new history rows fresh is none));
+}
+
+pub below_some : (records : ℕ) (history : List Item) (rows fresh : List Row) → fresh ≡ fresh_of history rows → IsWithin (history ++ items_of fresh) → records < limit_of limits.Records → IsBelow records history rows
+below_some records history rows fresh is within left = record { within = subst IsWithin (added history rows fresh is) within; records_left = λ some. left }

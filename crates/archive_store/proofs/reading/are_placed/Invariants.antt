@@ -1,0 +1,7 @@
+use Rattle.std.proofs.Common.{take}
+use Rattle.std.specs.List.{AllByRecursion}
+use Rattle.archive_store.specs.Entries.{IsPlaced}
+use Rattle.archive_store.proofs.reading.are_placed.Given as goal
+
+abbrev pub invariant-loop-row : goal.invariant-loop-row
+invariant-loop-row l = AllByRecursion (IsPlaced l.head) (take l.row-index l.rows)

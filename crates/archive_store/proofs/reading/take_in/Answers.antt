@@ -1,0 +1,72 @@
+use Rattle.std.proofs.Common.{◌≡◌, ◌++◌, [], List, ℕ, Option, None, Some, true, false, true≢false, refl, sym, ◌∙◌, ap, subst}
+use Rattle.std.specs.Option.{is_some}
+use Rattle.arch_types.specs.declared.row.Row.{Row}
+use Rattle.archive_core.specs.Items.{Item}
+use Rattle.field_codec.specs.declared.entry.Entry.{Entry}
+use Rattle.field_codec.specs.declared.entry.Entry.TheVariants as kinds
+use Rattle.field_codec.specs.Entries.{IsEntry}
+use Rattle.field_codec.specs.Spelling.{entry_octets}
+use Rattle.archive_store.specs.declared.head.Head.{Head}
+use Rattle.archive_store.specs.declared.reading.Made.{Made}
+use Rattle.archive_store.specs.Entries.{Archive, archive, Takes, AreAdmitted}
+use Rattle.archive_store.specs.Made.{archive_made}
+use Rattle.archive_store.specs.Shelf.{Shelved}
+use Rattle.archive_store.proofs.Admitting.{breaks_entry}
+use Rattle.archive_store.proofs.Steps.{if_ok}
+use Rattle.archive_store.proofs.reading.take_in.Goals as goal
+
+-- the octets are an entry that makes this of what was there
+abbrev IsTaken : Option Made → List ℕ → Head → List Item → Type 0
+IsTaken was body head items = (entry : Entry) × (body ≡ entry_octets entry) × (after : Archive) × (Some (archive head items) ≡ Some after) × Takes (archive_made was) entry after
+
+-- a first head
+takes_head : (was : Option Made) (head : Head) (items : List Item) → is_some was ≡ false → IsEntry (kinds.Head head.tables head.mdb) → items ≡ [] → Takes (archive_made was) (kinds.Head head.tables head.mdb) (archive head items)
+takes_head None head items none fits empty = (fits, ap (archive head) empty)
+takes_head (Some made) head items none fits empty = absurd (true≢false none)
+
+-- rows that are admitted
+takes_rows : (was : Option Made) (made : Made) (rows : List Row) (body : List ℕ) (head : Head) (items : List Item) → was ≡ Some made → body ≡ entry_octets (kinds.Rows rows) → head ≡ made.head → AreAdmitted (archive made.head made.history.items) rows × (items ≡ made.history.items ++ rows) → IsTaken was body head items
+takes_rows was made rows body head items is spelled same ok = (
+  kinds.Rows rows,
+  spelled,
+  archive head items,
+  refl,
+  subst (λ (o : Option Made). Takes (archive_made o) (kinds.Rows rows) (archive head items)) (sym is)
+      (ok.0, ap (λ (h : Head). archive h items) same ∙ ap (archive made.head) ok.1),
+)
+
+-- a second head
+no_second : (was : Option Made) (head : Head) (after : Archive) → is_some was ≡ true → Takes (archive_made was) (kinds.Head head.tables head.mdb) after → ⊥
+no_second None head after some takes = absurd (true≢false (sym some))
+no_second (Some made) head after some takes = takes
+
+pub returns-then-is_some-clause-no : goal.returns-then-is_some-clause-no
+returns-then-is_some-clause-no c refused =
+    let head : Head = record { tables = c.in-Ok-Head.tables; mdb = c.in-Ok-Head.mdb } in
+    let spelled = rw c.in-Ok-Head.field-0-is at c.in-Ok-Head.ensures.spelled in
+    breaks_entry (archive_made c.args.made.now) (kinds.Head head.tables head.mdb) c.args.body.items spelled.0 (sym c.in_ok-octets.ensures ∙ spelled.1)
+    (λ after. no_second c.args.made.now head after (sym c.if-is_some.ensures))
+
+pub returns-in-Ok-Head-clause-yes : goal.returns-in-Ok-Head-clause-yes
+returns-in-Ok-Head-clause-yes c ok =
+    let head : Head = record { tables = c.in-Ok-Head.tables; mdb = c.in-Ok-Head.mdb } in
+    let items = c.in_ok-history-in-Ok-Head.history.items in
+    let spelled = rw c.in-Ok-Head.field-0-is at c.in-Ok-Head.ensures.spelled in
+    let empty : items ≡ [] = ap (λ (h : Shelved). h.items) c.in_ok-history-in-Ok-Head.ensures in (
+      kinds.Head head.tables head.mdb,
+      sym c.in_ok-octets.ensures ∙ spelled.1,
+      archive head items,
+      refl,
+      takes_head c.args.made.now head items (sym c.if-is_some.ensures) spelled.0 empty,
+    )
+
+pub returns-in-Some-clause-yes : goal.returns-in-Some-clause-yes
+returns-in-Some-clause-yes c =
+    let made : Made = c.in-Some.made in
+    let rows : List Row = c.in-Ok-Rows.rows in
+    let body : List ℕ = c.args.body.items in
+    let now = c.admit.new.made in
+    let spelled = rw c.in-Ok-Rows.field-0-is at c.in-Ok-Rows.ensures.spelled in
+    if_ok c.admit.result (λ ok. ok ≡ true → AreAdmitted (archive made.head made.history.items) rows × (now.history.items ≡ made.history.items ++ rows)) (λ ok. ok ≡ true → IsTaken c.args.made.now body now.head now.history.items)
+    (λ ok p is. takes_rows c.args.made.now made rows body now.head now.history.items c.in-Some.is (sym c.in_ok-octets.ensures ∙ spelled.1) c.admit.ensures.head (p is))
+    c.admit.ensures.yes

@@ -1,0 +1,43 @@
+-- What the entries of a journal make, one after the other.
+use Rattle.std.specs.Prelude.{◌≡◌, ◌<◌, List, [], ◌∷◌, ◌++◌, length, Option, Some, None}
+use Rattle.std.specs.List.{AllByRecursion}
+use Rattle.arch_types.specs.declared.row.Row.{Row}
+use Rattle.arch_types.specs.History.{ingested}
+use Rattle.archive_core.specs.Items.{Item, items_of}
+use Rattle.field_codec.specs.declared.entry.Entry.{Entry}
+use Rattle.field_codec.specs.declared.entry.Entry.TheVariants as entries
+use Rattle.field_codec.specs.Entries.{IsEntry}
+use Rattle.archive_store.specs.declared.head.Head.{Head}
+use Rattle.archive_store.specs.Limits.{IsWithin}
+
+-- what a disk stands for: the head of its archive, and the history
+pub record Archive : Type 0 where
+  pub head : Head
+  pub history : List Item
+
+abbrev pub archive : Head → List Item → Archive
+archive head history = record { head = head; history = history }
+
+-- the table and the packet name of a row are there
+pub record IsPlaced (head : Head) (row : Row) : Type 0 where
+  pub table : row.table < length head.tables
+  pub pname : row.pname < length head.mdb.containers
+
+-- Rows that a record may add: they have a spelling, their tables and names are there, no table has one of the keys, and no limit is passed.
+pub record AreAdmitted (old : Archive) (rows : List Row) : Type 0 where
+  pub spelled : IsEntry (entries.Rows rows)
+  pub placed : AllByRecursion (IsPlaced old.head) rows
+  pub fresh : ingested old.history rows ≡ old.history ++ items_of rows
+  pub within : IsWithin (old.history ++ items_of rows)
+
+-- An entry makes an archive of nothing or of what there was: the first is a head, no other is, and rows are admitted.
+abbrev pub Takes : Option Archive → Entry → Archive → Type 0
+Takes None (entries.Head tables mdb) new = IsEntry (entries.Head tables mdb) × (new ≡ archive (record { tables = tables; mdb = mdb }) [])
+Takes None (entries.Rows rows) new = ⊥
+Takes (Some old) (entries.Head tables mdb) new = ⊥
+Takes (Some old) (entries.Rows rows) new = AreAdmitted old rows × (new ≡ archive old.head (old.history ++ items_of rows))
+
+-- these entries, one after the other
+abbrev pub Makes : Option Archive → List Entry → Option Archive → Type 0
+Makes old [] new = new ≡ old
+Makes old (entry ∷ entries) new = (mid : Archive) × Takes old entry mid × Makes (Some mid) entries new

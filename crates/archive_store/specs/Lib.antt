@@ -1,0 +1,14 @@
+pub mod Answers
+pub mod Batches
+pub mod Entries
+pub mod History
+pub mod Inside
+pub mod Laws
+pub mod Limits
+pub mod Made
+pub mod Plans
+pub mod Seen
+pub mod Shelf
+pub mod Sizes
+pub mod Sorting
+pub mod Stands

@@ -1,0 +1,43 @@
+-- What an image of the disk stands for.
+use Rattle.std.specs.Prelude.{◌≡◌, ◌⊎◌, ℕ, ◌+◌, ◌<◌, ◌≤◌, ◌^◌, List, ◌∷◌, ◌++◌, length, map, take, Option, Some, None}
+use Rattle.std.specs.Int.{w32, from_be_bytes}
+use Rattle.arch_disk.specs.Image.{Image}
+use Rattle.disk_journal.specs.Format.{HasRecords, written, framed, AreSmall}
+use Rattle.field_codec.specs.declared.entry.Entry.{Entry}
+use Rattle.field_codec.specs.Spelling.{entry_octets}
+use Rattle.archive_store.specs.Entries.{Archive, Takes, Makes}
+
+-- the bodies of the journal's records are entries that make this archive
+pub record StandsFor (image : Image) (archive : Archive) : Type 0 where
+  pub entries : List Entry
+  pub has : HasRecords (image 0) (map entry_octets entries)
+  pub makes : Makes None entries (Some archive)
+
+-- no entry with this body may follow
+abbrev pub Breaks : Option Archive → List ℕ → Type 0
+Breaks before body = (entry : Entry) (after : Archive) → body ≡ entry_octets entry → Takes before entry after → ⊥
+
+-- a whole record stands there, with the gate octet after it, and breaks a rule
+pub record IsWrong (before : Option Archive) (rest : List ℕ) : Type 0 where
+  pub body : List ℕ
+  pub more : List ℕ
+  pub small : length body < 2 ^ 32
+  pub some : 0 < length more
+  pub is : rest ≡ framed body ++ more
+  pub breaks : Breaks before body
+
+-- the record, with the gate octet after it, passes the file's end
+abbrev pub IsCutShort : List ℕ → Type 0
+IsCutShort rest = length rest ≤ 4 + from_be_bytes w32 (take 4 rest)
+
+-- at this gate stands the first open record that passes the end or breaks a rule
+pub record IsDamagedAt (image : Image) (at : ℕ) : Type 0 where
+  pub entries : List Entry
+  pub before : Option Archive
+  pub rest : List ℕ
+  pub long : 2 ≤ length (image 0)
+  pub small : AreSmall (map entry_octets entries)
+  pub makes : Makes None entries before
+  pub file_is : image 0 ≡ written (map entry_octets entries) ++ 1 ∷ rest
+  pub at_is : at ≡ length (written (map entry_octets entries))
+  pub bad : IsCutShort rest ⊎ IsWrong before rest

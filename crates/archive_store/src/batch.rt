@@ -1,0 +1,73 @@
+//! What comes in at once.
+
+ghost use Rattle.std.specs.Prelude.{◌≡◌, OnOk, OnErr, ◌++◌, [], ◌∷◌};
+
+use arch_types::inserted::Outcomes;
+use arch_types::octets::Octets;
+use arch_types::tables::TableList;
+use std::alloc::{AllocError, Global};
+use std::marker::Model;
+
+/// A packet of a link, and the tables that it goes into.
+#[derive(Debug, Drop)]
+pub struct Arrival {
+    pub link: u16,
+    /// The number of the container that names the packet.
+    pub pname: u16,
+    pub packet: Octets,
+    pub tables: TableList,
+}
+
+/// Arrivals in their order.
+#[derive(Debug, Drop)]
+pub struct Arrivals {
+    items: Vec<Arrival>,
+}
+
+impl Model for Arrivals {
+    ghost use Rattle.std.specs.Prelude.{List};
+    ghost use Rattle.archive_store.specs.declared.batch.Arrival.{Arrival};
+
+    ghost Value = { List Arrival };
+
+    ghost view = { λ a. a.items.items };
+}
+
+impl Arrivals {
+    /// No arrival.
+    pub fn new(alloc: Global) -> Self
+        ensures { result ≡ [] }
+    {
+        Arrivals {
+            items: Vec::new(alloc),
+        }
+    }
+
+    pub fn as_slice(&self) -> &[Arrival]
+        ensures { result.now ≡ self.now }
+    {
+        self.items.as_slice()
+    }
+
+    /// Adds an arrival at the end. Refused, it leaves the list as it was.
+    pub fn push(&mut self, arrival: Arrival) -> Result<(), AllocError>
+        ensures ok { OnOk result (self.new ≡ self.old ++ arrival ∷ []) }
+        ensures err { OnErr result (self.new ≡ self.old) }
+    {
+        self.items.push(arrival)?;
+        Ok(())
+    }
+}
+
+/// Packets that were received at one time, in milliseconds since 1970.
+#[derive(Debug, Drop)]
+pub struct Batch {
+    pub rectime: i64,
+    pub arrivals: Arrivals,
+}
+
+/// What became of a batch: one outcome for each arrival and table.
+#[derive(Debug, Drop)]
+pub struct Ingested {
+    pub outcomes: Outcomes,
+}

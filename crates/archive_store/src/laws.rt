@@ -1,0 +1,23 @@
+//! Laws of what an image of the disk stands for, carried by functions that do nothing.
+
+ghost use Rattle.archive_store.specs.Laws.{ArchivesAreOne, ArchivesAreWhole, DamageIsOne, NoneIsNone};
+
+/// An image stands for one archive at most.
+pub fn archives_are_one()
+    ensures { ArchivesAreOne }
+{}
+
+/// It is damaged at one gate at most.
+pub fn damage_is_one()
+    ensures { DamageIsOne }
+{}
+
+/// An image that stands for an archive is not damaged.
+pub fn archives_are_whole()
+    ensures { ArchivesAreWhole }
+{}
+
+/// An image that holds no archive stands for none, and is not damaged.
+pub fn none_is_none()
+    ensures { NoneIsNone }
+{}

@@ -1,0 +1,171 @@
+//! Reading an archive, record by record.
+
+ghost use Rattle.std.specs.Prelude.{◌≡◌, ◌<◌, ◌≤◌, ◌⊎◌, ◌++◌, [], ◌∷◌, List, ℕ, None, Some, IsTrue, true, false, length, map, get_or, OnOk, OnErr, IfOk, IfErr, IfSome};
+ghost use Rattle.std.specs.List.{AllByRecursion};
+ghost use Rattle.arch_disk.specs.Disk.{Looked, raised};
+ghost use Rattle.disk_journal.specs.State.{unhealed, file_of};
+ghost use Rattle.disk_journal.specs.Reading.{IsAt, file_read, IsFinished};
+ghost use Rattle.arch_types.specs.declared.refusal.Refusal.TheVariants.{Damaged, DiskFault};
+ghost use Rattle.arch_types.specs.declared.row.Row.{Row as ARow};
+ghost use Rattle.field_codec.specs.declared.entry.Entry.{Entry as AnEntry};
+ghost use Rattle.field_codec.specs.declared.entry.Entry.TheVariants as entries;
+ghost use Rattle.field_codec.specs.Entries.{IsEntry};
+ghost use Rattle.field_codec.specs.Spelling.{entry_octets};
+ghost use Rattle.archive_store.specs.Entries.{archive, Takes, AreAdmitted, IsPlaced};
+ghost use Rattle.archive_store.specs.Made.{archive_made, HasTables, read_refusal, IsReadRefusal, IsFound};
+ghost use Rattle.archive_store.specs.Stands.{IsDamagedAt, Breaks};
+
+use crate::head::Head;
+use crate::history::History;
+use arch_disk::Disk;
+use arch_types::octets::Octets;
+use arch_types::refusal::Refusal;
+use arch_types::row::{Row, Rows};
+use disk_journal::{Journal, JournalFault, Opening};
+use field_codec::{Entry, NotAnEntry, read_shared};
+use std::alloc::{AllocError, Global};
+
+/// What the entries so far have made.
+#[derive(Drop)]
+pub(crate) struct Made {
+    pub head: Head,
+    pub history: History,
+}
+
+/// Whether the tables and packet names of rows are there.
+fn are_placed(head: &Head, rows: &[Row]) -> bool
+    ensures yes { result ≡ true → AllByRecursion (IsPlaced head.now) rows.now }
+    ensures no { result ≡ false → AllByRecursion (IsPlaced head.now) rows.now → ⊥ }
+{
+    let tables = head.tables.as_slice().len();
+    let names = head.mdb.containers();
+    for row in rows {
+        if row.table as usize >= tables || row.pname >= names {
+            return false;
+        }
+    }
+    true
+}
+
+/// Whether these rows may follow; then they do.
+fn admit(made: &mut Made, rows: Rows) -> Result<bool, AllocError>
+    requires entry { IsEntry (entries.Rows rows) }
+    requires tables { made.old.history.tables ≡ length made.old.head.tables }
+    ensures yes { IfOk result (λ ok. ok ≡ true → AreAdmitted (archive made.old.head made.old.history.items) rows
+        × (made.new.history.items ≡ made.old.history.items ++ rows)) }
+    ensures no { IfOk result (λ ok. ok ≡ false → AreAdmitted (archive made.old.head made.old.history.items) rows → ⊥) }
+    ensures head { made.new.head ≡ made.old.head }
+    ensures tables { made.new.history.tables ≡ made.old.history.tables }
+{
+    if !are_placed(&made.head, rows.as_slice()) {
+        return Ok(false);
+    }
+    if made.history.limit_passed(rows.as_slice()).is_some() {
+        return Ok(false);
+    }
+    made.history.reserve(rows.len())?;
+    Ok(made.history.add_all(rows))
+}
+
+/// Whether an entry with these octets may follow; then it does.
+fn take_in(alloc: Global, made: &mut Option<Made>, body: Vec<u8>) -> Result<bool, AllocError>
+    requires tables { HasTables made.old }
+    ensures yes { IfOk result (λ ok. ok ≡ true → (entry : AnEntry) × (body.items ≡ entry_octets entry) × (after : Archive) × (archive_made made.new ≡ Some after) × Takes (archive_made made.old) entry after) }
+    ensures no { IfOk result (λ ok. ok ≡ false → Breaks (archive_made made.old) body.items) }
+    ensures tables { HasTables made.new }
+{
+    let octets = Octets::from_vec(alloc, body)?;
+    match read_shared(alloc, &octets) {
+        Err(NotAnEntry::OutOfMemory) => Err(AllocError),
+        Err(NotAnEntry::Malformed) => Ok(false),
+        Ok(Entry::Head { tables, mdb }) => {
+            if made.is_some() {
+                return Ok(false);
+            }
+            let history = History::new(alloc, tables.as_slice().len())?;
+            *made = Some(Made {
+                head: Head { tables, mdb },
+                history,
+            });
+            Ok(true)
+        }
+        Ok(Entry::Rows(rows)) => match made {
+            Some(made) => admit(made, rows),
+            None => Ok(false),
+        },
+    }
+}
+
+ghost use Rattle.archive_store.specs.Entries.{Archive};
+
+/// An archive that was read, and its journal.
+#[derive(Drop)]
+pub(crate) struct Found {
+    pub journal: Journal,
+    pub made: Made,
+}
+
+/// The refusal for a fault of a journal that is read.
+pub(crate) fn refusal_of(fault: JournalFault) -> Refusal
+    ensures { result ≡ read_refusal fault }
+{
+    match fault {
+        JournalFault::Damaged { at } => Refusal::Damaged { file: 0, at },
+        JournalFault::OutOfMemory => Refusal::OutOfMemory,
+        JournalFault::NoArchive => Refusal::NoArchive,
+        JournalFault::Exists
+        | JournalFault::NeedsReopen { .. }
+        | JournalFault::Limit
+        | JournalFault::DiskFault => Refusal::DiskFault,
+    }
+}
+
+/// What was read.
+fn finished(opening: Opening, made: Option<Made>) -> Result<Found, Refusal>
+    ensures ok { IfOk result (λ f. (Some f.made ≡ made) × IsFinished opening f.journal) }
+    ensures none { OnErr result ((made ≡ None) × (result ≡ Err (Damaged 0 0))) }
+{
+    match made {
+        Some(made) => Ok(Found {
+            journal: opening.finish(),
+            made,
+        }),
+        None => Err(Refusal::Damaged { file: 0, at: 0 }),
+    }
+}
+
+ghost use Rattle.std.specs.Prelude.{Err};
+
+/// Reads the records of file 0 to the closed gate that ends them.
+pub(crate) fn read_archive<D: Disk>(
+    alloc: Global,
+    disk: &mut D,
+    opening: Opening,
+) -> Result<Found, Refusal>
+    requires at { IsTrue D.device.tells → IsAt opening (D.device.reads disk.old 0) [] }
+    requires file { file_read opening ≡ 0 }
+    requires first { IsTrue D.device.tells → (2 ≤ length (D.device.reads disk.old 0)) × (get_or (D.device.reads disk.old 0) 0 0 ≡ 1) }
+    ensures found { IsTrue D.device.tells → IfOk result (λ f. IsFound (D.device.reads disk.old 0) f.journal (archive f.made.head f.made.history.items)) }
+    ensures healthy { IfOk result (λ f. (unhealed f.journal ≡ None) × (file_of f.journal ≡ 0)) }
+    ensures tables { IfOk result (λ f. HasTables (Some f.made)) }
+    ensures damaged { IsTrue D.device.tells → (file at : ℕ) → result ≡ Err (Damaged file at) → (file ≡ 0) × IsDamagedAt (D.device.reads disk.old) at }
+    ensures only { IfErr result IsReadRefusal }
+    ensures looked { Looked D.device disk.old disk.new }
+    ensures cause { result ≡ Err DiskFault → raised (D.device.fault_count disk.old) ≤ D.device.fault_count disk.new }
+{
+    let mut opening = opening;
+    let mut made = None;
+    'entries: loop {
+        let at = opening.place();
+        let body = match opening.next(alloc, disk) {
+            Ok(Some(body)) => body,
+            Ok(None) => return finished(opening, made),
+            Err(fault) => return Err(refusal_of(fault)),
+        };
+        match take_in(alloc, &mut made, body) {
+            Ok(true) => {}
+            Ok(false) => return Err(Refusal::Damaged { file: 0, at }),
+            Err(_) => return Err(Refusal::OutOfMemory),
+        }
+    }
+}

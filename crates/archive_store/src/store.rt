@@ -1,0 +1,265 @@
+//! The store.
+
+ghost use Rattle.std.specs.Prelude.{◌≡◌, ◌<◌, ◌≤◌, ◌⊎◌, [], ◌∷◌, List, ℕ, None, Some, IsTrue, length, get_or, OnOk, IfOk, IfErr, MatchResult};
+ghost use Rattle.arch_disk.specs.Disk.{LeavesOnly, raised};
+ghost use Rattle.arch_types.specs.declared.refusal.Refusal.TheVariants.{DiskFault, OutOfMemory};
+ghost use Rattle.disk_journal.specs.Format.{HasRecords, HoldsNone};
+ghost use Rattle.disk_journal.specs.State.{IsUntouched};
+ghost use Rattle.field_codec.specs.declared.entry.Entry.TheVariants as entries;
+ghost use Rattle.field_codec.specs.Entries.{IsEntry};
+ghost use Rattle.field_codec.specs.Spelling.{entry_octets};
+ghost use Rattle.arch_types.specs.History.{IsHistory};
+ghost use Rattle.archive_store.specs.Entries.{Archive};
+ghost use Rattle.archive_store.specs.Limits.{IsWithin};
+ghost use Rattle.archive_store.specs.Made.{making_refusal};
+ghost use Rattle.archive_store.specs.Stands.{StandsFor, IsDamagedAt};
+
+use crate::head::Head;
+use crate::history::History;
+use crate::reading::{Found, Made, read_archive, refusal_of};
+use arch_disk::Disk;
+use arch_types::refusal::Refusal;
+use archive_core::fills::Fill;
+use disk_journal::{Frame, Journal, JournalFault, Opening};
+use field_codec::{Entry, write_entry};
+use mdb_model::Mdb;
+use std::alloc::{AllocError, Global};
+use std::marker::Model;
+use std::snapshot::Snapshot;
+use std::sync::Arc;
+
+/// An archive on a disk, and its history in memory.
+#[derive(Drop)]
+pub struct Store<D: Disk> {
+    pub(crate) disk: D,
+    pub(crate) opened: Snapshot<D>,
+    pub(crate) journal: Journal,
+    pub(crate) head: Head,
+    /// The head's database, which plans share.
+    pub(crate) mdb: Arc<Mdb, Global>,
+    pub(crate) history: History,
+    pub(crate) fills: Vec<Fill>,
+    /// The disk's count of faults at the first failed write that isn't healed.
+    pub(crate) trouble: Option<u64>,
+}
+
+impl<D: Disk> Model for Store<D> {
+    ghost use Rattle.std.specs.Prelude.{◌≡◌, length};
+    ghost use Rattle.std.specs.Arc.{arc_value};
+    ghost use Rattle.archive_store.specs.Seen.{Seen};
+    ghost use Rattle.archive_store.specs.Inside.{view_of, Keeps};
+
+    ghost Value = { Seen D };
+
+    ghost view = { λ s. view_of s.disk s.opened.value s.journal s.head s.history.items s.fills.items };
+
+    ghost invariant = { λ s. Keeps D.device s.disk s.opened.value s.journal s.head s.history.items s.fills.items s.trouble
+        × (s.history.tables ≡ length s.head.tables) × (arc_value s.mdb ≡ s.head.mdb) };
+}
+
+/// A record with this head, and the head.
+fn head_frame(alloc: Global, head: Head) -> Result<(Frame, Head), AllocError>
+    requires { IsEntry (entries.Head head.tables head.mdb) }
+    ensures { IfOk result (λ r. (r.0 ≡ entry_octets (entries.Head head.tables head.mdb)) × (r.1 ≡ head)) }
+{
+    let Head { tables, mdb } = head;
+    let entry = Entry::Head { tables, mdb };
+    let octets = write_entry(alloc, &entry)?;
+    let frame = Frame::of(alloc, octets.as_slice())?;
+    match entry {
+        Entry::Head { tables, mdb } => Ok((frame, Head { tables, mdb })),
+        Entry::Rows(_rows) => unreachable!(),
+    }
+}
+
+/// The refusal for a fault of a journal that is made.
+fn making_refusal(fault: JournalFault) -> Refusal
+    ensures { result ≡ making_refusal fault }
+{
+    match fault {
+        JournalFault::Exists => Refusal::Exists,
+        JournalFault::OutOfMemory => Refusal::OutOfMemory,
+        JournalFault::NoArchive
+        | JournalFault::Damaged { .. }
+        | JournalFault::NeedsReopen { .. }
+        | JournalFault::Limit
+        | JournalFault::DiskFault => Refusal::DiskFault,
+    }
+}
+
+/// What a new archive needs besides its journal.
+#[derive(Drop)]
+struct Founded {
+    frame: Frame,
+    head: Head,
+    mdb: Arc<Mdb, Global>,
+    history: History,
+}
+
+/// Takes all memory that a new archive needs before its first device call, but for the journal's.
+fn found(alloc: Global, head: Head) -> Result<Founded, AllocError>
+    requires { IsEntry (entries.Head head.tables head.mdb) }
+    ensures { IfOk result (λ f. (f.frame ≡ entry_octets (entries.Head head.tables head.mdb)) × (f.head ≡ head) × (arc_value f.mdb ≡ head.mdb)
+        × (f.history.items ≡ []) × (f.history.tables ≡ length head.tables)) }
+{
+    let (frame, head) = head_frame(alloc, head)?;
+    let mdb = shared(alloc, &head.mdb)?;
+    let history = History::new(alloc, head.tables.as_slice().len())?;
+    Ok(Founded {
+        frame,
+        head,
+        mdb,
+        history,
+    })
+}
+
+ghost use Rattle.std.specs.Arc.{arc_value};
+
+impl<D: Disk> Store<D> {
+    ghost use Rattle.archive_store.specs.Seen.{archive_of, KeepsImages, KeepsFaults, HasCounts};
+    ghost use Rattle.archive_store.specs.Answers.{IsOpenAnswer, IsOpenRefusal, IsDamagedOr, IsNoneOr, IsPlain, IsCreateAnswer, IsCreateRefusal, IsMaking};
+
+    /// Makes an archive without rows on a disk that holds none. That its journal then has one record, the head, is known where the disk tells
+    /// what it holds: of a disk that tells nothing a journal promises no records.
+    pub fn create(alloc: Global, disk: D, head: Head) -> Result<Store<D>, (D, Refusal)>
+        requires head { IsEntry (entries.Head head.tables head.mdb) }
+        ensures made { IfOk result (λ s. (s.history ≡ []) × (s.fills ≡ []) × (s.head ≡ head) × (s.opened ≡ s.disk)) }
+        ensures records { IsTrue D.device.tells → IfOk result (λ s. s.records ≡ 1) }
+
+        // Exists comes exactly where file 0 has two octets at least and the first is 1, and then the disk reads as before.
+        ensures none { IsTrue D.device.tells → OnOk result (HoldsNone (D.device.reads disk 0)) }
+        ensures refused { IsTrue D.device.tells → IfErr result (λ e. IsCreateRefusal (D.device.reads disk) (D.device.reads e.0) e.1) }
+
+        // A disk that holds an archive is left as it is, whatever the call answers.
+        ensures kept { IsTrue D.device.tells → 2 ≤ length (D.device.reads disk 0) → get_or (D.device.reads disk 0) 0 0 ≡ 1 → IfErr result (λ e. IsUntouched D.device disk e.0) }
+
+        // A crash at any moment of the call leaves no archive or the head, or what it could have left before.
+        ensures any_moment { IsTrue D.device.tells → HoldsNone (D.device.reads disk 0)
+            → MatchResult result (λ s. LeavesOnly D.device disk s.disk (IsMaking (D.device.images disk) head)) (λ e. LeavesOnly D.device disk e.0 (IsMaking (D.device.images disk) head)) }
+
+        ensures only { IfErr result (λ e. IsCreateAnswer e.1) }
+        ensures memory { IfErr result (λ e. e.1 ≡ OutOfMemory → e.0 ≡ disk) }
+        ensures later { MatchResult result (λ s. HasCounts D.device disk s.disk) (λ e. HasCounts D.device disk e.0) }
+        ensures cause { IfErr result (λ e. e.1 ≡ DiskFault → raised (D.device.fault_count disk) ≤ D.device.fault_count e.0) }
+    {
+        let mut disk = disk;
+        let Ok(founded) = found(alloc, head) else {
+            return Err((disk, Refusal::OutOfMemory));
+        };
+        let Founded {
+            frame,
+            head,
+            mdb,
+            history,
+        } = founded;
+        match Journal::create(alloc, &mut disk, 0, &frame) {
+            Ok(journal) => {
+                let opened = Snapshot::of(&disk);
+                Ok(Store {
+                    disk,
+                    opened,
+                    journal,
+                    head,
+                    mdb,
+                    history,
+                    fills: Vec::new(alloc),
+                    trouble: None,
+                })
+            }
+            Err(fault) => Err((disk, making_refusal(fault))),
+        }
+    }
+
+    /// Opens the archive of a disk.
+    pub fn open(alloc: Global, disk: D) -> Result<Store<D>, (D, Refusal)>
+        ensures opened { IsTrue D.device.tells → IfOk result (λ s. StandsFor (D.device.reads disk) (archive_of s) × (D.device.reads s.disk ≡ D.device.reads disk)) }
+        ensures fills { IfOk result (λ s. s.fills ≡ []) }
+
+        ensures records { IsTrue D.device.tells → IfOk result (λ s. (bodies : List (List ℕ)) × HasRecords (D.device.reads disk 0) bodies × (s.records ≡ length bodies)) }
+
+        // The history of the opening is the one that was handed in.
+        ensures opening { IfOk result (λ s. D.device.reads s.opened ≡ D.device.reads disk) }
+        ensures refused { IsTrue D.device.tells → IfErr result (λ e. IsOpenRefusal (D.device.reads disk) e.1) }
+        ensures reads { IfErr result (λ e. D.device.reads e.0 ≡ D.device.reads disk) }
+
+        // What the disk reads as decides, but for a fault of the disk and want of memory: no archive, damage at a gate, or the archive.
+        ensures nothing { IsTrue D.device.tells → HoldsNone (D.device.reads disk 0) → MatchResult result (λ _. ⊥) (λ e. IsNoneOr e.1) }
+        ensures damaged { IsTrue D.device.tells → (at : ℕ) → IsDamagedAt (D.device.reads disk) at → MatchResult result (λ _. ⊥) (λ e. IsDamagedOr at e.1) }
+        ensures stands { IsTrue D.device.tells → (archive : Archive) → StandsFor (D.device.reads disk) archive → MatchResult result (λ s. archive_of s ≡ archive) (λ e. IsPlain e.1) }
+
+        // Up to the opening's syncs, and where it is refused, a crash leaves what it could have left before.
+        ensures handed_in { MatchResult result (λ s. LeavesOnly D.device disk s.opened (D.device.images disk)) (λ e. LeavesOnly D.device disk e.0 (D.device.images disk)) }
+        ensures only { IfErr result (λ e. IsOpenAnswer e.1) }
+        ensures later { MatchResult result (λ s. HasCounts D.device disk s.opened) (λ e. HasCounts D.device disk e.0) }
+        ensures cause { IfErr result (λ e. e.1 ≡ DiskFault → raised (D.device.fault_count disk) ≤ D.device.fault_count e.0) }
+    {
+        let mut disk = disk;
+        let opening = match Opening::begin(alloc, &mut disk, 0) {
+            Ok(opening) => opening,
+            Err(fault) => return Err((disk, refusal_of(fault))),
+        };
+        let opened = Snapshot::of(&disk);
+        let Found { journal, made } = match read_archive(alloc, &mut disk, opening) {
+            Ok(found) => found,
+            Err(refusal) => return Err((disk, refusal)),
+        };
+        let Made { head, history } = made;
+        let Ok(mdb) = shared(alloc, &head.mdb) else {
+            return Err((disk, Refusal::OutOfMemory));
+        };
+        Ok(Store {
+            disk,
+            opened,
+            journal,
+            head,
+            mdb,
+            history,
+            fills: Vec::new(alloc),
+            trouble: None,
+        })
+    }
+
+    /// Gives the disk up.
+    pub fn into_disk(self) -> D
+        ensures disk { result ≡ self.disk }
+        ensures images { IsTrue D.device.tells → KeepsImages D.device self }
+        ensures faults { KeepsFaults D.device self }
+    {
+        let Store {
+            disk,
+            opened: _,
+            journal: _,
+            head: _,
+            mdb: _,
+            history: _,
+            fills: _,
+            trouble: _,
+        } = self;
+        disk
+    }
+
+    /// The length of the history.
+    pub fn front(&self) -> u64
+        ensures front { result ≡ length self.now.history }
+        ensures history { IsHistory self.now.history × IsWithin self.now.history }
+        ensures images { IsTrue D.device.tells → KeepsImages D.device self.now }
+        ensures faults { KeepsFaults D.device self.now }
+    {
+        self.history.len() as u64
+    }
+
+    /// The tables and the mission database.
+    pub fn head(&self) -> &Head
+        ensures head { result.now ≡ self.now.head }
+        ensures sound { IsEntry (entries.Head self.now.head.tables self.now.head.mdb) }
+    {
+        &self.head
+    }
+}
+
+/// A copy that can be shared.
+fn shared(alloc: Global, mdb: &Mdb) -> Result<Arc<Mdb, Global>, AllocError>
+    ensures { IfOk result (λ shared. arc_value shared ≡ mdb.now) }
+{
+    Ok(Arc::new(alloc, mdb.copy(alloc)?)?)
+}
