@@ -336,7 +336,7 @@ fn front_reached(rt: &impl Abort, alloc: Global, failing: Vec<u64>) -> Result<Op
     match Store::create(alloc, disk, head(alloc)?) {
         Ok(mut store) => {
             open_since(rt, alloc, &store.disk, 0, None)?;
-            make_calls(rt, alloc, &mut store, b"iiriri")?;
+            make_calls(rt, alloc, &mut store, b"iirri")?;
             Ok(Some(store.front()))
         }
         Err((disk, _)) => {
@@ -350,14 +350,14 @@ fn front_reached(rt: &impl Abort, alloc: Global, failing: Vec<u64>) -> Result<Op
 #[test]
 fn images_of_each_moment(rt: HostRuntime) -> Result<(), Fail> {
     let alloc = rt.alloc();
-    for fails in 1..32u64 {
+    for fails in 1..25u64 {
         let alone = front_reached(&rt, alloc, vec![in alloc; fails; 1]?)?;
         let mut two = vec![in alloc; fails; 1]?;
         two.push(fails + 1)?;
         let followed = front_reached(&rt, alloc, two)?;
         assert_eq!(rt; alone.is_none(), followed.is_none(), "call {fails}");
         assert!(rt;
-            alone.unwrap_or(2) >= 2 && followed.unwrap_or(1) >= 1,
+            alone.unwrap_or(1) >= 1 && followed.unwrap_or(1) >= 1,
             "call {fails}"
         );
     }
