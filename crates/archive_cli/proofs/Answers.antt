@@ -7,15 +7,24 @@ use Rattle.arch_types.specs.declared.refusal.Refusal.TheVariants.{Missing, ReadF
 use Rattle.arch_types.specs.declared.refusal.Which.TheVariants.{DumpOctets}
 use Rattle.arch_types.specs.Dump.{IsDump}
 use Rattle.outer_traits.specs.Outside.{Files}
-use Rattle.archive_cli.specs.Job.{Job, Scan, Values, job_of}
+use Rattle.arch_disk.specs.Disk.{Device}
+use Rattle.archive_cli.specs.declared.report.Report.{Report}
+use Rattle.archive_cli.specs.Job.{Job, Scan, Values, Create, Load, Query, Recover, ValuesWords, job_of}
 use Rattle.archive_cli.specs.Call.{Call, IsSilent}
 use Rattle.archive_cli.specs.Ending.{IsJobEnding, IsEnding}
 use Rattle.archive_cli.specs.Expected.{IsJobExpected, IsExpected}
 use Rattle.archive_cli.specs.Expecting.{IsOrMemory, NoFault, ending_of_rest}
 use Rattle.archive_cli.specs.Received.{dump_limit}
 use Rattle.archive_cli.specs.ScanEnding.{IsScanEnding}
+use Rattle.archive_cli.specs.ScanExpected.{IsScanExpected}
+use Rattle.archive_cli.specs.ValuesEnding.{IsValuesEnding}
+use Rattle.archive_cli.specs.ValuesExpected.{IsValuesExpected}
 use Rattle.archive_cli.specs.Reading.{IsReadRefusal}
 use Rattle.archive_cli.proofs.Told.{not_risen, none_some, none_some_and, told_input, some_none, some_and, too_long, same_rest, bad_ending}
+use Rattle.archive_cli.proofs.CreateAnswers.{create_expected}
+use Rattle.archive_cli.proofs.LoadAnswers.{load_expected}
+use Rattle.archive_cli.proofs.QueryAnswers.{query_expected}
+use Rattle.archive_cli.proofs.Recovered.{recover_expected}
 use Rattle.archive_cli.proofs.ValuesAnswers.{values_missing, values_refused, values_split}
 
 missing_or : (call : Call) (all : Files) (name : List ℕ) (ending : Option Refusal) → call.files ≡ Some all → IsScanEnding call name ending → IsNone (get all name) →
@@ -60,24 +69,37 @@ split_or call all name (Some WriteFault) e h dump packets rest d calm short now 
 split_or call all name (Some OutOfMemory) e h dump packets rest d calm short now parts = inr refl
 split_or call all name (Some other) e h dump packets rest d calm short now parts = absurd h
 
-expected_cases : (call : Call) (files : Option Files) (job : Option Job) (ending : Option Refusal) → call.files ≡ files → IsJobEnding call job ending →
-    IfSome files (λ all. IsJobExpected call all job ending)
-expected_cases call None job ending e h = tt
-expected_cases call (Some all) None ending e h = tt
-expected_cases call (Some all) (Some (Scan name)) ending e h = record {
+scan_told : (call : Call) (files : Option Files) (name : List ℕ) (ending : Option Refusal) → call.files ≡ files → IsScanEnding call name ending →
+    IfSome files (λ all. IsScanExpected call all name ending)
+scan_told call None name ending e h = tt
+scan_told call (Some all) name ending e h = record {
   missing = missing_or call all name ending e h;
   long = long_or call all name ending e h;
   split = split_or call all name ending e h;
 }
-expected_cases call (Some all) (Some (Values words)) ending e h = record {
+
+values_told : (call : Call) (files : Option Files) (words : ValuesWords) (ending : Option Refusal) → call.files ≡ files → IsValuesEnding call words ending →
+    IfSome files (λ all. IsValuesExpected call all words ending)
+values_told call None words ending e h = tt
+values_told call (Some all) words ending e h = record {
   missing = values_missing call all words ending e h;
   refused = values_refused call all words ending e h;
   split = values_split call all words ending e h;
 }
 
+expected_cases : {D : Type 0} (device : Device D) (call : Call) (old new : D) (job : Option Job) (report : Report) → IsJobEnding device call old new job report →
+    IsJobExpected device call old new job report.refusal
+expected_cases device call old new None report h = tt
+expected_cases device call old new (Some (Scan name)) report h = scan_told call call.files name report.refusal refl h.1
+expected_cases device call old new (Some (Values words)) report h = values_told call call.files words report.refusal refl h.1
+expected_cases device call old new (Some (Create words)) report h = λ tells. create_expected device call words old new report.refusal report (h tells)
+expected_cases device call old new (Some (Load words)) report h = λ tells. load_expected device call words old new report.refusal report (h tells)
+expected_cases device call old new (Some (Query name)) report h = λ tells. query_expected device call name old new report.refusal report (h tells)
+expected_cases device call old new (Some Recover) report h = λ tells. recover_expected device call old new report.refusal report (h tells)
+
 -- the answer that has to come does, since each other one has a cause that isn't there
-pub expected : (call : Call) (ending : Option Refusal) → IsEnding call ending → IsExpected call ending
-expected call ending h = expected_cases call call.files (job_of call.words) ending refl h
+pub expected : {D : Type 0} (device : Device D) (call : Call) (old new : D) (report : Report) → IsEnding device call old new report → IsExpected device call old new report.refusal
+expected device call old new report h = expected_cases device call old new (job_of call.words) report h
 
 -- an input that wasn't read to its end ends the scan
 pub read_ending : (call : Call) (name : List ℕ) (refusal : Refusal) → IsReadRefusal call.files name DumpOctets call.read_faults call.read_faults' refusal →

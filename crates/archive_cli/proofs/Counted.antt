@@ -1,5 +1,5 @@
 -- Counts of calls that failed.
-use Rattle.std.proofs.Common.{◌≡◌, ℕ, List, Option, Some, None, inl, inr, refl}
+use Rattle.std.proofs.Common.{◌≡◌, ◌<◌, ◌∙◌, ℕ, zero, suc, List, Option, Some, None, inl, inr, refl, subst, arith}
 use Rattle.std.specs.Prelude.{IfSome}
 use Rattle.arch_types.specs.declared.refusal.Refusal.{Refusal}
 use Rattle.arch_types.specs.declared.refusal.Refusal.TheVariants.{ReadFault, WriteFault}
@@ -81,3 +81,14 @@ print_writes printing.OutOfMemory before now counted = counted
 pub print_reads : (fault : PrintFault) (before now : ℕ) → Stays before now → ReadsCounted (Some (refusal_of_print fault)) before now
 print_reads printing.Write before now same = same
 print_reads printing.OutOfMemory before now same = same
+
+-- a source that was opened, read and closed again
+source_risen : (source : ℕ) → HasRisen 0 source → 0 < source
+source_risen zero risen = risen (omega arith)
+source_risen (suc n) risen = omega arith
+
+pub reads_closed : (ending : Option Refusal) (first before source now : ℕ) → Stays first before → ReadsCounted ending 0 source → (source ≡ 0 → Stays before now)
+    → (0 < source → HasRisen before now) → ReadsCounted ending first now
+reads_closed (Some ReadFault) first before source now same counted kept risen =
+    subst (λ (n : ℕ). HasRisen n now) same (risen (source_risen source counted))
+reads_closed other first before source now same counted kept risen = kept counted ∙ same

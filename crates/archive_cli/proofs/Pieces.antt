@@ -1,12 +1,11 @@
 -- Texts that are written piece by piece.
-use Rattle.std.proofs.Common.{◌≡◌, ℕ, ◌+◌, List, [], ◌∷◌, ◌++◌, take, drop, Option, Some, None, append_assoc, append-nil, refl, sym}
-use Rattle.std.proofs.lemmas.List.{take-append-drop}
+use Rattle.std.proofs.Common.{◌≡◌, ◌<◌, length, get_or, ℕ, ◌+◌, List, [], ◌∷◌, ◌++◌, take, drop, Option, Some, None, append_assoc, append-nil, refl, sym, ap, subst, ◌∙◌}
+use Rattle.std.proofs.lemmas.List.{drop_more, take-append-drop}
 use Rattle.std.proofs.Math.Seq.{take-add}
 use Rattle.outer_traits.specs.Outside.{Writes, WritesSome}
 use Rattle.archive_cli.specs.Call.{Appends}
 use Rattle.archive_cli.specs.Printing.{HasMoved}
 use Rattle.std.specs.Prelude.{flat_map, Result, Ok, Err, OnOk, OnErr}
-use Rattle.arch_types.specs.declared.row.Row.{Row}
 
 pub wrote_none : (first : Option (List ℕ)) → Appends first first []
 wrote_none None = refl
@@ -57,7 +56,7 @@ pub moved_all : (first now new : Option (List ℕ)) (all held : List ℕ) → Ha
 moved_all first now new all held h k = rw h.1 (wrote_both first now new h.0 held h.2 k)
 
 -- the first of the rows that are left, its line beside what is held
-pub regroup : (line : Row → List ℕ) (first now : Option (List ℕ)) (all held : List ℕ) (rows rest : List Row) (row : Row) → rows ≡ row ∷ rest →
+pub regroup : {A : Type 0} (line : A → List ℕ) (first now : Option (List ℕ)) (all held : List ℕ) (rows rest : List A) (row : A) → rows ≡ row ∷ rest →
     HasMoved first now all (held ++ flat_map line rows) → HasMoved first now all ((held ++ line row) ++ flat_map line rest)
 regroup line first now all held rows rest row step h = let h' = rw step at h in rw (append_assoc held (line row) (flat_map line rest)) h'
 
@@ -90,3 +89,28 @@ on_err (Err x) P Q f p = f p
 pub put_halves : (old mid new a b c d e f g h i : List ℕ) → mid ≡ old ++ a ++ b ++ c ++ d → new ≡ mid ++ e ++ f ++ g ++ h ++ i →
     new ≡ old ++ ((a ++ b ++ c ++ d) ++ (e ++ f ++ g ++ h ++ i))
 put_halves old mid new a b c d e f g h i first second = rw (second, first) (simp append_assoc refl)
+
+-- a text went on but for what is left, and then that with more
+pub moved_then : (first now new : Option (List ℕ)) (mid left more last : List ℕ) → HasMoved first now mid left → HasMoved now new (left ++ more) last → HasMoved first new (mid ++ more) last
+moved_then first now new mid left more last h k = (
+  h.0 ++ k.0,
+  ap (λ (l : List ℕ). l ++ more) h.1 ∙ append_assoc h.0 left more ∙ ap (λ (l : List ℕ). h.0 ++ l) k.1 ∙ sym (append_assoc h.0 k.0 last),
+  wrote_both first now new h.0 k.0 h.2 k.2,
+)
+
+-- and then some of that
+pub moved_then_some : (first now new : Option (List ℕ)) (mid left more : List ℕ) → HasMoved first now mid left → WritesSome now new (left ++ more) → WritesSome first new (mid ++ more)
+moved_then_some first now new mid left more h w =
+    subst (WritesSome first new) (sym (ap (λ (l : List ℕ). l ++ more) h.1 ∙ append_assoc h.0 left more)) (wrote_then first now new h.0 (left ++ more) h.2 w)
+
+-- the three parts of a text, put one behind the other
+pub three_parts : (held front lines end mid : List ℕ) → mid ≡ held ++ front → (mid ++ lines) ++ end ≡ held ++ ((front ++ lines) ++ end)
+three_parts held front lines end mid e =
+    ap (λ (l : List ℕ). (l ++ lines) ++ end) e ∙ ap (λ (l : List ℕ). l ++ end) (append_assoc held front lines) ∙ append_assoc held (front ++ lines) end
+
+-- the line of the next of what is printed, put behind what is held
+pub next_line : {A : Type 0} (line : A → List ℕ) (items : List A) (i : ℕ) (d : A) (first now : Option (List ℕ)) (all held put : List ℕ) → i < length items →
+    put ≡ held ++ line (get_or items i d) → HasMoved first now all (held ++ flat_map line (drop i items)) → HasMoved first now all (put ++ flat_map line (drop (i + 1) items))
+next_line line items i d first now all held put lt e h =
+    subst (λ (l : List ℕ). HasMoved first now all (l ++ flat_map line (drop (i + 1) items))) (sym e)
+    (regroup line first now all held (drop i items) (drop (i + 1) items) (get_or items i d) (drop_more items i d lt) h)

@@ -8,7 +8,7 @@ use Rattle.arch_types.specs.declared.refusal.BadKind.{BadKind}
 use Rattle.arch_types.specs.declared.refusal.BadKind.TheVariants as bad
 use Rattle.arch_types.specs.History.{firsts}
 use Rattle.arch_types.specs.Table.{table_of}
-use Rattle.outer_traits.specs.Outside.{Files, IsMoment}
+use Rattle.outer_traits.specs.Outside.{IsMoment}
 use Rattle.space_packet.specs.declared.dump.Why.{Why}
 use Rattle.space_packet.specs.declared.dump.Why.TheVariants as why
 use Rattle.space_packet.specs.Rest.{why_of}
@@ -18,6 +18,7 @@ use Rattle.archive_cli.specs.declared.counts.Counts.{Counts}
 use Rattle.archive_cli.specs.declared.rows.Loaded.{Loaded}
 use Rattle.archive_cli.specs.Text.{scanned_rows, row_line, row_lines, counts_line, last_line, scan_text}
 use Rattle.archive_cli.specs.Call.{Call, Prints, PrintsSome, WritesFailed, IsMomentOf}
+pub use Rattle.archive_cli.specs.Call.{call_of}
 use Rattle.archive_cli.specs.Received.{dump_limit, Received, IsBadRest, IsReceived, ending_of}
 use Rattle.archive_cli.specs.ScanEnding.{IsScanEnding}
 use Rattle.archive_cli.specs.Loaded.{HasCounts, IsGathered, IsLoaded}
@@ -124,20 +125,6 @@ scan_ended call name loaded r p = scan_cases call name loaded loaded.why r refl 
 pub scan_some : (call : Call) (name : List ℕ) (loaded : Loaded) → IsReceived call.files call.moment name loaded → WritesFailed call → PrintsSome call (text_of_loaded loaded) →
     IsScanEnding call name (Some WriteFault)
 scan_some call name loaded r f p = (received_of call name loaded r, f, rw (text_of_received r.dump r.moment loaded r.rows) at p)
-
--- a call, by its parts
-abbrev pub call_of : List (List ℕ) → Option Files → Option ℤ → ℕ → ℕ → Option (List ℕ) → Option (List ℕ) → ℕ → ℕ → Call
-call_of words files moment reads reads' written written' writes writes' = record {
-  words = words;
-  files = files;
-  moment = moment;
-  read_faults = reads;
-  read_faults' = reads';
-  written = written;
-  written' = written';
-  write_faults = writes;
-  write_faults' = writes';
-}
 
 pub moment_of : (told : Option ℤ) (moment : ℤ) → IfSome told (λ next. moment ≡ next) → IsMoment moment → IsMomentOf told moment
 moment_of None moment e m = m

@@ -25,10 +25,10 @@ use Rattle.archive_cli.proofs.Told.{bad_ending, none_some, none_some_and, not_ri
 
 -- ---- one input
 
-not-longer : (limit n : ℕ) → n ≤ limit → nat_lt limit n ≡ false
+pub not-longer : (limit n : ℕ) → n ≤ limit → nat_lt limit n ≡ false
 not-longer limit n h = grind (arith, nat_tests)
 
-longer : (limit n : ℕ) → limit < n → nat_lt limit n ≡ true
+pub longer : (limit n : ℕ) → limit < n → nat_lt limit n ≡ true
 longer limit n h = grind (arith, nat_tests)
 
 -- an input within its limit is no refusal
@@ -50,10 +50,10 @@ limit-is : (which passed : Which) (number : ℕ) → passed ≡ which → number
 limit-is which passed number e f = cc
 
 -- this refusal, or want of memory
-abbrev Is : Option Refusal → Refusal → Type 0
+abbrev pub Is : Option Refusal → Refusal → Type 0
 Is found refusal = (found ≡ Some refusal) ⊎ (refusal ≡ OutOfMemory)
 
-sheet-refused : (files : Option Files) (all : Files) (name : List ℕ) (faults faults' : ℕ) (refusal : Refusal) → files ≡ Some all → NoFault faults faults' →
+pub sheet-refused : (files : Option Files) (all : Files) (name : List ℕ) (faults faults' : ℕ) (refusal : Refusal) → files ≡ Some all → NoFault faults faults' →
     IsSheetRefusal files name faults faults' refusal → Is (refusal_of_input SheetOctets name (get all name)) refusal
 sheet-refused files all name faults faults' (Missing lacking) e calm h = inl (absent SheetOctets name lacking (get all name) h.0 (rw e at h.1))
 sheet-refused files all name faults faults' ReadFault e calm h = absurd (not_risen faults faults' calm h.0)
@@ -78,11 +78,11 @@ fine-cases name None sheet h = absurd h
 fine-cases name (Some octets) sheet h = (within SheetOctets name (Some octets) h.0, h.1)
 
 -- a sheet that was read
-fine : (files : Option Files) (all : Files) (name : List ℕ) (sheet : List (List (List ℕ))) → files ≡ Some all → IsSheet files name sheet →
+pub fine : (files : Option Files) (all : Files) (name : List ℕ) (sheet : List (List (List ℕ))) → files ≡ Some all → IsSheet files name sheet →
     (refusal_of_input SheetOctets name (get all name) ≡ None) × (sheet ≡ told_sheet all name)
 fine files all name sheet e h = fine-cases name (get all name) sheet (rw e at h)
 
-has : (files : Option Files) (all : Files) (name : List ℕ) → files ≡ Some all → HasSheet files name → refusal_of_input SheetOctets name (get all name) ≡ None
+pub has : (files : Option Files) (all : Files) (name : List ℕ) → files ≡ Some all → HasSheet files name → refusal_of_input SheetOctets name (get all name) ≡ None
 has files all name e h = within SheetOctets name (get all name) (rw e at h)
 
 has-dump : (files : Option Files) (all : Files) (name : List ℕ) → files ≡ Some all → HasDump files name → refusal_of_input DumpOctets name (get all name) ≡ None
@@ -98,14 +98,14 @@ received-dump call all name r e =
 first-of : (o rest : Option Refusal) (refusal : Refusal) → o ≡ Some refusal → or_else o rest ≡ Some refusal
 first-of o rest refusal e = ap (λ (x : Option Refusal). or_else x rest) e
 
-later-of : (o rest found : Option Refusal) → o ≡ None → rest ≡ found → or_else o rest ≡ found
+pub later-of : (o rest found : Option Refusal) → o ≡ None → rest ≡ found → or_else o rest ≡ found
 later-of o rest found e f = ap (λ (x : Option Refusal). or_else x rest) e ∙ f
 
-is-first : (o rest : Option Refusal) (refusal : Refusal) → Is o refusal → Is (or_else o rest) refusal
+pub is-first : (o rest : Option Refusal) (refusal : Refusal) → Is o refusal → Is (or_else o rest) refusal
 is-first o rest refusal (inl e) = inl (first-of o rest refusal e)
 is-first o rest refusal (inr e) = inr e
 
-is-later : (o rest : Option Refusal) (refusal : Refusal) → o ≡ None → Is rest refusal → Is (or_else o rest) refusal
+pub is-later : (o rest : Option Refusal) (refusal : Refusal) → o ≡ None → Is rest refusal → Is (or_else o rest) refusal
 is-later o rest refusal none (inl e) = inl (later-of o rest (Some refusal) none e)
 is-later o rest refusal none (inr e) = inr e
 
@@ -201,10 +201,10 @@ refused-first call all words refusal e calm (inr h) = parameter-refused call all
 
 -- ---- which answer has to come
 
-clash : (o : Option Refusal) (refusal : Refusal) → o ≡ None → o ≡ Some refusal → ⊥
+pub clash : (o : Option Refusal) (refusal : Refusal) → o ≡ None → o ≡ Some refusal → ⊥
 clash o refusal n e = let f = sym n ∙ e in cc
 
-same-refusal : (o : Option Refusal) (refusal expected : Refusal) → Is o refusal → o ≡ Some expected → IsOrMemory (Some refusal) (Some expected)
+pub same-refusal : (o : Option Refusal) (refusal expected : Refusal) → Is o refusal → o ≡ Some expected → IsOrMemory (Some refusal) (Some expected)
 same-refusal o refusal expected (inl e) f = inl (sym e ∙ f)
 same-refusal o refusal expected (inr e) f = inr (ap (λ (r : Refusal). Some r) e)
 
@@ -216,7 +216,7 @@ values_refused call all words (Some WriteFault) e h refusal calm f = absurd (cla
 values_refused call all words (Some OutOfMemory) e h refusal calm f = inr refl
 values_refused call all words (Some other) e h refusal calm f = same-refusal (values_refusal all words) other refusal (refused-first call all words other e calm h.0) f
 
-no-refusal : (o : Option Refusal) (refusal : Refusal) (expected : Option Refusal) → Is o refusal → o ≡ None → IsOrMemory (Some refusal) expected
+pub no-refusal : (o : Option Refusal) (refusal : Refusal) (expected : Option Refusal) → Is o refusal → o ≡ None → IsOrMemory (Some refusal) expected
 no-refusal o refusal expected (inl e) n = absurd (clash o refusal n e)
 no-refusal o refusal expected (inr e) n = inr (ap (λ (r : Refusal). Some r) e)
 
@@ -237,13 +237,13 @@ values_split call all words (Some other) e h dump packets rest d calm none now p
 
 -- ---- the first sheet lacks
 
-lacks : (files : Option Files) (all : Files) (name : List ℕ) (sheet : List (List (List ℕ))) → files ≡ Some all → IsNone (get all name) → IsSheet files name sheet → ⊥
+pub lacks : (files : Option Files) (all : Files) (name : List ℕ) (sheet : List (List (List ℕ))) → files ≡ Some all → IsNone (get all name) → IsSheet files name sheet → ⊥
 lacks files all name sheet e n h = none_some_and (λ (octets : List ℕ). (length octets ≤ limit_of SheetOctets) × (sheet ≡ sheet_of octets)) (get all name) n (rw e at h)
 
-lacks-sheet : (files : Option Files) (all : Files) (name : List ℕ) → files ≡ Some all → IsNone (get all name) → HasSheet files name → ⊥
+pub lacks-sheet : (files : Option Files) (all : Files) (name : List ℕ) → files ≡ Some all → IsNone (get all name) → HasSheet files name → ⊥
 lacks-sheet files all name e n h = none_some_and (λ (octets : List ℕ). length octets ≤ limit_of SheetOctets) (get all name) n (rw e at h)
 
-missing-first : (files : Option Files) (all : Files) (name : List ℕ) (faults faults' : ℕ) (refusal : Refusal) → files ≡ Some all → IsNone (get all name) →
+pub missing-first : (files : Option Files) (all : Files) (name : List ℕ) (faults faults' : ℕ) (refusal : Refusal) → files ≡ Some all → IsNone (get all name) →
     IsSheetRefusal files name faults faults' refusal → IsOrMemory (Some refusal) (Some (Missing name))
 missing-first files all name faults faults' (Missing lacking) e n h = inl (ap (λ (l : List ℕ). Some (Missing l)) h.0)
 missing-first files all name faults faults' ReadFault e n h = absurd (none_some (get all name) n (rw e at h.1))

@@ -1,7 +1,9 @@
 -- The job that the program reads from its words.
 use Rattle.archive_cli.specs.Job as spec
 use Rattle.archive_cli.specs.declared.job.Job.{Job}
-use Rattle.archive_cli.specs.declared.job.Job.TheVariants.{Scan, Values}
+use Rattle.archive_cli.specs.declared.job.Job.TheVariants.{Scan, Values, Create, Load, Query, Recover}
+use Rattle.archive_cli.specs.declared.job.SheetWords.{SheetWords}
+use Rattle.archive_cli.specs.declared.job.LoadWords.{LoadWords}
 use Rattle.archive_cli.specs.declared.job.ValuesWords.{ValuesWords}
 
 -- the words of `values`, as the program holds them
@@ -14,7 +16,19 @@ words_of words = record {
   name = words.name.now;
 }
 
+-- those of `create`
+abbrev pub sheet_words_of : SheetWords → spec.SheetWords
+sheet_words_of words = record { parameters = words.parameters.now; calibrations = words.calibrations.now; containers = words.containers.now }
+
+-- the words of `load`
+abbrev pub load_words_of : LoadWords → spec.LoadWords
+load_words_of words = record { dump = words.dump.now; link = words.link }
+
 -- the job, with the words that it was given
 abbrev pub asked : Job → spec.Job
 asked (Scan dump) = spec.Scan dump.now
 asked (Values words) = spec.Values (words_of words)
+asked (Create words) = spec.Create (sheet_words_of words)
+asked (Load words) = spec.Load (load_words_of words)
+asked (Query name) = spec.Query name.now
+asked Recover = spec.Recover

@@ -16,6 +16,21 @@ pub record Call : Type 0 where
   pub write_faults : ℕ
   pub write_faults' : ℕ
 
+-- a call by these: the words, the files, the clock's moment, the inputs' count of faults before and after, what was written before and after, and the
+-- sink's count before and after
+abbrev pub call_of : List (List ℕ) → Option Files → Option ℤ → ℕ → ℕ → Option (List ℕ) → Option (List ℕ) → ℕ → ℕ → Call
+call_of words files moment reads reads' written written' writes writes' = record {
+  words = words;
+  files = files;
+  moment = moment;
+  read_faults = reads;
+  read_faults' = reads';
+  written = written;
+  written' = written';
+  write_faults = writes;
+  write_faults' = writes';
+}
+
 -- the text was appended, where what was written is told
 abbrev pub Appends : Option (List ℕ) → Option (List ℕ) → List ℕ → Type 0
 Appends None new text = new ≡ None

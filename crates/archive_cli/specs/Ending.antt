@@ -1,9 +1,17 @@
--- How a call ends: for each job and each answer its cause, and what was written.
-use Rattle.std.specs.Prelude.{Option, Some, None}
+-- How a call ends: for each job and each answer its cause, what was written, and what became of the disk.
+use Rattle.std.specs.Prelude.{◌≡◌, IsTrue, Option, Some, None}
+use Rattle.arch_disk.specs.Disk.{Device}
 use Rattle.arch_types.specs.declared.refusal.Refusal.{Refusal}
 use Rattle.arch_types.specs.declared.refusal.Refusal.TheVariants.{Usage, OutOfMemory}
+use Rattle.archive_cli.specs.declared.report.Report.{Report}
 use Rattle.archive_cli.specs.Call.{Call, IsSilent}
-use Rattle.archive_cli.specs.Job.{Job, Scan, Values, job_of}
+use Rattle.archive_cli.specs.Job.{Job, Scan, Values, Create, Load, Query, Recover, job_of}
+use Rattle.archive_cli.specs.Caused.{IsCreateCaused, IsQueryCaused, IsRecoverCaused}
+use Rattle.archive_cli.specs.CreateEnding.{IsCreateEnding}
+use Rattle.archive_cli.specs.LoadCaused.{IsLoadCaused}
+use Rattle.archive_cli.specs.LoadEnding.{IsLoadEnding}
+use Rattle.archive_cli.specs.QueryEnding.{IsQueryEnding}
+use Rattle.archive_cli.specs.RecoverEnding.{IsRecoverEnding}
 use Rattle.archive_cli.specs.ScanEnding.{IsScanEnding}
 use Rattle.archive_cli.specs.ValuesEnding.{IsValuesEnding}
 
@@ -13,12 +21,25 @@ IsUsageEnding call (Some Usage) = IsSilent call
 IsUsageEnding call (Some OutOfMemory) = IsSilent call
 IsUsageEnding call other = ⊥
 
--- the ending of a job, or of words that are none
-abbrev pub IsJobEnding : Call → Option Job → Option Refusal → Type 0
-IsJobEnding call None ending = IsUsageEnding call ending
-IsJobEnding call (Some (Scan name)) ending = IsScanEnding call name ending
-IsJobEnding call (Some (Values words)) ending = IsValuesEnding call words ending
+-- The ending of a job, or of words that are none. Where no archive is asked for, the disk is handed back as it was; else the ending is known
+-- where the disk tells what it holds.
+abbrev pub IsJobEnding : {D : Type 0} → Device D → Call → D → D → Option Job → Report → Type 0
+IsJobEnding device call old new None report = (new ≡ old) × IsUsageEnding call report.refusal
+IsJobEnding device call old new (Some (Scan name)) report = (new ≡ old) × IsScanEnding call name report.refusal
+IsJobEnding device call old new (Some (Values words)) report = (new ≡ old) × IsValuesEnding call words report.refusal
+IsJobEnding device call old new (Some (Create words)) report = IsTrue device.tells → IsCreateEnding device call words old new report.refusal report
+IsJobEnding device call old new (Some (Load words)) report = IsTrue device.tells → IsLoadEnding device call words old new report.refusal report
+IsJobEnding device call old new (Some (Query name)) report = IsTrue device.tells → IsQueryEnding device call name old new report.refusal report
+IsJobEnding device call old new (Some Recover) report = IsTrue device.tells → IsRecoverEnding device call old new report.refusal report
 
 -- the ending of a call
-abbrev pub IsEnding : Call → Option Refusal → Type 0
-IsEnding call ending = IsJobEnding call (job_of call.words) ending
+abbrev pub IsEnding : {D : Type 0} → Device D → Call → D → D → Report → Type 0
+IsEnding device call old new report = IsJobEnding device call old new (job_of call.words) report
+
+-- why a command on an archive ended as it did, by what the words and the inputs tell, also on a disk that tells nothing
+abbrev pub IsCaused : Call → Option Job → Option Refusal → Type 0
+IsCaused call (Some (Create words)) refusal = IsCreateCaused call words refusal
+IsCaused call (Some (Load words)) refusal = IsLoadCaused call words refusal
+IsCaused call (Some (Query name)) refusal = IsQueryCaused call name refusal
+IsCaused call (Some Recover) refusal = IsRecoverCaused refusal
+IsCaused call other refusal = Unit {0}

@@ -1,18 +1,24 @@
--- Which ending a call has to have, by what is told of the inputs.
-use Rattle.std.specs.Prelude.{Option, Some, None, IfSome}
+-- Which ending a call has to have, by what is told of the inputs and of the disk.
+use Rattle.std.specs.Prelude.{IsTrue, Option, Some, None, IfSome}
+use Rattle.arch_disk.specs.Disk.{Device}
 use Rattle.arch_types.specs.declared.refusal.Refusal.{Refusal}
-use Rattle.outer_traits.specs.Outside.{Files}
+use Rattle.archive_cli.specs.ArchiveExpected.{IsCreateExpected, IsQueryExpected, IsRecoverExpected}
 use Rattle.archive_cli.specs.Call.{Call}
-use Rattle.archive_cli.specs.Job.{Job, Scan, Values, job_of}
+use Rattle.archive_cli.specs.Job.{Job, Scan, Values, Create, Load, Query, Recover, job_of}
+use Rattle.archive_cli.specs.LoadExpected.{IsLoadExpected}
 use Rattle.archive_cli.specs.ScanExpected.{IsScanExpected}
 use Rattle.archive_cli.specs.ValuesExpected.{IsValuesExpected}
 
--- the ending of a job over told inputs
-abbrev pub IsJobExpected : Call → Files → Option Job → Option Refusal → Type 0
-IsJobExpected call all None ending = Unit {0}
-IsJobExpected call all (Some (Scan name)) ending = IsScanExpected call all name ending
-IsJobExpected call all (Some (Values words)) ending = IsValuesExpected call all words ending
+-- the ending of a job over told inputs and on a disk that tells what it holds
+abbrev pub IsJobExpected : {D : Type 0} → Device D → Call → D → D → Option Job → Option Refusal → Type 0
+IsJobExpected device call old new None ending = Unit {0}
+IsJobExpected device call old new (Some (Scan name)) ending = IfSome call.files (λ all. IsScanExpected call all name ending)
+IsJobExpected device call old new (Some (Values words)) ending = IfSome call.files (λ all. IsValuesExpected call all words ending)
+IsJobExpected device call old new (Some (Create words)) ending = IsTrue device.tells → IfSome call.files (λ all. IsCreateExpected device call all words old new ending)
+IsJobExpected device call old new (Some (Load words)) ending = IsTrue device.tells → IfSome call.files (λ all. IsLoadExpected device call all words old new ending)
+IsJobExpected device call old new (Some (Query name)) ending = IsTrue device.tells → IfSome call.files (λ all. IsQueryExpected device call all name old new ending)
+IsJobExpected device call old new (Some Recover) ending = IsTrue device.tells → IsRecoverExpected device call old new ending
 
--- the ending of a call, where the inputs are told
-abbrev pub IsExpected : Call → Option Refusal → Type 0
-IsExpected call ending = IfSome call.files (λ all. IsJobExpected call all (job_of call.words) ending)
+-- the ending of a call
+abbrev pub IsExpected : {D : Type 0} → Device D → Call → D → D → Option Refusal → Type 0
+IsExpected device call old new ending = IsJobExpected device call old new (job_of call.words) ending

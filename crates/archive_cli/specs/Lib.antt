@@ -1,4 +1,8 @@
 pub mod Words
+pub mod Batches
+pub mod LoadEnding
+pub mod LoadCaused
+pub mod Loading
 pub mod Job
 pub mod Asked
 pub mod Call
@@ -13,9 +17,17 @@ pub mod Printing
 pub mod ValuesPrinting
 pub mod ScanEnding
 pub mod ValuesEnding
+pub mod Consulted
+pub mod RecoverEnding
+pub mod CreateEnding
+pub mod AnswerText
+pub mod QueryEnding
+pub mod Caused
 pub mod Ending
 pub mod Expecting
 pub mod ScanExpected
 pub mod ValuesExpected
+pub mod ArchiveExpected
+pub mod LoadExpected
 pub mod Expected
 pub mod Report

@@ -1,10 +1,13 @@
 -- A text that is written piece by piece.
-use Rattle.std.specs.Prelude.{◌≡◌, ℕ, List, [], ◌++◌, Option, flat_map}
+use Rattle.std.specs.Prelude.{◌≡◌, ℕ, List, [], ◌++◌, Option, Some, None, flat_map}
+use Rattle.arch_types.specs.declared.refusal.Refusal.{Refusal}
+use Rattle.arch_types.specs.declared.refusal.Refusal.TheVariants.{WriteFault}
 use Rattle.arch_types.specs.Table.{sorted}
 use Rattle.space_packet.specs.declared.dump.Why.{Why}
 use Rattle.space_packet.specs.declared.dump.Why.TheVariants.{End, Version, Truncated}
 use Rattle.yarch_table.specs.declared.table.Stored.{Stored}
 use Rattle.yarch_table.specs.Stored.{rows_of}
+use Rattle.outer_traits.specs.Outside.{WritesSome}
 use Rattle.archive_cli.specs.Call.{Appends}
 use Rattle.archive_cli.specs.Text.{row_line, counts_line}
 use Rattle.archive_cli.specs.declared.counts.Counts.{Counts}
@@ -13,6 +16,12 @@ use Rattle.archive_cli.specs.declared.rows.Loaded.{Loaded}
 -- a front of a text was appended, and the rest of it is left
 abbrev pub HasMoved : Option (List ℕ) → Option (List ℕ) → List ℕ → List ℕ → Type 0
 HasMoved before now text left = (sent : List ℕ) × (text ≡ sent ++ left) × Appends before now sent
+
+-- how a command ends that has printed a text: no refusal and all of it, or WriteFault and a prefix
+abbrev pub IsFinished : Option Refusal → Option (List ℕ) → Option (List ℕ) → List ℕ → Type 0
+IsFinished None before now text = Appends before now text
+IsFinished (Some WriteFault) before now text = WritesSome before now text
+IsFinished other before now text = ⊥
 
 -- the lines of stored rows, in the order of their keys
 abbrev pub lines_of : List Stored → List ℕ

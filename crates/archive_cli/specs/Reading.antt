@@ -6,8 +6,16 @@ use Rattle.arch_types.specs.declared.refusal.Refusal.TheVariants.{Missing, ReadF
 use Rattle.arch_types.specs.declared.refusal.Which.{Which}
 use Rattle.arch_types.specs.Limits.{limit_of}
 use Rattle.outer_traits.specs.Outside.{Files, HasRisen}
+use Rattle.outer_traits.specs.declared.fault.OpenFault.{OpenFault}
+use Rattle.outer_traits.specs.declared.fault.OpenFault.TheVariants as unopened
 use Rattle.outer_traits.specs.declared.whole.ReadFault as fault
 use Rattle.outer_traits.specs.declared.whole.ReadFault.TheVariants as faulted
+
+-- the refusal of an input that wasn't opened, or want of memory for the name that is missing
+abbrev pub IsOpeningFault : List ℕ → OpenFault → Refusal → Type 0
+IsOpeningFault name unopened.Missing refusal = (refusal ≡ Missing name) ⊎ (refusal ≡ OutOfMemory)
+IsOpeningFault name unopened.Failed refusal = refusal ≡ ReadFault
+IsOpeningFault name unopened.OutOfMemory refusal = refusal ≡ OutOfMemory
 
 -- the refusal of a fault of reading, or want of memory for the name that is missing
 abbrev pub IsRefusalOf : List ℕ → Which → fault.ReadFault → Refusal → Type 0

@@ -43,6 +43,10 @@ plain_app name = on_top plain_shape (new_app name)
 abbrev pub word_rule : Text → Rule
 word_rule id = record (new_rule id) { action = Some Set; required = true }
 
+-- an option `--name value` or `--name=value`, which may have to come
+abbrev pub option_rule : Text → Bool → Rule
+option_rule id wanted = record (new_rule id) { action = Some Set; long = Some id; required = wanted }
+
 -- a command that wants these words, and has no options
 abbrev pub words_app : Text → List Text → App
 words_app name ids = fold (λ app id. with_rule app (word_rule id)) (plain_app name) ids

@@ -7,7 +7,6 @@ ghost use Rattle.container_extract.specs.Values.{value_among};
 ghost use Rattle.archive_cli.specs.CellText.{HasShortLabels};
 ghost use Rattle.archive_cli.specs.ValuesText.{calibration_numbered};
 
-use crate::parameter::KnownParameter;
 use arch_types::cell::Cell;
 use arch_types::row::Row;
 use arch_types::steps::Steps;
@@ -19,11 +18,11 @@ use std::marker::Brand;
 use std::sync::ledger::{Blank, Ledger};
 
 /// The cell of a parameter in the packet of a row, where there is one.
-pub fn cell_of(alloc: Global, known: &KnownParameter, row: &Row) -> Result<Option<Cell>, AllocError>
-    ensures { IfOk result (λ cell. cell ≡ cell_of known.now.mdb known.now.number row.now) }
+pub fn cell_of(alloc: Global, mdb: &Mdb, number: u16, row: &Row) -> Result<Option<Cell>, AllocError>
+    ensures { IfOk result (λ cell. cell ≡ cell_of mdb.now number row.now) }
 {
-    let extracted = extracted::<Brand>(alloc, Blank::new(1), &known.mdb, row.packet.as_slice())?;
-    match value_among(extracted.values.as_slice(), known.number) {
+    let extracted = extracted::<Brand>(alloc, Blank::new(1), mdb, row.packet.as_slice())?;
+    match value_among(extracted.values.as_slice(), number) {
         None => Ok(None),
         Some(value) => Ok(Some(Cell {
             key: row.key,
@@ -58,13 +57,13 @@ fn value_among(values: &[ParameterValue], number: u16) -> Option<&ParameterValue
 }
 
 /// The calibration of a parameter. Its labels are short enough for a line, by the rules of the sheets.
-pub fn calibration_of(known: &KnownParameter) -> Option<&Calibration>
-    requires { known.now.number < length known.now.mdb.parameters }
-    ensures value { option_copied result ≡ calibration_numbered known.now.mdb known.now.number }
+pub fn calibration_of(mdb: &Mdb, number: u16) -> Option<&Calibration>
+    requires { number < length mdb.now.parameters }
+    ensures value { option_copied result ≡ calibration_numbered mdb.now number }
     ensures short { HasShortLabels (option_copied result) }
 {
-    let parameter = known.mdb.parameter(known.number);
-    calibration_at(known.mdb.calibration_list(), parameter.calibration)
+    let parameter = mdb.parameter(number);
+    calibration_at(mdb.calibration_list(), parameter.calibration)
 }
 
 /// The calibration with a number.

@@ -1,31 +1,39 @@
 // The program of the archive: it reads the words of its command line, does what they ask, and says how that ended.
 //
-// `run` is the top call. Its contract (specs/Ending.antt) has for each job one equation per answer: the cause of the answer, and what was
-// written. specs/Job.antt says which words are a job, by what clap finds in them (specs/Words.antt), specs/Text.antt and
-// specs/ValuesText.antt what the jobs print, and specs/Expected.antt which answer has to come, where the inputs tell their contents. A later
-// command adds its case to each of these.
+// `run` is the top call. Its contract has for each job one equation per answer: the cause, what was written, and what became of the disk
+// (specs/Ending.antt), and which answer has to come, where inputs and disk tell what they hold (specs/Expected.antt). specs/Job.antt says which words
+// are a job, by what clap finds in them, and specs/*Text.antt what is printed. A later command adds its case to each of these.
 //
-// The way of a dump: `receive` takes it in, and `rows` cuts it into packets and keeps the rows of a table that share its octets. `scan` prints
-// them in key order, and `values` the cells that `cells` extracts from them. `piece` gathers the lines and writes them in pieces of 64 KiB.
-// All memory of a scan is taken before the first write, so a scan that wants memory has written nothing; `values` takes that of each extraction
-// as it prints.
+// The way of a dump: for `scan` and `values` `receive` takes it in, and `rows` cuts it into packets and keeps the rows of a table that share its octets;
+// for `load` `batches` hands them to the archive's store. The way of an ask: `ask_sheet` reads it, `answer` extracts the cells of the store's plan, and
+// `answer_text` prints them. `piece` gathers lines and writes them in pieces of 64 KiB.
 //
-// The one idea of the proof: what was sent and what is still held, joined, is the text of the rows so far (`HasMoved`). That the right
-// answer comes follows from the causes of all answers, since a dump has one list of packets (`dump_is_one` of arch_types). The rows have no
-// packet names, since no cell depends on them (proofs/PacketNames.antt).
+// The one idea of the proofs: what was sent and what is still held, joined, is the text so far (`HasMoved`), and an archive that was opened is the
+// one that the disk stands for. That the right answer comes follows from the causes of all answers (proofs/Answers.antt).
 //
-// `main` is the edge to the system: it hands the objects of `outer_real` to `run`, files, output and clock that tell no contents.
+// `main` makes the objects of the edge to the system (`outer_real`), which tell no contents. The disk is the folder that the environment's
+// `YARCH_HOME` names, or else `yarch`; that it isn't there is met by the first call that wants it.
 #![tactic(auto)]
 
+mod answer;
+mod answer_text;
+#[cfg(test)]
+mod archive_tests;
+mod ask_sheet;
+mod batches;
 mod cell_text;
 mod cells;
 mod counts;
+mod create;
 mod job;
+mod load;
 mod parameter;
 mod piece;
 mod print_fault;
+mod query;
 mod read;
 mod receive;
+mod recover;
 mod report;
 mod rows;
 mod run;
@@ -42,24 +50,27 @@ mod write;
 use crate::run::run;
 use crate::text::FaultText;
 use arch_types::refusal::Refusal;
-use outer_real::{RealClock, RealInputs, RealSink};
-use std::env;
+use outer_real::{RealClock, RealDisk, RealInputs, RealSink};
+use std::env::{self, VarError};
 use std::process::ExitCode;
 
 fn main(rt: HostRuntime) -> ExitCode {
     let words = match words_of(&rt) {
         Ok(words) => words,
-        Err(refusal) => {
-            let _ = eprintln!(rt; "{}", FaultText(&refusal));
-            return ExitCode::from(refusal.status());
-        }
+        Err(refusal) => return refused(&rt, &refusal),
     };
+    let folder = match folder_of(&rt) {
+        Ok(folder) => folder,
+        Err(refusal) => return refused(&rt, &refusal),
+    };
+    let disk = RealDisk::new(rt.alloc(), &rt, folder);
     let mut inputs = RealInputs::new(&rt);
     let mut sink = RealSink::new(&rt);
     let mut clock = RealClock::new(&rt);
     let ended = run(
         rt.alloc(),
         words.as_slice(),
+        disk,
         &mut inputs,
         &mut sink,
         &mut clock,
@@ -68,6 +79,25 @@ fn main(rt: HostRuntime) -> ExitCode {
         let _ = eprintln!(rt; "{}", FaultText(refusal));
     }
     ExitCode::from(ended.status)
+}
+
+/// Says on standard error why nothing was begun, and gives the status of that.
+fn refused(rt: &HostRuntime, refusal: &Refusal) -> ExitCode {
+    let _ = eprintln!(rt; "{}", FaultText(refusal));
+    ExitCode::from(refusal.status())
+}
+
+/// The folder of the archive: the one that `YARCH_HOME` names, or else `yarch`, also where it names nothing.
+fn folder_of(rt: &HostRuntime) -> Result<String, Refusal> {
+    match env::var(rt, "YARCH_HOME") {
+        Ok(path) if !path.is_empty() => Ok(path),
+        Ok(_) | Err(VarError::NotPresent) => match String::from_str(rt.alloc(), "yarch") {
+            Ok(path) => Ok(path),
+            Err(_) => Err(Refusal::OutOfMemory),
+        },
+        Err(VarError::NotUnicode) => Err(Refusal::Usage),
+        Err(VarError::OutOfMemory) => Err(Refusal::OutOfMemory),
+    }
 }
 
 /// The words behind the program's name. Words that can't be read, or are no text, are no command.

@@ -26,7 +26,7 @@ pub fn known_parameter(
 {
     let mdb = match Mdb::check(alloc, sheets) {
         Ok(mdb) => mdb,
-        Err(fault) => return Err(refusal_of(fault)),
+        Err(fault) => return Err(refusal_of_sheets(fault)),
     };
     match mdb.parameter_number(name) {
         Some(number) => Ok(KnownParameter { mdb, number }),
@@ -35,7 +35,7 @@ pub fn known_parameter(
 }
 
 /// The refusal of sheets that give no database.
-fn refusal_of(fault: MdbFault) -> Refusal
+pub fn refusal_of_sheets(fault: MdbFault) -> Refusal
     ensures { result ≡ refusal_of_sheets fault }
 {
     match fault {

@@ -2,12 +2,13 @@
 
 ghost use Rattle.std.specs.Prelude.{◌≡◌, ◌+◌, ◌<◌, ◌≤◌, [], ◌++◌, length, IfOk, OnOk, OnErr, IsErr, codes, decimal};
 ghost use Rattle.outer_traits.specs.Outside.{HasRisen, Stays, WritesSome};
-ghost use Rattle.archive_cli.specs.Call.{Appends};
+ghost use Rattle.archive_cli.specs.Call.{Appends, WritesCounted};
 ghost use Rattle.archive_cli.specs.Text.{row_line, counts_line};
-ghost use Rattle.archive_cli.specs.Printing.{HasMoved};
+ghost use Rattle.archive_cli.specs.Printing.{HasMoved, IsFinished};
 
 use crate::counts::Counts;
 use crate::write::write_all;
+use arch_types::refusal::Refusal;
 use arch_types::row::Row;
 use itoa::{Buffer, Integer};
 use outer_traits::fault::Failed;
@@ -133,5 +134,17 @@ impl Piece {
         write_all(sink, self.octets.as_slice())?;
         self.octets.clear();
         Ok(())
+    }
+
+    /// Writes all of the text, and says how a command ends that prints nothing more.
+    pub fn finish<K: Sink>(mut self, sink: &mut K) -> Option<Refusal>
+        ensures finished { IsFinished result (K.written sink.old) (K.written sink.new) self }
+        ensures later { K.faults sink.old ≤ K.faults sink.new }
+        ensures counted { WritesCounted result (K.faults sink.old) (K.faults sink.new) }
+    {
+        match self.flush(sink) {
+            Ok(()) => None,
+            Err(_) => Some(Refusal::WriteFault),
+        }
     }
 }

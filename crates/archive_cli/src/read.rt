@@ -6,10 +6,11 @@ ghost use Rattle.std.specs.Result.{result_err};
 ghost use Rattle.mdb_sheets.specs.Sheets.{ReadsCounted};
 ghost use Rattle.outer_traits.specs.Outside.{Stays};
 ghost use Rattle.outer_traits.specs.Whole.{IsInput};
-ghost use Rattle.archive_cli.specs.Reading.{IsReadRefusal, IsRefusalOf};
+ghost use Rattle.archive_cli.specs.Reading.{IsOpeningFault, IsReadRefusal, IsRefusalOf};
 
 use arch_types::octets::Octets;
 use arch_types::refusal::{Refusal, Which};
+use outer_traits::fault::OpenFault;
 use outer_traits::inputs::Inputs;
 use outer_traits::whole::{ReadFault, read_input};
 use std::alloc::Global;
@@ -52,8 +53,19 @@ fn refusal_of(alloc: Global, fault: ReadFault, name: &str, which: Which) -> Refu
     }
 }
 
+/// The refusal of an input that wasn't opened.
+pub fn refusal_of_opening(alloc: Global, fault: OpenFault, name: &str) -> Refusal
+    ensures { IsOpeningFault name.now fault result }
+{
+    match fault {
+        OpenFault::Missing => missing(alloc, name),
+        OpenFault::Failed => Refusal::ReadFault,
+        OpenFault::OutOfMemory => Refusal::OutOfMemory,
+    }
+}
+
 /// The refusal of a name that no input has.
-fn missing(alloc: Global, name: &str) -> Refusal
+pub fn missing(alloc: Global, name: &str) -> Refusal
     ensures { (result ≡ Refusal.Missing name.now) ⊎ (result ≡ Refusal.OutOfMemory) }
 {
     match Octets::from_slice(alloc, name.as_bytes()) {

@@ -76,7 +76,7 @@ pub fn ended(loaded: &Loaded) -> Result<(), Refusal>
 }
 
 /// The refusal of a dump that has no packet at an octet.
-fn bad_packet(at: usize, kind: BadKind) -> Refusal
+pub(crate) fn bad_packet(at: usize, kind: BadKind) -> Refusal
     ensures { result ≡ Refusal.BadPacket at kind }
 {
     Refusal::BadPacket {

@@ -1,5 +1,8 @@
 //! What a call reports.
 
+ghost use Rattle.std.specs.Prelude.{◌≡◌, ◌≤◌};
+ghost use Rattle.archive_cli.specs.Report.{consulted, loaded, status_at, unopened};
+
 use arch_types::refusal::Refusal;
 
 /// What a command did.
@@ -22,10 +25,50 @@ pub struct Report {
 
 /// How a call of the program ended.
 #[derive(Debug, Drop)]
-pub struct Ended {
+pub struct Ended<D> {
     /// The exit status.
     pub status: u8,
+    /// The disk that was handed in.
+    pub disk: D,
     pub report: Report,
+}
+
+impl<D> Ended<D> {
+    /// The ending of a call with this report.
+    pub fn of(disk: D, report: Report) -> Self
+        ensures disk { result.disk ≡ disk }
+        ensures report { result.report ≡ report }
+        ensures status { result.status ≡ status_at report.refusal }
+    {
+        let status = match &report.refusal {
+            None => 0,
+            Some(refusal) => refusal.status(),
+        };
+        Ended {
+            status,
+            disk,
+            report,
+        }
+    }
+
+    /// The ending of a call that opened no archive.
+    pub fn unopened(disk: D, refusal: Option<Refusal>) -> Self
+        ensures disk { result.disk ≡ disk }
+        ensures report { result.report ≡ unopened refusal }
+        ensures status { result.status ≡ status_at refusal }
+    {
+        Ended::of(disk, Report::unopened(refusal))
+    }
+}
+
+/// How many packets a load took in.
+#[derive(Clone, Copy, Debug, Default, PartialEq, Eq)]
+pub struct LoadCounts {
+    /// All packets, idle ones counted too.
+    pub packets: u64,
+    /// Rows that were there.
+    pub duplicates: u64,
+    pub idle: u64,
 }
 
 impl Report {
@@ -45,7 +88,45 @@ impl Report {
             idle: 0,
         }
     }
-}
 
-ghost use Rattle.std.specs.Prelude.{◌≡◌};
-ghost use Rattle.archive_cli.specs.Report.{unopened};
+    /// The report of a call that opened or made an archive with a history of this length, and left it so.
+    pub fn consulted(refusal: Option<Refusal>, rows: u64) -> Report
+        ensures { result ≡ consulted refusal rows }
+    {
+        Report {
+            refusal,
+            opened: true,
+            link: None,
+            before: rows,
+            after: rows,
+            packets: 0,
+            new: 0,
+            duplicates: 0,
+            idle: 0,
+        }
+    }
+
+    /// The report of a load, by the lengths of the history before and after.
+    pub fn loaded(
+        refusal: Option<Refusal>,
+        link: Option<u16>,
+        before: u64,
+        after: u64,
+        counts: LoadCounts,
+    ) -> Report
+        requires { before ≤ after }
+        ensures { result ≡ loaded refusal link before after counts.packets counts.duplicates counts.idle }
+    {
+        Report {
+            refusal,
+            opened: true,
+            link,
+            before,
+            after,
+            packets: counts.packets,
+            new: after - before,
+            duplicates: counts.duplicates,
+            idle: counts.idle,
+        }
+    }
+}

@@ -1,19 +1,25 @@
 //! The top call.
 
-ghost use Rattle.std.specs.Prelude.{◌≡◌, map, string_bytes, ◌+◌, ◌<◌, ◌≤◌, ◌^◌};
+ghost use Rattle.std.specs.Prelude.{◌≡◌, map, string_bytes, List, ℕ, Some, ◌+◌, ◌<◌, ◌≤◌, ◌^◌};
+ghost use Rattle.arch_disk.specs.Disk.{raised};
 ghost use Rattle.outer_traits.specs.Outside.{Stays};
 ghost use Rattle.mdb_sheets.specs.Sheets.{ReadsCounted};
-ghost use Rattle.archive_cli.specs.Call.{WritesCounted};
-ghost use Rattle.archive_cli.specs.Job.{job_of};
-ghost use Rattle.archive_cli.specs.Ending.{IsEnding};
+ghost use Rattle.archive_cli.specs.Asked.{asked};
+ghost use Rattle.archive_cli.specs.Call.{call_of, WritesCounted};
+ghost use Rattle.archive_cli.specs.Job.{job_of, HasLink};
+ghost use Rattle.archive_cli.specs.Ending.{IsCaused, IsEnding, IsJobEnding};
 ghost use Rattle.archive_cli.specs.Expected.{IsExpected};
 ghost use Rattle.archive_cli.specs.Report.{status_at, IsReport};
-ghost use Rattle.std.specs.Result.{result_err};
 
+use crate::create::create;
 use crate::job::{Job, job_of};
-use crate::report::{Ended, Report};
+use crate::load::load;
+use crate::query::query;
+use crate::recover::recover;
+use crate::report::Ended;
 use crate::scan::scan;
 use crate::values::values;
+use arch_disk::Disk;
 use arch_types::refusal::Refusal;
 use outer_traits::clock::Clock;
 use outer_traits::inputs::Inputs;
@@ -21,38 +27,22 @@ use outer_traits::sink::Sink;
 use std::alloc::Global;
 
 /// Does what the words ask, and says how it ended.
-pub fn run<I: Inputs, K: Sink, C: Clock>(
+pub fn run<D: Disk, I: Inputs, K: Sink, C: Clock>(
     alloc: Global,
     words: &[String],
+    disk: D,
     inputs: &mut I,
     sink: &mut K,
     clock: &mut C,
-) -> Ended
-    // For each job and each answer its cause, and what was written.
-    ensures ended { IsEnding (record {
-      words = map (λ w. string_bytes w) words.now;
-      files = I.files inputs.old;
-      moment = C.next clock.old;
-      read_faults = I.faults inputs.old;
-      read_faults' = I.faults inputs.new;
-      written = K.written sink.old;
-      written' = K.written sink.new;
-      write_faults = K.faults sink.old;
-      write_faults' = K.faults sink.new;
-    }) result.report.refusal }
+) -> Ended<D>
+    // For each job and each answer its cause, what was written, and what became of the disk.
+    ensures ended { IsEnding D.device (call_of (map (λ w. string_bytes w) words.now) (I.files inputs.old) (C.next clock.old) (I.faults inputs.old) (I.faults inputs.new) (K.written sink.old) (K.written sink.new) (K.faults sink.old) (K.faults sink.new)) disk result.disk result.report }
 
-    // Over told inputs the answer that it has to be, or want of memory.
-    ensures expected { IsExpected (record {
-      words = map (λ w. string_bytes w) words.now;
-      files = I.files inputs.old;
-      moment = C.next clock.old;
-      read_faults = I.faults inputs.old;
-      read_faults' = I.faults inputs.new;
-      written = K.written sink.old;
-      written' = K.written sink.new;
-      write_faults = K.faults sink.old;
-      write_faults' = K.faults sink.new;
-    }) result.report.refusal }
+    // The causes of the answers of commands on an archive that don't rest on what the disk tells.
+    ensures caused { IsCaused (call_of (map (λ w. string_bytes w) words.now) (I.files inputs.old) (C.next clock.old) (I.faults inputs.old) (I.faults inputs.new) (K.written sink.old) (K.written sink.new) (K.faults sink.old) (K.faults sink.new)) (job_of (map (λ w. string_bytes w) words.now)) result.report.refusal }
+
+    // Over told inputs, on a disk that tells what it holds, the answer that it has to be, or want of memory.
+    ensures expected { IsExpected D.device (call_of (map (λ w. string_bytes w) words.now) (I.files inputs.old) (C.next clock.old) (I.faults inputs.old) (I.faults inputs.new) (K.written sink.old) (K.written sink.new) (K.faults sink.old) (K.faults sink.new)) disk result.disk result.report.refusal }
 
     // The number of the refusal, and 0 exactly where there's none.
     ensures status { result.status ≡ status_at result.report.refusal }
@@ -70,48 +60,49 @@ pub fn run<I: Inputs, K: Sink, C: Clock>(
 
     // Inputs that never fail have no more faults than before.
     ensures steady { I.never_fails inputs.old → Stays (I.faults inputs.old) (I.faults inputs.new) }
+
+    // Nor does the disk's count of faults fall, and it has risen where the answer is DiskFault.
+    ensures disk_later { D.device.fault_count disk ≤ D.device.fault_count result.disk }
+    ensures disk_fault { result.report.refusal ≡ Some Refusal.DiskFault → raised (D.device.fault_count disk) ≤ D.device.fault_count result.disk }
 {
-    let refusal = run_job(alloc, words, inputs, sink, clock).err();
-    let status = match &refusal {
-        None => 0,
-        Some(refusal) => refusal.status(),
-    };
-    Ended {
-        status,
-        report: Report::unopened(refusal),
+    match job_of(alloc, words) {
+        Ok(job) => run_job(alloc, job, disk, inputs, sink, clock),
+        Err(refusal) => Ended::unopened(disk, Some(refusal)),
     }
 }
 
-/// Does the job of the words.
-fn run_job<I: Inputs, K: Sink, C: Clock>(
+/// Does a job.
+fn run_job<D: Disk, I: Inputs, K: Sink, C: Clock>(
     alloc: Global,
-    words: &[String],
+    job: Job<'_>,
+    disk: D,
     inputs: &mut I,
     sink: &mut K,
     clock: &mut C,
-) -> Result<(), Refusal>
-    ensures ended { IsEnding (record {
-      words = map (λ w. string_bytes w) words.now;
-      files = I.files inputs.old;
-      moment = C.next clock.old;
-      read_faults = I.faults inputs.old;
-      read_faults' = I.faults inputs.new;
-      written = K.written sink.old;
-      written' = K.written sink.new;
-      write_faults = K.faults sink.old;
-      write_faults' = K.faults sink.new;
-    }) (result_err result) }
+) -> Ended<D>
+    requires link { HasLink (asked job) }
+    ensures ended { (words : List (List ℕ)) → IsJobEnding D.device (call_of words (I.files inputs.old) (C.next clock.old) (I.faults inputs.old) (I.faults inputs.new) (K.written sink.old) (K.written sink.new) (K.faults sink.old) (K.faults sink.new)) disk result.disk (Some (asked job.entry)) result.report }
+    ensures caused { (words : List (List ℕ)) → IsCaused (call_of words (I.files inputs.old) (C.next clock.old) (I.faults inputs.old) (I.faults inputs.new) (K.written sink.old) (K.written sink.new) (K.faults sink.old) (K.faults sink.new)) (Some (asked job.entry)) result.report.refusal }
+    ensures status { result.status ≡ status_at result.report.refusal }
+    ensures report { IsReport (Some (asked job.entry)) result.report }
     ensures same { I.files inputs.new ≡ I.files inputs.old }
     ensures closed { I.open_sources inputs.old + 1 < 2 ^ 64 → I.open_sources inputs.new ≡ I.open_sources inputs.old }
-    ensures reads_counted { ReadsCounted (result_err result) (I.faults inputs.old) (I.faults inputs.new) }
-    ensures writes_counted { WritesCounted (result_err result) (K.faults sink.old) (K.faults sink.new) }
     ensures later { I.faults inputs.old ≤ I.faults inputs.new }
     ensures writes_later { K.faults sink.old ≤ K.faults sink.new }
+    ensures reads_counted { ReadsCounted result.report.refusal (I.faults inputs.old) (I.faults inputs.new) }
+    ensures writes_counted { WritesCounted result.report.refusal (K.faults sink.old) (K.faults sink.new) }
     ensures steady { I.never_fails inputs.old → Stays (I.faults inputs.old) (I.faults inputs.new) }
+    ensures disk_later { D.device.fault_count disk ≤ D.device.fault_count result.disk }
+    ensures disk_fault { result.report.refusal ≡ Some Refusal.DiskFault → raised (D.device.fault_count disk) ≤ D.device.fault_count result.disk }
 {
-    let job = job_of(alloc, words)?;
     match job {
-        Job::Scan { dump } => scan(alloc, dump, inputs, sink, clock),
-        Job::Values(words) => values(alloc, words, inputs, sink, clock),
+        Job::Scan { dump } => Ended::unopened(disk, scan(alloc, dump, inputs, sink, clock).err()),
+        Job::Values(words) => {
+            Ended::unopened(disk, values(alloc, words, inputs, sink, clock).err())
+        }
+        Job::Create(words) => create(alloc, words, disk, inputs, sink),
+        Job::Load(words) => load(alloc, words, disk, inputs, sink, clock),
+        Job::Query { asks } => query(alloc, asks, disk, inputs, sink),
+        Job::Recover => recover(alloc, disk, sink),
     }
 }

@@ -3,6 +3,7 @@
 use crate::report::Ended;
 use crate::run::run;
 use crate::text::FaultText;
+use arch_disk::MemDisk;
 use arch_types::interval::Interval;
 use arch_types::key::Key;
 use arch_types::name::Name;
@@ -50,7 +51,7 @@ fn files_of(alloc: Global, dump: &[u8]) -> Result<Vec<File>, AllocError> {
 }
 
 /// The text of an ending's refusal.
-pub(crate) fn fault_of(alloc: Global, ended: &Ended) -> Result<String, AllocError> {
+pub(crate) fn fault_of(alloc: Global, ended: &Ended<MemDisk>) -> Result<String, AllocError> {
     match &ended.report.refusal {
         None => String::from_str(alloc, ""),
         Some(refusal) => format!(in alloc; "{}", FaultText(refusal)),
@@ -71,7 +72,14 @@ fn expect(
     let mut inputs = MemInputs::new(alloc, files_of(alloc, dump)?);
     let mut sink = MemSink::new(alloc);
     let mut clock = FixedClock::new(9000);
-    let ended = run(alloc, words.as_slice(), &mut inputs, &mut sink, &mut clock);
+    let ended = run(
+        alloc,
+        words.as_slice(),
+        MemDisk::new(alloc),
+        &mut inputs,
+        &mut sink,
+        &mut clock,
+    );
     assert_eq!(rt; fault_of(alloc, &ended)?.as_str(), fault);
     assert_eq!(rt; ended.status, status);
     assert_eq!(rt; sink.octets.as_slice(), text.as_bytes());
@@ -177,7 +185,14 @@ fn scan_failing(
     let mut inputs = MemInputs::failing(files_of(alloc, dump)?, reads);
     let mut sink = MemSink::failing(alloc, Vec::from_slice(alloc, writes)?);
     let mut clock = FixedClock::new(9000);
-    let ended = run(alloc, words.as_slice(), &mut inputs, &mut sink, &mut clock);
+    let ended = run(
+        alloc,
+        words.as_slice(),
+        MemDisk::new(alloc),
+        &mut inputs,
+        &mut sink,
+        &mut clock,
+    );
     Ok((ended.status, sink.octets.len()))
 }
 

@@ -158,11 +158,11 @@ fn put_cell_of(
     ensures count { IfOk result (λ count. count ≡ count_of known.now.mdb known.now.number row.now) }
     ensures kept { OnErr result (piece.new ≡ piece.old) }
 {
-    let cell = cell_of(alloc, known, row)?;
+    let cell = cell_of(alloc, &known.mdb, known.number, row)?;
     match cell {
         None => Ok(0),
         Some(cell) => {
-            piece.put_cell(cell, calibration_of(known));
+            piece.put_cell(cell, calibration_of(&known.mdb, known.number));
             Ok(1)
         }
     }

@@ -2,6 +2,7 @@
 
 use crate::run::run;
 use crate::tests::{fault_of, file_of, words_of};
+use arch_disk::MemDisk;
 use outer_traits::clock::FixedClock;
 use outer_traits::mem_inputs::{FailingCall, File, MemInputs};
 use outer_traits::mem_sink::MemSink;
@@ -133,7 +134,14 @@ fn expect(
     let mut inputs = MemInputs::new(alloc, files_of(alloc, sheets, dump)?);
     let mut sink = MemSink::new(alloc);
     let mut clock = FixedClock::new(9000);
-    let ended = run(alloc, words.as_slice(), &mut inputs, &mut sink, &mut clock);
+    let ended = run(
+        alloc,
+        words.as_slice(),
+        MemDisk::new(alloc),
+        &mut inputs,
+        &mut sink,
+        &mut clock,
+    );
     let (status, text, fault) = want;
     assert_eq!(rt; fault_of(alloc, &ended)?.as_str(), fault);
     assert_eq!(rt; ended.status, status);
@@ -283,7 +291,14 @@ fn failing(
     let mut inputs = MemInputs::failing(files_of(alloc, sheets, BOTH)?, reads);
     let mut sink = MemSink::failing(alloc, Vec::from_slice(alloc, writes)?);
     let mut clock = FixedClock::new(9000);
-    let ended = run(alloc, words.as_slice(), &mut inputs, &mut sink, &mut clock);
+    let ended = run(
+        alloc,
+        words.as_slice(),
+        MemDisk::new(alloc),
+        &mut inputs,
+        &mut sink,
+        &mut clock,
+    );
     Ok((ended.status, sink.octets.len()))
 }
 

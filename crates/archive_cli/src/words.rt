@@ -6,7 +6,7 @@ ghost use Rattle.std.specs.Str.{bytes_eq};
 ghost use Rattle.clap.specs.Words.{app_of, is_simple, rows_of, found_of};
 ghost use Rattle.clap.specs.Faults.{is_simple_and_free};
 ghost use Rattle.clap.specs.Walk.{rule_of, is_empty};
-ghost use Rattle.archive_cli.specs.Words.{are_plain, are_filled, are_whole, is_whole, word_rule, words_app, rows_of_words, IsNotFound};
+ghost use Rattle.archive_cli.specs.Words.{option_rule, are_plain, are_filled, are_whole, is_whole, word_rule, words_app, rows_of_words, IsNotFound};
 
 use arch_types::refusal::Refusal;
 use clap::error::ErrorKind;
@@ -50,6 +50,56 @@ fn word<'a>(alloc: Global, id: &'a str) -> Arg<'a>
 
 ghost use Rattle.std.specs.Prelude.{false};
 
+/// An option `--name value` or `--name=value`, which may have to come.
+fn option<'a>(alloc: Global, id: &'a str, wanted: bool) -> Arg<'a>
+    ensures rule { rule_of result ≡ option_rule id.entry.now wanted }
+    ensures local { result.global ≡ false }
+{
+    Arg::new(alloc, id)
+        .long(id)
+        .action(ArgAction::Set)
+        .required(wanted)
+}
+
+/// A command of one level that wants an option, and has no words.
+fn option_command<'a>(alloc: Global, name: &'a str, id: &'a str) -> Result<Command<'a>, AllocError>
+    ensures { IfOk result (λ command. app_of command ≡ with_rule (plain_app name.entry.now) (option_rule id.entry.now true)) }
+{
+    plain_command(alloc, name).arg(option(alloc, id, true))
+}
+
+ghost use Rattle.clap.specs.Simple.{with_rule};
+
+/// A command of one level that wants these words, and takes an option.
+fn words_and_option_command<'a>(
+    alloc: Global,
+    name: &'a str,
+    ids: &[&'a str],
+    id: &'a str,
+) -> Result<Command<'a>, AllocError>
+    ensures { IfOk result (λ command. app_of command ≡ with_rule (words_app name.entry.now (map (λ id. id.now) ids.now)) (option_rule id.entry.now false)) }
+{
+    words_command(alloc, name, ids)?.arg(option(alloc, id, false))
+}
+
+/// What clap finds in the words behind a command that wants an option, and has no words.
+pub fn found_option<'a>(
+    alloc: Global,
+    name: &'a str,
+    id: &'a str,
+    words: &'a [String],
+) -> Result<ArgMatches<'a>, Refusal>
+    requires simple { is_simple (with_rule (plain_app name.now) (option_rule id.now true)) ≡ true }
+    requires free { is_simple_and_free (with_rule (plain_app name.now) (option_rule id.now true)) ≡ true }
+    ensures found { IfOk result (λ found. rows_of_words (with_rule (plain_app name.entry.now) (option_rule id.entry.now true)) (map (λ w. string_bytes w) words.entry.now) ≡ Some (rows_of (found_of found))) }
+    ensures none { IfErr result (IsNotFound (rows_of_words (with_rule (plain_app name.entry.now) (option_rule id.entry.now true)) (map (λ w. string_bytes w) words.entry.now))) }
+{
+    match option_command(alloc, name, id) {
+        Ok(command) => read_words(command, words),
+        Err(_) => Err(Refusal::OutOfMemory),
+    }
+}
+
 /// What clap finds in the words behind a command that wants these words, and has no options.
 pub fn found_words<'a>(
     alloc: Global,
@@ -68,6 +118,25 @@ pub fn found_words<'a>(
     }
 }
 
+/// What clap finds in the words behind a command that wants these words, and takes an option.
+pub fn found_words_and_option<'a>(
+    alloc: Global,
+    name: &'a str,
+    ids: &[&'a str],
+    id: &'a str,
+    words: &'a [String],
+) -> Result<ArgMatches<'a>, Refusal>
+    requires simple { is_simple (with_rule (words_app name.now (map (λ id. id.now) ids.now)) (option_rule id.now false)) ≡ true }
+    requires free { is_simple_and_free (with_rule (words_app name.now (map (λ id. id.now) ids.now)) (option_rule id.now false)) ≡ true }
+    ensures found { IfOk result (λ found. rows_of_words (with_rule (words_app name.entry.now (map (λ id. id.now) ids.now)) (option_rule id.entry.now false)) (map (λ w. string_bytes w) words.entry.now) ≡ Some (rows_of (found_of found))) }
+    ensures none { IfErr result (IsNotFound (rows_of_words (with_rule (words_app name.entry.now (map (λ id. id.now) ids.now)) (option_rule id.entry.now false)) (map (λ w. string_bytes w) words.entry.now))) }
+{
+    match words_and_option_command(alloc, name, ids, id) {
+        Ok(command) => read_words(command, words),
+        Err(_) => Err(Refusal::OutOfMemory),
+    }
+}
+
 /// The word that was found for an id.
 pub fn word_of<'a>(found: &ArgMatches<'a>, id: &str) -> Result<&'a str, Refusal>
     ensures word { IfOk result (λ word. first_of id.now (rows_of (found_of found.now)) ≡ Some word.now) }
@@ -79,7 +148,14 @@ pub fn word_of<'a>(found: &ArgMatches<'a>, id: &str) -> Result<&'a str, Refusal>
     }
 }
 
-ghost use Rattle.std.specs.Prelude.{None};
+/// The word that was given for an id, where one was.
+pub fn given_word<'a>(found: &ArgMatches<'a>, id: &str) -> Option<&'a str>
+    ensures { option_map (λ word. word.now) result ≡ first_of id.now (rows_of (found_of found.now)) }
+{
+    found.get_str(id)
+}
+
+ghost use Rattle.std.specs.Prelude.{None, option_map};
 ghost use Rattle.clap.specs.Walk.{first_of};
 
 /// What clap finds in the words, where they are plain.

@@ -1,12 +1,11 @@
 -- The sheet of asks: one row an ask.
-use Rattle.std.specs.Prelude.{◌≡◌, ℕ, suc, ◌<◌, ◌≤◌, ◌==◌, ◌&&◌, ◌||◌, not, Bool, true, false, List, [], ◌∷◌, length, map, drop, Option, Some, None, IfSome, is_some, option_map, unwrap_or, if◌then◌else◌, codes, pos, Result, Ok, Err}
+use Rattle.std.specs.Prelude.{◌≡◌, ℕ, suc, ◌+◌, ◌<◌, ◌≤◌, ◌==◌, ◌&&◌, ◌||◌, not, Bool, true, false, List, [], ◌∷◌, length, map, drop, Option, Some, None, IfSome, is_some, option_map, unwrap_or, if◌then◌else◌, codes, pos, Result, Ok, Err}
 use Rattle.std.specs.Str.{bytes_eq}
 use Rattle.arch_types.specs.declared.ask.Ask.{Ask}
 use Rattle.arch_types.specs.declared.ask.Ask.TheVariants.{Values}
 use Rattle.arch_types.specs.declared.refusal.Refusal.{Refusal}
 use Rattle.arch_types.specs.declared.refusal.Refusal.TheVariants.{ReadFault, BadSheet, Limit, OutOfMemory}
 use Rattle.arch_types.specs.declared.refusal.Sheet.TheVariants as sheet
-use Rattle.arch_types.specs.declared.refusal.Which.{Which}
 use Rattle.arch_types.specs.declared.refusal.Which.TheVariants.{SheetOctets}
 use Rattle.arch_types.specs.declared.refusal.Which.TheVariants as which
 use Rattle.arch_types.specs.Limits.{limit_of}
@@ -105,17 +104,14 @@ AsksGiven records (Err other) = ⊥
 abbrev pub AreAsks : Option (List ℕ) → List Ask → Type 0
 AreAsks left asks = IfSome left (λ octets. (length octets ≤ limit_of SheetOctets) × AsksGiven (sheet_of octets) (Ok asks))
 
--- the sheet is longer than its limit, or has more asks than theirs and breaks no rule
-abbrev pub PassesLimit : Which → List ℕ → Type 0
-PassesLimit SheetOctets octets = limit_of SheetOctets < length octets
-PassesLimit which.Asks octets = (length octets ≤ limit_of SheetOctets) × (sheet_fault (sheet_of octets) ≡ None) × (limit_of which.Asks < length (drop 1 (sheet_of octets)))
-PassesLimit other octets = ⊥
-
 -- why a sheet of asks isn't read: the source failed, the first rule that it breaks, the limit that it passes, or there was no memory
 abbrev pub IsAsksRefusal : Option (List ℕ) → ℕ → ℕ → Refusal → Type 0
 IsAsksRefusal left faults faults' ReadFault = HasRisen faults faults'
 IsAsksRefusal left faults faults' (BadSheet name row rule) =
     (name ≡ sheet.Asks) × IfSome left (λ octets. (length octets ≤ limit_of SheetOctets) × (sheet_fault (sheet_of octets) ≡ Some (row, rule)))
-IsAsksRefusal left faults faults' (Limit quantity number) = (number ≡ limit_of quantity) × IfSome left (PassesLimit quantity)
+IsAsksRefusal left faults faults' (Limit SheetOctets number) = (number ≡ limit_of SheetOctets) × IfSome left (λ octets. limit_of SheetOctets < length octets)
+IsAsksRefusal left faults faults' (Limit which.Asks number) =
+    (number ≡ limit_of which.Asks)
+    × IfSome left (λ octets. (length octets ≤ limit_of SheetOctets) × (sheet_fault (sheet_of octets) ≡ None) × (limit_of which.Asks < length (drop 1 (sheet_of octets))))
 IsAsksRefusal left faults faults' OutOfMemory = Unit {0}
 IsAsksRefusal left faults faults' other = ⊥

@@ -10,9 +10,9 @@ use Rattle.archive_cli.proofs.cells.calibration_of.Goals as goal
 
 pub returns : goal.returns
 returns c =
-    let db = c.args.known.now.mdb in
+    let db = c.args.mdb.now in
     let found : option_copied c.calibration_at.result ≡ calibration_at db.calibrations c.parameter-parameter.result.now.calibration = rw c.calibration_list.ensures.value at c.calibration_at.ensures in
-    let value : option_copied c.calibration_at.result ≡ calibration_numbered db c.args.known.now.number =
+    let value : option_copied c.calibration_at.result ≡ calibration_numbered db c.args.number =
     found ∙ ap (λ (p : Option Parameter). calibration_at db.calibrations (calibration_of p)) (sym c.parameter-parameter.ensures) in record {
       value = value;
       short = subst HasShortLabels (sym found) (short_labels db c.parameter-parameter.result.now.calibration c.calibration_list.ensures.sound);

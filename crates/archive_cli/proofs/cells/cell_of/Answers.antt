@@ -19,11 +19,11 @@ returns c =
     let fits : SFits w128 c.in-Some.value.now.raw = search rules in
     let same = to_z-of_z w128 c.in-Some.value.now.raw fits in
     rw same
-    (cell_is c.args.row.now.key c.args.known.now.number c.in_ok-extracted.extracted.values (extraction c.args.known.now.mdb c.args.row.now.packet)
+    (cell_is c.args.row.now.key c.args.number c.in_ok-extracted.extracted.values (extraction c.args.mdb.now c.args.row.now.packet)
     (option_copied c.value_among.result) (Some c.in-Some.value.now) (rw c.as_slice.ensures at c.in_ok-extracted.ensures) (rw c.as_slice-2.ensures at c.value_among.ensures)
     (ap option_copied c.in-Some.is))
 
 pub returns-in-None : goal.returns-in-None
 returns-in-None c =
-    cell_is c.args.row.now.key c.args.known.now.number c.in_ok-extracted.extracted.values (extraction c.args.known.now.mdb c.args.row.now.packet)
+    cell_is c.args.row.now.key c.args.number c.in_ok-extracted.extracted.values (extraction c.args.mdb.now c.args.row.now.packet)
     (option_copied c.value_among.result) None (rw c.as_slice.ensures at c.in_ok-extracted.ensures) (rw c.as_slice-2.ensures at c.value_among.ensures) (ap option_copied c.in-None.is)

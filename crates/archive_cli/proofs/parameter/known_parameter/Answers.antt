@@ -4,7 +4,7 @@ use Rattle.archive_cli.proofs.parameter.known_parameter.Goals as goal
 pub returns-in-Err : goal.returns-in-Err
 returns-in-Err c = record {
   known = tt;
-  refused = rw c.refusal_of.ensures (no_database c.args.sheets.now c.args.name.now c.in-Err.fault c.in-Err.ensures);
+  refused = rw c.refusal_of_sheets.ensures (no_database c.args.sheets.now c.args.name.now c.in-Err.fault c.in-Err.ensures);
 }
 
 pub returns-in-Some : goal.returns-in-Some

@@ -1,17 +1,42 @@
-use Rattle.std.proofs.Common.{◌≡◌, ◌∙◌, ap, map, string_bytes}
-use Rattle.std.specs.Result.{result_err}
-use Rattle.archive_cli.specs.declared.report.Report.{Report}
+use Rattle.std.proofs.Common.{List, Option, map, refl, string_bytes, subst, sym, ℕ}
+use Rattle.archive_cli.specs.Ending.{IsCaused, IsJobEnding}
+use Rattle.archive_cli.specs.Job.{Job, job_of}
 use Rattle.archive_cli.proofs.Answers.{expected}
+use Rattle.archive_cli.proofs.Jobless.{jobless, jobless_caused}
 use Rattle.archive_cli.proofs.Scanned.{call_of}
 use Rattle.archive_cli.proofs.run.run.Goals as goal
 
-pub returns-clause-expected : goal.returns-clause-expected
-returns-clause-expected g c =
-    let refusal : c.unopened.result.refusal ≡ result_err c.run_job.result = ap (λ (r : Report). r.refusal) c.unopened.ensures ∙ c.err-refusal.ensures.value in
-    rw refusal
-    (expected (call_of (map (λ w. string_bytes w) c.args.words.now) (g.I.Inputs.files c.args.inputs.now) (g.C.Clock.next c.args.clock.now)
-    (g.I.Inputs.faults c.args.inputs.now) (g.I.Inputs.faults c.run_job.new.inputs) (g.K.Sink.written c.args.sink.now) (g.K.Sink.written c.run_job.new.sink)
-    (g.K.Sink.faults c.args.sink.now) (g.K.Sink.faults c.run_job.new.sink)) (result_err c.run_job.result) c.run_job.ensures.ended)
+pub returns-in-Ok-clause-expected : goal.returns-in-Ok-clause-expected
+returns-in-Ok-clause-expected g c =
+    let device = g.D.Disk.device in
+    let words : List (List ℕ) = map (λ w. string_bytes w) c.args.words.now in
+    let call = call_of words (g.I.Inputs.files c.args.inputs.now) (g.C.Clock.next c.args.clock.now) (g.I.Inputs.faults c.args.inputs.now) (g.I.Inputs.faults c.run_job.new.inputs)
+    (g.K.Sink.written c.args.sink.now) (g.K.Sink.written c.run_job.new.sink) (g.K.Sink.faults c.args.sink.now) (g.K.Sink.faults c.run_job.new.sink) in
+    expected device call c.args.disk c.run_job.result.disk c.run_job.result.report
+    (subst (λ (job : Option Job). IsJobEnding device call c.args.disk c.run_job.result.disk job c.run_job.result.report) (sym c.in-Ok.ensures.job) (c.run_job.ensures.ended words))
 
-pub returns-clause-steady : goal.returns-clause-steady
-returns-clause-steady g c = c.run_job.ensures.steady
+pub returns-in-Err-clause-ended : goal.returns-in-Err-clause-ended
+returns-in-Err-clause-ended g c =
+    let device = g.D.Disk.device in
+    let words : List (List ℕ) = map (λ w. string_bytes w) c.args.words.now in
+    let written = g.K.Sink.written c.args.sink.now in
+    let faults = g.K.Sink.faults c.args.sink.now in
+    let reads = g.I.Inputs.faults c.args.inputs.now in
+    let call = call_of words (g.I.Inputs.files c.args.inputs.now) (g.C.Clock.next c.args.clock.now) reads reads written written faults faults in
+    jobless device call c.args.disk c.unopened.result.disk c.in-Err.refusal c.unopened.result.report c.in-Err.ensures.none refl c.unopened.ensures.disk c.unopened.ensures.report
+
+pub returns-in-Ok-clause-caused : goal.returns-in-Ok-clause-caused
+returns-in-Ok-clause-caused g c =
+    let words : List (List ℕ) = map (λ w. string_bytes w) c.args.words.now in
+    let call = call_of words (g.I.Inputs.files c.args.inputs.now) (g.C.Clock.next c.args.clock.now) (g.I.Inputs.faults c.args.inputs.now) (g.I.Inputs.faults c.run_job.new.inputs)
+    (g.K.Sink.written c.args.sink.now) (g.K.Sink.written c.run_job.new.sink) (g.K.Sink.faults c.args.sink.now) (g.K.Sink.faults c.run_job.new.sink) in
+    subst (λ (job : Option Job). IsCaused call job c.run_job.result.report.refusal) (sym c.in-Ok.ensures.job) (c.run_job.ensures.caused words)
+
+pub returns-in-Err-clause-caused : goal.returns-in-Err-clause-caused
+returns-in-Err-clause-caused g c =
+    let words : List (List ℕ) = map (λ w. string_bytes w) c.args.words.now in
+    let written = g.K.Sink.written c.args.sink.now in
+    let faults = g.K.Sink.faults c.args.sink.now in
+    let reads = g.I.Inputs.faults c.args.inputs.now in
+    let call = call_of words (g.I.Inputs.files c.args.inputs.now) (g.C.Clock.next c.args.clock.now) reads reads written written faults faults in
+    rw c.unopened.ensures.report (jobless_caused call (job_of words) c.in-Err.refusal c.in-Err.ensures.none)

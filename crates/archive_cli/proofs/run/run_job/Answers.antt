@@ -1,32 +1,59 @@
-use Rattle.std.proofs.Common.{◌≡◌, map, string_bytes, Some}
-use Rattle.archive_cli.specs.Asked.{words_of}
-use Rattle.archive_cli.specs.Job.{job_of, Scan, Values}
+use Rattle.std.proofs.Common.{[], Some, subst, sym}
+use Rattle.archive_cli.specs.declared.job.Job.{Job}
+use Rattle.archive_cli.specs.Asked.{asked, words_of}
+use Rattle.archive_cli.specs.Ending.{IsCaused, IsJobEnding}
+use Rattle.archive_cli.specs.ScanEnding.{IsScanEnding}
+use Rattle.archive_cli.specs.ValuesEnding.{IsValuesEnding}
+use Rattle.archive_cli.proofs.Diskless.{scan_disk, scan_job_ended, values_disk, values_job_ended}
+use Rattle.archive_cli.proofs.Scanned.{call_of}
 use Rattle.archive_cli.proofs.run.run_job.Goals as goal
 
-pub returns-in-Scan : goal.returns-in-Scan
-returns-in-Scan g c =
-    let job : job_of (map (λ w. string_bytes w) c.args.words.now) ≡ Some (Scan c.in-Scan.dump.now) = rw c.in-Scan.is at c.in_ok-job.ensures.job in
-    record {
-      ended = rw job (c.scan.ensures.ended (map (λ w. string_bytes w) c.args.words.now));
-      same = c.scan.ensures.same;
-      closed = c.scan.ensures.closed;
-      reads_counted = c.scan.ensures.reads_counted;
-      writes_counted = c.scan.ensures.writes_counted;
-      later = c.scan.ensures.later;
-      writes_later = c.scan.ensures.writes_later;
-      steady = c.scan.ensures.steady;
-    }
+pub returns-in-Scan-clause-ended : goal.returns-in-Scan-clause-ended
+returns-in-Scan-clause-ended g c = λ words.
+    let device = g.D.Disk.device in
+    let call = call_of words (g.I.Inputs.files c.args.inputs.now) (g.C.Clock.next c.args.clock.now) (g.I.Inputs.faults c.args.inputs.now) (g.I.Inputs.faults c.scan.new.inputs)
+    (g.K.Sink.written c.args.sink.now) (g.K.Sink.written c.scan.new.sink) (g.K.Sink.faults c.args.sink.now) (g.K.Sink.faults c.scan.new.sink) in
+    let ended = subst (IsScanEnding call c.in-Scan.dump.now) (sym c.err.ensures.value) (c.scan.ensures.ended words) in
+    subst (λ (job : Job). IsJobEnding device call c.args.disk c.unopened.result.disk (Some (asked job)) c.unopened.result.report) (sym c.in-Scan.is)
+    (scan_job_ended device call c.args.disk c.unopened.result.disk c.in-Scan.dump.now c.err.result c.unopened.result.report c.unopened.ensures.disk c.unopened.ensures.report ended)
 
-pub returns-in-Values : goal.returns-in-Values
-returns-in-Values g c =
-    let job : job_of (map (λ w. string_bytes w) c.args.words.now) ≡ Some (Values (words_of c.in-Values.words)) = rw c.in-Values.is at c.in_ok-job.ensures.job in
-    record {
-      ended = rw job (c.values.ensures.ended (map (λ w. string_bytes w) c.args.words.now));
-      same = c.values.ensures.same;
-      closed = c.values.ensures.closed;
-      reads_counted = c.values.ensures.reads_counted;
-      writes_counted = c.values.ensures.writes_counted;
-      later = c.values.ensures.later;
-      writes_later = c.values.ensures.writes_later;
-      steady = c.values.ensures.steady;
-    }
+pub returns-in-Scan-clause-disk_fault : goal.returns-in-Scan-clause-disk_fault
+returns-in-Scan-clause-disk_fault g c = λ is.
+    let call = call_of [] (g.I.Inputs.files c.args.inputs.now) (g.C.Clock.next c.args.clock.now) (g.I.Inputs.faults c.args.inputs.now) (g.I.Inputs.faults c.scan.new.inputs)
+    (g.K.Sink.written c.args.sink.now) (g.K.Sink.written c.scan.new.sink) (g.K.Sink.faults c.args.sink.now) (g.K.Sink.faults c.scan.new.sink) in
+    let ended = subst (IsScanEnding call c.in-Scan.dump.now) (sym c.err.ensures.value) (c.scan.ensures.ended []) in
+    absurd (scan_disk call c.in-Scan.dump.now c.err.result c.unopened.result.report c.unopened.ensures.report ended is)
+
+pub returns-in-Values-clause-ended : goal.returns-in-Values-clause-ended
+returns-in-Values-clause-ended g c = λ words.
+    let device = g.D.Disk.device in
+    let call = call_of words (g.I.Inputs.files c.args.inputs.now) (g.C.Clock.next c.args.clock.now) (g.I.Inputs.faults c.args.inputs.now) (g.I.Inputs.faults c.values.new.inputs)
+    (g.K.Sink.written c.args.sink.now) (g.K.Sink.written c.values.new.sink) (g.K.Sink.faults c.args.sink.now) (g.K.Sink.faults c.values.new.sink) in
+    let ended = subst (IsValuesEnding call (words_of c.in-Values.words)) (sym c.err-in-Values.ensures.value) (c.values.ensures.ended words) in
+    subst (λ (job : Job). IsJobEnding device call c.args.disk c.unopened-in-Values.result.disk (Some (asked job)) c.unopened-in-Values.result.report) (sym c.in-Values.is)
+    (values_job_ended device call c.args.disk c.unopened-in-Values.result.disk (words_of c.in-Values.words) c.err-in-Values.result c.unopened-in-Values.result.report c.unopened-in-Values.ensures.disk c.unopened-in-Values.ensures.report ended)
+
+pub returns-in-Values-clause-disk_fault : goal.returns-in-Values-clause-disk_fault
+returns-in-Values-clause-disk_fault g c = λ is.
+    let call = call_of [] (g.I.Inputs.files c.args.inputs.now) (g.C.Clock.next c.args.clock.now) (g.I.Inputs.faults c.args.inputs.now) (g.I.Inputs.faults c.values.new.inputs)
+    (g.K.Sink.written c.args.sink.now) (g.K.Sink.written c.values.new.sink) (g.K.Sink.faults c.args.sink.now) (g.K.Sink.faults c.values.new.sink) in
+    let ended = subst (IsValuesEnding call (words_of c.in-Values.words)) (sym c.err-in-Values.ensures.value) (c.values.ensures.ended []) in
+    absurd (values_disk call (words_of c.in-Values.words) c.err-in-Values.result c.unopened-in-Values.result.report c.unopened-in-Values.ensures.report ended is)
+
+pub returns-in-Create-clause-caused : goal.returns-in-Create-clause-caused
+returns-in-Create-clause-caused g c = λ words.
+    let call = call_of words (g.I.Inputs.files c.args.inputs.now) (g.C.Clock.next c.args.clock.now) (g.I.Inputs.faults c.args.inputs.now) (g.I.Inputs.faults c.create.new.inputs)
+    (g.K.Sink.written c.args.sink.now) (g.K.Sink.written c.create.new.sink) (g.K.Sink.faults c.args.sink.now) (g.K.Sink.faults c.create.new.sink) in
+    subst (λ (job : Job). IsCaused call (Some (asked job)) c.create.result.report.refusal) (sym c.in-Create.is) (c.create.ensures.caused words (g.C.Clock.next c.args.clock.now))
+
+pub returns-in-Load-clause-caused : goal.returns-in-Load-clause-caused
+returns-in-Load-clause-caused g c = λ words.
+    let call = call_of words (g.I.Inputs.files c.args.inputs.now) (g.C.Clock.next c.args.clock.now) (g.I.Inputs.faults c.args.inputs.now) (g.I.Inputs.faults c.load.new.inputs)
+    (g.K.Sink.written c.args.sink.now) (g.K.Sink.written c.load.new.sink) (g.K.Sink.faults c.args.sink.now) (g.K.Sink.faults c.load.new.sink) in
+    subst (λ (job : Job). IsCaused call (Some (asked job)) c.load.result.report.refusal) (sym c.in-Load.is) (c.load.ensures.caused words)
+
+pub returns-in-Query-clause-caused : goal.returns-in-Query-clause-caused
+returns-in-Query-clause-caused g c = λ words.
+    let call = call_of words (g.I.Inputs.files c.args.inputs.now) (g.C.Clock.next c.args.clock.now) (g.I.Inputs.faults c.args.inputs.now) (g.I.Inputs.faults c.query.new.inputs)
+    (g.K.Sink.written c.args.sink.now) (g.K.Sink.written c.query.new.sink) (g.K.Sink.faults c.args.sink.now) (g.K.Sink.faults c.query.new.sink) in
+    subst (λ (job : Job). IsCaused call (Some (asked job)) c.query.result.report.refusal) (sym c.in-Query.is) (c.query.ensures.caused words (g.C.Clock.next c.args.clock.now))

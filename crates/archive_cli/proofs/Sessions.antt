@@ -1,0 +1,170 @@
+-- From what went into a store to the ending of a load.
+use Rattle.std.proofs.Common.{◌≡◌, inl, inr, ℕ, ℤ, ◌+◌, ◌≤◌, ◌<◌, List, [], ◌++◌, length, take, drop, Some, None, Option, refl, sym, ap, subst, ◌∙◌, arith, length-append}
+use Rattle.std.specs.Prelude.{IsTrue}
+use Rattle.std.proofs.lemmas.List.{take_all}
+use Rattle.arch_disk.specs.Disk.{Device}
+use Rattle.arch_types.specs.declared.refusal.Refusal.{Refusal}
+use Rattle.arch_types.specs.declared.refusal.Refusal.TheVariants.{WriteFault, BadPacket, DiskFault, Limit, OutOfMemory}
+use Rattle.arch_types.specs.declared.refusal.Which.TheVariants.{DumpOctets, Links}
+use Rattle.arch_types.specs.declared.row.Row.{Row}
+use Rattle.arch_types.specs.Dump.{IsDump}
+use Rattle.arch_types.specs.History.{ingested}
+use Rattle.archive_core.specs.Fills.{held}
+use Rattle.archive_core.specs.Items.{Item, items_of}
+use Rattle.archive_core.specs.Outcomes.{fresh_of}
+use Rattle.archive_core.proofs.Outcomes.{fresh_added}
+use Rattle.outer_traits.specs.Whole.{IsInput}
+use Rattle.archive_store.specs.declared.head.Head.{Head}
+use Rattle.archive_store.specs.Entries.{archive}
+use Rattle.archive_store.specs.Limits.{IsLimit}
+use Rattle.archive_store.specs.Seen.{Seen, archive_of, KeepsFaults, KeepsImages}
+use Rattle.archive_store.specs.Stands.{StandsFor}
+use Rattle.archive_cli.specs.declared.report.Report.{Report}
+use Rattle.archive_cli.specs.Batches.{batch_at, rows_of_link, HasIngested, IsStopped}
+use Rattle.archive_cli.specs.Call.{Call, IsMomentOf, WritesCounted}
+use Rattle.archive_cli.specs.Job.{LoadWords}
+use Rattle.archive_cli.specs.LoadEnding as ending
+use Rattle.archive_cli.specs.LoadEnding.{link_rows, new_rows_at, nothing_left, batch_left, IsLoad, IsLoadEnding, IsSettled, IsWhole}
+use Rattle.archive_cli.specs.Loading.{IsDone, IsSession, WentSo}
+use Rattle.archive_cli.specs.Received.{dump_limit, Received}
+use Rattle.archive_cli.specs.Report.{loaded, IsLoadReport}
+use Rattle.archive_cli.proofs.Arrived.{rows_are}
+use Rattle.archive_cli.proofs.During.{has_table, load_images, settled, left, more_faults, IsOpened}
+
+-- a store that was opened for the words, and the dump that was read for it
+pub record IsReady {D : Type 0} (device : Device D) (call : Call) (words : LoadWords) (disk : D) (store : Seen D) (dump : List ℕ) (moment : ℤ) : Type 0 where
+  pub opened : IsOpened device disk store
+  pub later : device.fault_count disk ≤ device.fault_count store.opened
+  pub link : words.link ≤ 255
+  pub input : IsInput call.files words.dump dump
+  pub short : length dump ≤ dump_limit
+  pub clock : IsMomentOf call.moment moment
+
+module _ {D : Type 0} (device : Device D) (tells : IsTrue device.tells) (call : Call) (words : LoadWords) (disk : D) (old new : Seen D) (dump : List ℕ) (moment : ℤ) (ready : IsReady device call words disk old dump moment) (keeps : KeepsImages device new)
+    (faults : KeepsFaults device new) where
+  some : 0 < length old.head.tables
+  some = has_table (device.reads disk) (archive_of old) ready.opened.stands
+
+  rows_same : (packets : List (List ℕ)) → rows_of_link old.head words.link moment packets ≡ link_rows old.head.mdb words.link moment packets
+  rows_same packets = rows_are old.head words.link moment packets some
+
+  abbrev received_of : (packets : List (List ℕ)) (rest : List ℕ) → IsDump dump packets rest → Received call words.dump
+  received_of packets rest parts = record {
+    dump = dump;
+    moment = moment;
+    packets = packets;
+    rest = rest;
+    input = ready.input;
+    short = ready.short;
+    clock = ready.clock;
+    parts = parts;
+  }
+
+  abbrev run_of : (in_hand : List Row → List (List Item)) (packets : List (List ℕ)) (rest : List ℕ) (place : ℕ) → IsDump dump packets rest → place ≤ length packets
+      → HasIngested old new words.link moment (take place packets) → held new.fills ≡ in_hand (new_rows_at (archive_of old) words.link moment packets place)
+      → IsLoad device call words in_hand disk new.disk
+  run_of in_hand packets rest place parts within done holds = record {
+    before = archive_of old;
+    received = received_of packets rest parts;
+    place = place;
+    reached = new.history;
+    stands = ready.opened.stands;
+    link = ready.link;
+    within = within;
+    reached_is = done.history ∙ ap (ingested old.history) (rows_same (take place packets));
+    images = load_images device disk old new ready.opened (in_hand (new_rows_at (archive_of old) words.link moment packets place)) holds words.link moment (take place packets) done keeps;
+  }
+
+  calm_now : new.fills ≡ [] → new.head ≡ old.head → IsSettled device new.disk old.head new.history
+  calm_now none head = subst (λ (h : Head). IsSettled device new.disk h new.history) head (settled device new tells keeps none)
+
+  -- its journal has one record for the head, and each other one has a row
+  few_now : new.records + length old.history ≤ old.records + length new.history → new.records ≤ 1 + length new.history
+  few_now grown = omega (arith, grown, ready.opened.few)
+
+  all_done : (packets : List (List ℕ)) → HasIngested old new words.link moment packets → HasIngested old new words.link moment (take (length packets) packets)
+  all_done packets done = subst (λ (l : List (List ℕ)). HasIngested old new words.link moment l) (sym (take_all (length packets) packets (omega arith))) done
+
+  abbrev whole_of : (done : IsDone old new dump words.link moment) → IsWhole device call words disk new.disk
+  whole_of done =
+      let i = done.ingested in record {
+        run = run_of nothing_left i.packets (drop done.whole.at dump) (length i.packets) i.parts (omega arith) (all_done i.packets i.done) (ap held i.fills);
+        all = refl;
+        settled = calm_now i.fills i.done.head;
+      }
+
+  abbrev calm_run : (refusal : Refusal) (s : IsStopped old new dump words.link moment refusal) → new.fills ≡ [] → IsLoad device call words nothing_left disk new.disk
+  calm_run refusal s none = run_of nothing_left s.packets s.rest s.place s.parts s.within s.done (ap held none)
+
+  abbrev refused_calm : (refusal : Refusal) (report : Report) (s : IsStopped old new dump words.link moment refusal) (none : new.fills ≡ []) → call.written' ≡ call.written
+      → report ≡ loaded (Some refusal) None (length old.history) (length new.history) 0 0 0 → ending.IsRefused device call words disk new.disk refusal report
+  refused_calm refusal report s none silent is = record {
+    stopped = record { run = calm_run refusal s none; silent = silent; report_is = is };
+    settled = calm_now none s.done.head;
+  }
+
+  failed_now : (report : Report) (s : IsStopped old new dump words.link moment DiskFault) → call.written' ≡ call.written
+      → report ≡ loaded (Some DiskFault) None (length old.history) (length new.history) 0 0 0 → ending.IsFailed device call words disk new.disk report
+  failed_now report s silent is =
+      let rows : List Row = fresh_of new.history (rows_of_link old.head words.link moment (batch_at s.place s.packets)) in
+      let same : rows ≡ new_rows_at (archive_of old) words.link moment s.packets s.place =
+      ap (fresh_of new.history) (rows_same (batch_at s.place s.packets))
+      ∙ ap (λ (h : List Item). fresh_of h (link_rows old.head.mdb words.link moment (batch_at s.place s.packets)))
+      (s.done.history ∙ ap (ingested old.history) (rows_same (take s.place s.packets))) in
+      record {
+        stopped = record {
+          run = run_of batch_left s.packets s.rest s.place s.parts s.within s.done (ap held s.cause.1 ∙ ap batch_left same);
+          silent = silent;
+          report_is = is;
+        };
+        now = λ c leaves. elim (left device new s.cause.0 rows keeps s.cause.1 c leaves) [
+          | inl stands ↦ inl (subst (λ (h : Head). StandsFor c (archive h new.history)) s.done.head stands)
+          | inr more ↦ inr (subst (λ (l : List Row). StandsFor c (archive old.head (new.history ++ items_of l))) same (subst (λ (h : Head). StandsFor c (archive h (new.history ++ items_of rows))) s.done.head more))
+        ];
+      }
+
+  session_cases : (refusal : Option Refusal) (report : Report) → WentSo old new dump words.link moment call.written call.written' refusal report → WritesCounted refusal call.write_faults call.write_faults'
+      → IsLoadEnding device call words disk new.disk refusal report
+  session_cases None report w writes = record { line = record { whole = whole_of w.0; rest = w.1; printed = w.2 }; report_is = w.3 }
+  session_cases (Some WriteFault) report w writes = (writes, record { line = record { whole = whole_of w.0; rest = w.1; printed = w.2 }; report_is = w.3 })
+  session_cases (Some (BadPacket at kind)) report w writes = (record { whole = whole_of w.0; silent = w.2; report_is = w.3 }, w.1)
+  session_cases (Some (Limit DumpOctets number)) report w writes = absurd w.0.cause.2
+  session_cases (Some (Limit Links number)) report w writes = absurd w.0.cause.2
+  session_cases (Some (Limit which number)) report w writes = record {
+    refused = refused_calm (Limit which number) report w.0 w.0.cause.0 w.1 w.2;
+    records = new.records;
+    few = few_now (w.0.done.records w.0.cause.0);
+    number_is = w.0.cause.1;
+    passed = subst (λ (l : List Row). IsLimit which new.records (ingested new.history l)) (rows_same (batch_at w.0.place w.0.packets)) w.0.cause.2;
+  }
+  session_cases (Some DiskFault) report w writes = (
+    more_faults device disk old new w.0.cause.0 (fresh_of new.history (rows_of_link old.head words.link moment (batch_at w.0.place w.0.packets))) ready.later w.0.done.opened faults w.0.cause.1,
+    inr (failed_now report w.0 w.1 w.2),
+  )
+  session_cases (Some OutOfMemory) report w writes = inr (inr (refused_calm OutOfMemory report w.0 w.0.cause w.1 w.2))
+  session_cases (Some other) report w writes = absurd w.0.cause
+
+-- the ending of a load whose dump was read
+pub session_ending : {D : Type 0} (device : Device D) → IsTrue device.tells → (call : Call) (words : LoadWords) (disk new : D) (old : Seen D) (dump : List ℕ) (moment : ℤ) (report : Report) → IsReady device call words disk old dump moment
+    → IsSession device old dump words.link moment call.written call.written' new report → WritesCounted report.refusal call.write_faults call.write_faults' → IsLoadEnding device call words disk new report.refusal report
+session_ending device tells call words disk new old dump moment report ready s writes =
+    subst (λ d. IsLoadEnding device call words disk d report.refusal report) (sym s.given_up.disk_is)
+    (session_cases device tells call words disk old s.new dump moment ready (s.given_up.images tells) s.given_up.faults report.refusal report s.went writes)
+
+-- the history is no shorter
+grown : {D : Type 0} (old new : Seen D) (link : ℕ) (moment : ℤ) (packets : List (List ℕ)) → HasIngested old new link moment packets → length old.history ≤ length new.history
+grown old new link moment packets done =
+    let rows = rows_of_link old.head link moment packets in
+    omega (arith, ap length (done.history ∙ fresh_added old.history rows), length-append old.history (fresh_of old.history rows))
+
+-- and its report
+pub session_report : {D : Type 0} (device : Device D) (words : LoadWords) (old : Seen D) (dump : List ℕ) (moment : ℤ) (written written' : Option (List ℕ)) (new : D) (report : Report)
+    → IsSession device old dump words.link moment written written' new report → IsLoadReport words report.refusal report
+session_report device words old dump moment written written' new report s = go report.refusal s.went
+  where
+    go : (refusal : Option Refusal) → WentSo old s.new dump words.link moment written written' refusal report → IsLoadReport words refusal report
+    go None w = (length old.history, length s.new.history, _, _, _, grown old s.new words.link moment w.0.ingested.packets w.0.ingested.done, w.3)
+    go (Some WriteFault) w = inr (length old.history, length s.new.history, grown old s.new words.link moment w.0.ingested.packets w.0.ingested.done, w.3)
+    go (Some (BadPacket at kind)) w = (length old.history, length s.new.history, grown old s.new words.link moment w.0.ingested.packets w.0.ingested.done, w.3)
+    go (Some (Limit DumpOctets number)) w = absurd w.0.cause.2
+    go (Some other) w = inr (length old.history, length s.new.history, grown old s.new words.link moment _ w.0.done, w.2)

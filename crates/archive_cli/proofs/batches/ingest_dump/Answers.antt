@@ -1,0 +1,58 @@
+use Rattle.std.proofs.Common.{◌≡◌, ◌∙◌, drop, w64, arith}
+use Rattle.std.proofs.lemmas.Int.{to_z-of_z}
+use Rattle.std.proofs.lemmas.Result.{err_from_is_err_and}
+use Rattle.archive_store.specs.Batches.{batch_rows}
+use Rattle.space_packet.specs.Rest.{why_of}
+use Rattle.archive_cli.proofs.Arrived.{few_arrived}
+use Rattle.archive_cli.proofs.Batching.{so_far_more, so_far_end, so_far_memory, so_far_refused, records_still, refused_for, IsSoFar}
+use Rattle.archive_cli.proofs.batches.ingest_dump.Goals as goal
+
+pub returns-in_err-taken-clause-stopped : goal.returns-in_err-taken-clause-stopped
+returns-in_err-taken-clause-stopped g c =
+    let moment = to_z-of_z w64 c.args.moment c.ranges.moment in
+    let p = err_from_is_err_and c.from_residual.result c.from_residual.ensures.1 in
+    rw (p.1, p.2) (so_far_memory c.args.store.now c.args.dump.now c.args.link c.args.moment c.batches.store c.batches.places.at c.batches.packets c.batches.idle (rw moment at c.batches.invariant.so_far))
+
+pub returns-then-taken-eq0-clause-whole : goal.returns-then-taken-eq0-clause-whole
+returns-then-taken-eq0-clause-whole g c =
+    let moment = to_z-of_z w64 c.args.moment c.ranges.moment in
+    let same : c.next_batch.new.places.dump ≡ c.args.dump.now = c.next_batch.ensures.dump ∙ c.batches.invariant.dump in
+    let why : c.why.result ≡ why_of (drop c.next_batch.new.places.at c.args.dump.now) = rw same at c.why.ensures in
+    let taken = rw (moment, c.head.ensures.head) at c.in_ok-taken.ensures.taken in
+    rw c.at.ensures.value
+    (so_far_end c.args.store.now c.args.dump.now c.args.link c.args.moment c.batches.store c.batches.places.at c.next_batch.new.places.at c.batches.packets c.batches.idle c.in_ok-taken.taken c.why.result
+    (rw moment at c.batches.invariant.so_far) taken c.if-taken-eq0.true c.in_ok-taken.ensures.last why)
+
+pub overflow_sub-idle : goal.overflow_sub-idle
+overflow_sub-idle g c =
+    let t = c.in_ok-taken.ensures.taken in
+    let count = t.count in
+    let arrivals = t.batch.count in
+    let less = few_arrived t.packets in
+    rw c.as_slice-in-batches.ensures (omega (arith, count, arrivals, less))
+
+pub returns-in_err-ingest-clause-stopped : goal.returns-in_err-ingest-clause-stopped
+returns-in_err-ingest-clause-stopped g c =
+    let moment = to_z-of_z w64 c.args.moment c.ranges.moment in
+    let p = err_from_is_err_and c.from_residual-in_err-ingest.result c.from_residual-in_err-ingest.ensures.1 in
+    let taken = rw (moment, c.head.ensures.head) at c.in_ok-taken.ensures.taken in
+    let e = c.in_err-ingest.ensures in
+    let so_far : IsSoFar c.args.store.now c.batches.store c.args.dump.now c.args.link c.args.moment c.batches.places.at c.batches.packets c.batches.idle = rw moment at c.batches.invariant.so_far in
+    rw (p.1, p.2)
+    (so_far_refused c.args.store.now c.args.dump.now c.args.link c.args.moment c.batches.store c.ingest.new.self c.batches.places.at c.next_batch.new.places.at c.batches.packets c.batches.idle c.in_ok-taken.taken
+    c.in_err-ingest.field-0.0 so_far taken c.in_ok-taken.ensures.last e.refused c.ingest.ensures.goes_on.head c.ingest.ensures.goes_on.opened
+    (records_still g.D.Disk.device c.batches.store c.ingest.new.self (batch_rows c.in_ok-taken.taken.batch) c.in_err-ingest.field-0.0 e.fault e.untouched)
+    (refused_for g.D.Disk.device c.batches.store c.ingest.new.self (batch_rows c.in_ok-taken.taken.batch) c.in_err-ingest.field-0.0 so_far.fills e.refused e.fault e.untouched e.limit e.needs_reopen e.only))
+
+pub batches-preserved : goal.batches-preserved
+batches-preserved g c =
+    let moment = to_z-of_z w64 c.args.moment c.ranges.moment in
+    let taken = rw (moment, c.head.ensures.head) at c.in_ok-taken.ensures.taken in
+    let ok = c.in_ok-ingest.ensures.ok in
+    record {
+      dump = c.next_batch.ensures.dump ∙ c.batches.invariant.dump;
+      so_far = rw (moment, c.as_slice-in-batches.ensures)
+          (so_far_more c.args.store.now c.args.dump.now c.args.link c.args.moment c.batches.store c.ingest.new.self c.batches.places.at c.next_batch.new.places.at c.batches.packets c.batches.idle c.in_ok-taken.taken
+          (rw moment at c.batches.invariant.so_far) taken ok.1 ok.2 c.ingest.ensures.goes_on.head c.ingest.ensures.goes_on.opened
+          c.in_ok-ingest.ensures.records c.ingest.ensures.no_call);
+    }

@@ -1,0 +1,12 @@
+use Rattle.std.proofs.Common.{◌≡◌, ◌-◌, length}
+use Rattle.archive_cli.proofs.Batching.{IsSoFar}
+use Rattle.archive_cli.proofs.batches.ingest_dump.Given as goal
+
+abbrev pub invariant-batches : goal.invariant-batches
+invariant-batches g l = record {
+  dump : l.places.dump ≡ l.dump;
+  so_far : IsSoFar l.fn.store l.store l.dump l.fn.link l.fn.moment l.places.at l.packets l.idle;
+}
+
+abbrev pub decreases-batches : goal.decreases-batches
+decreases-batches g l = length l.dump - l.places.at

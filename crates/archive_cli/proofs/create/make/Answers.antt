@@ -1,0 +1,67 @@
+use Rattle.std.proofs.Common.{◌≡◌, ◌∙◌, refl, sym, ap, subst}
+use Rattle.arch_types.specs.declared.refusal.Refusal.TheVariants.{OutOfMemory}
+use Rattle.mdb_model.specs.Sheets.{sheets_database}
+use Rattle.arch_disk.specs.Disk.{LeavesOnly}
+use Rattle.disk_journal.specs.Format.{HoldsNone}
+use Rattle.archive_store.specs.declared.head.Head.{Head}
+use Rattle.archive_store.specs.Answers.{IsMaking}
+use Rattle.archive_cli.specs.CreateEnding.{IsCreateEnding, IsMade, create_line}
+use Rattle.archive_cli.specs.Printing.{IsFinished}
+use Rattle.archive_cli.proofs.Consulted.{untouched}
+use Rattle.archive_cli.proofs.Caused.{create_made_cause, create_unmade_cause}
+use Rattle.archive_cli.proofs.Created.{create_unbegun, create_unmade, created, left_alone, made_store}
+use Rattle.archive_cli.proofs.Scanned.{call_of}
+use Rattle.archive_cli.proofs.create.make.Goals as goal
+
+pub returns-in_default-clause-ended : goal.returns-in_default-clause-ended
+returns-in_default-clause-ended g c = λ told given files moment reads reads' words raw good is.
+    let device = g.D.Disk.device in
+    let written = g.K.Sink.written c.args.sink.now in
+    let faults = g.K.Sink.faults c.args.sink.now in
+    let call = call_of given files moment reads reads' written written faults faults in
+    rw c.unopened.ensures.disk
+    (create_unbegun device call words c.args.disk c.args.disk c.unopened.result.report c.unopened.ensures.report refl (untouched device c.args.disk))
+
+pub returns-in-Err-clause-ended : goal.returns-in-Err-clause-ended
+returns-in-Err-clause-ended g c = λ told given files moment reads reads' words raw good is.
+    let device = g.D.Disk.device in
+    let old = c.args.disk in
+    let new = c.in-Err.disk in
+    let written = g.K.Sink.written c.args.sink.now in
+    let faults = g.K.Sink.faults c.args.sink.now in
+    let call = call_of given files moment reads reads' written written faults faults in
+    let images = subst (λ (h : Head). HoldsNone (device.reads old 0) → LeavesOnly device old new (IsMaking (device.images old) h)) is (c.in-Err.ensures.any_moment told) in
+    rw c.unopened-in-Err.ensures.disk
+    (create_unmade device call words old new raw c.in-Err.refusal c.unopened-in-Err.result.report c.unopened-in-Err.ensures.report good refl (c.in-Err.ensures.refused told)
+    c.in-Err.ensures.cause c.in-Err.ensures.memory (λ one. left_alone device old new (c.in-Err.ensures.kept told one.0 one.1)) images)
+
+pub returns-clause-ended : goal.returns-clause-ended
+returns-clause-ended g c = λ told given files moment reads reads' words raw good is.
+    let device = g.D.Disk.device in
+    let s = c.in-Ok-create.store in
+    let refusal = c.finish-refusal.result in
+    let report = c.of.result.report in
+    let old = g.K.Sink.written c.args.sink.now in
+    let new = g.K.Sink.written c.finish-refusal.new.sink in
+    let call = call_of given files moment reads reads' old new (g.K.Sink.faults c.args.sink.now) (g.K.Sink.faults c.finish-refusal.new.sink) in
+    let m = c.in-Ok-create.ensures.made in
+    let none = c.in-Ok-create.ensures.none told in
+    let stored = made_store device c.args.disk s c.args.head none m.0 m.1 m.2 m.3 (c.in-Ok-create.ensures.any_moment told none) (c.into_disk.ensures.images told) in
+    let made = subst (IsMade device c.args.disk s.disk) is stored in
+    let line : c.put_line.new.piece ≡ create_line (sheets_database raw) = c.put_line.ensures ∙ ap (λ (h : Head). create_line h.mdb) is in
+    let printed = subst (IsFinished refusal old new) line c.finish-refusal.ensures.finished in
+    subst (λ (d : g.row.D.Denot). IsCreateEnding device call words c.args.disk d report.refusal report) (sym (c.of.ensures.disk ∙ c.into_disk.ensures.disk))
+    (created device call words c.args.disk s.disk raw refusal report (c.of.ensures.report ∙ c.consulted.ensures) good made printed c.finish-refusal.ensures.counted)
+
+pub returns-in_default-clause-caused : goal.returns-in_default-clause-caused
+returns-in_default-clause-caused g c = λ call words raw good.
+    create_unmade_cause call words OutOfMemory c.unopened.result.report c.unopened.ensures.report tt (raw, good)
+
+pub returns-in-Err-clause-caused : goal.returns-in-Err-clause-caused
+returns-in-Err-clause-caused g c = λ call words raw good.
+    create_unmade_cause call words c.in-Err.refusal c.unopened-in-Err.result.report c.unopened-in-Err.ensures.report c.in-Err.ensures.only (raw, good)
+
+pub returns-clause-caused : goal.returns-clause-caused
+returns-clause-caused g c = λ call words raw good.
+    create_made_cause call words c.finish-refusal.result c.of.result.report 0 (g.K.Sink.written c.args.sink.now) (g.K.Sink.written c.finish-refusal.new.sink) c.put_line.new.piece
+    (c.of.ensures.report ∙ c.consulted.ensures) c.finish-refusal.ensures.finished (raw, good)

@@ -1,0 +1,74 @@
+use Rattle.std.proofs.Common.{◌∙◌, w64, refl, sym, arith}
+use Rattle.std.proofs.lemmas.Int.{to_z-of_z}
+use Rattle.archive_cli.proofs.LoadReports.{counts_whole, grown_stopped, grown_whole, session_bad, session_printed, session_stopped}
+use Rattle.archive_cli.proofs.load.load_dump.Goals as goal
+
+pub print-requires-clause-grown : goal.print-requires-clause-grown
+print-requires-clause-grown g c =
+    let moment = to_z-of_z w64 c.args.moment c.ranges.moment in
+    let front = c.front-before.ensures.front in
+    let whole = rw moment at c.in-Ok.ensures.whole in
+    let more = grown_whole c.args.store c.ingest_dump.new.store c.args.received.now.dump c.args.received.now.link c.args.moment c.in-Ok.whole whole in
+    omega (arith, front, more)
+
+pub print-requires-clause-counts : goal.print-requires-clause-counts
+print-requires-clause-counts g c =
+    let moment = to_z-of_z w64 c.args.moment c.ranges.moment in
+    let front = c.front-before.ensures.front in
+    let whole = rw moment at c.in-Ok.ensures.whole in
+    let counts = counts_whole c.args.store c.ingest_dump.new.store c.args.received.now.dump c.args.received.now.link c.args.moment c.in-Ok.whole whole in
+    omega (arith, front, counts)
+
+pub stopped-requires : goal.stopped-requires
+stopped-requires g c =
+    let moment = to_z-of_z w64 c.args.moment c.ranges.moment in
+    let front = c.front-before.ensures.front in
+    let whole = rw moment at c.in-Ok.ensures.whole in
+    let more = grown_whole c.args.store c.ingest_dump.new.store c.args.received.now.dump c.args.received.now.link c.args.moment c.in-Ok.whole whole in
+    omega (arith, front, more)
+
+pub stopped-requires-in-Err : goal.stopped-requires-in-Err
+stopped-requires-in-Err g c =
+    let moment = to_z-of_z w64 c.args.moment c.ranges.moment in
+    let front = c.front-before.ensures.front in
+    let stopped = rw moment at c.in-Err.ensures.stopped in
+    let more = grown_stopped c.args.store c.ingest_dump.new.store c.args.received.now.dump c.args.received.now.link c.args.moment c.in-Err.refusal stopped in
+    omega (arith, front, more)
+
+pub returns-in-None-clause-session : goal.returns-in-None-clause-session
+returns-in-None-clause-session g c =
+    let moment = to_z-of_z w64 c.args.moment c.ranges.moment in
+    let front = c.front-before.ensures.front in
+    let whole = rw moment at c.in-Ok.ensures.whole in record {
+      new = c.ingest_dump.new.store;
+      given_up = c.print.ensures.given_up;
+      went =
+          session_printed c.args.store c.ingest_dump.new.store c.args.received.now.dump c.args.received.now.link c.args.moment (g.K.Sink.written c.args.sink.now) (g.K.Sink.written c.print.new.sink)
+          c.print.result.report c.in-Ok.whole whole (sym c.refusal_of_rest.ensures ∙ c.in-None.is) (rw front at c.print.ensures.finished) (rw front at c.print.ensures.report);
+    }
+
+pub returns-in-Some-clause-session : goal.returns-in-Some-clause-session
+returns-in-Some-clause-session g c =
+    let moment = to_z-of_z w64 c.args.moment c.ranges.moment in
+    let front = c.front-before.ensures.front in
+    let whole = rw moment at c.in-Ok.ensures.whole in
+    let written = g.K.Sink.written c.args.sink.now in record {
+      new = c.ingest_dump.new.store;
+      given_up = c.stopped.ensures.given_up;
+      went =
+          session_bad c.args.store c.ingest_dump.new.store c.args.received.now.dump c.args.received.now.link c.args.moment written written c.in-Some.refusal c.stopped.result.report c.in-Ok.whole
+          whole (sym c.refusal_of_rest.ensures ∙ c.in-Some.is) refl (rw front at c.stopped.ensures.report);
+    }
+
+pub returns-in-Err-clause-session : goal.returns-in-Err-clause-session
+returns-in-Err-clause-session g c =
+    let moment = to_z-of_z w64 c.args.moment c.ranges.moment in
+    let front = c.front-before.ensures.front in
+    let stopped = rw moment at c.in-Err.ensures.stopped in
+    let written = g.K.Sink.written c.args.sink.now in record {
+      new = c.ingest_dump.new.store;
+      given_up = c.stopped-in-Err.ensures.given_up;
+      went =
+          session_stopped c.args.store c.ingest_dump.new.store c.args.received.now.dump c.args.received.now.link c.args.moment written written c.in-Err.refusal c.stopped-in-Err.result.report
+          stopped refl (rw front at c.stopped-in-Err.ensures.report);
+    }

@@ -1,0 +1,18 @@
+use Rattle.std.proofs.Common.{◌≡◌, ◌∙◌, Some, subst, sym}
+use Rattle.archive_cli.specs.declared.ask_sheet.AskSheet.{AskSheet}
+use Rattle.archive_cli.specs.AnswerText.{asks_refusal}
+use Rattle.archive_cli.specs.QueryEnding.{IsSheetReply}
+use Rattle.archive_cli.proofs.Replies.{refused_reply}
+use Rattle.archive_cli.proofs.query.answer_sheet.Goals as goal
+
+pub returns-in-Some-clause-reply : goal.returns-in-Some-clause-reply
+returns-in-Some-clause-reply g c =
+    let db = c.args.store.now.head.mdb in
+    let history = c.args.store.now.history in
+    let written = g.K.Sink.written c.args.sink.now in
+    let faults = g.K.Sink.faults c.args.sink.now in
+    let refusal = c.in-Some.refusal in
+    let told : asks_refusal c.head.result.now.mdb c.as_slice-asks.result.now ≡ Some refusal = sym c.asks_refusal.ensures ∙ c.in-Some.is in
+    let refused : asks_refusal db c.in-Read.asks ≡ Some refusal = rw (c.head.ensures.head, c.as_slice-asks.ensures) at told in
+    subst (λ (sheet : AskSheet). IsSheetReply db history sheet (Some refusal) written written faults faults) (sym c.in-Read.is)
+    (refused_reply db history c.in-Read.asks refusal written faults refused)

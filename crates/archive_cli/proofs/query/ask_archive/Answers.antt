@@ -1,0 +1,43 @@
+use Rattle.std.proofs.Common.{◌≡◌, ◌∙◌, length, sym, ap, subst}
+use Rattle.arch_types.specs.declared.refusal.Refusal.TheVariants.{OutOfMemory}
+use Rattle.archive_store.specs.Seen.{Seen, KeepsImages, archive_of}
+use Rattle.archive_cli.specs.QueryEnding.{IsQueryEnding}
+use Rattle.archive_cli.specs.Report.{consulted}
+use Rattle.archive_cli.proofs.Caused.{query_replied_cause, query_unopened_cause}
+use Rattle.archive_cli.proofs.Consulted.{consulted_store}
+use Rattle.archive_cli.proofs.Queried.{query_replied}
+use Rattle.archive_cli.proofs.Scanned.{call_of}
+use Rattle.archive_cli.proofs.query.ask_archive.Goals as goal
+
+pub returns-clause-ended : goal.returns-clause-ended
+returns-clause-ended g c = λ told given files moment reads reads' name is.
+    let device = g.D.Disk.device in
+    let s = c.in-Ok-open.store in
+    let refusal = c.answer_sheet-refusal.result in
+    let report = c.of.result.report in
+    let old = g.K.Sink.written c.args.sink.now in
+    let new = g.K.Sink.written c.answer_sheet-refusal.new.sink in
+    let call = call_of given files moment reads reads' old new (g.K.Sink.faults c.args.sink.now) (g.K.Sink.faults c.answer_sheet-refusal.new.sink) in
+    let opened = c.in-Ok-open.ensures.opened told in
+    let same : c.answer_sheet-refusal.new.store ≡ s = c.answer_sheet-refusal.ensures.same in
+    let images = subst (λ (x : Seen g.row.D.Denot). KeepsImages device x) same (c.into_disk.ensures.images told) in
+    let disk = consulted_store device c.args.disk s opened.0 opened.1 c.in-Ok-open.ensures.opening c.in-Ok-open.ensures.fills c.in-Ok-open.ensures.handed_in images in
+    let asked : report ≡ consulted refusal (length s.history) = c.of.ensures.report ∙ c.consulted.ensures ∙ ap (consulted refusal) c.front-rows.ensures.front in
+    let back = c.of.ensures.disk ∙ c.into_disk.ensures.disk ∙ ap (λ (x : Seen g.row.D.Denot). x.disk) same in
+    subst (λ (d : g.row.D.Denot). IsQueryEnding device call name c.args.disk d report.refusal report) (sym back)
+    (query_replied device call name c.args.disk s.disk (archive_of s) c.args.sheet refusal report asked is disk c.answer_sheet-refusal.ensures.reply)
+
+pub returns-in_default-clause-caused : goal.returns-in_default-clause-caused
+returns-in_default-clause-caused g c = λ call name asked.
+    query_unopened_cause call name c.args.sheet OutOfMemory c.unopened.result.report c.unopened.ensures.report tt asked
+
+pub returns-in-Err-clause-caused : goal.returns-in-Err-clause-caused
+returns-in-Err-clause-caused g c = λ call name asked.
+    query_unopened_cause call name c.args.sheet c.in-Err.refusal c.unopened-in-Err.result.report c.unopened-in-Err.ensures.report c.in-Err.ensures.only asked
+
+pub returns-clause-caused : goal.returns-clause-caused
+returns-clause-caused g c = λ call name asked.
+    let s = c.in-Ok-open.store in
+    query_replied_cause call name s.head.mdb s.history c.args.sheet c.answer_sheet-refusal.result c.of.result.report c.front-rows.result (g.K.Sink.written c.args.sink.now)
+    (g.K.Sink.written c.answer_sheet-refusal.new.sink) (g.K.Sink.faults c.args.sink.now) (g.K.Sink.faults c.answer_sheet-refusal.new.sink) (c.of.ensures.report ∙ c.consulted.ensures) asked
+    c.answer_sheet-refusal.ensures.reply

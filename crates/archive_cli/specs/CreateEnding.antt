@@ -1,0 +1,100 @@
+-- How `create` ends: for each answer its cause, what was written and what became of the disk.
+use Rattle.std.specs.Prelude.{◌≡◌, ◌⊎◌, ◌≤◌, ℕ, List, [], ◌∷◌, ◌++◌, length, get_or, codes, decimal, Option, Some, None}
+use Rattle.arch_disk.specs.Image.{Image}
+use Rattle.arch_disk.specs.Disk.{Device, LeavesOnly}
+use Rattle.arch_types.specs.declared.refusal.Refusal.{Refusal}
+use Rattle.arch_types.specs.declared.refusal.Refusal.TheVariants.{WriteFault, Exists, DiskFault, OutOfMemory}
+use Rattle.mdb_model.specs.declared.sheet.RawMdb.{RawMdb}
+use Rattle.mdb_model.specs.Database.{Database}
+use Rattle.mdb_model.specs.Sheets.{sheets_database}
+use Rattle.mdb_sheets.specs.Sheets.{AreSheets, IsRefusal}
+use Rattle.outer_traits.specs.Outside.{Files}
+use Rattle.disk_journal.specs.Format.{HoldsNone}
+use Rattle.archive_store.specs.declared.head.Head.{Head}
+use Rattle.archive_store.specs.Answers.{IsMaking}
+use Rattle.archive_store.specs.Entries.{archive}
+use Rattle.archive_store.specs.Stands.{StandsFor}
+use Rattle.archive_cli.specs.declared.report.Report.{Report}
+use Rattle.archive_cli.specs.Call.{Call, IsSilent, Prints, PrintsSome, WritesFailed}
+use Rattle.archive_cli.specs.Consulted.{IsUntouched, DiskFailed}
+use Rattle.archive_cli.specs.Job.{SheetWords}
+use Rattle.archive_cli.specs.Parameter.{sheets_refusal}
+use Rattle.archive_cli.specs.Report.{unopened, consulted}
+
+-- the head of a new archive: table `tm`, and the database of the sheets
+abbrev pub new_head : RawMdb → Head
+new_head raw = record { tables = codes "tm" ∷ []; mdb = sheets_database raw }
+
+-- the one line of `create`: how many tables, parameters and containers there are
+abbrev pub create_line : Database → List ℕ
+create_line db =
+    codes "created tables 1 parameters " ++ decimal (length db.parameters) ++ codes " containers " ++ decimal (length db.containers) ++ codes "\n"
+
+-- the three sheets were read, and they spell a database
+pub record AreGood (files : Option Files) (words : SheetWords) (raw : RawMdb) : Type 0 where
+  pub sheets : AreSheets files words.parameters words.calibrations words.containers raw
+  pub admitted : sheets_refusal raw ≡ None
+
+-- the head that the three sheets give
+abbrev pub IsHead : Option Files → SheetWords → Head → Type 0
+IsHead files words head = (raw : RawMdb) × AreGood files words raw × (head ≡ new_head raw)
+
+-- a sheet wasn't read, or they were and are refused
+abbrev pub AreRefused : Option Files → SheetWords → ℕ → ℕ → Refusal → Type 0
+AreRefused files words faults faults' refusal =
+    IsRefusal files words.parameters words.calibrations words.containers faults faults' refusal
+    ⊎ ((raw : RawMdb) × AreSheets files words.parameters words.calibrations words.containers raw × (sheets_refusal raw ≡ Some refusal))
+
+-- the disk holds an archive: file 0 has two octets at least, and the first is 1
+abbrev pub HoldsOne : Image → Type 0
+HoldsOne image = (2 ≤ length (image 0)) × (get_or (image 0) 0 0 ≡ 1)
+
+-- An archive was made where there was none: the disk stands for the head without rows, and so does each image that a crash now leaves; a crash
+-- during the call leaves no archive or the head, or what it could have left before.
+pub record IsMade {D : Type 0} (device : Device D) (old new : D) (head : Head) : Type 0 where
+  pub none : HoldsNone (device.reads old 0)
+  pub stands : StandsFor (device.reads new) (archive head [])
+  pub now : (c : Image) → device.images new c → StandsFor c (archive head [])
+  pub images : LeavesOnly device old new (IsMaking (device.images old) head)
+
+-- nothing was written to the disk, for a cause that the words and the inputs give, or for want of memory
+pub record IsNotBegun {D : Type 0} (device : Device D) (call : Call) (old new : D) (report : Report) : Type 0 where
+  pub silent : IsSilent call
+  pub disk : IsUntouched device old new
+  pub report_is : report ≡ unopened report.refusal
+
+-- there is an archive, and it is left as it was
+pub record IsThere {D : Type 0} (device : Device D) (call : Call) (words : SheetWords) (old new : D) (report : Report) : Type 0 where
+  pub raw : RawMdb
+  pub good : AreGood call.files words raw
+  pub there : HoldsOne (device.reads old)
+  pub disk : IsUntouched device old new
+  pub silent : IsSilent call
+  pub report_is : report ≡ unopened (Some Exists)
+
+-- the making failed: a disk that holds an archive is left as it was, and on one that holds none a crash leaves what a making leaves
+pub record IsNotMade {D : Type 0} (device : Device D) (call : Call) (words : SheetWords) (old new : D) (report : Report) : Type 0 where
+  pub raw : RawMdb
+  pub good : AreGood call.files words raw
+  pub silent : IsSilent call
+  pub kept : HoldsOne (device.reads old) → IsUntouched device old new
+  pub images : HoldsNone (device.reads old 0) → LeavesOnly device old new (IsMaking (device.images old) (new_head raw))
+  pub report_is : report ≡ unopened report.refusal
+
+-- an archive was made, and a text on it was printed as P says
+pub record IsCreated {D : Type 0} (device : Device D) (call : Call) (words : SheetWords) (old new : D) (report : Report) (P : List ℕ → Type 0) : Type 0 where
+  pub raw : RawMdb
+  pub good : AreGood call.files words raw
+  pub made : IsMade device old new (new_head raw)
+  pub printed : P (create_line (sheets_database raw))
+  pub report_is : report ≡ consulted report.refusal 0
+
+-- the ending of `create`, where the disk tells what it holds
+abbrev pub IsCreateEnding : {D : Type 0} → Device D → Call → SheetWords → D → D → Option Refusal → Report → Type 0
+IsCreateEnding device call words old new None report = IsCreated device call words old new report (Prints call)
+IsCreateEnding device call words old new (Some WriteFault) report = WritesFailed call × IsCreated device call words old new report (PrintsSome call)
+IsCreateEnding device call words old new (Some Exists) report = IsThere device call words old new report
+IsCreateEnding device call words old new (Some DiskFault) report = DiskFailed device old new × IsNotMade device call words old new report
+IsCreateEnding device call words old new (Some OutOfMemory) report = IsNotBegun device call old new report
+IsCreateEnding device call words old new (Some refusal) report =
+    AreRefused call.files words call.read_faults call.read_faults' refusal × IsNotBegun device call old new report

@@ -1,0 +1,75 @@
+//! A sheet of asks, read to its end.
+
+ghost use Rattle.std.specs.Prelude.{◌≡◌, ◌≤◌, ◌<◌, ◌+◌, ◌^◌, IfOk, IfErr};
+ghost use Rattle.std.specs.Result.{result_err};
+ghost use Rattle.mdb_sheets.specs.Sheets.{ReadsCounted};
+ghost use Rattle.outer_traits.specs.Outside.{Stays};
+ghost use Rattle.archive_cli.specs.QueryEnding.{IsAskSheet, IsWaiting, SheetGiven, waits};
+ghost use Rattle.archive_cli.specs.Reading.{IsReadRefusal};
+
+use crate::read::refusal_of_opening;
+use arch_types::ask::Asks;
+use arch_types::refusal::{Refusal, Which};
+use mdb_sheets::read_asks;
+use outer_traits::inputs::Inputs;
+use std::alloc::Global;
+
+/// A sheet that was read to its end.
+#[derive(Drop)]
+pub enum AskSheet {
+    Read(Asks),
+    /// It breaks a rule, or has too many asks. That is answered once an archive is open.
+    Refused(Refusal),
+}
+
+/// Reads the sheet of a name. The source is closed whatever comes, and the count of faults rises exactly where the answer is `ReadFault`.
+pub fn read_sheet<I: Inputs>(alloc: Global, name: &str, inputs: &mut I) -> Result<AskSheet, Refusal>
+    ensures sheet { IfOk result (IsAskSheet (I.files inputs.old) name.now) }
+    ensures waiting { IfOk result IsWaiting }
+    ensures refused { IfErr result (IsReadRefusal (I.files inputs.old) name.now Which.SheetOctets (I.faults inputs.old) (I.faults inputs.new)) }
+    ensures same { I.files inputs.new ≡ I.files inputs.old }
+    ensures closed { I.open_sources inputs.old + 1 < 2 ^ 64 → I.open_sources inputs.new ≡ I.open_sources inputs.old }
+    ensures later { I.faults inputs.old ≤ I.faults inputs.new }
+    ensures counted { ReadsCounted (result_err result) (I.faults inputs.old) (I.faults inputs.new) }
+    ensures steady { I.never_fails inputs.old → Stays (I.faults inputs.old) (I.faults inputs.new) }
+{
+    match inputs.open(alloc, name) {
+        Ok(opened) => {
+            let mut source = opened;
+            let asks = read_asks(alloc, &mut source);
+            inputs.close(source);
+            sheet_of(asks)
+        }
+        Err(fault) => Err(refusal_of_opening(alloc, fault, name)),
+    }
+}
+
+/// The asks that were read, or a refusal that waits, or one that doesn't.
+fn sheet_of(asks: Result<Asks, Refusal>) -> Result<AskSheet, Refusal>
+    ensures { SheetGiven asks result }
+{
+    match asks {
+        Ok(asks) => Ok(AskSheet::Read(asks)),
+        Err(refusal) => {
+            if waits(&refusal) {
+                Ok(AskSheet::Refused(refusal))
+            } else {
+                Err(refusal)
+            }
+        }
+    }
+}
+
+/// Whether a refusal of a sheet is answered only once an archive is open.
+fn waits(refusal: &Refusal) -> bool
+    ensures { result ≡ waits refusal.now }
+{
+    matches!(
+        refusal,
+        Refusal::BadSheet { .. }
+            | Refusal::Limit {
+                which: Which::Asks,
+                ..
+            }
+    )
+}

@@ -1,0 +1,302 @@
+//! The command `load`: the packets of a dump, ingested into an archive.
+
+ghost use Rattle.std.specs.Prelude.{◌≡◌, ◌<◌, ◌≤◌, ◌+◌, ◌-◌, ◌^◌, ℕ, [], IsTrue, IfOk, IfErr, IfSome, MatchResult, None, Some, length};
+ghost use Rattle.arch_disk.specs.Disk.{raised};
+ghost use Rattle.outer_traits.specs.Outside.{IsMoment, Stays};
+ghost use Rattle.mdb_sheets.specs.Sheets.{ReadsCounted};
+ghost use Rattle.archive_cli.specs.Asked.{load_words_of};
+ghost use Rattle.archive_cli.specs.Call.{WritesCounted};
+ghost use Rattle.archive_cli.specs.LoadCaused.{IsLoadCaused};
+ghost use Rattle.archive_cli.specs.LoadEnding.{load_line, IsLoadEnding};
+ghost use Rattle.archive_cli.specs.Loading.{printed_report, IsGivenUp, IsSession, IsUnread, IsUnreadFor};
+ghost use Rattle.archive_cli.specs.Printing.{IsFinished};
+ghost use Rattle.archive_cli.specs.Received.{dump_limit, ending_of};
+ghost use Rattle.archive_cli.specs.Report.{consulted, loaded, status_at, IsLoadReport};
+
+use crate::batches::{Whole, ingest_dump};
+use crate::job::LoadWords;
+use crate::piece::Piece;
+use crate::read::refusal_of_opening;
+use crate::receive::bad_packet;
+use crate::report::{Ended, LoadCounts, Report};
+use arch_disk::Disk;
+use arch_types::octets::Octets;
+use arch_types::refusal::{BadKind, Refusal, Which};
+use archive_store::Store;
+use outer_traits::clock::Clock;
+use outer_traits::inputs::Inputs;
+use outer_traits::sink::Sink;
+use outer_traits::source::Source;
+use outer_traits::whole::{ReadFault, read_whole};
+use space_packet::dump::Why;
+use std::alloc::Global;
+
+/// Opens a dump and the archive of a disk, ingests the dump's packets in batches of 64, and prints what became of them. Room for the line is taken
+/// before.
+///
+/// Refuses, in this order: by `Missing` or `ReadFault` where the dump isn't opened; by `DiskFault`, `NoArchive` or `Damaged`; by `Limit` Links; by
+/// `ReadFault` or `Limit` DumpOctets; batch by batch by a `Limit` of the history or by `DiskFault`; by `BadPacket`; by `WriteFault`. `OutOfMemory` may come
+/// anywhere before the line.
+pub fn load<D: Disk, I: Inputs, K: Sink, C: Clock>(
+    alloc: Global,
+    words: LoadWords<'_>,
+    disk: D,
+    inputs: &mut I,
+    sink: &mut K,
+    clock: &mut C,
+) -> Ended<D>
+    requires link { 1 ≤ words.link }
+    ensures ended { IsTrue D.device.tells → (given : _) → IsLoadEnding D.device (record {
+      words = given;
+      files = I.files inputs.old;
+      moment = C.next clock.old;
+      read_faults = I.faults inputs.old;
+      read_faults' = I.faults inputs.new;
+      written = K.written sink.old;
+      written' = K.written sink.new;
+      write_faults = K.faults sink.old;
+      write_faults' = K.faults sink.new;
+    }) (load_words_of words.entry) disk result.disk result.report.refusal result.report }
+    ensures caused { (given : _) → IsLoadCaused (record {
+      words = given;
+      files = I.files inputs.old;
+      moment = C.next clock.old;
+      read_faults = I.faults inputs.old;
+      read_faults' = I.faults inputs.new;
+      written = K.written sink.old;
+      written' = K.written sink.new;
+      write_faults = K.faults sink.old;
+      write_faults' = K.faults sink.new;
+    }) (load_words_of words.entry) result.report.refusal }
+    ensures status { result.status ≡ status_at result.report.refusal }
+    ensures report { IsLoadReport (load_words_of words.entry) result.report.refusal result.report }
+    ensures same { I.files inputs.new ≡ I.files inputs.old }
+    ensures closed { I.open_sources inputs.old + 1 < 2 ^ 64 → I.open_sources inputs.new ≡ I.open_sources inputs.old }
+    ensures later { I.faults inputs.old ≤ I.faults inputs.new }
+    ensures writes_later { K.faults sink.old ≤ K.faults sink.new }
+    ensures reads_counted { ReadsCounted result.report.refusal (I.faults inputs.old) (I.faults inputs.new) }
+    ensures writes_counted { WritesCounted result.report.refusal (K.faults sink.old) (K.faults sink.new) }
+    ensures steady { I.never_fails inputs.old → Stays (I.faults inputs.old) (I.faults inputs.new) }
+    ensures disk_later { D.device.fault_count disk ≤ D.device.fault_count result.disk }
+    ensures disk_fault { result.report.refusal ≡ Some Refusal.DiskFault → raised (D.device.fault_count disk) ≤ D.device.fault_count result.disk }
+{
+    let Ok(piece) = Piece::new(alloc) else {
+        return Ended::unopened(disk, Some(Refusal::OutOfMemory));
+    };
+    let mut source = match inputs.open(alloc, words.dump) {
+        Ok(source) => source,
+        Err(fault) => {
+            return Ended::unopened(disk, Some(refusal_of_opening(alloc, fault, words.dump)));
+        }
+    };
+    let store = match Store::open(alloc, disk) {
+        Ok(store) => store,
+        Err((disk, refusal)) => {
+            inputs.close(source);
+            return Ended::unopened(disk, Some(refusal));
+        }
+    };
+    let received = read_dump(alloc, &mut source, words.link);
+    inputs.close(source);
+    match received {
+        Ok(received) => {
+            let moment = clock.now();
+            load_dump(alloc, store, &received, moment, piece, sink)
+        }
+        Err(unread) => nothing_loaded(store, unread),
+    }
+}
+
+/// A dump that was read to its end, and the link that it came by.
+#[derive(Drop)]
+struct Received {
+    link: u16,
+    dump: Octets,
+}
+
+/// Why a dump wasn't read to its end.
+#[derive(Drop)]
+struct Unread {
+    refusal: Refusal,
+    /// The link of a dump that is too long.
+    link: Option<u16>,
+}
+
+/// Reads a dump to its end, where there's a link of its number.
+fn read_dump<S: Source>(alloc: Global, source: &mut S, link: u64) -> Result<Received, Unread>
+    ensures whole { IfOk result (λ received. IfSome (S.left source.old) (λ left. left ≡ received.dump)) }
+    ensures short { IfOk result (λ received. length received.dump ≤ dump_limit) }
+    ensures link { IfOk result (λ received. (received.link ≡ link) × (received.link ≤ 255)) }
+    ensures unread { IfErr result (λ unread. IsUnread (S.left source.old) link unread.refusal unread.link) }
+    ensures counted { MatchResult result (λ _. Stays (S.faults source.old) (S.faults source.new)) (λ unread. ReadsCounted (Some unread.refusal) (S.faults source.old) (S.faults source.new)) }
+    ensures later { S.faults source.old ≤ S.faults source.new }
+    ensures steady { S.never_fails source.old → Stays (S.faults source.old) (S.faults source.new) }
+{
+    let link = link_numbered(link)?;
+    match read_whole(alloc, source, Which::DumpOctets.limit() as usize) {
+        Ok(octets) => match Octets::from_vec(alloc, octets) {
+            Ok(dump) => Ok(Received { link, dump }),
+            Err(_) => Err(Unread::of(Refusal::OutOfMemory)),
+        },
+        Err(fault) => Err(unread_for(fault, link)),
+    }
+}
+
+/// The link with a number.
+fn link_numbered(link: u64) -> Result<u16, Unread>
+    ensures link { IfOk result (λ number. (number ≡ link) × (number ≤ 255)) }
+    ensures none { IfErr result (λ unread. (unread.refusal ≡ Refusal.Limit Which.Links 255) × (unread.link ≡ None) × (255 < link)) }
+{
+    if link > Which::Links.limit() {
+        return Err(Unread::of(Refusal::Limit {
+            which: Which::Links,
+            number: Which::Links.limit(),
+        }));
+    }
+    Ok(link as u16)
+}
+
+impl Unread {
+    /// A dump that wasn't read, but not because of its length.
+    fn of(refusal: Refusal) -> Unread
+        ensures refusal { result.refusal ≡ refusal }
+        ensures link { result.link ≡ None }
+    {
+        Unread {
+            refusal,
+            link: None,
+        }
+    }
+}
+
+/// A dump of a link that wasn't read because of a fault.
+fn unread_for(fault: ReadFault, link: u16) -> Unread
+    ensures { IsUnreadFor fault link result.refusal result.link }
+{
+    match fault {
+        ReadFault::Failed => Unread::of(Refusal::ReadFault),
+        ReadFault::TooLong => Unread {
+            refusal: Refusal::Limit {
+                which: Which::DumpOctets,
+                number: Which::DumpOctets.limit(),
+            },
+            link: Some(link),
+        },
+        ReadFault::OutOfMemory | ReadFault::Missing => Unread::of(Refusal::OutOfMemory),
+    }
+}
+
+/// The ending of a load that ingested nothing, since its dump wasn't read.
+fn nothing_loaded<D: Disk>(store: Store<D>, unread: Unread) -> Ended<D>
+    ensures given_up { IsGivenUp D.device store result.disk }
+    ensures report { result.report ≡ record (consulted (Some unread.refusal) (length store.history)) { link = unread.link } }
+    ensures status { result.status ≡ status_at (Some unread.refusal) }
+{
+    let rows = store.front();
+    let mut report = Report::consulted(Some(unread.refusal), rows);
+    report.link = unread.link;
+    Ended::of(store.into_disk(), report)
+}
+
+/// Ingests the packets of a dump that was received at a moment, in milliseconds since 1970, and prints what became of them.
+fn load_dump<D: Disk, K: Sink>(
+    alloc: Global,
+    store: Store<D>,
+    received: &Received,
+    moment: i64,
+    piece: Piece,
+    sink: &mut K,
+) -> Ended<D>
+    requires short { length received.now.dump ≤ dump_limit }
+    requires link { (1 ≤ received.now.link) × (received.now.link ≤ 255) }
+    requires moment { IsMoment moment }
+    requires empty { piece ≡ [] }
+    requires calm { store.fills ≡ [] }
+    ensures session { IsSession D.device store received.now.dump received.now.link moment (K.written sink.old) (K.written sink.new) result.disk result.report }
+    ensures status { result.status ≡ status_at result.report.refusal }
+    ensures reads_counted { (faults : ℕ) → ReadsCounted result.report.refusal faults faults }
+    ensures writes_counted { WritesCounted result.report.refusal (K.faults sink.old) (K.faults sink.new) }
+    ensures writes_later { K.faults sink.old ≤ K.faults sink.new }
+{
+    let mut store = store;
+    let before = store.front();
+    match ingest_dump(alloc, &mut store, &received.dump, received.link, moment) {
+        Ok(whole) => match refusal_of_rest(&whole) {
+            None => print(store, before, whole, piece, sink),
+            Some(refusal) => stopped(store, before, Some(received.link), refusal),
+        },
+        Err(refusal) => stopped(store, before, None, refusal),
+    }
+}
+
+/// The refusal of a dump whose rest isn't empty.
+fn refusal_of_rest(whole: &Whole) -> Option<Refusal>
+    ensures { result ≡ ending_of whole.now.why whole.now.at }
+{
+    match whole.why {
+        Why::End => None,
+        Why::Version => Some(bad_packet(whole.at, BadKind::Version)),
+        Why::Truncated => Some(bad_packet(whole.at, BadKind::Truncated)),
+    }
+}
+
+/// The ending of a load that was refused after some packets were ingested.
+fn stopped<D: Disk>(store: Store<D>, before: u64, link: Option<u16>, refusal: Refusal) -> Ended<D>
+    requires { before ≤ length store.history }
+    ensures given_up { IsGivenUp D.device store result.disk }
+    ensures report { result.report ≡ loaded (Some refusal) link before (length store.history) 0 0 0 }
+    ensures status { result.status ≡ status_at (Some refusal) }
+{
+    let after = store.front();
+    let report = Report::loaded(Some(refusal), link, before, after, LoadCounts::default());
+    Ended::of(store.into_disk(), report)
+}
+
+/// Prints what became of the packets of a whole dump.
+fn print<D: Disk, K: Sink>(
+    store: Store<D>,
+    before: u64,
+    whole: Whole,
+    piece: Piece,
+    sink: &mut K,
+) -> Ended<D>
+    requires empty { piece ≡ [] }
+    requires grown { before ≤ length store.history }
+    requires counts { whole.idle + length store.history ≤ whole.packets + before }
+    ensures given_up { IsGivenUp D.device store result.disk }
+    ensures finished { IsFinished result.report.refusal (K.written sink.old) (K.written sink.new)
+        (load_line whole.packets (length store.history - before) (whole.packets - whole.idle - (length store.history - before)) whole.idle (length store.history)) }
+    ensures report { result.report ≡ printed_report result.report.refusal before (length store.history) whole.packets whole.idle }
+    ensures status { result.status ≡ status_at result.report.refusal }
+    ensures writes_counted { WritesCounted result.report.refusal (K.faults sink.old) (K.faults sink.new) }
+    ensures writes_later { K.faults sink.old ≤ K.faults sink.new }
+{
+    let mut piece = piece;
+    let after = store.front();
+    let counts = LoadCounts {
+        packets: whole.packets,
+        duplicates: whole.packets - whole.idle - (after - before),
+        idle: whole.idle,
+    };
+    put_line(&mut piece, counts, after - before, after);
+    match piece.finish(sink) {
+        None => Ended::of(
+            store.into_disk(),
+            Report::loaded(None, None, before, after, counts),
+        ),
+        Some(refusal) => stopped(store, before, None, refusal),
+    }
+}
+
+/// Adds the last line.
+fn put_line(piece: &mut Piece, counts: LoadCounts, new: u64, rows: u64)
+    requires { piece.old ≡ [] }
+    ensures { piece.new ≡ load_line counts.packets new counts.duplicates counts.idle rows }
+{
+    piece.put_number(b"load packets ", counts.packets);
+    piece.put_number(b" new ", new);
+    piece.put_number(b" duplicates ", counts.duplicates);
+    piece.put_number(b" idle ", counts.idle);
+    piece.put_number(b" rows ", rows);
+    piece.put(b"\n");
+}

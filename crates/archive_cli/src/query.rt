@@ -1,0 +1,283 @@
+//! The command `query`: the answers of an archive to a sheet of asks.
+
+ghost use Rattle.std.specs.Prelude.{◌≡◌, ◌≤◌, ◌<◌, ◌+◌, ◌^◌, ◌++◌, ℕ, List, [], IsTrue, None, Some, OnOk, OnErr, IfOk, IfErr, length, true};
+ghost use Rattle.std.specs.Result.{result_err};
+ghost use Rattle.arch_disk.specs.Disk.{raised};
+ghost use Rattle.arch_types.specs.declared.refusal.Refusal.TheVariants.{DiskFault};
+ghost use Rattle.mdb_sheets.specs.Sheets.{ReadsCounted};
+ghost use Rattle.outer_traits.specs.Outside.{Stays, WritesSome};
+ghost use Rattle.archive_cli.specs.AnswerText.{ask_refusal, ask_text, asks_refusal, asks_text};
+ghost use Rattle.archive_cli.specs.Call.{Call, WritesCounted};
+ghost use Rattle.archive_cli.specs.Caused.{IsQueryCaused};
+ghost use Rattle.archive_cli.specs.Printing.{HasMoved};
+ghost use Rattle.archive_cli.specs.QueryEnding.{IsAskSheet, IsQueryEnding, IsReply, IsSheetReply};
+ghost use Rattle.archive_cli.specs.Report.{status_at, IsConsulting};
+ghost use Rattle.archive_cli.specs.ValuesPrinting.{PrintCounted, refusal_of_print};
+
+use crate::answer::{answer_request, number_of};
+use crate::answer_text::print_found;
+use crate::ask_sheet::{AskSheet, read_sheet};
+use crate::piece::Piece;
+use crate::print_fault::PrintFault;
+use crate::report::{Ended, Report};
+use arch_disk::Disk;
+use arch_types::ask::{Ask, Request};
+use arch_types::refusal::Refusal;
+use archive_store::Store;
+use mdb_model::Mdb;
+use outer_traits::inputs::Inputs;
+use outer_traits::sink::Sink;
+use std::alloc::Global;
+
+/// Answers the asks of a sheet over the whole history of a disk's archive.
+///
+/// Refuses, in this order: by `Missing`, `ReadFault` or `Limit` SheetOctets; by `DiskFault`, `NoArchive` or `Damaged`; by `BadSheet`; by `Limit` Asks;
+/// each ask in turn by `UnknownParameter`, then by `BadRange`; by `WriteFault`. `OutOfMemory` may come anywhere, also after some answers.
+pub fn query<D: Disk, I: Inputs, K: Sink>(
+    alloc: Global,
+    name: &str,
+    disk: D,
+    inputs: &mut I,
+    sink: &mut K,
+) -> Ended<D>
+    ensures ended { IsTrue D.device.tells → (given : _) (moment : _) → IsQueryEnding D.device (record {
+      words = given;
+      files = I.files inputs.old;
+      moment = moment;
+      read_faults = I.faults inputs.old;
+      read_faults' = I.faults inputs.new;
+      written = K.written sink.old;
+      written' = K.written sink.new;
+      write_faults = K.faults sink.old;
+      write_faults' = K.faults sink.new;
+    }) name.now disk result.disk result.report.refusal result.report }
+    ensures caused { (given : _) (moment : _) → IsQueryCaused (record {
+      words = given;
+      files = I.files inputs.old;
+      moment = moment;
+      read_faults = I.faults inputs.old;
+      read_faults' = I.faults inputs.new;
+      written = K.written sink.old;
+      written' = K.written sink.new;
+      write_faults = K.faults sink.old;
+      write_faults' = K.faults sink.new;
+    }) name.now result.report.refusal }
+    ensures status { result.status ≡ status_at result.report.refusal }
+    ensures report { IsConsulting result.report.refusal result.report }
+    ensures same { I.files inputs.new ≡ I.files inputs.old }
+    ensures closed { I.open_sources inputs.old + 1 < 2 ^ 64 → I.open_sources inputs.new ≡ I.open_sources inputs.old }
+    ensures later { I.faults inputs.old ≤ I.faults inputs.new }
+    ensures writes_later { K.faults sink.old ≤ K.faults sink.new }
+    ensures reads_counted { ReadsCounted result.report.refusal (I.faults inputs.old) (I.faults inputs.new) }
+    ensures writes_counted { WritesCounted result.report.refusal (K.faults sink.old) (K.faults sink.new) }
+    ensures steady { I.never_fails inputs.old → Stays (I.faults inputs.old) (I.faults inputs.new) }
+    ensures disk_later { D.device.fault_count disk ≤ D.device.fault_count result.disk }
+    ensures disk_fault { result.report.refusal ≡ Some DiskFault → raised (D.device.fault_count disk) ≤ D.device.fault_count result.disk }
+{
+    match read_sheet(alloc, name, inputs) {
+        Ok(sheet) => ask_archive(alloc, sheet, disk, sink),
+        Err(refusal) => Ended::unopened(disk, Some(refusal)),
+    }
+}
+
+/// Opens the archive of a disk, and answers the asks of a sheet.
+fn ask_archive<D: Disk, K: Sink>(alloc: Global, sheet: AskSheet, disk: D, sink: &mut K) -> Ended<D>
+    requires { IsWaiting sheet }
+    ensures ended { IsTrue D.device.tells → (given : _) (files : _) (moment : _) (read_faults : _) (read_faults' : _) (name : _) →
+        IsAskSheet files name sheet → IsQueryEnding D.device (record {
+          words = given;
+          files = files;
+          moment = moment;
+          read_faults = read_faults;
+          read_faults' = read_faults';
+          written = K.written sink.old;
+          written' = K.written sink.new;
+          write_faults = K.faults sink.old;
+          write_faults' = K.faults sink.new;
+        }) name disk result.disk result.report.refusal result.report }
+    ensures caused { (call : Call) (name : List ℕ) → IsAskSheet call.files name sheet → IsQueryCaused call name result.report.refusal }
+    ensures status { result.status ≡ status_at result.report.refusal }
+    ensures report { IsConsulting result.report.refusal result.report }
+    ensures reads_counted { (faults : ℕ) → ReadsCounted result.report.refusal faults faults }
+    ensures writes_counted { WritesCounted result.report.refusal (K.faults sink.old) (K.faults sink.new) }
+    ensures writes_later { K.faults sink.old ≤ K.faults sink.new }
+    ensures disk_later { D.device.fault_count disk ≤ D.device.fault_count result.disk }
+    ensures disk_fault { result.report.refusal ≡ Some DiskFault → raised (D.device.fault_count disk) ≤ D.device.fault_count result.disk }
+{
+    let Ok(piece) = Piece::new(alloc) else {
+        return Ended::unopened(disk, Some(Refusal::OutOfMemory));
+    };
+    let mut store = match Store::open(alloc, disk) {
+        Ok(store) => store,
+        Err((disk, refusal)) => return Ended::unopened(disk, Some(refusal)),
+    };
+    let rows = store.front();
+    let refusal = answer_sheet(alloc, sheet, &mut store, piece, sink);
+    Ended::of(store.into_disk(), Report::consulted(refusal, rows))
+}
+
+/// Prints the answers to a sheet, or says why it is refused.
+fn answer_sheet<D: Disk, K: Sink>(
+    alloc: Global,
+    sheet: AskSheet,
+    store: &mut Store<D>,
+    piece: Piece,
+    sink: &mut K,
+) -> Option<Refusal>
+    requires { piece ≡ [] }
+    ensures reply { IsSheetReply store.old.head.mdb store.old.history sheet result (K.written sink.old) (K.written sink.new) (K.faults sink.old) (K.faults sink.new) }
+    ensures writes_later { K.faults sink.old ≤ K.faults sink.new }
+    ensures same { store.new ≡ store.old }
+{
+    match sheet {
+        AskSheet::Refused(refusal) => Some(refusal),
+        AskSheet::Read(asks) => {
+            let asks = asks.as_slice();
+            match asks_refusal(&store.head().mdb, asks) {
+                Some(refusal) => Some(refusal),
+                None => answer_asks(alloc, asks, store, piece, sink),
+            }
+        }
+    }
+}
+
+/// The refusal of the first ask that isn't answered.
+fn asks_refusal(mdb: &Mdb, asks: &[Ask]) -> Option<Refusal>
+    ensures { result ≡ asks_refusal mdb.now asks.now }
+{
+    for ask in asks {
+        match ask_refusal(mdb, ask) {
+            Some(refusal) => return Some(refusal),
+            None => {}
+        }
+    }
+    None
+}
+
+/// Why an ask isn't answered.
+fn ask_refusal(mdb: &Mdb, ask: &Ask) -> Option<Refusal>
+    ensures { result ≡ ask_refusal mdb.now ask.now }
+{
+    match ask {
+        Ask::Values(request) => request_refusal(mdb, request),
+        Ask::Replay(_) => None,
+    }
+}
+
+/// Why a request isn't answered: its parameter is unknown, or else its range ends before it begins.
+fn request_refusal(mdb: &Mdb, request: &Request) -> Option<Refusal>
+    ensures { result ≡ request_refusal (number_named mdb.now request.now.parameter) request.now }
+{
+    match number_of(mdb, &request.parameter) {
+        None => Some(Refusal::UnknownParameter),
+        Some(_) => range_refusal(request),
+    }
+}
+
+/// Why a range is none: it ends before it begins.
+fn range_refusal(request: &Request) -> Option<Refusal>
+    ensures { result ≡ range_refusal request.now }
+{
+    if request.to < request.from {
+        return Some(Refusal::BadRange {
+            from: request.from,
+            to: request.to,
+        });
+    }
+    None
+}
+
+ghost use Rattle.archive_cli.specs.AnswerText.{range_refusal, request_refusal};
+ghost use Rattle.archive_cli.specs.Parameter.{number_named};
+ghost use Rattle.archive_cli.specs.QueryEnding.{IsWaiting};
+
+/// Prints the answers to asks, of which none is refused.
+fn answer_asks<D: Disk, K: Sink>(
+    alloc: Global,
+    asks: &[Ask],
+    store: &mut Store<D>,
+    piece: Piece,
+    sink: &mut K,
+) -> Option<Refusal>
+    requires known { asks_refusal store.old.head.mdb asks.now ≡ None }
+    requires empty { piece ≡ [] }
+    ensures reply { IsReply store.old.head.mdb store.old.history asks.now result (K.written sink.old) (K.written sink.new) (K.faults sink.old) (K.faults sink.new) }
+    ensures writes_later { K.faults sink.old ≤ K.faults sink.new }
+    ensures same { store.new ≡ store.old }
+{
+    let mut piece = piece;
+    match print_asks(alloc, asks, store, &mut piece, sink) {
+        Ok(()) => piece.finish(sink),
+        Err(PrintFault::Write) => Some(Refusal::WriteFault),
+        Err(PrintFault::OutOfMemory) => Some(Refusal::OutOfMemory),
+    }
+}
+
+/// Prints the answers to asks, numbered from 1, of which the last may still be held.
+fn print_asks<D: Disk, K: Sink>(
+    alloc: Global,
+    asks: &[Ask],
+    store: &mut Store<D>,
+    piece: &mut Piece,
+    sink: &mut K,
+) -> Result<(), PrintFault>
+    requires known { asks_refusal store.old.head.mdb asks.now ≡ None }
+    requires empty { piece.old ≡ [] }
+    ensures moved { OnOk result (HasMoved (K.written sink.old) (K.written sink.new) (asks_text store.old.head.mdb store.old.history 1 asks.now) piece.new) }
+    ensures some { OnErr result (WritesSome (K.written sink.old) (K.written sink.new) (asks_text store.old.head.mdb store.old.history 1 asks.now)) }
+    ensures later { K.faults sink.old ≤ K.faults sink.new }
+    ensures counted { PrintCounted (result_err result) (K.faults sink.old) (K.faults sink.new) }
+    ensures same { store.new ≡ store.old }
+{
+    for (i, ask) in asks.iter().enumerate() {
+        print_ask(alloc, i as u64 + 1, ask, store, piece, sink)?;
+    }
+    Ok(())
+}
+
+/// Prints the answer to the ask with number `k`, counted from 1. The answer's end may still be held.
+fn print_ask<D: Disk, K: Sink>(
+    alloc: Global,
+    k: u64,
+    ask: &Ask,
+    store: &mut Store<D>,
+    piece: &mut Piece,
+    sink: &mut K,
+) -> Result<(), PrintFault>
+    requires known { ask_refusal store.old.head.mdb ask.now ≡ None }
+    requires room { length piece.old < 65536 }
+    ensures moved { OnOk result (HasMoved (K.written sink.old) (K.written sink.new) (piece.old ++ ask_text store.old.head.mdb store.old.history k ask.now) piece.new) }
+    ensures room { OnOk result (length piece.new < 65536) }
+    ensures some { OnErr result (WritesSome (K.written sink.old) (K.written sink.new) (piece.old ++ ask_text store.old.head.mdb store.old.history k ask.now)) }
+    ensures later { K.faults sink.old ≤ K.faults sink.new }
+    ensures counted { PrintCounted (result_err result) (K.faults sink.old) (K.faults sink.new) }
+    ensures same { store.new ≡ store.old }
+{
+    match ask {
+        Ask::Values(request) => print_values(alloc, k, request, store, piece, sink),
+        Ask::Replay(_) => Ok(()),
+    }
+}
+
+/// Prints the answer to a request, the ask with number `k`. The answer's end may still be held.
+fn print_values<D: Disk, K: Sink>(
+    alloc: Global,
+    k: u64,
+    request: &Request,
+    store: &mut Store<D>,
+    piece: &mut Piece,
+    sink: &mut K,
+) -> Result<(), PrintFault>
+    requires known { request_refusal (number_named store.old.head.mdb request.now.parameter) request.now ≡ None }
+    requires room { length piece.old < 65536 }
+    ensures moved { OnOk result (HasMoved (K.written sink.old) (K.written sink.new) (piece.old ++ ask_text store.old.head.mdb store.old.history k (Ask.Values request.now)) piece.new) }
+    ensures room { OnOk result (length piece.new < 65536) }
+    ensures some { OnErr result (WritesSome (K.written sink.old) (K.written sink.new) (piece.old ++ ask_text store.old.head.mdb store.old.history k (Ask.Values request.now))) }
+    ensures later { K.faults sink.old ≤ K.faults sink.new }
+    ensures counted { PrintCounted (result_err result) (K.faults sink.old) (K.faults sink.new) }
+    ensures same { store.new ≡ store.old }
+{
+    let found = answer_request(alloc, store, request)?;
+    print_found(k, &found, piece, sink)?;
+    Ok(())
+}

@@ -1,0 +1,63 @@
+//! The command `recover`: what an archive holds.
+
+ghost use Rattle.std.specs.Prelude.{◌≡◌, ◌≤◌, ℕ, [], IsTrue, Some};
+ghost use Rattle.arch_disk.specs.Disk.{raised};
+ghost use Rattle.mdb_sheets.specs.Sheets.{ReadsCounted};
+ghost use Rattle.archive_cli.specs.Call.{WritesCounted};
+ghost use Rattle.archive_cli.specs.Caused.{IsRecoverCaused};
+ghost use Rattle.archive_cli.specs.RecoverEnding.{IsRecoverEnding, recover_line};
+ghost use Rattle.archive_cli.specs.Report.{status_at, IsConsulting};
+
+use crate::piece::Piece;
+use crate::report::{Ended, Report};
+use arch_disk::Disk;
+use arch_types::refusal::Refusal;
+use archive_store::Store;
+use outer_traits::sink::Sink;
+use std::alloc::Global;
+
+/// Opens the archive of a disk, and prints how many rows it has. Room for the line is taken before.
+///
+/// Refuses, in this order: by `DiskFault`, `NoArchive` or `Damaged`; by `WriteFault`. `OutOfMemory` may come anywhere before the line.
+pub fn recover<D: Disk, K: Sink>(alloc: Global, disk: D, sink: &mut K) -> Ended<D>
+    ensures ended { IsTrue D.device.tells → (words : _) (files : _) (moment : _) (read_faults : _) → IsRecoverEnding D.device (record {
+      words = words;
+      files = files;
+      moment = moment;
+      read_faults = read_faults;
+      read_faults' = read_faults;
+      written = K.written sink.old;
+      written' = K.written sink.new;
+      write_faults = K.faults sink.old;
+      write_faults' = K.faults sink.new;
+    }) disk result.disk result.report.refusal result.report }
+    ensures caused { IsRecoverCaused result.report.refusal }
+    ensures status { result.status ≡ status_at result.report.refusal }
+    ensures report { IsConsulting result.report.refusal result.report }
+    ensures reads_counted { (faults : ℕ) → ReadsCounted result.report.refusal faults faults }
+    ensures writes_counted { WritesCounted result.report.refusal (K.faults sink.old) (K.faults sink.new) }
+    ensures writes_later { K.faults sink.old ≤ K.faults sink.new }
+    ensures disk_later { D.device.fault_count disk ≤ D.device.fault_count result.disk }
+    ensures disk_fault { result.report.refusal ≡ Some Refusal.DiskFault → raised (D.device.fault_count disk) ≤ D.device.fault_count result.disk }
+{
+    let Ok(mut piece) = Piece::new(alloc) else {
+        return Ended::unopened(disk, Some(Refusal::OutOfMemory));
+    };
+    let store = match Store::open(alloc, disk) {
+        Ok(store) => store,
+        Err((disk, refusal)) => return Ended::unopened(disk, Some(refusal)),
+    };
+    let rows = store.front();
+    put_line(&mut piece, rows);
+    let refusal = piece.finish(sink);
+    Ended::of(store.into_disk(), Report::consulted(refusal, rows))
+}
+
+/// Adds the one line.
+fn put_line(piece: &mut Piece, rows: u64)
+    requires { piece.old ≡ [] }
+    ensures { piece.new ≡ recover_line rows }
+{
+    piece.put_number(b"recovered rows ", rows);
+    piece.put(b" filled 0\n");
+}
