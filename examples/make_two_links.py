@@ -1,6 +1,8 @@
 #!/usr/bin/env python3
-"""Makes two-links.dump, and what `cudrakh` prints of it: two-links.scan for `scan`, and two-links.values for `values` by the sheets that lie beside
-them, of the parameters mode, temp, volt and current one after the other. The expected texts are computed here, by nothing of the program.
+"""Makes the dumps of two links, link-1.dump and link-2.dump, and two-links.dump, which is both, one after the other; and what `cudrakh` prints of them:
+two-links.scan for `scan`, two-links.values for `values` by the sheets that lie beside them, of the parameters mode, temp, volt and current one after
+the other, and archive.out for `create`, `load` of each link's dump, `query --ask asks.csv` and `recover`. The expected texts are computed here, by
+nothing of the program.
 
 A satellite is heard by two ground stations, one after the other, for a few minutes each, with half a minute in common. Housekeeping (APID 100)
 comes every second, science (APID 101) every three. While the second station listens, the satellite also plays back an hour that nobody heard.
@@ -44,7 +46,7 @@ def heard(first, last):
             yield science(g)
 
 
-def dump():
+def links():
     one = list(heard(3600, 3780))
     one.insert(40, packet(200, 1, START + 3613, 0, b"\x11\x22", telecommand=True))
     one.insert(90, idle(0, 64))
@@ -55,7 +57,13 @@ def dump():
         both += two[i : i + 1] + played_back[i : i + 1]
         if i % 50 == 49:
             both.append(idle(i, 16))
-    return one + both
+    return one, both
+
+
+def key_of(p):
+    """The time in milliseconds, and the first four octets as a number."""
+    seconds, fraction = struct.unpack(">IH", p[6:12])
+    return 1000 * seconds + fraction * 1000 // 65536, struct.unpack(">I", p[:4])[0]
 
 
 def scan(packets):
@@ -64,8 +72,7 @@ def scan(packets):
         if (p[0] & 7) << 8 | p[1] == 2047:
             idles += 1
             continue
-        seconds, fraction = struct.unpack(">IH", p[6:12])
-        key = (1000 * seconds + fraction * 1000 // 65536, struct.unpack(">I", p[:4])[0])
+        key = key_of(p)
         if key in rows:
             duplicates += 1
         else:
@@ -101,18 +108,56 @@ def cell(name, p):
     return current, current
 
 
-def values(packets, name):
+def cells(packets, name):
     first = {}
     for p in packets:
         if (p[0] & 7) << 8 | p[1] == 100:
-            seconds, fraction = struct.unpack(">IH", p[6:12])
-            first.setdefault((1000 * seconds + fraction * 1000 // 65536, struct.unpack(">I", p[:4])[0]), p)
-    cells = [(key, cell(name, p)) for key, p in sorted(first.items())]
-    lines = [f"cell {time} {seq} {c[0]} {c[1]}" for (time, seq), c in cells if c]
-    return "".join(line + "\n" for line in lines + [f"values {len(lines)}"])
+            first.setdefault(key_of(p), p)
+    return [(key, cell(name, p)) for key, p in sorted(first.items()) if cell(name, p)]
 
 
-packets = dump()
+def text(lines):
+    return "".join(line + "\n" for line in lines)
+
+
+def cell_line(found):
+    (time, seq), (raw, value) = found
+    return f"cell {time} {seq} {raw} {value}"
+
+
+def values(packets, name):
+    lines = [cell_line(c) for c in cells(packets, name)]
+    return text(lines + [f"values {len(lines)}"])
+
+
+def load(before, packets):
+    """The line of a load, and the keys that the archive has afterwards."""
+    arrived = [key_of(p) for p in packets if (p[0] & 7) << 8 | p[1] != 2047]
+    after = before | set(arrived)
+    new = len(after) - len(before)
+    idles = len(packets) - len(arrived)
+    return f"load packets {len(packets)} new {new} duplicates {len(arrived) - new} idle {idles} rows {len(after)}", after
+
+
+def archive(one, both):
+    """What the commands on an archive print, with the asks of asks.csv."""
+    first, keys = load(set(), one)
+    second, keys = load(keys, both)
+    hour = 1000 * (START + 3600)
+    lines = ["created tables 1 parameters 8 containers 4", first, second]
+    for k, (name, start, end, step, limit) in enumerate(
+        [("temp", hour, hour + 5000, 1, None), ("current", hour - 3600000, hour + 3600000, -1, 3), ("mode", hour - 300000, hour - 200000, 1, None)]
+    ):
+        found = [c for c in cells(one + both, name) if start <= c[0][0] < end][::step][:limit]
+        lines += [f"ask {k + 1} front {len(keys)}"] + [cell_line(c) for c in found] + [f"end {len(found)}"]
+    return text(lines + [f"recovered rows {len(keys)} filled 0"])
+
+
+one, both = links()
+packets = one + both
+open("link-1.dump", "wb").write(b"".join(one))
+open("link-2.dump", "wb").write(b"".join(both))
+open("archive.out", "w").write(archive(one, both))
 open("two-links.dump", "wb").write(b"".join(packets))
 open("two-links.scan", "w").write(scan(packets))
 open("two-links.values", "w").write("".join(values(packets, name) for name in ("mode", "temp", "volt", "current")))
