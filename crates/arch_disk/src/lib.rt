@@ -26,6 +26,3 @@ pub use files::Files;
 pub use history::{Call, Write};
 pub use memory::MemDisk;
 pub use silent::Silent;
-
-#[cfg(test)]
-mod tests;

@@ -23,5 +23,3 @@ pub mod row;
 pub mod spans;
 pub mod steps;
 pub mod tables;
-#[cfg(test)]
-mod tests;

@@ -14,5 +14,3 @@
 
 pub mod fills;
 pub mod laws;
-#[cfg(test)]
-mod tests;

@@ -31,6 +31,3 @@ pub use batch::{Arrival, Arrivals, Batch, Ingested};
 pub use head::Head;
 pub use plan::{Part, Parts, Plan};
 pub use store::Store;
-
-#[cfg(test)]
-mod tests;

@@ -18,5 +18,3 @@ pub mod entries;
 pub mod index;
 pub mod removal;
 pub mod search;
-#[cfg(test)]
-mod tests;

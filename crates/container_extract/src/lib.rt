@@ -17,8 +17,6 @@ mod extraction;
 mod fields;
 pub mod laws;
 mod taken;
-#[cfg(test)]
-mod tests;
 pub mod values;
 
 pub use extraction::{Extracted, extract, packet_name};

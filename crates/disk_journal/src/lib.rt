@@ -25,6 +25,3 @@ pub use fault::JournalFault;
 pub use frame::Frame;
 pub use journal::{Extent, Journal, Trouble};
 pub use opening::Opening;
-
-#[cfg(test)]
-mod tests;

@@ -25,6 +25,3 @@ pub use entry::Entry;
 pub use fault::NotAnEntry;
 pub use reading::{read_entry, read_shared};
 pub use writing::write_entry;
-
-#[cfg(test)]
-mod tests;

@@ -13,6 +13,4 @@
 
 pub mod histogram;
 pub mod tally;
-#[cfg(test)]
-mod tests;
 mod walk;

@@ -16,5 +16,3 @@
 mod books;
 pub mod mark;
 pub mod marks;
-#[cfg(test)]
-mod tests;

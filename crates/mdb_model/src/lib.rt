@@ -37,8 +37,6 @@ mod sheet;
 mod sheet_rows;
 mod sheets;
 mod spelling;
-#[cfg(test)]
-mod tests;
 mod texts;
 
 pub use calibration::{Calibration, EnumRow, PointsRow, PolyRow, Table};

@@ -22,8 +22,6 @@ mod mdb;
 mod records;
 mod refusal;
 mod sheet;
-#[cfg(test)]
-mod tests;
 
 pub use asks::read_asks;
 pub use mdb::read_mdb;

@@ -22,6 +22,3 @@ pub mod writing;
 pub use fault::{DecodeError, Short};
 pub use reading::{i64_at, i128_at, name_at, octets_at, room_for, u8_at, u16_at, u32_at, u64_at};
 pub use writing::{put_i64, put_i128, put_name, put_u8, put_u16, put_u32, put_u64};
-
-#[cfg(test)]
-mod tests;

@@ -16,8 +16,6 @@ mod disk;
 mod folder;
 mod inputs;
 mod sink;
-#[cfg(test)]
-mod tests;
 
 pub use clock::RealClock;
 pub use disk::RealDisk;

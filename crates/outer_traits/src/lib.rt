@@ -20,6 +20,4 @@ pub mod mem_inputs;
 pub mod mem_sink;
 pub mod sink;
 pub mod source;
-#[cfg(test)]
-mod tests;
 pub mod whole;

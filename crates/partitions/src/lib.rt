@@ -22,6 +22,4 @@ mod names;
 mod orders;
 pub mod partition;
 pub mod partitions;
-#[cfg(test)]
-mod tests;
 mod wanted;

@@ -16,5 +16,3 @@ pub mod header;
 pub mod key;
 pub mod packets;
 pub mod split;
-#[cfg(test)]
-mod tests;

@@ -16,8 +16,6 @@ mod civil;
 mod day;
 mod digits;
 mod reading;
-#[cfg(test)]
-mod tests;
 mod writing;
 
 pub use day::{day_name, day_of};

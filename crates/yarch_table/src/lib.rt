@@ -17,5 +17,3 @@
 pub mod laws;
 pub mod rows;
 pub mod table;
-#[cfg(test)]
-mod tests;

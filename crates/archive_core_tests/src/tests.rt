@@ -1,0 +1,31 @@
+//! A reopen over each kind of item.
+
+use archive_core::fills::{Fill, settle};
+use arch_types::interval::Interval;
+use arch_types::row::Rows;
+use std::test::*;
+
+#[test]
+fn a_reopen_settles_faults(rt: HostRuntime) -> Result<(), Fail> {
+    let alloc = rt.alloc();
+    let interval = Interval(0);
+    let mut fills = Vec::new(alloc);
+    fills.push(Fill::Begun { interval, base: 1 })?;
+    for (count, wrote) in [(2, true), (3, false), (4, true)] {
+        fills.push(Fill::Fault {
+            count,
+            wrote,
+            rows: Rows::new(alloc),
+        })?;
+    }
+    fills.push(Fill::Done { interval, base: 1 })?;
+    fills.push(Fill::Freed { interval })?;
+    settle(&mut fills);
+    assert_eq!(rt; fills.len(), 6);
+    for fill in &fills {
+        assert!(rt; !matches!(fill, Fill::Fault { wrote: true, .. }));
+    }
+    assert!(rt; matches!(fills[3], Fill::Fault { count: 4, .. }));
+    assert!(rt; matches!(fills[4], Fill::Done { base: 1, .. }));
+    Ok(())
+}

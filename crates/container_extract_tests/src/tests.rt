@@ -1,0 +1,209 @@
+//! Worked packets and fields, and that each call succeeds with ample memory.
+
+ghost use Rattle.std.specs.Prelude.{◌≡◌, ◌<◌};
+
+use container_extract::chain::Chain;
+use container_extract::values::{ParameterValue, Values};
+use container_extract::{Extracted, bits, extract, packet_name};
+use arch_types::cell::Eng;
+use arch_types::steps::Steps;
+use mdb_model::{Coding, Items, Mdb, MdbFault, RawMdb, Record, Sheet};
+use std::alloc::{AllocError, Global};
+use std::marker::Brand;
+use std::sync::ledger::{Blank, Ledger};
+use std::test::Fail;
+
+/// The sheets of parameters, calibrations and containers, of which strokes part the records, and packets with what they say, one a line:
+/// the octets, the packet name, the chain, and each value.
+type Worked = (&'static str, &'static str, &'static str, &'static str);
+
+const FLIGHT: Worked = (
+    "name,coding,bits,calibration|apid,uint,11,|v,uint,8,|w,int,8,",
+    "name,kind,x,y",
+    "container,parent,condition,archive,entry,position|HDR,,,,apid,5|A,HDR,apid==100,yes,v,96|,,,,w,|B,HDR,apid==101,yes,v,96",
+    "0864c0000006000000018000 2a: 1: 0 1: 0=100 1=42
+0864c0000007000000018000 2afe: 1: 0 1: 0=100 1=42 2=-2
+0865c0000006000000018000 07: 2: 0 2: 0=101 1=7
+0866c0000006000000018000 07: 0: 0: 0=102
+0864c0000006000000018000: 1: 0 1: 0=100
+08: 0: 0:",
+);
+
+const WIDE: Worked = (
+    "name,coding,bits,calibration|big,uint,60,k",
+    "name,kind,x,y|k,poly,1,0.000007",
+    "container,parent,condition,archive,entry,position|R,,,,big,100",
+    "0864c000000d000000018000 0fffffffffffffff: 0: 0: 0=1152921504606846975~8070450532247928825
+0864c000000d000000018000 0000000000000000: 0: 0: 0=0~0",
+);
+
+const CALIBRATED: Worked = (
+    "name,coding,bits,calibration|p,int,8,line|e,uint,8,switch",
+    "name,kind,x,y|line,points,0,0|line,points,3,-1|switch,enum,0,OFF|switch,enum,1,ON",
+    "container,parent,condition,archive,entry,position|R,,,,p,0|,,,,e,",
+    "fb00: 0: 0: 0=-5~0 1=0@0
+0001: 0: 0: 0=0~0 1=1@1
+0102: 0: 0: 0=1~-333334 1=2?
+03: 0: 0: 0=3~-1000000
+09: 0: 0: 0=9~-1000000",
+);
+
+// A child for each operator; `LE` has no flag, and a child of its own.
+const COMPARED: Worked = (
+    "name,coding,bits,calibration|a,int,8,|b,intLE,16,",
+    "name,kind,x,y",
+    "container,parent,condition,archive,entry,position|R,,,yes,a,0|LT,R,a<-3,yes,,|EQ,R,a==3,yes,,|LE,R,a<=4,no,b,|GE,R,a>=9,yes,,|GT,R,a>7,yes,,|NE,R,a!=5,yes,,|LOW,LE,b<-1;a>=0,yes,,",
+    "fc: 1: 0 1: 0=-4
+03: 2: 0 2: 0=3
+04feff: 7: 0 3 7: 0=4 1=-2
+04ffff: 0: 0 3: 0=4 1=-1
+fffeff: 0: 0 3: 0=-1 1=-2
+09: 4: 0 4: 0=9
+08: 5: 0 5: 0=8
+06: 6: 0 6: 0=6
+05: 0: 0: 0=5",
+);
+
+fn sheet(alloc: Global, text: &str) -> Result<Sheet, AllocError> {
+    let mut records = Items::new(alloc);
+    for line in text.split('|') {
+        let mut fields = Record::new(alloc);
+        for field in line.split(',') {
+            fields.push(Vec::from_slice(alloc, field.as_bytes())?)?;
+        }
+        records.push(fields)?;
+    }
+    Ok(records)
+}
+
+fn database(alloc: Global, worked: Worked) -> Result<Mdb, MdbFault> {
+    let raw = RawMdb {
+        parameters: sheet(alloc, worked.0)?,
+        calibrations: sheet(alloc, worked.1)?,
+        containers: sheet(alloc, worked.2)?,
+    };
+    Mdb::check(alloc, &raw)
+}
+
+fn digit(letter: u8) -> Option<u8> {
+    match letter {
+        b'0'..=b'9' => Some(letter - b'0'),
+        b'a'..=b'f' => Some(letter - b'a' + 10),
+        _ => None,
+    }
+}
+
+/// The octets that hexadecimal digits spell, with blanks among them.
+fn octets_of(alloc: Global, digits: &str) -> Result<Vec<u8>, AllocError> {
+    let mut octets = Vec::new(alloc);
+    let mut high = None;
+    for letter in digits.bytes() {
+        let Some(low) = digit(letter) else {
+            continue;
+        };
+        match high {
+            None => high = Some(low),
+            Some(octet) => {
+                octets.push((octet << 4) | low)?;
+                high = None;
+            }
+        }
+    }
+    Ok(octets)
+}
+
+/// The extraction of a packet, with a counter of its own.
+fn extracted<L: Ledger>(
+    alloc: Global,
+    blank: Blank,
+    mdb: &Mdb,
+    packet: &[u8],
+) -> Result<Extracted, AllocError>
+    requires name { blank.name ≡ L.name }
+    requires parts { blank.parts ≡ L.parts }
+    requires some { 0 < blank.parts }
+{
+    let (book, share) = blank.open::<L>();
+    let mut steps = Steps::new(book, share);
+    extract(alloc, mdb, packet, &mut steps)
+}
+
+fn value_text(alloc: Global, value: ParameterValue) -> Result<String, AllocError> {
+    let ParameterValue {
+        parameter,
+        raw,
+        eng,
+    } = value;
+    match eng {
+        Eng::Whole => format!(in alloc; " {parameter}={raw}"),
+        Eng::Fixed(millionths) => format!(in alloc; " {parameter}={raw}~{millionths}"),
+        Eng::Label(row) => format!(in alloc; " {parameter}={raw}@{row}"),
+        Eng::Undef => format!(in alloc; " {parameter}={raw}?"),
+    }
+}
+
+/// What a packet says, as text.
+fn said(alloc: Global, mdb: &Mdb, packet: &[u8]) -> Result<String, AllocError> {
+    let found = extracted::<Brand>(alloc, Blank::new(1), mdb, packet)?;
+    let name = packet_name(alloc, mdb, packet)?;
+    let mut text = format!(in alloc; " {name}:")?;
+    for number in found.chain.as_slice() {
+        text.push_str(format!(in alloc; " {number}")?.as_str())?;
+    }
+    text.push_str(":")?;
+    for value in found.values.as_slice() {
+        text.push_str(value_text(alloc, *value)?.as_str())?;
+    }
+    Ok(text)
+}
+
+#[test]
+fn worked_packets(rt: HostRuntime) -> Result<(), Fail> {
+    let alloc = rt.alloc();
+    for worked in [FLIGHT, WIDE, CALIBRATED, COMPARED] {
+        let mdb = database(alloc, worked)?;
+        for line in worked.3.split('\n') {
+            let (digits, want) = line.split_once(':').expect(&rt, "a colon");
+            let packet = octets_of(alloc, digits)?;
+            let text = said(alloc, &mdb, packet.as_slice())?;
+            assert_eq!(rt; text.as_str(), want, "{line}");
+        }
+    }
+    Ok(())
+}
+
+#[test]
+fn worked_fields(rt: HostRuntime) {
+    let octets: [u8; 3] = [0x12, 0x34, 0x56];
+    assert_eq!(rt; bits(&octets, 4, 12, Coding::Uint), 0x234);
+    assert_eq!(rt; bits(&octets, 4, 16, Coding::UintLe), 0x4523);
+    assert_eq!(rt; bits(&octets, 11, 3, Coding::Int), -3);
+    let ones: [u8; 9] = [0xFF; 9];
+    assert_eq!(rt; bits(&ones, 3, 64, Coding::Int), -1);
+    assert_eq!(rt; bits(&ones, 8, 64, Coding::UintLe), 18446744073709551615);
+    let least: [u8; 9] = [1, 0, 0, 0, 0, 0, 0, 0, 0x80];
+    assert_eq!(rt; bits(&least, 8, 64, Coding::IntLe), -9223372036854775808);
+}
+
+#[test]
+fn lists(rt: HostRuntime) -> Result<(), Fail> {
+    let alloc = rt.alloc();
+    let mut chain = Chain::new(alloc);
+    chain.push(7)?;
+    assert_eq!(rt;
+        Chain::from_vec(chain.into_vec()).as_slice(),
+        [7].as_slice()
+    );
+    let mut values = Values::new(alloc);
+    let value = ParameterValue {
+        parameter: 1,
+        raw: -2,
+        eng: Eng::Undef,
+    };
+    values.push(value)?;
+    assert_eq!(rt;
+        Values::from_vec(values.into_vec()).as_slice(),
+        [value].as_slice()
+    );
+    Ok(())
+}

@@ -1,0 +1,59 @@
+//! What no clause says: that calls succeed where memory is ample, and worked rows.
+
+use histogram::histogram::Histogram;
+use arch_types::spans::Span;
+use std::alloc::{AllocError, Global};
+
+/// The histogram of these times, each of a packet name.
+fn histogram_of(alloc: Global, times: &[(u16, i64)]) -> Result<Histogram, AllocError> {
+    let mut histogram = Histogram::new(alloc);
+    for (pname, time) in times {
+        histogram.reserve(1)?;
+        histogram.add(*pname, *time);
+    }
+    Ok(histogram)
+}
+
+const MINUTE: [Span; 2] = [
+    Span {
+        first: 0,
+        last: 60_000,
+        count: 2,
+    },
+    Span {
+        first: 120_001,
+        last: 120_001,
+        count: 1,
+    },
+];
+
+#[test]
+fn records(rt: HostRuntime) -> Result<(), AllocError> {
+    let orders = [
+        [0, 60_000, 120_001],
+        [0, 120_001, 60_000],
+        [60_000, 0, 120_001],
+        [60_000, 120_001, 0],
+        [120_001, 0, 60_000],
+        [120_001, 60_000, 0],
+    ];
+    for [a, b, c] in orders {
+        let histogram = histogram_of(rt.alloc(), &[(7, a), (8, -5), (7, b), (6, 60_001), (7, c)])?;
+        let spans = histogram.records(7)?;
+        assert_eq!(rt; spans.as_slice(), MINUTE.as_slice());
+    }
+    let many = histogram_of(
+        rt.alloc(),
+        &[(1, -60_000), (1, 0), (1, -60_000), (1, 0), (1, -60_000)],
+    )?;
+    let spans = many.records(1)?;
+    let one = Span {
+        first: -60_000,
+        last: 0,
+        count: 5,
+    };
+    assert_eq!(rt; spans.as_slice(), [one].as_slice());
+    let none = many.records(0)?;
+    assert_eq!(rt; none.as_slice().len(), 0);
+    Ok(())
+}

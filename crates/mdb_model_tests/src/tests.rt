@@ -1,0 +1,522 @@
+//! What no clause says: worked sheets and their octets, and that each call succeeds with ample memory.
+
+ghost use Rattle.std.specs.Prelude.{◌<◌};
+
+use mdb_model::{Items, Mdb, MdbFault, MdbLimit, MdbSheet, NotMdb, RawMdb, Record, Sheet};
+use std::alloc::{AllocError, Global};
+use std::test::Fail;
+use std::thread::join;
+
+// Strokes part the records of a sheet, and commas their fields.
+const PARAMETERS: &str = "name,coding,bits,calibration|apid,uint,11,|v,uint,8,|w,int,8,";
+
+const CALIBRATIONS: &str = "name,kind,x,y";
+
+const CONTAINERS: &str =
+    "container,parent,condition,archive,entry,position|HDR,,,,apid,5|A,HDR,apid==100,yes,v,96|,,,,w,|B,HDR,apid==101,yes,v,96";
+
+// Their database, spelled by hand.
+const OCTETS: &str =
+    "00030461706964000b00000176000800000177010800000000000303484452000000000001000000000005014100010101000000000000000000000000000000000000640002000100000060000200000068014200010101000000000000000000000000000000000000650001000100000060";
+
+// Sheets with each coding, kind of calibration, operator and form of a position.
+const EACH_PARAMETER: &str =
+    "name,coding,bits,calibration|a,uint,8,|b,intLE,16,k|c,int,8,p|d,uintLE,8,e";
+
+const EACH_CALIBRATION: &str =
+    "name,kind,x,y|k,poly,0,-10|k,poly,1,0.01|p,points,-2,0|p,points,03,-1.0|e,enum,-0,OFF|e,enum,18446744073709551615,ON ~";
+
+const EACH_CONTAINER: &str =
+    "container,parent,condition,archive,entry,position|R,,,,a,5|,,,,b,+5|S.1/x-y,R, a==1; a != 2;a<3;a<=4 ;a>5;b >= -6 ,yes,,|T,S.1/x-y,,no,c,|,,,,d,000100";
+
+const EACH_OCTETS: &str =
+    "00040161000800000162031000010163010800020164020800030003016b000000000200ffffffffff67698001000000000000271001700100000002fffffffffffffffffffffffffffffffe000000000000000000000000000000000000000000000003fffffffffff0bdc00165020000000200000000000000000000000000000000034f46460000000000000000ffffffffffffffff044f4e207e0003015200000000000200000000000500010000001207532e312f782d79000101060000000000000000000000000000000000000100000100000000000000000000000000000002000002000000000000000000000000000000030000030000000000000000000000000000000400000400000000000000000000000000000005000105fffffffffffffffffffffffffffffffa00000154000200000002000200000022000300000064";
+
+// A line is the row that breaks a rule first, the rule, and the sheet. The other two sheets are sound.
+const BROKEN_CALIBRATIONS: &str = "1#1#name,kind,x
+1#1#name,kind,x,z|k,poly
+2#2#name,kind,x,y|k,poly,0
+2#3#name,kind,x,y|k k,poly,0,1
+2#4#name,kind,x,y|k,line,0,1
+4#5#name,kind,x,y|k,poly,0,1|j,poly,0,1|k,poly,1,1
+3#6#name,kind,x,y|k,poly,0,1|k,points,0,1
+2#7#name,kind,x,y|k,poly,4,1
+2#7#name,kind,x,y|k,enum,18446744073709551616,A
+3#8#name,kind,x,y|k,poly,0,1|k,poly,0,2
+3#8#name,kind,x,y|k,points,2,1|k,points,02,2
+4#8#name,kind,x,y|k,enum,2,A|k,enum,1,B|k,enum,2,C
+2#9#name,kind,x,y|k,poly,0,1.1234567
+2#9#name,kind,x,y|k,enum,0,
+2#10#name,kind,x,y|k,points,0,1
+2#2#name,kind,x,y|k k,line,z
+2#3#name,kind,x,y|k k,line,z,z
+4#5#name,kind,x,y|k,poly,0,1|j,poly,0,1|k,line,z,z
+2#4#name,kind,x,y|k,line,z,z
+2#7#name,kind,x,y|k,poly,z,z
+3#6#name,kind,x,y|k,poly,0,1|k,points,z,z
+3#8#name,kind,x,y|k,poly,0,1|k,poly,0,z
+2#9#name,kind,x,y|k,points,0,z
+3#2#name,kind,x,y|k,points,0,1|k,line";
+
+const BROKEN_PARAMETERS: &str = "1#1#name,coding,bits
+2#2#name,coding,bits,calibration|apid,uint,11
+2#3#name,coding,bits,calibration|a b,uint,11,
+3#5#name,coding,bits,calibration|apid,uint,11,|apid,uint,11,
+2#11#name,coding,bits,calibration|apid,float,11,
+2#12#name,coding,bits,calibration|apid,uint,65,
+2#12#name,coding,bits,calibration|apid,uintLE,12,
+2#13#name,coding,bits,calibration|apid,uint,11,z
+2#14#name,coding,bits,calibration|big,uint,61,k
+2#3#name,coding,bits,calibration|a b,float,65,z
+3#5#name,coding,bits,calibration|a,uint,8,|a,float,65,z
+2#11#name,coding,bits,calibration|apid,float,65,z
+2#12#name,coding,bits,calibration|apid,uint,0,z";
+// Their header is left out.
+const BROKEN_CONTAINERS: &str = "2#2#|HDR,,,,apid
+2#3#|H D,,,,apid,5
+3#5#|HDR,,,,apid,5|HDR,HDR,,,v,96
+2#15#|,,,,apid,5
+2#16#|HDR,Z,,,apid,5
+3#16#|HDR,,,,apid,5|A,A,,,v,96
+6#16#|HDR,,,,apid,5|A,HDR,apid==100,yes,v,96|,,,,w,|B,HDR,apid==101,yes,v,96|C,Z,,,w,96
+3#17#|HDR,,,,apid,5|A,,,,v,96
+3#18#|HDR,,,,apid,5|,HDR,,,v,96
+3#18#|HDR,,,,apid,5|,,apid==1,,v,96
+3#18#|HDR,,,,apid,5|,,,no,v,96
+1#19#
+3#20#|HDR,,,,apid,5|A,HDR,apid=100,,v,96
+3#20#|HDR,,,,apid,5|A,HDR,apid\t==100,,v,96
+3#20#|HDR,,,,apid,5|A,HDR,apid==100;,,v,96
+3#20#|HDR,,,,apid,5|A,HDR,zz==100,,v,96
+3#21#|HDR,,,,apid,5|A,HDR,v==100,,v,96
+2#21#|HDR,,apid==1,,apid,5
+2#23#|HDR,,,maybe,apid,5
+2#24#|HDR,,,,zz,5
+3#25#|HDR,,,,apid,5|A,HDR,,,apid,96
+3#26#|HDR,,,,apid,5|,,,,,
+2#27#|HDR,,,,apid,1234567
+2#27#|HDR,,,,apid,+
+2#27#|HDR,,,,,5
+2#28#|HDR,,,,apid,524326
+2#28#|HDR,,,,apid,+99999999999999999999999
+2#15#|,Z,x,maybe,zz,x
+2#3#|H D,Z,x,maybe,zz,x
+3#5#|HDR,,,,apid,5|HDR,Z,x,maybe,zz,x
+3#16#|HDR,,,,apid,5|A,Z,x,maybe,zz,x
+3#17#|HDR,,,,apid,5|A,,x,maybe,zz,x
+3#18#|HDR,,,,apid,5|,Z,x,maybe,zz,x
+3#20#|HDR,,,,apid,5|A,HDR,x,maybe,zz,x
+3#21#|HDR,,,,apid,5|A,HDR,v==1,maybe,zz,x
+2#23#|HDR,,,maybe,zz,x
+2#24#|HDR,,,,zz,x
+3#25#|HDR,,,,apid,5|A,HDR,,,apid,x
+3#26#|HDR,,,,apid,5|,,,,,x";
+
+fn sheet(alloc: Global, text: &str) -> Result<Sheet, AllocError> {
+    let mut records = Items::new(alloc);
+    for line in text.split('|') {
+        let mut fields = Record::new(alloc);
+        for field in line.split(',') {
+            fields.push(Vec::from_slice(alloc, field.as_bytes())?)?;
+        }
+        records.push(fields)?;
+    }
+    Ok(records)
+}
+
+fn check(
+    alloc: Global,
+    parameters: &str,
+    calibrations: &str,
+    containers: &str,
+) -> Result<Mdb, MdbFault> {
+    let raw = RawMdb {
+        parameters: sheet(alloc, parameters)?,
+        calibrations: sheet(alloc, calibrations)?,
+        containers: sheet(alloc, containers)?,
+    };
+    Mdb::check(alloc, &raw)
+}
+
+/// What is answered where one sheet is this text, a containers sheet below its header.
+fn fault(alloc: Global, sheet: MdbSheet, text: &str) -> Result<Option<MdbFault>, AllocError> {
+    let calibration = "name,kind,x,y|k,poly,1,0.000007";
+    let checked = match sheet {
+        MdbSheet::Calibrations => check(alloc, PARAMETERS, text, CONTAINERS),
+        MdbSheet::Parameters => check(alloc, text, calibration, CONTAINERS),
+        MdbSheet::Containers => {
+            let header = "container,parent,condition,archive,entry,position";
+            let whole = format!(in alloc; "{header}{text}")?;
+            check(alloc, PARAMETERS, calibration, whole.as_str())
+        }
+    };
+    Ok(checked.err())
+}
+
+/// The fault that a line says, and what is answered.
+fn both(
+    alloc: Global,
+    sheet: MdbSheet,
+    line: &str,
+) -> Result<(Option<MdbFault>, Option<MdbFault>), AllocError> {
+    let mut parts = line.split('#');
+    let row = number(parts.next());
+    let rule = number(parts.next()) as u8;
+    let bad = MdbFault::Bad { sheet, row, rule };
+    let text = parts.next().unwrap_or("");
+    Ok((Some(bad), fault(alloc, sheet, text)?))
+}
+
+/// A number below 256.
+fn number(text: Option<&str>) -> usize
+    ensures { result < 256 }
+{
+    match text.unwrap_or("").parse::<u8>() {
+        Ok(number) => usize::from(number),
+        Err(_) => 0,
+    }
+}
+
+#[test]
+fn broken_rules(rt: HostRuntime) -> Result<(), Fail> {
+    let alloc = rt.alloc();
+    for (sheet, lines) in [
+        (MdbSheet::Calibrations, BROKEN_CALIBRATIONS),
+        (MdbSheet::Parameters, BROKEN_PARAMETERS),
+        (MdbSheet::Containers, BROKEN_CONTAINERS),
+    ] {
+        for line in lines.split('\n') {
+            let (want, answer) = both(alloc, sheet, line)?;
+            assert_eq!(rt; answer, want, "{line}");
+        }
+    }
+    let headless = check(alloc, PARAMETERS, CALIBRATIONS, "container").err();
+    let bad = MdbFault::Bad {
+        sheet: MdbSheet::Containers,
+        row: 1,
+        rule: 1,
+    };
+    assert_eq!(rt; headless, Some(bad));
+    Ok(())
+}
+
+/// A text, and so many records after it, each its number between these texts.
+fn listed(
+    alloc: Global,
+    first: &str,
+    count: usize,
+    before: &str,
+    after: &str,
+) -> Result<String, AllocError> {
+    let mut text = String::new(alloc);
+    text.push_str(first)?;
+    for number in 0..count {
+        let record = format!(in alloc; "|{before}{number}{after}")?;
+        text.push_str(record.as_str())?;
+    }
+    Ok(text)
+}
+
+#[test]
+fn limits_in_their_order(rt: HostRuntime) -> Result<(), Fail> {
+    let alloc = rt.alloc();
+    for (calibrations, parameters, containers, which) in [
+        (4097, 4097, 4097, MdbLimit::Calibrations),
+        (4096, 4097, 4097, MdbLimit::Parameters),
+        (4096, 4096, 4097, MdbLimit::Containers),
+    ] {
+        let calibrations = listed(alloc, "name,kind,x,y", calibrations, "n", ",enum,0,A")?;
+        let parameters = listed(
+            alloc,
+            "name,coding,bits,calibration",
+            parameters,
+            "n",
+            ",uint,8,",
+        )?;
+        let header = "container,parent,condition,archive,entry,position|root,,,,,";
+        let containers = listed(alloc, header, containers - 1, "n", ",root,,,,")?;
+        let passed = check(
+            alloc,
+            parameters.as_str(),
+            calibrations.as_str(),
+            containers.as_str(),
+        );
+        let limit = MdbFault::Limit {
+            which,
+            number: 4096,
+        };
+        assert_eq!(rt; passed.err(), Some(limit));
+    }
+    Ok(())
+}
+
+#[test]
+fn most_calibration_rows(rt: HostRuntime) -> Result<(), Fail> {
+    let alloc = rt.alloc();
+    let most = listed(alloc, "name,kind,x,y", 65_536, "k,enum,", ",A")?;
+    let more = listed(alloc, "name,kind,x,y", 65_537, "k,enum,", ",A")?;
+    let limit = MdbFault::Limit {
+        which: MdbLimit::CalibrationRows,
+        number: 65_536,
+    };
+    assert_eq!(rt; fault(alloc, MdbSheet::Calibrations, most.as_str())?, None);
+    assert_eq!(rt;
+        fault(alloc, MdbSheet::Calibrations, more.as_str())?,
+        Some(limit)
+    );
+    Ok(())
+}
+
+/// What is answered where these are the containers, over 257 parameters.
+fn many(alloc: Global, containers: &str) -> Result<Option<MdbFault>, AllocError> {
+    let parameters = listed(alloc, "name,coding,bits,calibration", 257, "n", ",uint,8,")?;
+    let header = "container,parent,condition,archive,entry,position";
+    let whole = format!(in alloc; "{header}{containers}")?;
+    Ok(check(alloc, parameters.as_str(), CALIBRATIONS, whole.as_str()).err())
+}
+
+#[test]
+fn most_entries(rt: HostRuntime) -> Result<(), Fail> {
+    let alloc = rt.alloc();
+    let full = listed(alloc, ",root,,,,", 256, ",,,,n", ",")?;
+    let mut text = listed(alloc, "|root,,,,,", 256, "c", full.as_str())?;
+    let limit = MdbFault::Limit {
+        which: MdbLimit::Entries,
+        number: 65_536,
+    };
+    assert_eq!(rt; many(alloc, text.as_str())?, None);
+    text.push_str("|one,root,,,n0,")?;
+    assert_eq!(rt; many(alloc, text.as_str())?, Some(limit));
+    Ok(())
+}
+
+#[test]
+fn most_entries_of_a_path(rt: HostRuntime) -> Result<(), Fail> {
+    let alloc = rt.alloc();
+    let mut text = listed(alloc, "|root,,,,,", 256, ",,,,n", ",")?;
+    let bad = MdbFault::Bad {
+        sheet: MdbSheet::Containers,
+        row: 259,
+        rule: 29,
+    };
+    assert_eq!(rt; many(alloc, text.as_str())?, None);
+    text.push_str("|one,root,,,n256,")?;
+    assert_eq!(rt; many(alloc, text.as_str())?, Some(bad));
+    Ok(())
+}
+
+/// A root, and a container below it with so many comparisons.
+fn comparing(alloc: Global, count: usize) -> Result<String, AllocError> {
+    let mut text = String::new(alloc);
+    text.push_str("|HDR,,,,apid,5|A,HDR,apid!=0")?;
+    for number in 1..count {
+        let comparison = format!(in alloc; ";apid!={number}")?;
+        text.push_str(comparison.as_str())?;
+    }
+    text.push_str(",,v,96")?;
+    Ok(text)
+}
+
+#[test]
+fn most_comparisons(rt: HostRuntime) -> Result<(), Fail> {
+    let alloc = rt.alloc();
+    let most = comparing(alloc, 255)?;
+    let more = comparing(alloc, 256)?;
+    let bad = MdbFault::Bad {
+        sheet: MdbSheet::Containers,
+        row: 3,
+        rule: 20,
+    };
+    assert_eq!(rt; fault(alloc, MdbSheet::Containers, most.as_str())?, None);
+    assert_eq!(rt;
+        fault(alloc, MdbSheet::Containers, more.as_str())?,
+        Some(bad)
+    );
+    Ok(())
+}
+
+/// Each container of a path stands below the one before it.
+fn path(alloc: Global, count: usize) -> Result<String, AllocError> {
+    let mut text = String::new(alloc);
+    text.push_str("|n0,,,,,")?;
+    for number in 1..count {
+        let above = number - 1;
+        let record = format!(in alloc; "|n{number},n{above},,,,")?;
+        text.push_str(record.as_str())?;
+    }
+    Ok(text)
+}
+
+#[test]
+fn longest_path(rt: HostRuntime) -> Result<(), Fail> {
+    let alloc = rt.alloc();
+    let longest = path(alloc, 32)?;
+    let longer = path(alloc, 33)?;
+    let bad = MdbFault::Bad {
+        sheet: MdbSheet::Containers,
+        row: 34,
+        rule: 29,
+    };
+    assert_eq!(rt; fault(alloc, MdbSheet::Containers, longest.as_str())?, None);
+    assert_eq!(rt;
+        fault(alloc, MdbSheet::Containers, longer.as_str())?,
+        Some(bad)
+    );
+    Ok(())
+}
+
+/// The calibration of the parameter with a number, and the parent of the container with that number.
+fn links(mdb: &Mdb, number: u16) -> (Option<usize>, Option<usize>) {
+    let calibration = if number < mdb.parameters() {
+        mdb.parameter(number).calibration
+    } else {
+        None
+    };
+    let parent = if number < mdb.containers() {
+        mdb.container(number).parent
+    } else {
+        None
+    };
+    (calibration, parent)
+}
+
+fn calibration_name(mdb: &Mdb, number: u16) -> &[u8] {
+    if number < mdb.calibrations() {
+        mdb.calibration(number).name.as_bytes()
+    } else {
+        b"".as_slice()
+    }
+}
+
+fn children(mdb: &Mdb, number: u16) -> &[u16] {
+    if number < mdb.containers() {
+        mdb.children(number)
+    } else {
+        &[]
+    }
+}
+
+fn each(alloc: Global) -> Result<Mdb, MdbFault> {
+    let mdb = check(alloc, EACH_PARAMETER, EACH_CALIBRATION, EACH_CONTAINER)?;
+    mdb.is_sound();
+    Ok(mdb.copy(alloc)?)
+}
+
+#[test]
+fn numbers_and_lists(rt: HostRuntime) -> Result<(), Fail> {
+    let mdb = each(rt.alloc())?;
+    assert_eq!(rt; mdb.parameter_number("c"), Some(2));
+    assert_eq!(rt; mdb.container_number("T"), Some(2));
+    assert_eq!(rt; mdb.parameter_list().len(), 4);
+    assert_eq!(rt; mdb.calibration_list().len(), 3);
+    assert_eq!(rt; mdb.container_list().len(), 3);
+    Ok(())
+}
+
+#[test]
+fn items_by_number(rt: HostRuntime) -> Result<(), Fail> {
+    let mdb = each(rt.alloc())?;
+    assert_eq!(rt; links(&mdb, 1), (Some(0), Some(0)));
+    assert_eq!(rt; calibration_name(&mdb, 2), b"e".as_slice());
+    assert_eq!(rt; children(&mdb, 0), [1].as_slice());
+    Ok(())
+}
+
+fn digit(letter: u8) -> u8 {
+    match letter {
+        b'0'..=b'9' => letter - b'0',
+        b'a'..=b'f' => letter - b'a' + 10,
+        _ => 0,
+    }
+}
+
+/// The octets that hexadecimal digits spell.
+fn octets_of(alloc: Global, digits: &str) -> Result<Vec<u8>, AllocError> {
+    let mut octets = Vec::new(alloc);
+    let mut high = None;
+    for letter in digits.bytes() {
+        let low = digit(letter);
+        match high {
+            None => high = Some(low),
+            Some(octet) => {
+                octets.push((octet << 4) | low)?;
+                high = None;
+            }
+        }
+    }
+    Ok(octets)
+}
+
+/// Octets are refused, or they are what the database that they give spells.
+fn is_refused_or_own(alloc: Global, octets: &[u8]) -> Result<bool, AllocError> {
+    match Mdb::from_bytes(alloc, octets) {
+        Ok(mdb) => Ok(mdb.to_bytes(alloc)?.as_slice() == octets),
+        Err(NotMdb::Malformed) => Ok(true),
+        Err(NotMdb::OutOfMemory) => Err(AllocError),
+    }
+}
+
+/// The front of the octets up to a place is refused, and so is each change of the octet there that isn't a database's own spelling.
+fn holds_at(alloc: Global, octets: &[u8], place: usize, octet: u8) -> Result<bool, AllocError> {
+    let front: Vec<u8> = octets.iter().take(place).copied().collect(alloc)?;
+    if Mdb::from_bytes(alloc, front.as_slice()).is_ok() {
+        return Ok(false);
+    }
+    for change in [1u8, 2, 128] {
+        let mut changed = Vec::from_slice(alloc, front.as_slice())?;
+        changed.push(octet ^ change)?;
+        for octet in octets.iter().skip(place).skip(1) {
+            changed.push(*octet)?;
+        }
+        if !is_refused_or_own(alloc, changed.as_slice())? {
+            return Ok(false);
+        }
+    }
+    Ok(true)
+}
+
+/// The octets of a database, and whether they are read back as what spells them again.
+fn again(alloc: Global, mdb: &Mdb) -> Result<Vec<u8>, Fail> {
+    let octets = mdb.to_bytes(alloc)?;
+    let mdb = Mdb::from_bytes(alloc, octets.as_slice())?;
+    Ok(mdb.to_bytes(alloc)?)
+}
+
+#[test]
+fn octets_both_ways(rt: HostRuntime) -> Result<(), Fail> {
+    let alloc = rt.alloc();
+    for (parameters, calibrations, containers, digits) in [
+        (PARAMETERS, CALIBRATIONS, CONTAINERS, OCTETS),
+        (
+            EACH_PARAMETER,
+            EACH_CALIBRATION,
+            EACH_CONTAINER,
+            EACH_OCTETS,
+        ),
+    ] {
+        let octets = octets_of(alloc, digits)?;
+        let mdb = check(alloc, parameters, calibrations, containers)?;
+        let own = again(alloc, &mdb)?;
+        assert_eq!(rt; own, octets);
+        for (place, octet) in octets.iter().enumerate() {
+            assert!(rt;
+                holds_at(alloc, octets.as_slice(), place, *octet)?,
+                "{place}"
+            );
+        }
+    }
+    Ok(())
+}
+
+#[test]
+fn threads_share_a_database(rt: HostRuntime) -> Result<(), Fail> {
+    let alloc = rt.alloc();
+    let mdb = check(alloc, PARAMETERS, CALIBRATIONS, CONTAINERS)?;
+    let found = join(
+        &rt,
+        || mdb.container_number("B"),
+        || mdb.parameter_number("v"),
+    );
+    assert_eq!(rt; found, (Some(2), Some(1)));
+    Ok(())
+}

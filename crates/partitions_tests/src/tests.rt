@@ -1,0 +1,90 @@
+//! Worked rows, and that each public call succeeds where memory is ample.
+
+use partitions::bounds::Bounds;
+use partitions::lists::{PartList, PnameList};
+use partitions::partition::{Partition, partition_of};
+use partitions::partitions::Partitions;
+use std::alloc::{AllocError, Global};
+use std::test::Fail;
+
+const DAY: i64 = 86_400_000;
+
+fn listed(alloc: Global, names: &[u16]) -> Result<PnameList, AllocError> {
+    let mut list = PnameList::new(alloc);
+    for name in names {
+        list.push(*name)?;
+    }
+    list.copy(alloc)
+}
+
+fn pairs(alloc: Global, parts: &PartList) -> Result<Vec<(i64, u16)>, AllocError> {
+    let mut pairs = Vec::new(alloc);
+    for part in parts.copy(alloc)?.as_slice() {
+        pairs.push((part.day, part.pname))?;
+    }
+    Ok(pairs)
+}
+
+#[test]
+fn prunes(rt: HostRuntime) -> Result<(), Fail> {
+    let alloc = rt.alloc();
+    assert_eq!(rt; partition_of(-1, 7), Partition { day: -1, pname: 7 });
+    let mut held = Partitions::new(alloc);
+    for (time, pname) in [
+        (5 * DAY + 7, 5),
+        (-1, 3),
+        (i64::MAX, 9),
+        (0, 3),
+        (DAY - 1, 3),
+        (DAY, 5),
+        (DAY, 3),
+        (0, 3),
+        (i64::MIN, 9),
+    ] {
+        held.reserve(1)?;
+        held.add(time, pname);
+    }
+    let asks: [(i64, i64, Option<&[u16]>, &[(i64, u16)]); 10] = [
+        (
+            i64::MIN,
+            i64::MAX,
+            None,
+            &[
+                (-106_751_991_168, 9),
+                (-1, 3),
+                (0, 3),
+                (1, 3),
+                (1, 5),
+                (5, 5),
+                (106_751_991_167, 9),
+            ],
+        ),
+        (i64::MIN, i64::MIN + 1, None, &[(-106_751_991_168, 9)]),
+        (0, DAY, None, &[(0, 3)]),
+        (0, DAY + 1, None, &[(0, 3), (1, 3), (1, 5)]),
+        (-1, 0, None, &[(-1, 3)]),
+        (0, 0, None, &[]),
+        (2 * DAY, 5 * DAY, None, &[]),
+        (0, 6 * DAY, Some(&[5]), &[(1, 5), (5, 5)]),
+        (
+            0,
+            6 * DAY,
+            Some(&[9, 5, 3, 5]),
+            &[(0, 3), (1, 3), (1, 5), (5, 5)],
+        ),
+        (0, 6 * DAY, Some(&[]), &[]),
+    ];
+    for (from, to, names, want) in asks {
+        let names = match names {
+            Some(names) => Some(listed(alloc, names)?),
+            None => None,
+        };
+        let parts = held.pruned(&Bounds { from, to, names })?;
+        assert_eq!(rt;
+            pairs(alloc, &parts)?.as_slice(),
+            want,
+            "from {from} to {to}"
+        );
+    }
+    Ok(())
+}
