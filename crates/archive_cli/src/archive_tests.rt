@@ -285,7 +285,7 @@ fn what_a_disk_may_hold(rt: HostRuntime) -> Result<(), Fail> {
         let _disk = expect(&rt, line, short, (1, "", "no archive", None))?;
         let cut_off = holding(alloc, b"\x01\x00\x00\x00\x09\x01\x00")?;
         let _disk = expect(&rt, line, cut_off, damaged)?;
-        let failing = MemDisk::failing(vec![in alloc; 1; 1]?, alloc);
+        let failing = MemDisk::failing(alloc, vec![in alloc; 1; 1]?);
         let _disk = expect(&rt, line, failing, (5, "", "disk fault", None))?;
     }
     Ok(())
@@ -348,7 +348,7 @@ fn holds(alloc: Global, disk: MemDisk, rows: u64) -> Result<bool, Fail> {
 /// an archive was made.
 fn load_failing(rt: &(impl Abort + AllocGlobal), fails: u64) -> Result<bool, Fail> {
     let alloc = rt.alloc();
-    let disk = MemDisk::failing(vec![in alloc; fails; 1]?, alloc);
+    let disk = MemDisk::failing(alloc, vec![in alloc; fails; 1]?);
     let (created, _, disk) = call(alloc, CREATE, disk)?;
     if created != 0 {
         assert_eq!(rt; created, 5);

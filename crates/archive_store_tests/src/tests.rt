@@ -242,7 +242,7 @@ fn a_gate_fails(rt: HostRuntime) -> Result<(), Fail> {
     let alloc = rt.alloc();
     let made = created(alloc, MemDisk::new(alloc))?.into_disk().made();
     let calls = vec![in alloc; made.saturating_add(3); 1]?;
-    let mut store = created(alloc, MemDisk::failing(calls, alloc))?;
+    let mut store = created(alloc, MemDisk::failing(alloc, calls))?;
     assert_eq!(rt; why_no_ingest(alloc, &mut store, &[9])?, "disk fault");
     assert!(rt; shows(alloc, &mut store, 0)?);
     assert_eq!(rt; why_no_ingest(alloc, &mut store, &[9])?, "needs reopen 1");
@@ -259,7 +259,7 @@ fn disks_that_are_not_opened(rt: HostRuntime) -> Result<(), Fail> {
     assert_eq!(rt; why_no_archive(cut_short), "damaged 0 0");
     let short = Store::open(alloc, holding(alloc, b"\x01")?);
     assert_eq!(rt; why_no_archive(short), "no archive");
-    let failing = Store::open(alloc, MemDisk::failing(vec![in alloc; 1; 1]?, alloc));
+    let failing = Store::open(alloc, MemDisk::failing(alloc, vec![in alloc; 1; 1]?));
     assert_eq!(rt; why_no_archive(failing), "disk fault");
     Ok(())
 }
@@ -332,7 +332,7 @@ fn make_calls(
 
 /// Makes an archive and calls of its store on a disk that fails at these calls, and tells the front that is reached.
 fn front_reached(rt: &impl Abort, alloc: Global, failing: Vec<u64>) -> Result<Option<u64>, Fail> {
-    let disk = MemDisk::failing(failing, alloc);
+    let disk = MemDisk::failing(alloc, failing);
     match Store::create(alloc, disk, head(alloc)?) {
         Ok(mut store) => {
             open_since(rt, alloc, &store.disk, 0, None)?;
