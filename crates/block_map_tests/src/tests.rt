@@ -1,51 +1,121 @@
 //! What no clause says: that calls succeed where memory is ample, and that an index may be shared between threads.
 
 use block_map::index::Index;
+use std::alloc::{AllocError, Global};
 use std::test::Fail;
 
 fn is_shared<T: Send + Sync>(_index: &T) {}
 
-/// The keys 1 to 600, each the inverse of its value modulo 601 times 7, so that they come in no order.
-#[test]
-fn holds_six_hundred_keys(rt: HostRuntime) -> Result<(), Fail> {
-    let mut index: Index<u64, u64> = Index::new(rt.alloc())?;
-    is_shared(&index);
-    assert_eq!(rt; (index.len(), index.room(), index.first()), (0, 0, None));
+/// What an insertion answers, where there is room for it.
+fn inserted(index: &mut Index<u64, u64>, key: u64, value: u64) -> Option<Option<u64>> {
+    if index.room() == 0 {
+        return None;
+    }
+    Some(index.insert(key, value))
+}
+
+/// The key of a value: its inverse is the value modulo 601 times 7, so that keys come in no order.
+fn key_of(value: u64) -> u64 {
+    value.wrapping_mul(7) % 601
+}
+
+/// The keys 1 to 600, with room for one more, and how many of them were new.
+fn six_hundred(alloc: Global) -> Result<(Index<u64, u64>, usize), AllocError> {
+    let mut index = Index::new(alloc)?;
+    let mut new: usize = 0;
     index.reserve(601)?;
     for value in 1..601 {
-        assert!(rt; 0 < index.room());
-        assert_eq!(rt; index.insert(value * 7 % 601, value), None);
+        if inserted(&mut index, key_of(value), value) == Some(None) {
+            new = new.saturating_add(1);
+        }
     }
-    assert_eq!(rt; (index.len(), index.room()), (600, 1));
-    assert_eq!(rt;
-        (index.insert(7, 9), index.get(7), index.room()),
-        (Some(1), Some(1), 1)
-    );
-    assert_eq!(rt; (index.replace(14, 99), index.get(14)), (Some(2), Some(99)));
-    assert_eq!(rt; (index.replace(601, 0), index.get(601)), (None, None));
+    Ok((index, new))
+}
+
+#[test]
+fn begins_empty(rt: HostRuntime) -> Result<(), Fail> {
+    let index: Index<u64, u64> = Index::new(rt.alloc())?;
+    is_shared(&index);
+    assert_eq!(rt; (index.len(), index.room(), index.first()), (0, 0, None));
+    Ok(())
+}
+
+#[test]
+fn takes_six_hundred_keys(rt: HostRuntime) -> Result<(), Fail> {
+    let (index, new) = six_hundred(rt.alloc())?;
+    assert_eq!(rt; (new, index.len(), index.room()), (600, 600, 1));
     assert_eq!(rt; index.first(), Some((1, 86)));
-    let mut last = 0;
+    Ok(())
+}
+
+#[test]
+fn keeps_values(rt: HostRuntime) -> Result<(), Fail> {
+    let (mut index, _) = six_hundred(rt.alloc())?;
+    assert_eq!(rt; inserted(&mut index, 7, 9), Some(Some(1)));
+    assert_eq!(rt; (index.get(7), index.room()), (Some(1), 1));
+    Ok(())
+}
+
+#[test]
+fn replaces_values(rt: HostRuntime) -> Result<(), Fail> {
+    let (mut index, _) = six_hundred(rt.alloc())?;
+    for (key, value, was, is) in [(14, 99, Some(2), Some(99)), (601, 0, None, None)] {
+        assert_eq!(rt; (index.replace(key, value), index.get(key)), (was, is));
+    }
+    Ok(())
+}
+
+#[test]
+fn lists_in_order(rt: HostRuntime) -> Result<(), Fail> {
+    let (index, _) = six_hundred(rt.alloc())?;
+    let mut last: u64 = 0;
     for (key, _) in index.iter() {
-        assert!(rt; last < 600);
-        assert_eq!(rt; *key, last + 1);
+        assert_eq!(rt; *key, last.wrapping_add(1));
         last = *key;
     }
     assert_eq!(rt; last, 600);
+    Ok(())
+}
+
+#[test]
+fn lists_from_a_key(rt: HostRuntime) -> Result<(), Fail> {
+    let (index, _) = six_hundred(rt.alloc())?;
     let mut above = index.from_key(599);
-    assert_eq!(rt; above.next().copied(), Some((599, 429)));
-    assert_eq!(rt; above.next().copied(), Some((600, 515)));
-    assert_eq!(rt; above.next().copied(), None);
-    for key in 1..500 {
-        assert_eq!(rt; index.remove(key).is_some(), true);
+    for want in [Some((599, 429)), Some((600, 515)), None] {
+        assert_eq!(rt; above.next().copied(), want);
     }
+    Ok(())
+}
+
+/// Of the keys 1 to 499, how many were taken out.
+fn removed(index: &mut Index<u64, u64>) -> usize {
+    let mut removed: usize = 0;
+    for key in 1..500 {
+        if index.remove(key).is_some() {
+            removed = removed.saturating_add(1);
+        }
+    }
+    removed
+}
+
+#[test]
+fn removes_keys(rt: HostRuntime) -> Result<(), Fail> {
+    let (mut index, _) = six_hundred(rt.alloc())?;
+    assert_eq!(rt; removed(&mut index), 499);
     assert_eq!(rt; (index.remove(1), index.get(1)), (None, None));
     assert_eq!(rt;
         (index.len(), index.room(), index.first()),
         (101, 500, Some((500, 329)))
     );
+    Ok(())
+}
+
+#[test]
+fn takes_keys_again(rt: HostRuntime) -> Result<(), Fail> {
+    let (mut index, _) = six_hundred(rt.alloc())?;
+    assert_eq!(rt; removed(&mut index), 499);
     for key in 1..500 {
-        assert!(rt; 0 < index.room());
-        assert_eq!(rt; index.insert(key, key), None);
+        assert_eq!(rt; inserted(&mut index, key, key), Some(None));
     }
     assert_eq!(rt; (index.get(86), index.get(600)), (Some(86), Some(515)));
     Ok(())
