@@ -14,10 +14,13 @@
 mod clock;
 mod disk;
 mod folder;
+mod handles;
 mod inputs;
 mod sink;
+mod streams;
 
 pub use clock::RealClock;
 pub use disk::RealDisk;
 pub use inputs::{RealInputs, RealSource};
 pub use sink::RealSink;
+pub use streams::StandardStreams;
