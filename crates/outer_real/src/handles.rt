@@ -130,7 +130,7 @@ fn position(handles: &[Handle], number: u32) -> Option<usize>
     None
 }
 
-/// The place of the file that is closed first.
+/// The place of the file that is to be closed first.
 fn least_recent(handles: &[Handle]) -> usize
     requires { 0 < length handles.now }
     ensures { result < length handles.now }

@@ -1,8 +1,7 @@
 //! The standard streams, kept from files.
 
-use std::fs;
-use std::io;
 use std::rt::Files;
+use std::{fs, io};
 
 /// The descriptors 0 to 2, as long as it lives. The system gives a file that is opened the first descriptor that is free. So where a program
 /// starts with one of these closed, a file of the archive would take its place, and what is printed would be written into that file. Three
