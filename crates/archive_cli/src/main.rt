@@ -11,8 +11,8 @@
 // The one idea of the proofs: what was sent and what is still held, joined, is the text so far (`HasMoved`), and an archive that was opened is the
 // one that the disk stands for. That the right answer comes follows from the causes of all answers (proofs/Answers.antt).
 //
-// `main` makes the objects of the edge to the system (`outer_real`), which tell no contents. The disk is the folder that the environment's
-// `YARCH_HOME` names, or else `yarch`; that it isn't there is met by the first call that wants it.
+// `main` holds the standard streams and makes the objects of the edge to the system (`outer_real`), which tell no contents. The disk is the
+// folder that the environment's `YARCH_HOME` names, or else `yarch`; that it isn't there is met by the first call that wants it.
 #![tactic(auto)]
 
 mod answer;
@@ -47,38 +47,51 @@ mod values_tests;
 mod words;
 mod write;
 
+use crate::report::Ended;
 use crate::run::run;
 use crate::text::FaultText;
 use arch_types::refusal::Refusal;
-use outer_real::{RealClock, RealDisk, RealInputs, RealSink};
+use outer_real::{RealClock, RealDisk, RealInputs, RealSink, StandardStreams};
 use std::env::{self, VarError};
 use std::process::ExitCode;
 
 fn main(rt: HostRuntime) -> ExitCode {
-    let words = match words_of(&rt) {
+    let Ok(streams) = StandardStreams::hold(&rt) else {
+        return refused(&rt, &Refusal::ReadFault);
+    };
+    let status = run_command(&rt);
+    // not before anything was printed
+    drop(streams);
+    status
+}
+
+/// Runs the command of the words, and says on standard error why it was refused. The archive's files are closed by then.
+fn run_command(rt: &HostRuntime) -> ExitCode {
+    let words = match words_of(rt) {
         Ok(words) => words,
-        Err(refusal) => return refused(&rt, &refusal),
+        Err(refusal) => return refused(rt, &refusal),
     };
-    let folder = match folder_of(&rt) {
+    let folder = match folder_of(rt) {
         Ok(folder) => folder,
-        Err(refusal) => return refused(&rt, &refusal),
+        Err(refusal) => return refused(rt, &refusal),
     };
-    let disk = RealDisk::new(rt.alloc(), &rt, folder);
-    let mut inputs = RealInputs::new(&rt);
-    let mut sink = RealSink::new(&rt);
-    let mut clock = RealClock::new(&rt);
-    let ended = run(
+    let Ended {
+        status,
+        disk,
+        report,
+    } = run(
         rt.alloc(),
         words.as_slice(),
-        disk,
-        &mut inputs,
-        &mut sink,
-        &mut clock,
+        RealDisk::new(rt.alloc(), rt, folder),
+        &mut RealInputs::new(rt),
+        &mut RealSink::new(rt),
+        &mut RealClock::new(rt),
     );
-    if let Some(refusal) = &ended.report.refusal {
+    drop(disk);
+    if let Some(refusal) = &report.refusal {
         let _ = eprintln!(rt; "{}", FaultText(refusal));
     }
-    ExitCode::from(ended.status)
+    ExitCode::from(status)
 }
 
 /// Says on standard error why nothing was begun, and gives the status of that.
