@@ -72,7 +72,6 @@ fn created<D: Disk>(alloc: Global, disk: &mut D) -> Result<Journal, JournalFault
 }
 
 // Appends a body.
-#[tactic(auto, using(crate::proofs::Appending::some_same))]
 fn add<D: Disk>(
     alloc: Global,
     journal: &mut Journal,
