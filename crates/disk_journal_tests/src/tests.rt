@@ -201,7 +201,7 @@ fn images_of_an_append(rt: HostRuntime) -> Result<(), Fail> {
     let before = disk.moments();
     assert_eq!(rt; add(rt.alloc(), &mut journal, &mut disk, body_at(1)), Ok(1));
     for (calls, gate, counts) in APPENDS {
-        let moment = before + calls;
+        let moment = before.saturating_add(calls);
         assert!(rt; moment <= disk.moments());
         let image = disk.crashed(moment, ALL_WRITTEN)?;
         assert_eq!(rt;
