@@ -1,6 +1,7 @@
 //! Batches, and what is done after a write that failed.
 
 ghost use Rattle.std.specs.Prelude.{◌≡◌, ◌≢◌, ◌<◌, ◌≤◌, ◌⊎◌, ◌+◌, ◌^◌, [], ℕ, None, Some, IsTrue, length, if◌then◌else◌, ◌++◌, OnOk, OnErr, IfOk, IfErr, IfSome, IfNone, MatchResult, Err, vec_len, vec_capacity};
+ghost use Rattle.arch_disk.specs.Image.{Image};
 ghost use Rattle.arch_disk.specs.Disk.{LeavesOnly, HasCause};
 ghost use Rattle.arch_types.specs.declared.refusal.Refusal.TheVariants.{DiskFault, Limit, OutOfMemory};
 ghost use Rattle.arch_types.specs.declared.refusal.Which.{Which as AWhich};
@@ -196,6 +197,9 @@ impl<D: Disk> Store<D> {
         ensures ok { OnOk result ((self.new.fills ≡ reopened self.old.fills) × (standing self.new.fills ≡ None)) }
         ensures err { OnErr result (self.new.fills ≡ self.old.fills) }
         ensures same { (self.new.history ≡ self.old.history) × (self.new.head ≡ self.old.head) × (self.new.opened ≡ self.old.opened) × (self.new.records ≡ self.old.records) }
+
+        // Afterwards every image stands for the history, whatever failed before.
+        ensures healed { IsTrue D.device.tells → OnOk result ((c : Image) → D.device.images self.new.disk c → StandsFor c (archive_of self.new)) }
 
         // A crash at any moment of the call leaves what it could have left before.
         ensures any_moment { IsTrue D.device.tells → LeavesOnly D.device self.old.disk self.new.disk (IsNow self.old.head self.old.history (rows_in_hand self.old.fills)) }

@@ -248,6 +248,13 @@ impl<D: Disk> Store<D> {
         self.history.len() as u64
     }
 
+    /// The disk, to be looked at.
+    pub fn disk(&self) -> &D
+        ensures { result.now ≡ self.now.disk }
+    {
+        &self.disk
+    }
+
     /// The tables and the mission database.
     pub fn head(&self) -> &Head
         ensures head { result.now ≡ self.now.head }
