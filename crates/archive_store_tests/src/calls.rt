@@ -1,8 +1,11 @@
 // That each call succeeds while memory lasts, with worked answers, and what it refuses.
-use crate::parts::{created, head, holding, ingest, request, shows, shows_at, text_of, why_no_archive, why_no_ingest};
-use archive_store::Store;
+use crate::parts::{
+    created, head, holding, ingest, request, shows, shows_at, text_of, why_no_archive,
+    why_no_ingest, with_a_failing_gate,
+};
 use arch_disk::MemDisk;
 use arch_types::inserted::Inserted;
+use archive_store::Store;
 use std::alloc::Global;
 use std::marker::Send;
 use std::test::Fail;
@@ -31,9 +34,15 @@ fn two_tables(rt: HostRuntime) -> Result<(), Fail> {
     let alloc = rt.alloc();
     let mut store = created(alloc, MemDisk::new(alloc))?;
     let both = ingest(alloc, &mut store, &[0], &[0, 1])?;
-    assert_eq!(rt; both.as_slice(), [Inserted::New(0), Inserted::New(1)].as_slice());
+    assert_eq!(rt;
+        both.as_slice(),
+        [Inserted::New(0), Inserted::New(1)].as_slice()
+    );
     let second = ingest(alloc, &mut store, &[1, 0], &[1])?;
-    assert_eq!(rt; second.as_slice(), [Inserted::New(2), Inserted::Duplicate(1)].as_slice());
+    assert_eq!(rt;
+        second.as_slice(),
+        [Inserted::New(2), Inserted::Duplicate(1)].as_slice()
+    );
     assert!(rt; shows_at(alloc, &mut store, 3, 1)?);
     Ok(())
 }
@@ -54,7 +63,10 @@ fn an_archive_is_opened_again(rt: HostRuntime) -> Result<(), Fail> {
     let mut store = reopened(alloc)?;
     assert!(rt; shows_at(alloc, &mut store, 4, 2)?);
     let outcomes = ingest(alloc, &mut store, &[0, 2], &[0])?;
-    assert_eq!(rt; outcomes.as_slice(), [Inserted::Duplicate(0), Inserted::New(4)].as_slice());
+    assert_eq!(rt;
+        outcomes.as_slice(),
+        [Inserted::Duplicate(0), Inserted::New(4)].as_slice()
+    );
     Ok(())
 }
 
@@ -62,7 +74,10 @@ fn an_archive_is_opened_again(rt: HostRuntime) -> Result<(), Fail> {
 fn an_archive_is_made_once(rt: HostRuntime) -> Result<(), Fail> {
     let alloc = rt.alloc();
     let disk = created(alloc, MemDisk::new(alloc))?.into_disk();
-    assert_eq!(rt; why_no_archive(Store::create(alloc, disk, head(alloc)?)), "exists");
+    assert_eq!(rt;
+        why_no_archive(Store::create(alloc, disk, head(alloc)?)),
+        "exists"
+    );
     Ok(())
 }
 
@@ -96,13 +111,6 @@ fn plans_that_are_refused(rt: HostRuntime) -> Result<(), Fail> {
     assert_eq!(rt; why_no_plan(alloc, b"v", 5, 4)?, "bad range 5 4");
     assert_eq!(rt; why_no_plan(alloc, b"v", 4, 4)?, "a plan");
     Ok(())
-}
-
-/// A new archive on a disk whose third call after the making fails: in the first ingest it opens the gate.
-fn with_a_failing_gate(alloc: Global) -> Result<Store<MemDisk>, Fail> {
-    let made = created(alloc, MemDisk::new(alloc))?.into_disk().made();
-    let calls = vec![in alloc; made.saturating_add(3); 1]?;
-    created(alloc, MemDisk::failing(calls, alloc))
 }
 
 #[test]

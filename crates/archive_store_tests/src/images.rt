@@ -3,9 +3,9 @@
 ghost use Rattle.std.specs.Prelude.{◌≤◌, length};
 
 use crate::parts::{head, shows, why_no_ingest};
-use archive_store::Store;
 use arch_disk::{Crash, MemDisk};
 use arch_types::refusal::Refusal;
+use archive_store::Store;
 use std::alloc::Global;
 use std::process::Abort;
 use std::test::Fail;

@@ -3,8 +3,8 @@ ghost use Rattle.std.specs.Prelude.{IfOk};
 ghost use Rattle.archive_store.specs.Batches.{IsBatch};
 
 use crate::parts::{answer_to, arrival, created};
-use archive_store::{Arrivals, Batch, Head, Store};
 use arch_disk::MemDisk;
+use archive_store::{Arrivals, Batch, Head, Store};
 use std::alloc::Global;
 use std::test::Fail;
 
@@ -68,6 +68,9 @@ fn an_interval_is_full(rt: HostRuntime) -> Result<(), Fail> {
     );
     assert_eq!(rt; (store.front(), store.disk().made()), (262_144, calls));
     assert_eq!(rt; answer(alloc, &mut store, 0, 64, 0)?, "an ingest");
-    assert_eq!(rt; answer(alloc, &mut store, 262_144, 262_145, 1)?, "an ingest");
+    assert_eq!(rt;
+        answer(alloc, &mut store, 262_144, 262_145, 1)?,
+        "an ingest"
+    );
     Ok(())
 }

@@ -1,12 +1,11 @@
 // What the tests are made of: a head, packets, batches, stores, and the words for refusals.
-ghost use Rattle.std.specs.Prelude.{◌≡◌, ◌<◌, ◌≤◌, ◌×◌, false, length, IfOk};
+ghost use Rattle.std.specs.Prelude.{◌≡◌, ◌<◌, ◌≤◌, [], false, length, IfOk};
 ghost use Rattle.std.specs.List.{AllByRecursion};
 ghost use Rattle.arch_types.specs.Packet.{IsPacket, is_idle};
 ghost use Rattle.field_codec.specs.declared.entry.Entry.TheVariants as entries;
 ghost use Rattle.field_codec.specs.Entries.{IsEntry};
 ghost use Rattle.archive_store.specs.Batches.{IsArrival, IsBatch};
 
-use archive_store::{Arrival, Arrivals, Batch, Head, Store};
 use arch_disk::{Disk, MemDisk};
 use arch_types::ask::Request;
 use arch_types::inserted::Outcomes;
@@ -15,6 +14,7 @@ use arch_types::octets::Octets;
 use arch_types::refusal::{Refusal, Which};
 use arch_types::row::Row;
 use arch_types::tables::TableList;
+use archive_store::{Arrival, Arrivals, Batch, Head, Store};
 use field_codec::{Entry, read_entry};
 use space_packet::dump::first_packet;
 use space_packet::header::is_idle_packet;
@@ -95,12 +95,7 @@ fn tables_of(alloc: Global, head: &Head, tables: &[u8]) -> Result<TableList, Fai
 }
 
 /// A packet of link 1 that comes into tables.
-pub fn arrival(
-    alloc: Global,
-    head: &Head,
-    octets: &[u8],
-    tables: &[u8],
-) -> Result<Arrival, Fail>
+pub fn arrival(alloc: Global, head: &Head, octets: &[u8], tables: &[u8]) -> Result<Arrival, Fail>
     ensures { IfOk result (IsArrival head.now) }
 {
     if head.mdb.containers() == 0 {
@@ -245,11 +240,22 @@ pub fn shows(alloc: Global, store: &mut Store<MemDisk>, count: u64) -> Result<bo
 }
 
 /// An archive without packets.
-pub fn created(alloc: Global, disk: MemDisk) -> Result<Store<MemDisk>, Fail> {
+pub fn created(alloc: Global, disk: MemDisk) -> Result<Store<MemDisk>, Fail>
+    ensures { IfOk result (λ store. store.fills ≡ []) }
+{
     match Store::create(alloc, disk, head(alloc)?) {
         Ok(store) => Ok(store),
         Err(_) => Err(Fail::from("an archive")),
     }
+}
+
+/// A new archive on a disk whose third call after the making fails: in the first ingest it opens the gate.
+pub fn with_a_failing_gate(alloc: Global) -> Result<Store<MemDisk>, Fail>
+    ensures { IfOk result (λ store. store.fills ≡ []) }
+{
+    let made = created(alloc, MemDisk::new(alloc))?.into_disk().made();
+    let calls = vec![in alloc; made.saturating_add(3); 1]?;
+    created(alloc, MemDisk::failing(calls, alloc))
 }
 
 /// A disk whose file 0 holds octets.

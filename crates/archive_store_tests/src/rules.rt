@@ -1,7 +1,7 @@
 // Each rule of a record, broken once: the archive is damaged at the gate of that record.
 use crate::parts::{HEAD, holding, shows_at};
-use archive_store::Store;
 use arch_types::refusal::Refusal;
+use archive_store::Store;
 use std::alloc::Global;
 use std::test::Fail;
 
