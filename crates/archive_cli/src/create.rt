@@ -13,6 +13,7 @@ ghost use Rattle.archive_cli.specs.Asked.{sheet_words_of};
 ghost use Rattle.archive_cli.specs.Call.{Call, WritesCounted};
 ghost use Rattle.archive_cli.specs.Caused.{IsCreateCaused};
 ghost use Rattle.archive_cli.specs.CreateEnding.{AreGood, AreRefused, IsCreateEnding, IsHead, create_line, new_head};
+ghost use Rattle.archive_cli.specs.HandedBack.{IsCreateBack};
 ghost use Rattle.archive_cli.specs.Job.{SheetWords as GivenWords};
 ghost use Rattle.archive_cli.specs.Report.{status_at, IsConsulting};
 
@@ -75,6 +76,9 @@ pub fn create<D: Disk, I: Inputs, K: Sink>(
     ensures steady { I.never_fails inputs.old → Stays (I.faults inputs.old) (I.faults inputs.new) }
     ensures disk_later { D.device.fault_count disk ≤ D.device.fault_count result.disk }
     ensures disk_fault { result.report.refusal ≡ Some DiskFault → raised (D.device.fault_count disk) ≤ D.device.fault_count result.disk }
+
+    // Refused before the disk was asked, it hands the very disk back.
+    ensures handed_back { IsCreateBack disk result.disk result.report.refusal }
 {
     match read_head(alloc, words, inputs) {
         Ok(head) => make(alloc, disk, head, sink),
@@ -154,6 +158,9 @@ fn make<D: Disk, K: Sink>(alloc: Global, disk: D, head: Head, sink: &mut K) -> E
     ensures writes_later { K.faults sink.old ≤ K.faults sink.new }
     ensures disk_later { D.device.fault_count disk ≤ D.device.fault_count result.disk }
     ensures disk_fault { result.report.refusal ≡ Some DiskFault → raised (D.device.fault_count disk) ≤ D.device.fault_count result.disk }
+
+    // Refused before the disk was asked, it hands the very disk back.
+    ensures handed_back { IsCreateBack disk result.disk result.report.refusal }
 {
     let Ok(mut piece) = Piece::new(alloc) else {
         return Ended::unopened(disk, Some(Refusal::OutOfMemory));

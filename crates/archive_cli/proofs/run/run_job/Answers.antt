@@ -1,6 +1,7 @@
 use Rattle.std.proofs.Common.{[], Some, subst, sym}
 use Rattle.archive_cli.specs.declared.job.Job.{Job}
 use Rattle.archive_cli.specs.Asked.{asked, words_of}
+use Rattle.archive_cli.specs.HandedBack.{IsHandedBack}
 use Rattle.archive_cli.specs.Ending.{IsCaused, IsJobEnding}
 use Rattle.archive_cli.specs.ScanEnding.{IsScanEnding}
 use Rattle.archive_cli.specs.ValuesEnding.{IsValuesEnding}
@@ -57,3 +58,15 @@ returns-in-Query-clause-caused g c = λ words.
     let call = call_of words (g.I.Inputs.files c.args.inputs.now) (g.C.Clock.next c.args.clock.now) (g.I.Inputs.faults c.args.inputs.now) (g.I.Inputs.faults c.query.new.inputs)
     (g.K.Sink.written c.args.sink.now) (g.K.Sink.written c.query.new.sink) (g.K.Sink.faults c.args.sink.now) (g.K.Sink.faults c.query.new.sink) in
     subst (λ (job : Job). IsCaused call (Some (asked job)) c.query.result.report.refusal) (sym c.in-Query.is) (c.query.ensures.caused words (g.C.Clock.next c.args.clock.now))
+
+pub returns-in-Create-clause-handed_back : goal.returns-in-Create-clause-handed_back
+returns-in-Create-clause-handed_back g c =
+    subst (λ (job : Job). IsHandedBack (Some (asked job)) c.args.disk c.create.result.disk c.create.result.report) (sym c.in-Create.is) c.create.ensures.handed_back
+
+pub returns-in-Load-clause-handed_back : goal.returns-in-Load-clause-handed_back
+returns-in-Load-clause-handed_back g c =
+    subst (λ (job : Job). IsHandedBack (Some (asked job)) c.args.disk c.load.result.disk c.load.result.report) (sym c.in-Load.is) c.load.ensures.handed_back
+
+pub returns-in-Query-clause-handed_back : goal.returns-in-Query-clause-handed_back
+returns-in-Query-clause-handed_back g c =
+    subst (λ (job : Job). IsHandedBack (Some (asked job)) c.args.disk c.query.result.disk c.query.result.report) (sym c.in-Query.is) c.query.ensures.handed_back
