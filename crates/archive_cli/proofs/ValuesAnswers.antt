@@ -32,7 +32,7 @@ pub longer : (limit n : ℕ) → limit < n → nat_lt limit n ≡ true
 longer limit n h = grind (arith, nat_tests)
 
 -- an input within its limit is no refusal
-within : (which : Which) (name : List ℕ) (o : Option (List ℕ)) → IsSomeAnd o (λ octets. length octets ≤ limit_of which) → refusal_of_input which name o ≡ None
+pub within : (which : Which) (name : List ℕ) (o : Option (List ℕ)) → IsSomeAnd o (λ octets. length octets ≤ limit_of which) → refusal_of_input which name o ≡ None
 within which name None h = absurd h
 within which name (Some octets) h = rw (not-longer (limit_of which) (length octets) h) refl
 

@@ -1,5 +1,5 @@
 -- Which refusal of an input has to come where reads fail, by how many sources the inputs have given.
-use Rattle.std.specs.Prelude.{◌≡◌, ◌⊎◌, ◌+◌, ◌≤◌, IsTrue, ℕ, suc, List, [], ◌∷◌, Option, Some, None, IfSome}
+use Rattle.std.specs.Prelude.{◌≡◌, ◌⊎◌, IsTrue, ℕ, suc, List, [], ◌∷◌, Option, Some, None, IfSome}
 use Rattle.std.specs.FinMap.{get}
 use Rattle.arch_types.specs.declared.refusal.Refusal.{Refusal}
 use Rattle.arch_types.specs.declared.refusal.Refusal.TheVariants.{Missing, ReadFault}
@@ -8,7 +8,7 @@ use Rattle.arch_types.specs.declared.refusal.Which.TheVariants.{DumpOctets, Shee
 use Rattle.mdb_model.specs.Checks.{or_else}
 use Rattle.outer_traits.specs.Outside.{Files, one_more}
 use Rattle.archive_cli.specs.declared.report.Report.{Report}
-use Rattle.archive_cli.specs.Expecting.{IsOrMemory}
+use Rattle.archive_cli.specs.Expecting.{IsOrEarlier}
 use Rattle.archive_cli.specs.Job.{Job, SheetWords, ValuesWords, Scan, Values, Create, Load, Query, Recover}
 use Rattle.archive_cli.specs.Report.{unopened}
 use Rattle.archive_cli.specs.ValuesExpected.{refusal_of_input}
@@ -30,10 +30,6 @@ create_inputs words = (words.parameters, SheetOctets) ∷ (words.calibrations, S
 
 abbrev pub query_inputs : List ℕ → List Input
 query_inputs asks = (asks, SheetOctets) ∷ []
-
--- this answer, or want of memory, or a read that failed after so many more sources at most were given
-abbrev pub IsOrEarlier : ℕ → ℕ → ℕ → Option Refusal → Option Refusal → Type 0
-IsOrEarlier given given' most ending expected = IsOrMemory ending expected ⊎ ((ending ≡ Some ReadFault) × (given' ≤ given + most))
 
 -- the refusal of the input behind k others, and how many sources were given for it to come: its own is among them, but where there's none of the name
 abbrev pub unread_at : ℕ → Option Refusal → Option (Refusal × ℕ)

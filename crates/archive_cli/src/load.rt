@@ -10,6 +10,7 @@ ghost use Rattle.archive_cli.specs.HandedBack.{IsLoadBack};
 ghost use Rattle.archive_cli.specs.LoadCaused.{IsLoadCaused};
 ghost use Rattle.archive_cli.specs.LoadEnding.{load_line, IsLoadEnding};
 ghost use Rattle.archive_cli.specs.Loading.{printed_report, IsGivenUp, IsLetGo, IsReopened, IsSession, IsUnread, IsUnreadFor};
+ghost use Rattle.archive_cli.specs.Order.{IsLoadFault};
 ghost use Rattle.archive_cli.specs.Printing.{IsFinished};
 ghost use Rattle.archive_cli.specs.Received.{dump_limit, ending_of};
 ghost use Rattle.archive_cli.specs.Report.{consulted, loaded, status_at, IsLoadReport};
@@ -75,6 +76,7 @@ pub fn load<D: Disk, I: Inputs, K: Sink, C: Clock>(
     ensures report { IsLoadReport (load_words_of words.entry) result.report.refusal result.report }
     ensures same { I.files inputs.new ≡ I.files inputs.old }
     ensures closed { I.open_sources inputs.old + 1 < 2 ^ 64 → I.open_sources inputs.new ≡ I.open_sources inputs.old }
+    ensures order { IsLoadFault (I.given inputs.old) (I.given inputs.new) disk result.disk result.report result.report.refusal }
     ensures later { I.faults inputs.old ≤ I.faults inputs.new }
     ensures writes_later { K.faults sink.old ≤ K.faults sink.new }
     ensures reads_counted { ReadsCounted result.report.refusal (I.faults inputs.old) (I.faults inputs.new) }

@@ -10,6 +10,7 @@ ghost use Rattle.archive_cli.specs.AnswerText.{ask_refusal, ask_text, asks_refus
 ghost use Rattle.archive_cli.specs.Call.{Call, WritesCounted};
 ghost use Rattle.archive_cli.specs.Caused.{IsQueryCaused};
 ghost use Rattle.archive_cli.specs.HandedBack.{IsQueryBack};
+ghost use Rattle.archive_cli.specs.Order.{AreInOrder, query_inputs};
 ghost use Rattle.archive_cli.specs.Printing.{HasMoved};
 ghost use Rattle.archive_cli.specs.QueryEnding.{IsAskSheet, IsQueryEnding, IsReply, IsSheetReply};
 ghost use Rattle.archive_cli.specs.Report.{status_at, IsConsulting};
@@ -67,6 +68,7 @@ pub fn query<D: Disk, I: Inputs, K: Sink>(
     ensures report { IsConsulting result.report.refusal result.report }
     ensures same { I.files inputs.new ≡ I.files inputs.old }
     ensures closed { I.open_sources inputs.old + 1 < 2 ^ 64 → I.open_sources inputs.new ≡ I.open_sources inputs.old }
+    ensures order { AreInOrder (I.files inputs.old) (query_inputs name.now) (I.given inputs.old) (I.given inputs.new) result.report.refusal }
     ensures later { I.faults inputs.old ≤ I.faults inputs.new }
     ensures writes_later { K.faults sink.old ≤ K.faults sink.new }
     ensures reads_counted { ReadsCounted result.report.refusal (I.faults inputs.old) (I.faults inputs.new) }

@@ -10,6 +10,7 @@ ghost use Rattle.archive_cli.specs.Job.{job_of, HasLink};
 ghost use Rattle.archive_cli.specs.Ending.{IsCaused, IsEnding, IsJobEnding};
 ghost use Rattle.archive_cli.specs.Expected.{IsExpected};
 ghost use Rattle.archive_cli.specs.HandedBack.{IsHandedBack};
+ghost use Rattle.archive_cli.specs.Order.{IsInOrder};
 ghost use Rattle.archive_cli.specs.Report.{status_at, IsReport};
 ghost use Rattle.archive_cli.specs.Settled.{FailedOnce, IsSettledWith};
 
@@ -44,7 +45,11 @@ pub fn run<D: Disk, I: Inputs, K: Sink, C: Clock>(
     ensures caused { IsCaused (call_of (map (λ w. string_bytes w) words.now) (I.files inputs.old) (C.next clock.old) (I.faults inputs.old) (I.faults inputs.new) (K.written sink.old) (K.written sink.new) (K.faults sink.old) (K.faults sink.new)) (job_of (map (λ w. string_bytes w) words.now)) result.report.refusal }
 
     // Over told inputs, on a disk that tells what it holds, the answer that it has to be, or want of memory.
-    ensures expected { IsExpected D.device (call_of (map (λ w. string_bytes w) words.now) (I.files inputs.old) (C.next clock.old) (I.faults inputs.old) (I.faults inputs.new) (K.written sink.old) (K.written sink.new) (K.faults sink.old) (K.faults sink.new)) disk result.disk result.report.refusal }
+    ensures expected { IsExpected D.device (call_of (map (λ w. string_bytes w) words.now) (I.files inputs.old) (C.next clock.old) (I.faults inputs.old) (I.faults inputs.new) (K.written sink.old) (K.written sink.new) (K.faults sink.old) (K.faults sink.new)) (I.given inputs.old) (I.given inputs.new) disk result.disk result.report.refusal }
+
+    // Where a read failed, the refusals that stand before it could not come: of the first input that can't be read whole, but for a failed read of an input up to
+    // it, and of `load` those of its archive.
+    ensures order { IsInOrder (I.files inputs.old) (job_of (map (λ w. string_bytes w) words.now)) (I.given inputs.old) (I.given inputs.new) disk result.disk result.report }
 
     // The number of the refusal, and 0 exactly where there's none.
     ensures status { result.status ≡ status_at result.report.refusal }
@@ -96,6 +101,7 @@ fn run_job<D: Disk, I: Inputs, K: Sink, C: Clock>(
     ensures report { IsReport (Some (asked job.entry)) result.report }
     ensures same { I.files inputs.new ≡ I.files inputs.old }
     ensures closed { I.open_sources inputs.old + 1 < 2 ^ 64 → I.open_sources inputs.new ≡ I.open_sources inputs.old }
+    ensures order { IsInOrder (I.files inputs.old) (Some (asked job.entry)) (I.given inputs.old) (I.given inputs.new) disk result.disk result.report }
     ensures later { I.faults inputs.old ≤ I.faults inputs.new }
     ensures writes_later { K.faults sink.old ≤ K.faults sink.new }
     ensures reads_counted { ReadsCounted result.report.refusal (I.faults inputs.old) (I.faults inputs.new) }

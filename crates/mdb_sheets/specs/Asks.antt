@@ -1,5 +1,5 @@
 -- The sheet of asks: one row an ask.
-use Rattle.std.specs.Prelude.{◌≡◌, ℕ, suc, ◌+◌, ◌<◌, ◌≤◌, ◌==◌, ◌&&◌, ◌||◌, not, Bool, true, false, List, [], ◌∷◌, length, map, drop, Option, Some, None, IfSome, is_some, option_map, unwrap_or, if◌then◌else◌, codes, pos, Result, Ok, Err}
+use Rattle.std.specs.Prelude.{◌≡◌, ℕ, suc, ◌<◌, ◌≤◌, ◌==◌, ◌&&◌, ◌||◌, not, Bool, true, false, List, [], ◌∷◌, length, map, drop, Option, Some, None, IfSome, is_some, option_map, unwrap_or, if◌then◌else◌, codes, pos, Result, Ok, Err}
 use Rattle.std.specs.Str.{bytes_eq}
 use Rattle.arch_types.specs.declared.ask.Ask.{Ask}
 use Rattle.arch_types.specs.declared.ask.Ask.TheVariants.{Values}

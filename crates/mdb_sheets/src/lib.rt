@@ -4,8 +4,9 @@
 // specs/Sheets.antt): a field may stand in double quotes, a record ends at a line feed or a carriage return, a record may have any number of
 // fields, a byte order mark is dropped, and an empty line is no record. The header is a record as any other.
 //
-// `read_mdb` reads the three sheets one after the other. It refuses at the first that isn't there or can't be read, and every source that
-// it opened is closed by then. The program calls it, and hands what it gives to `Mdb::check`: which records are right is for `mdb_model` to say.
+// `read_mdb` reads the three sheets one after the other, and opens each once. It refuses at the first that isn't there or can't be read, and
+// every source that it opened is closed by then. The program calls it, and hands what it gives to `Mdb::check`: which records are right is
+// for `mdb_model` to say.
 //
 // `read_asks` reads one sheet, the source of which its caller has opened, and makes an ask of each row. Here the rules stand in this crate
 // (specs/Asks.antt): the header's, then by rows from the top and in a row from the left, and only where no rule is broken the limit on the

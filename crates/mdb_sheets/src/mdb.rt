@@ -1,9 +1,9 @@
 //! The three sheets of a mission database.
 
-ghost use Rattle.std.specs.Prelude.{◌≡◌, ◌+◌, ◌<◌, ◌≤◌, ◌^◌, IfOk, IfErr};
+ghost use Rattle.std.specs.Prelude.{◌≡◌, ◌+◌, ◌<◌, ◌≤◌, ◌^◌, IfOk, IfErr, OnOk};
 ghost use Rattle.std.specs.Result.{result_err};
 ghost use Rattle.outer_traits.specs.Outside.{Stays};
-ghost use Rattle.mdb_sheets.specs.Sheets.{AreSheets, IsRefusal, ReadsCounted};
+ghost use Rattle.mdb_sheets.specs.Sheets.{AreSheets, IsRefusal, ReadsCounted, more};
 
 use crate::sheet::read_sheet;
 use arch_types::refusal::Refusal;
@@ -13,8 +13,8 @@ use std::alloc::Global;
 
 /// The records of the three named sheets, which are read in this order. Of the first that isn't read it answers `Missing` where no input has
 /// the name, `ReadFault` where a call failed, and `Limit` of `SheetOctets` where it is longer than 4,194,304 octets, whichever its reads meet
-/// first. Each source that was opened is closed. The count of faults rises exactly where the answer is `ReadFault`: no call that failed is
-/// passed over.
+/// first. Each sheet is opened once, and each source is closed: how many were given tells which sheet wasn't read. The count of faults rises
+/// exactly where the answer is `ReadFault`: no call that failed is passed over.
 pub fn read_mdb<I: Inputs>(
     alloc: Global,
     inputs: &mut I,
@@ -23,7 +23,9 @@ pub fn read_mdb<I: Inputs>(
     containers: &str,
 ) -> Result<RawMdb, Refusal>
     ensures sheets { IfOk result (AreSheets (I.files inputs.old) parameters.now calibrations.now containers.now) }
-    ensures refused { IfErr result (IsRefusal (I.files inputs.old) parameters.now calibrations.now containers.now (I.faults inputs.old) (I.faults inputs.new)) }
+    ensures refused { IfErr result (IsRefusal (I.files inputs.old) parameters.now calibrations.now containers.now
+        (I.faults inputs.old) (I.faults inputs.new) (I.given inputs.old) (I.given inputs.new)) }
+    ensures gave { OnOk result (I.given inputs.new ≡ more 3 (I.given inputs.old)) }
     ensures same { I.files inputs.new ≡ I.files inputs.old }
     ensures closed { I.open_sources inputs.old + 1 < 2 ^ 64 → I.open_sources inputs.new ≡ I.open_sources inputs.old }
     ensures counted { ReadsCounted (result_err result) (I.faults inputs.old) (I.faults inputs.new) }

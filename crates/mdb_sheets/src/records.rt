@@ -4,11 +4,12 @@ ghost use Rattle.std.specs.Prelude.{◌≡◌, IfOk};
 ghost use Rattle.csv.specs.Records.{fields_of};
 ghost use Rattle.mdb_sheets.specs.Sheets.{sheet_of};
 
-use csv::{ByteRecord, ReaderBuilder};
+use csv::{ByteRecord, ErrorKind, ReaderBuilder};
 use mdb_model::{Record, Sheet};
 use std::alloc::{AllocError, Global};
 
-/// The records of a sheet's octets, each field copied once. `csv` can fail over octets in memory only where there's no memory left.
+/// The records of a sheet's octets, of any number of fields each, every field copied once. A reader of such records can fail only where its
+/// octets can't be read, which octets in memory always can, or where there's no memory left.
 pub(crate) fn records(alloc: Global, octets: &[u8]) -> Result<Sheet, AllocError>
     ensures { IfOk result (λ sheet. sheet ≡ sheet_of octets.now) }
 {
@@ -19,8 +20,12 @@ pub(crate) fn records(alloc: Global, octets: &[u8]) -> Result<Sheet, AllocError>
     let mut row = ByteRecord::new(alloc);
     let mut sheet = Sheet::new(alloc);
     loop {
-        let Ok(found) = reader.read_byte_record(&mut row) else {
-            return Err(AllocError);
+        let found = match reader.read_byte_record(&mut row) {
+            Ok(found) => found,
+            Err(error) => match error.kind() {
+                ErrorKind::Io(_) | ErrorKind::OutOfMemory => return Err(AllocError),
+                _ => unreachable!(),
+            },
         };
         if !found {
             return Ok(sheet);

@@ -1,9 +1,9 @@
 //! One sheet.
 
-ghost use Rattle.std.specs.Prelude.{◌≡◌, ◌+◌, ◌<◌, ◌≤◌, ◌^◌, IfOk, IfErr};
+ghost use Rattle.std.specs.Prelude.{◌≡◌, ◌+◌, ◌<◌, ◌≤◌, ◌^◌, IfOk, IfErr, OnOk};
 ghost use Rattle.std.specs.Result.{result_err};
-ghost use Rattle.outer_traits.specs.Outside.{Stays};
-ghost use Rattle.mdb_sheets.specs.Sheets.{IsSheet, IsSheetRefusal, ReadsCounted};
+ghost use Rattle.outer_traits.specs.Outside.{Stays, one_more};
+ghost use Rattle.mdb_sheets.specs.Sheets.{IsSheet, IsSheetRefused, ReadsCounted};
 
 use crate::records::records;
 use crate::refusal::refusal;
@@ -13,14 +13,17 @@ use outer_traits::inputs::Inputs;
 use outer_traits::whole::read_input;
 use std::alloc::Global;
 
-/// The records of the named sheet. Its source is closed whatever comes. The count of faults rises exactly where the answer is `ReadFault`.
+/// The records of the named sheet. It is opened once, and its source is closed whatever comes. The count of faults rises exactly where the
+/// answer is `ReadFault`.
 pub(crate) fn read_sheet<I: Inputs>(
     alloc: Global,
     inputs: &mut I,
     name: &str,
 ) -> Result<Sheet, Refusal>
     ensures sheet { IfOk result (IsSheet (I.files inputs.old) name.now) }
-    ensures refused { IfErr result (IsSheetRefusal (I.files inputs.old) name.now (I.faults inputs.old) (I.faults inputs.new)) }
+    ensures refused { IfErr result (IsSheetRefused (I.files inputs.old) name.now
+        (I.faults inputs.old) (I.faults inputs.new) (I.given inputs.old) (I.given inputs.new)) }
+    ensures gave { OnOk result (I.given inputs.new ≡ one_more (I.given inputs.old)) }
     ensures same { I.files inputs.new ≡ I.files inputs.old }
     ensures closed { I.open_sources inputs.old + 1 < 2 ^ 64 → I.open_sources inputs.new ≡ I.open_sources inputs.old }
     ensures counted { ReadsCounted (result_err result) (I.faults inputs.old) (I.faults inputs.new) }

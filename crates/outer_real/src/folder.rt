@@ -2,30 +2,36 @@
 
 ghost use Rattle.std.specs.Prelude.{◌<◌, ◌≤◌, IfSome, IfOk, length, vec_len};
 
+use crate::handles::Handles;
 use std::alloc::Global;
+use std::collections::BTreeMap;
 use std::fs::{self, File, OpenOptions};
 use std::io::{self, ErrorKind};
 use std::os::unix::fs::FileExt;
 use std::path::{Path, PathBuf};
 use std::rt::Files;
 
-/// An open file of the folder.
-#[derive(Drop)]
-struct Handle {
-    number: u32,
-    file: File,
-    /// Its entry in the folder was synced since it was opened. It may be new, or left so by a process that was killed.
-    is_entered: bool,
+/// What is known of a file's entry in the folder.
+#[derive(Clone, Copy)]
+enum Entry {
+    /// There was none at the first look. If another program has made one since, this one makes none.
+    Absent,
+    /// A crash may take it away: it may be new, or left so by a process that was killed.
+    There,
+    /// It was synced since the first look.
+    Synced,
 }
 
-/// A folder and its open files.
+/// A folder and its files. The call that first looks at a file locks it, so that no other program works on it; the system takes the lock away
+/// when the file is closed, or the process ends. A lock that another program has is an error.
 #[derive(Drop)]
 pub(crate) struct Folder<'a, R> {
     rt: &'a R,
     alloc: Global,
     path: String,
-    /// Each file once. Searched from the front: few are open.
-    handles: Vec<Handle>,
+    /// Of the files that were looked at, whether a handle is open or not.
+    entries: BTreeMap<u32, Entry>,
+    handles: Handles,
 }
 
 impl<'a, R> Folder<'a, R> {
@@ -34,7 +40,8 @@ impl<'a, R> Folder<'a, R> {
             rt,
             alloc,
             path,
-            handles: Vec::new(alloc),
+            entries: BTreeMap::new(alloc),
+            handles: Handles::new(alloc),
         }
     }
 }
@@ -43,7 +50,7 @@ impl<'a, R: Files<File = File>> Folder<'a, R> {
     /// The length of a file, 0 where there is none.
     pub(crate) fn len(&mut self, number: u32) -> io::Result<u64> {
         match self.find(number)? {
-            Some(place) => Ok(self.handles[place].file.metadata()?.len()),
+            Some(place) => Ok(self.handles.files[place].file.metadata()?.len()),
             None => Ok(0),
         }
     }
@@ -51,7 +58,7 @@ impl<'a, R: Files<File = File>> Folder<'a, R> {
     /// Fills `into` whole, or fails.
     pub(crate) fn read_at(&mut self, number: u32, at: u64, into: &mut [u8]) -> io::Result<()> {
         match self.find(number)? {
-            Some(place) => self.handles[place].file.read_exact_at(into, at),
+            Some(place) => self.handles.files[place].file.read_exact_at(into, at),
             None if into.is_empty() => Ok(()),
             None => Err(ErrorKind::UnexpectedEof.into()),
         }
@@ -60,7 +67,7 @@ impl<'a, R: Files<File = File>> Folder<'a, R> {
     /// Writes all of `from`, or fails. The file and the folder are made where they aren't there.
     pub(crate) fn write_at(&mut self, number: u32, at: u64, from: &[u8]) -> io::Result<()> {
         let place = self.make(number)?;
-        self.handles[place].file.write_all_at(from, at)
+        self.handles.change(place).write_all_at(from, at)
     }
 
     /// Cuts a file to a length; a shorter file stays as it is.
@@ -68,7 +75,7 @@ impl<'a, R: Files<File = File>> Folder<'a, R> {
         let Some(place) = self.find(number)? else {
             return Ok(());
         };
-        let file = &self.handles[place].file;
+        let file = self.handles.change(place);
         if len < file.metadata()?.len() {
             file.set_len(len)?;
         }
@@ -80,41 +87,88 @@ impl<'a, R: Files<File = File>> Folder<'a, R> {
         let Some(place) = self.find(number)? else {
             return Ok(());
         };
-        let handle = &mut self.handles[place];
-        handle.file.sync_all()?;
-        if !handle.is_entered {
+        self.handles.sync(place)?;
+        if !matches!(self.entries.get(&number), Some(Entry::Synced)) {
             sync_folder(self.rt, self.path.as_str())?;
-            handle.is_entered = true;
+            self.entries.insert(number, Entry::Synced)?;
         }
         Ok(())
     }
 
     /// The place of a file's handle, and none where there's no such file.
     fn find(&mut self, number: u32) -> io::Result<Option<usize>>
-        ensures { IfOk result (λ found. IfSome found (λ place. place < vec_len self.new.handles)) }
+        ensures { IfOk result (λ found. IfSome found (λ place. place < vec_len self.new.handles.files)) }
     {
-        if let Some(place) = position(&self.handles, number) {
+        if let Some(place) = self.handles.find(number) {
             return Ok(Some(place));
         }
-        match self.open_by(&to_update(), number) {
-            Ok(file) => Ok(Some(self.keep(number, file)?)),
-            Err(error) if error.kind() == ErrorKind::NotFound => Ok(None),
+        match self.entries.get(&number) {
+            Some(Entry::Absent) => return Ok(None),
+            Some(_) => {
+                let file = self.open(number)?;
+                return Ok(Some(self.keep(number, file)?));
+            }
+            None => {}
+        }
+        self.look(number)
+    }
+
+    /// The first look at a file.
+    fn look(&mut self, number: u32) -> io::Result<Option<usize>>
+        ensures { IfOk result (λ found. IfSome found (λ place. place < vec_len self.new.handles.files)) }
+    {
+        match self.open(number) {
+            Ok(file) => {
+                self.entries.insert(number, Entry::There)?;
+                Ok(Some(self.keep(number, file)?))
+            }
+            Err(error) if error.kind() == ErrorKind::NotFound => {
+                self.entries.insert(number, Entry::Absent)?;
+                Ok(None)
+            }
             Err(error) => Err(error),
         }
     }
 
     /// The place of a file's handle. The file is made where it isn't there.
     fn make(&mut self, number: u32) -> io::Result<usize>
-        ensures { IfOk result (λ place. place < vec_len self.new.handles) }
+        ensures { IfOk result (λ place. place < vec_len self.new.handles.files) }
     {
         if let Some(place) = self.find(number)? {
             return Ok(place);
         }
         make_folders(self.rt, self.path.as_str())?;
         let mut to_make = to_update();
-        to_make.create(true);
+        to_make.create_new(true);
         let file = self.open_by(&to_make, number)?;
+        file.try_lock()?;
+        self.entries.insert(number, Entry::There)?;
         self.keep(number, file)
+    }
+
+    fn keep(&mut self, number: u32, file: File) -> io::Result<usize>
+        ensures { IfOk result (λ place. place < vec_len self.new.handles.files) }
+    {
+        self.handles.make_room()?;
+        self.handles.add(number, file)
+    }
+
+    /// Opens a file and locks it. Where it may be read and not written, a lock that readers share is enough, and a write of it fails later.
+    fn open(&self, number: u32) -> io::Result<File> {
+        match self.open_by(&to_update(), number) {
+            Ok(file) => {
+                file.try_lock()?;
+                Ok(file)
+            }
+            Err(error) if is_for_reading(error.kind()) => {
+                let mut to_read = File::options();
+                to_read.read(true);
+                let file = self.open_by(&to_read, number)?;
+                file.try_lock_shared()?;
+                Ok(file)
+            }
+            Err(error) => Err(error),
+        }
     }
 
     fn open_by(&self, options: &OpenOptions, number: u32) -> io::Result<File> {
@@ -122,28 +176,14 @@ impl<'a, R: Files<File = File>> Folder<'a, R> {
         let path: PathBuf = Path::new(self.path.as_str()).join(self.alloc, name)?;
         options.open(self.rt, path)
     }
-
-    fn keep(&mut self, number: u32, file: File) -> io::Result<usize>
-        ensures { IfOk result (λ place. place < vec_len self.new.handles) }
-    {
-        self.handles.push(Handle {
-            number,
-            file,
-            is_entered: false,
-        })?;
-        Ok(self.handles.len() - 1)
-    }
 }
 
-fn position(handles: &[Handle], number: u32) -> Option<usize>
-    ensures { IfSome result (λ place. place < length handles.now) }
-{
-    for (place, handle) in handles.iter().enumerate() {
-        if handle.number == number {
-            return Some(place);
-        }
-    }
-    None
+/// Whether a file that wasn't opened to update may still be read.
+fn is_for_reading(kind: ErrorKind) -> bool {
+    matches!(
+        kind,
+        ErrorKind::PermissionDenied | ErrorKind::ReadOnlyFilesystem
+    )
 }
 
 /// To read and to write.

@@ -58,16 +58,19 @@ pub struct RealInputs<'a, R> {
     rt: &'a R,
     /// Sources that are open, up to the last value of the type.
     held: u64,
+    /// Sources that were given, up to the last value of the type.
+    given: u64,
     faults: u64,
 }
 
 impl<'a, R> RealInputs<'a, R> {
     pub fn new(rt: &'a R) -> Self
-        ensures { (result.held ≡ 0) × (result.faults ≡ 0) }
+        ensures { (result.held ≡ 0) × (result.given ≡ 0) × (result.faults ≡ 0) }
     {
         RealInputs {
             rt,
             held: 0,
+            given: 0,
             faults: 0,
         }
     }
@@ -84,20 +87,24 @@ impl<'a, R: Files> Inputs for RealInputs<'a, R> {
 
     ghost open_sources = { λ inputs. inputs.held };
 
+    ghost given = { λ inputs. inputs.given };
+
     /// `Missing` where there's no file of this path, a part of which may be a file in a folder's place.
     fn open(&mut self, _alloc: Global, name: &str) -> Result<RealSource<R::File>, OpenFault> {
         match fs::open(self.rt, name) {
             Ok(file) => {
                 self.held = self.held.saturating_add(1);
+                self.given = self.given.saturating_add(1);
                 Ok(RealSource { file, faults: 0 })
             }
-            Err(error) => {
-                if matches!(error.kind(), ErrorKind::NotFound | ErrorKind::NotADirectory) {
-                    return Err(OpenFault::Missing);
+            Err(error) => match error.kind() {
+                ErrorKind::NotFound | ErrorKind::NotADirectory => Err(OpenFault::Missing),
+                ErrorKind::OutOfMemory => Err(OpenFault::OutOfMemory),
+                _ => {
+                    self.faults = raised(self.faults);
+                    Err(OpenFault::Failed)
                 }
-                self.faults = raised(self.faults);
-                Err(OpenFault::Failed)
-            }
+            },
         }
     }
 

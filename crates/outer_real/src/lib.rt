@@ -1,4 +1,4 @@
-// The edge to the system: files as inputs, the standard output, the clock, and a folder as a disk.
+// The edge to the system: files as inputs, the standard streams, the clock, and a folder as a disk.
 //
 // What the crates below ask of the outside, `outer_traits` and `arch_disk` as traits, is met here by calls of the system. No contract can say
 // what a file holds or what a terminal takes. So these objects tell no contents, and their clauses on contents promise nothing: proved
@@ -7,17 +7,21 @@
 //
 // A call that a signal interrupts is made again, and a write to the disk that took some octets goes on with the rest.
 //
-// `inputs`, `sink` and `clock` are the objects of a command that reads and prints. `disk` counts the failed calls of the disk, and `folder`
-// makes them. The program's `main` makes one of each and hands them to the top call; no other crate names these types.
+// `inputs`, `sink` and `clock` are the objects of a command that reads and prints. `disk` counts the failed calls of the disk, `folder` makes
+// them on files that it locks, and `handles` keeps a few of these files open. `streams` keeps the standard streams from all of them. The
+// program's `main` makes one of each, `streams` first, and hands them to the top call; no other crate names these types.
 #![tactic(auto)]
 
 mod clock;
 mod disk;
 mod folder;
+mod handles;
 mod inputs;
 mod sink;
+mod streams;
 
 pub use clock::RealClock;
 pub use disk::RealDisk;
 pub use inputs::{RealInputs, RealSource};
 pub use sink::RealSink;
+pub use streams::StandardStreams;

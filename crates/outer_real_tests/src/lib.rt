@@ -1,5 +1,11 @@
-// Tests of outer_real: worked rows and vectors, printed texts, each call once with ample memory, and what no clause says.
+// Tests of outer_real: its calls on real files, which no clause describes.
 #![tactic(auto)]
 
 #[cfg(test)]
-mod tests;
+mod disk_tests;
+#[cfg(test)]
+mod folders;
+#[cfg(test)]
+mod input_tests;
+#[cfg(test)]
+mod lock_tests;

@@ -1,3 +1,4 @@
 pub mod Outside
 pub mod MemInputs
 pub mod Whole
+pub mod MemSink

@@ -1,5 +1,5 @@
 -- What the calls on the outside do, where its content is told, and when they fail.
-use Rattle.std.specs.Prelude.{◌≡◌, ℕ, ℤ, pos, ◌+◌, ◌-◌, ◌^◌, min, ◌<◌, ◌≤◌, ◌≤ℤ◌, List, ◌++◌, length, take, drop, Option, Some, None, Result, Err, IsSomeAnd}
+use Rattle.std.specs.Prelude.{◌≡◌, ℕ, ℤ, pos, ◌+◌, ◌-◌, ◌^◌, min, ◌<◌, ◌≤◌, ◌≤ℤ◌, ◌⊎◌, List, ◌++◌, length, take, drop, Option, Some, None, Result, Err, IsSomeAnd}
 use Rattle.std.specs.Option.{is_some}
 use Rattle.std.specs.Ordering.{nat_cmp}
 use Rattle.std.specs.Cmp.Lexicographic.{slice_cmp}
@@ -23,6 +23,10 @@ OpeningCounted other before now = Stays before now
 -- one more, where the counter isn't at its last value
 abbrev pub one_more : ℕ → ℕ
 one_more count = min (count + 1) (2 ^ 64 - 1)
+
+-- a count is as before or one more
+abbrev pub IsOneMoreAtMost : ℕ → ℕ → Type 0
+IsOneMoreAtMost before now = (now ≡ before) ⊎ (now ≡ one_more before)
 
 -- an object tells after a call exactly where it told before
 abbrev pub SameTelling : {X : Type 0} → Option X → Option X → Type 0

@@ -1,9 +1,9 @@
 -- Inputs that are read to their end.
-use Rattle.std.specs.Prelude.{◌≡◌, ℕ, ◌<◌, List, ◌++◌, Option, Some, None, IfSome, IsNone, IsSome, IsSomeAnd, Result, Err, length}
+use Rattle.std.specs.Prelude.{◌≡◌, ℕ, ◌<◌, List, ◌++◌, Option, Some, None, IfSome, IsNone, IsSome, IsSomeAnd, Result, Ok, Err, length}
 use Rattle.std.specs.FinMap.{get}
 use Rattle.outer_traits.specs.declared.whole.ReadFault.{ReadFault}
 use Rattle.outer_traits.specs.declared.whole.ReadFault.TheVariants.{Missing, Failed, TooLong, OutOfMemory}
-use Rattle.outer_traits.specs.Outside.{Files, HasRisen, Stays}
+use Rattle.outer_traits.specs.Outside.{Files, HasRisen, IsOneMoreAtMost, Stays, one_more}
 
 -- of the octets that were left at first these were taken, and the others are left, where they are told
 abbrev pub IsTaken : Option (List ℕ) → List ℕ → Option (List ℕ) → Type 0
@@ -29,3 +29,11 @@ IsReadFault files name limit faults faults' OutOfMemory = IsThere files name
 abbrev pub ReadingCounted : {X : Type 0} → Result X ReadFault → ℕ → ℕ → Type 0
 ReadingCounted (Err Failed) before now = HasRisen before now
 ReadingCounted other before now = Stays before now
+
+-- how many sources were given in a reading: one for an input that was read or is too long, none for one that isn't there, and one at most
+-- where a call failed or there was no memory
+abbrev pub ReadingGiven : {X : Type 0} → Result X ReadFault → ℕ → ℕ → Type 0
+ReadingGiven (Ok octets) before now = now ≡ one_more before
+ReadingGiven (Err TooLong) before now = now ≡ one_more before
+ReadingGiven (Err Missing) before now = now ≡ before
+ReadingGiven (Err other) before now = IsOneMoreAtMost before now

@@ -21,6 +21,9 @@ pub trait Inputs {
     /// How many sources are open, up to the last value of its type.
     ghost open_sources: { Self → ℕ };
 
+    /// How many sources they have given, up to the last value of its type.
+    ghost given: { Self → ℕ };
+
     /// Whether they are known never to fail, as inputs in memory.
     ghost never_fails: { Self → Type 0 } = { λ _. ⊥ };
 
@@ -33,6 +36,8 @@ pub trait Inputs {
         ensures later { faults self.old ≤ faults self.new }
         ensures opened { OnOk result (open_sources self.new ≡ one_more (open_sources self.old)) }
         ensures unopened { OnErr result (open_sources self.new ≡ open_sources self.old) }
+        ensures gave { OnOk result (given self.new ≡ one_more (given self.old)) }
+        ensures gave_none { OnErr result (given self.new ≡ given self.old) }
         ensures counted { OpeningCounted result (faults self.old) (faults self.new) }
         ensures steady { never_fails self.old → never_fails self.new × Stays (faults self.old) (faults self.new) }
         ensures steady_source { never_fails self.old → IfOk result (λ source. Self.Source.never_fails source) };
@@ -42,6 +47,7 @@ pub trait Inputs {
         ensures same { files self.new ≡ files self.old }
         ensures later { faults self.old ≤ faults self.new }
         ensures closed { open_sources self.new ≡ open_sources self.old - 1 }
+        ensures gave_none { given self.new ≡ given self.old }
         ensures kept { Self.Source.faults source ≡ 0 → Stays (faults self.old) (faults self.new) }
         ensures risen { 0 < Self.Source.faults source → HasRisen (faults self.old) (faults self.new) }
         ensures steady { never_fails self.old → Self.Source.faults source ≡ 0 → never_fails self.new × Stays (faults self.old) (faults self.new) };

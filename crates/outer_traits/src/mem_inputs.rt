@@ -2,7 +2,7 @@
 
 ghost use Rattle.std.specs.Prelude.{◌≡◌, ◌≤◌, length, drop, MatchOption, None, Some, []};
 ghost use Rattle.std.specs.FinMap.{get};
-ghost use Rattle.outer_traits.specs.MemInputs.{files_of, HasFile};
+ghost use Rattle.outer_traits.specs.MemInputs.{files_of, HasFile, is_listed};
 
 use crate::fault::{Failed, OpenFault, raised};
 use crate::inputs::Inputs;
@@ -46,7 +46,16 @@ pub struct MemInputs {
     opened: u64,
     /// How many sources are open.
     held: u64,
+    /// How many sources were given.
+    given: u64,
     faults: u64,
+}
+
+/// Whether a call is among those that are to fail.
+fn is_listed(calls: &[FailingCall], opening: u64, read: u64) -> bool
+    ensures { result ≡ is_listed calls.now opening read }
+{
+    calls.contains(&FailingCall { opening, read })
 }
 
 /// Octets of an input in memory.
@@ -64,7 +73,9 @@ pub struct MemSource {
 }
 
 impl Source for MemSource {
-    ghost use Rattle.std.specs.Prelude.{◌≡◌, Some, drop, []};
+    ghost use Rattle.std.specs.Prelude.{◌≡◌, ◌≤◌, ◌<◌, Some, Ok, drop, [], length, is_err, IfOk, IsErr, OnErr, OnOk};
+    ghost use Rattle.outer_traits.specs.MemInputs.{is_listed};
+    ghost use Rattle.outer_traits.specs.Outside.{HasRisen, Reads, Stays, one_more};
 
     ghost left = { λ source. Some (drop source.at source.octets.items) };
 
@@ -72,13 +83,23 @@ impl Source for MemSource {
 
     ghost never_fails = { λ source. source.calls.items ≡ [] };
 
-    fn read(&mut self, into: &mut [u8]) -> Result<usize, Failed> {
+    /// The reads that are listed fail, and no others.
+    fn read(&mut self, into: &mut [u8]) -> Result<usize, Failed>
+        ensures numbered { self.new.reads ≡ one_more self.old.reads }
+        ensures struck { is_err result ≡ is_listed self.old.calls.items self.old.opening self.new.reads }
+        ensures same_calls { (self.new.calls ≡ self.old.calls) × (self.new.opening ≡ self.old.opening) }
+        ensures count { IfOk result (λ n. n ≤ length into.old) }
+        ensures taken { IfOk result (λ n.
+            Reads (Some (drop self.old.at self.old.octets.items)) (Some (drop self.new.at self.new.octets.items)) n into.new) }
+        ensures end { result ≡ Ok 0 → 0 < length into.old → drop self.old.at self.old.octets.items ≡ [] }
+        ensures kept { OnErr result (drop self.new.at self.new.octets.items ≡ drop self.old.at self.old.octets.items) }
+        ensures later { self.old.faults ≤ self.new.faults }
+        ensures failed { IsErr result → HasRisen self.old.faults self.new.faults }
+        ensures quiet { OnOk result (Stays self.old.faults self.new.faults) }
+        ensures steady { self.old.calls.items ≡ [] → (self.new.calls.items ≡ []) × Stays self.old.faults self.new.faults }
+    {
         self.reads = self.reads.saturating_add(1);
-        let call = FailingCall {
-            opening: self.opening,
-            read: self.reads,
-        };
-        if self.calls.contains(&call) {
+        if is_listed(self.calls.as_slice(), self.opening, self.reads) {
             self.faults = raised(self.faults);
             return Err(Failed);
         }
@@ -104,6 +125,7 @@ impl MemInputs {
     pub fn failing(files: Vec<File>, calls: Vec<FailingCall>) -> Self
         ensures files { result.files ≡ files }
         ensures calls { result.calls ≡ calls }
+        ensures none_made { result.opened ≡ 0 }
         ensures no_faults { result.faults ≡ 0 }
     {
         MemInputs {
@@ -111,14 +133,17 @@ impl MemInputs {
             calls,
             opened: 0,
             held: 0,
+            given: 0,
             faults: 0,
         }
     }
 }
 
 impl Inputs for MemInputs {
-    ghost use Rattle.std.specs.Prelude.{◌≡◌, Some, []};
-    ghost use Rattle.outer_traits.specs.MemInputs.{files_of};
+    ghost use Rattle.std.specs.Prelude.{◌≡◌, ◌≤◌, ◌-◌, ◌<◌, ◌↔◌, Some, [], drop, IfOk, IsErrOf, IsNone, IsSome, OnOk, OnErr, true, false};
+    ghost use Rattle.std.specs.FinMap.{get};
+    ghost use Rattle.outer_traits.specs.MemInputs.{files_of, is_listed};
+    ghost use Rattle.outer_traits.specs.Outside.{Gives, HasRisen, OpeningCounted, Stays, one_more};
 
     type Source = MemSource;
 
@@ -128,18 +153,39 @@ impl Inputs for MemInputs {
 
     ghost open_sources = { λ inputs. inputs.held };
 
+    ghost given = { λ inputs. inputs.given };
+
     ghost never_fails = { λ inputs. inputs.calls.items ≡ [] };
 
-    fn open(&mut self, alloc: Global, name: &str) -> Result<MemSource, OpenFault> {
+    /// `Missing` where there's no file of the name, and else the openings that are listed fail, and no others.
+    fn open(&mut self, alloc: Global, name: &str) -> Result<MemSource, OpenFault>
+        ensures numbered { self.new.opened ≡ one_more self.old.opened }
+        ensures struck { is_listed self.old.calls.items self.new.opened 0 ≡ true
+            → IsSome (get (files_of self.old.files.items) name.now) → IsErrOf result OpenFault.Failed }
+        ensures spared { is_listed self.old.calls.items self.new.opened 0 ≡ false → IsErrOf result OpenFault.Failed → ⊥ }
+        ensures told { IfOk result (λ source.
+            (source.opening ≡ self.new.opened) × (source.calls.items ≡ self.old.calls.items)) }
+        ensures unread { IfOk result (λ source. source.reads ≡ 0) }
+        ensures same_calls { self.new.calls ≡ self.old.calls }
+        ensures found { IfOk result (λ source.
+            Gives (Some (files_of self.old.files.items)) name.now (Some (drop source.at source.octets.items))) }
+        ensures fresh { IfOk result (λ source. source.faults ≡ 0) }
+        ensures missing { IsErrOf result OpenFault.Missing ↔ IsNone (get (files_of self.old.files.items) name.now) }
+        ensures same { self.new.files ≡ self.old.files }
+        ensures later { self.old.faults ≤ self.new.faults }
+        ensures opened { OnOk result (self.new.held ≡ one_more self.old.held) }
+        ensures unopened { OnErr result (self.new.held ≡ self.old.held) }
+        ensures gave { OnOk result (self.new.given ≡ one_more self.old.given) }
+        ensures gave_none { OnErr result (self.new.given ≡ self.old.given) }
+        ensures counted { OpeningCounted result self.old.faults self.new.faults }
+        ensures steady { self.old.calls.items ≡ [] → (self.new.calls.items ≡ []) × Stays self.old.faults self.new.faults }
+        ensures steady_source { self.old.calls.items ≡ [] → IfOk result (λ source. source.calls.items ≡ []) }
+    {
         self.opened = self.opened.saturating_add(1);
         let Some(i) = find_file(self.files.as_slice(), name) else {
             return Err(OpenFault::Missing);
         };
-        let call = FailingCall {
-            opening: self.opened,
-            read: 0,
-        };
-        if self.calls.contains(&call) {
+        if is_listed(self.calls.as_slice(), self.opened, 0) {
             self.faults = raised(self.faults);
             return Err(OpenFault::Failed);
         }
@@ -150,6 +196,7 @@ impl Inputs for MemInputs {
             return Err(OpenFault::OutOfMemory);
         };
         self.held = self.held.saturating_add(1);
+        self.given = self.given.saturating_add(1);
         Ok(MemSource {
             octets,
             at: 0,
@@ -160,7 +207,19 @@ impl Inputs for MemInputs {
         })
     }
 
-    fn close(&mut self, source: MemSource) {
+    /// No opening is asked for, and the same calls are to fail.
+    fn close(&mut self, source: MemSource)
+        ensures not_numbered { self.new.opened ≡ self.old.opened }
+        ensures same_calls { self.new.calls ≡ self.old.calls }
+        ensures same { self.new.files ≡ self.old.files }
+        ensures later { self.old.faults ≤ self.new.faults }
+        ensures closed { self.new.held ≡ self.old.held - 1 }
+        ensures gave_none { self.new.given ≡ self.old.given }
+        ensures kept { source.faults ≡ 0 → Stays self.old.faults self.new.faults }
+        ensures risen { 0 < source.faults → HasRisen self.old.faults self.new.faults }
+        ensures steady { self.old.calls.items ≡ [] → source.faults ≡ 0
+            → (self.new.calls.items ≡ []) × Stays self.old.faults self.new.faults }
+    {
         self.held = self.held.saturating_sub(1);
         if source.faults > 0 {
             self.faults = raised(self.faults);

@@ -1,6 +1,7 @@
 //! A sink in memory.
 
 ghost use Rattle.std.specs.Prelude.{◌≡◌, []};
+ghost use Rattle.outer_traits.specs.MemSink.{is_listed};
 
 use crate::fault::{Failed, raised};
 use crate::sink::Sink;
@@ -17,6 +18,13 @@ pub struct MemSink {
     faults: u64,
 }
 
+/// Whether a write is among those that are to fail.
+fn is_listed(calls: &[u64], write: u64) -> bool
+    ensures { result ≡ is_listed calls.now write }
+{
+    calls.contains(&write)
+}
+
 impl MemSink {
     /// An empty sink of which no call is to fail.
     pub fn new(alloc: Global) -> Self
@@ -31,6 +39,7 @@ impl MemSink {
     pub fn failing(alloc: Global, calls: Vec<u64>) -> Self
         ensures empty { result.octets.items ≡ [] }
         ensures calls { result.calls ≡ calls }
+        ensures none_made { result.writes ≡ 0 }
         ensures no_faults { result.faults ≡ 0 }
     {
         MemSink {
@@ -43,15 +52,33 @@ impl MemSink {
 }
 
 impl Sink for MemSink {
-    ghost use Rattle.std.specs.Prelude.{Some};
+    ghost use Rattle.std.specs.Prelude.{◌≡◌, ◌≤◌, ◌<◌, Some, Ok, true, IfOk, IsErr, OnOk, OnErr, length};
+    ghost use Rattle.outer_traits.specs.MemSink.{is_listed};
+    ghost use Rattle.outer_traits.specs.Outside.{HasRisen, Stays, Writes, WritesSome, one_more};
 
     ghost written = { λ sink. Some sink.octets.items };
 
     ghost faults = { λ sink. sink.faults };
 
-    fn write(&mut self, piece: &[u8]) -> Result<usize, Failed> {
+    /// The writes that are listed fail. Another appends the whole piece, or fails for want of memory.
+    fn write(&mut self, piece: &[u8]) -> Result<usize, Failed>
+        ensures numbered { self.new.writes ≡ one_more self.old.writes }
+        ensures struck { is_listed self.old.calls.items self.new.writes ≡ true → IsErr result }
+        ensures same_calls { self.new.calls ≡ self.old.calls }
+        ensures whole { IfOk result (λ n. n ≡ length piece.now) }
+        ensures count { IfOk result (λ n. n ≤ length piece.now) }
+        ensures appended { IfOk result (λ n. Writes (Some self.old.octets.items) (Some self.new.octets.items) n piece.now) }
+        ensures some { OnErr result (WritesSome (Some self.old.octets.items) (Some self.new.octets.items) piece.now) }
+        ensures later { self.old.faults ≤ self.new.faults }
+        ensures failed { IsErr result → HasRisen self.old.faults self.new.faults }
+        ensures nothing { result ≡ Ok 0 → 0 < length piece.now → HasRisen self.old.faults self.new.faults }
+        ensures quiet { IfOk result (λ n. 0 < n → Stays self.old.faults self.new.faults) }
+        ensures quiet_empty { OnOk result (length piece.now ≡ 0 → Stays self.old.faults self.new.faults) }
+    {
         self.writes = self.writes.saturating_add(1);
-        if self.calls.contains(&self.writes) || self.octets.extend_from_slice(piece).is_err() {
+        if is_listed(self.calls.as_slice(), self.writes)
+            || self.octets.extend_from_slice(piece).is_err()
+        {
             self.faults = raised(self.faults);
             return Err(Failed);
         }

@@ -2,7 +2,7 @@
 
 ghost use Rattle.std.specs.Prelude.{◌≡◌, ◌+◌, ◌^◌, ◌≤◌, ◌<◌, length, IfOk, IfErr, IsErrOf, IfSome, vec_len};
 ghost use Rattle.outer_traits.specs.Outside.{Stays};
-ghost use Rattle.outer_traits.specs.Whole.{IsInput, IsReadFault, ReadingCounted};
+ghost use Rattle.outer_traits.specs.Whole.{IsInput, IsReadFault, ReadingCounted, ReadingGiven};
 
 use crate::fault::OpenFault;
 use crate::inputs::Inputs;
@@ -34,8 +34,8 @@ impl From<AllocError> for ReadFault {
     }
 }
 
-/// All octets that the named input has, of which there may be `limit`. The source is closed whatever comes. The count of faults rises exactly
-/// where the answer is `Failed`.
+/// All octets that the named input has, of which there may be `limit`. The input is opened once, and its source is closed whatever comes.
+/// The count of faults rises exactly where the answer is `Failed`.
 pub fn read_input<I: Inputs>(
     alloc: Global,
     inputs: &mut I,
@@ -47,6 +47,7 @@ pub fn read_input<I: Inputs>(
     ensures fault { IfErr result (IsReadFault (I.files inputs.old) name.now limit (I.faults inputs.old) (I.faults inputs.new)) }
     ensures same { I.files inputs.new ≡ I.files inputs.old }
     ensures closed { I.open_sources inputs.old + 1 < 2 ^ 64 → I.open_sources inputs.new ≡ I.open_sources inputs.old }
+    ensures gave { ReadingGiven result (I.given inputs.old) (I.given inputs.new) }
     ensures counted { ReadingCounted result (I.faults inputs.old) (I.faults inputs.new) }
     ensures later { I.faults inputs.old ≤ I.faults inputs.new }
     ensures steady { I.never_fails inputs.old → I.never_fails inputs.new × Stays (I.faults inputs.old) (I.faults inputs.new) }

@@ -1,0 +1,7 @@
+-- The writes of a sink in memory that are to fail.
+use Rattle.std.specs.Prelude.{◌==◌, ℕ, Bool, List}
+use Rattle.std.specs.List.{list_any}
+
+-- a write is among those that are to fail, by its number
+abbrev pub is_listed : List ℕ → ℕ → Bool
+is_listed calls write = list_any (λ call. call == write) calls
