@@ -1,5 +1,5 @@
 -- Inputs that are read in their order.
-use Rattle.std.proofs.Common.{◌≡◌, ◌∙◌, ◌<◌, ◌≤◌, ◌+◌, ℕ, ℤ, suc, Bool, true, false, List, [], ◌∷◌, length, Option, Some, None, inl, inr, refl, sym, ap, subst, arith, tt}
+use Rattle.std.proofs.Common.{◌≡◌, ◌∙◌, ◌<◌, ◌≤◌, ◌+◌, ℕ, ℤ, suc, Bool, true, false, List, [], ◌∷◌, length, Option, Some, None, inl, inr, refl, sym, ap, subst, arith}
 use Rattle.std.specs.Prelude.{◌⊎◌, IfSome, IsNone, IsSome, IsSomeAnd, IsTrue, Result, Ok, Err, nat_lt, if◌then◌else◌}
 use Rattle.std.specs.FinMap.{get}
 use Rattle.arch_disk.specs.Disk.{Device}
@@ -172,15 +172,15 @@ pub sheets_in_order : (files : Option Files) (parameters calibrations containers
     → AreInOrder files ((parameters, SheetOctets) ∷ (calibrations, SheetOctets) ∷ (containers, SheetOctets) ∷ behind) given given' (Some refusal)
 sheets_in_order None parameters calibrations containers behind faults faults' given given' refusal h = tt
 sheets_in_order (Some all) parameters calibrations containers behind faults faults' given given' refusal (inl h) =
-    read_in_order all given given' 0 parameters SheetOctets _ faults faults' refusal (sheet_few given given given' 0 refusal (omega arith) h.1)
-    (sheet_read all parameters faults faults' refusal h.0)
+    read_in_order all given given' 0 parameters SheetOctets ((calibrations, SheetOctets) ∷ (containers, SheetOctets) ∷ behind) faults faults' refusal
+    (sheet_few given given given' 0 refusal (omega arith) h.1) (sheet_read all parameters faults faults' refusal h.0)
 sheets_in_order (Some all) parameters calibrations containers behind faults faults' given given' refusal (inr (inl h)) =
-    passed all given given' 0 (parameters, SheetOctets) _ (Some refusal) (has (Some all) all parameters refl h.0)
-    (read_in_order all given given' 1 calibrations SheetOctets _ faults faults' refusal (sheet_few given (more 1 given) given' 1 refusal (more_few 1 given) h.1.1)
-    (sheet_read all calibrations faults faults' refusal h.1.0))
+    passed all given given' 0 (parameters, SheetOctets) ((calibrations, SheetOctets) ∷ (containers, SheetOctets) ∷ behind) (Some refusal) (has (Some all) all parameters refl h.0)
+    (read_in_order all given given' 1 calibrations SheetOctets ((containers, SheetOctets) ∷ behind) faults faults' refusal
+    (sheet_few given (more 1 given) given' 1 refusal (more_few 1 given) h.1.1) (sheet_read all calibrations faults faults' refusal h.1.0))
 sheets_in_order (Some all) parameters calibrations containers behind faults faults' given given' refusal (inr (inr h)) =
-    passed all given given' 0 (parameters, SheetOctets) _ (Some refusal) (has (Some all) all parameters refl h.0)
-    (passed all given given' 1 (calibrations, SheetOctets) _ (Some refusal) (has (Some all) all calibrations refl h.1)
+    passed all given given' 0 (parameters, SheetOctets) ((calibrations, SheetOctets) ∷ (containers, SheetOctets) ∷ behind) (Some refusal) (has (Some all) all parameters refl h.0)
+    (passed all given given' 1 (calibrations, SheetOctets) ((containers, SheetOctets) ∷ behind) (Some refusal) (has (Some all) all calibrations refl h.1)
     (read_in_order all given given' 2 containers SheetOctets behind faults faults' refusal (sheet_few given (more 2 given) given' 2 refusal (more_few 2 given) h.2.1)
     (sheet_read all containers faults faults' refusal h.2.0)))
 
@@ -189,8 +189,9 @@ past_sheets : (all : Files) (parameters calibrations containers : List ℕ) (beh
     → AreSheets (Some all) parameters calibrations containers raw → Ordered all given given' 3 behind ending
     → Ordered all given given' 0 ((parameters, SheetOctets) ∷ (calibrations, SheetOctets) ∷ (containers, SheetOctets) ∷ behind) ending
 past_sheets all parameters calibrations containers behind given given' ending raw sheets rest =
-    passed all given given' 0 (parameters, SheetOctets) _ ending (fine (Some all) all parameters raw.parameters refl sheets.parameters_sheet).0
-    (passed all given given' 1 (calibrations, SheetOctets) _ ending (fine (Some all) all calibrations raw.calibrations refl sheets.calibrations_sheet).0
+    passed all given given' 0 (parameters, SheetOctets) ((calibrations, SheetOctets) ∷ (containers, SheetOctets) ∷ behind) ending
+    (fine (Some all) all parameters raw.parameters refl sheets.parameters_sheet).0
+    (passed all given given' 1 (calibrations, SheetOctets) ((containers, SheetOctets) ∷ behind) ending (fine (Some all) all calibrations raw.calibrations refl sheets.calibrations_sheet).0
     (passed all given given' 2 (containers, SheetOctets) behind ending (fine (Some all) all containers raw.containers refl sheets.containers_sheet).0 rest))
 
 pub created_in_order : (files : Option Files) (words : SheetWords) (given given' : ℕ) (ending : Option Refusal) (raw : RawMdb)

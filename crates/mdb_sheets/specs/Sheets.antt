@@ -61,8 +61,7 @@ abbrev pub IsRefusal : Option Files → List ℕ → List ℕ → List ℕ → �
 IsRefusal files parameters calibrations containers faults faults' given given' refusal =
     IsSheetRefused files parameters faults faults' given given' refusal
     ⊎ (HasSheet files parameters × IsSheetRefused files calibrations faults faults' (more 1 given) given' refusal)
-    ⊎ (HasSheet files parameters × HasSheet files calibrations
-    × IsSheetRefused files containers faults faults' (more 2 given) given' refusal)
+    ⊎ (HasSheet files parameters × HasSheet files calibrations × IsSheetRefused files containers faults faults' (more 2 given) given' refusal)
 
 -- a count of reads that failed has risen where the refusal is ReadFault, and else is as before
 abbrev pub ReadsCounted : Option Refusal → ℕ → ℕ → Type 0

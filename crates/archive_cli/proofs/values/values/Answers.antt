@@ -1,5 +1,6 @@
-use Rattle.std.proofs.Common.{◌∙◌, inl, inr, refl, Some}
+use Rattle.std.proofs.Common.{◌∙◌, [], ◌∷◌, inl, inr, refl, Some}
 use Rattle.std.proofs.lemmas.Result.{err_from_is_err_and}
+use Rattle.arch_types.specs.declared.refusal.Which.TheVariants.{DumpOctets}
 use Rattle.archive_cli.specs.Asked.{words_of}
 use Rattle.archive_cli.specs.Received.{IsReceived, ending_of}
 use Rattle.archive_cli.proofs.CellCounts.{rows_few}
@@ -142,7 +143,9 @@ returns-clause-writes_counted g c = rw c.refusal_of.ensures (print_writes c.in-E
 pub returns-in_err-sheets-clause-order : goal.returns-in_err-sheets-clause-order
 returns-in_err-sheets-clause-order g c =
     let p = err_from_is_err_and c.from_residual.result c.from_residual.ensures.1 in
-    rw (p.1, p.2) (sheets_in_order _ _ _ _ _ _ _ _ _ _ c.in_err-sheets.ensures.refused)
+    rw (p.1, p.2) (sheets_in_order (g.I.Inputs.files c.args.inputs.now) c.args.words.parameters.now c.args.words.calibrations.now c.args.words.containers.now
+    ((c.args.words.dump.now, DumpOctets) ∷ []) (g.I.Inputs.faults c.args.inputs.now) (g.I.Inputs.faults c.read_mdb.new.inputs) (g.I.Inputs.given c.args.inputs.now)
+    (g.I.Inputs.given c.read_mdb.new.inputs) c.in_err-sheets.field-0.0 c.in_err-sheets.ensures.refused)
 
 pub returns-in_err-reception-clause-order : goal.returns-in_err-reception-clause-order
 returns-in_err-reception-clause-order g c =
