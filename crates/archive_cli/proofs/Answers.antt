@@ -14,6 +14,7 @@ use Rattle.archive_cli.specs.Call.{Call, IsSilent}
 use Rattle.archive_cli.specs.Ending.{IsJobEnding, IsEnding}
 use Rattle.archive_cli.specs.Expected.{IsJobExpected, IsExpected}
 use Rattle.archive_cli.specs.Expecting.{IsOrMemory, NoFault, ending_of_rest}
+use Rattle.archive_cli.specs.Order.{IsInOrder}
 use Rattle.archive_cli.specs.Received.{dump_limit}
 use Rattle.archive_cli.specs.ScanEnding.{IsScanEnding}
 use Rattle.archive_cli.specs.ScanExpected.{IsScanExpected}
@@ -87,19 +88,20 @@ values_told call (Some all) words ending e h = record {
   split = values_split call all words ending e h;
 }
 
-expected_cases : {D : Type 0} (device : Device D) (call : Call) (old new : D) (job : Option Job) (report : Report) → IsJobEnding device call old new job report →
-    IsJobExpected device call old new job report.refusal
-expected_cases device call old new None report h = tt
-expected_cases device call old new (Some (Scan name)) report h = scan_told call call.files name report.refusal refl h.1
-expected_cases device call old new (Some (Values words)) report h = values_told call call.files words report.refusal refl h.1
-expected_cases device call old new (Some (Create words)) report h = λ tells. create_expected device call words old new report.refusal report (h tells)
-expected_cases device call old new (Some (Load words)) report h = λ tells. load_expected device call words old new report.refusal report (h tells)
-expected_cases device call old new (Some (Query name)) report h = λ tells. query_expected device call name old new report.refusal report (h tells)
-expected_cases device call old new (Some Recover) report h = λ tells. recover_expected device call old new report.refusal report (h tells)
+expected_cases : {D : Type 0} (device : Device D) (call : Call) (given given' : ℕ) (old new : D) (job : Option Job) (report : Report) → IsJobEnding device call old new job report →
+    IsInOrder call.files job given given' old new report → IsJobExpected device call given given' old new job report.refusal
+expected_cases device call given given' old new None report h order = tt
+expected_cases device call given given' old new (Some (Scan name)) report h order = scan_told call call.files name report.refusal refl h.1
+expected_cases device call given given' old new (Some (Values words)) report h order = values_told call call.files words report.refusal refl h.1
+expected_cases device call given given' old new (Some (Create words)) report h order = λ tells. create_expected device call words old new report.refusal report (h tells)
+expected_cases device call given given' old new (Some (Load words)) report h order = λ tells. load_expected device call words given given' old new report.refusal report (h tells) order
+expected_cases device call given given' old new (Some (Query name)) report h order = λ tells. query_expected device call name old new report.refusal report (h tells)
+expected_cases device call given given' old new (Some Recover) report h order = λ tells. recover_expected device call old new report.refusal report (h tells)
 
 -- the answer that has to come does, since each other one has a cause that isn't there
-pub expected : {D : Type 0} (device : Device D) (call : Call) (old new : D) (report : Report) → IsEnding device call old new report → IsExpected device call old new report.refusal
-expected device call old new report h = expected_cases device call old new (job_of call.words) report h
+pub expected : {D : Type 0} (device : Device D) (call : Call) (given given' : ℕ) (old new : D) (report : Report) → IsEnding device call old new report →
+    IsInOrder call.files (job_of call.words) given given' old new report → IsExpected device call given given' old new report.refusal
+expected device call given given' old new report h order = expected_cases device call given given' old new (job_of call.words) report h order
 
 -- an input that wasn't read to its end ends the scan
 pub read_ending : (call : Call) (name : List ℕ) (refusal : Refusal) → IsReadRefusal call.files name DumpOctets call.read_faults call.read_faults' refusal →

@@ -8,7 +8,7 @@ use Rattle.mdb_model.specs.declared.fault.MdbLimit.{MdbLimit}
 use Rattle.mdb_model.specs.declared.sheet.RawMdb.{RawMdb}
 use Rattle.mdb_model.specs.Database.{Broken, limit_passed}
 use Rattle.mdb_model.specs.Sheets.{sheets_database, sheets_fault}
-use Rattle.mdb_sheets.specs.Sheets.{IsRefusal, ReadsCounted}
+use Rattle.mdb_sheets.specs.Sheets.{ReadsCounted}
 use Rattle.outer_traits.specs.Outside.{Files, HasRisen, Stays}
 use Rattle.space_packet.specs.declared.dump.Why.{Why}
 use Rattle.space_packet.specs.declared.dump.Why.TheVariants as why
@@ -16,7 +16,7 @@ use Rattle.archive_cli.specs.declared.print_fault.PrintFault.{PrintFault}
 use Rattle.archive_cli.specs.declared.print_fault.PrintFault.TheVariants as printing
 use Rattle.archive_cli.specs.Call.{WritesCounted}
 use Rattle.archive_cli.specs.Parameter.{IsNoParameter, first_refusal, number_named, parameter_refusal}
-use Rattle.archive_cli.specs.Reading.{IsReadRefusal}
+use Rattle.archive_cli.specs.Reading.{IsReadRefusal, IsSheetsRefusal}
 use Rattle.archive_cli.specs.Received.{ending_of}
 use Rattle.archive_cli.specs.ValuesPrinting.{PrintCounted, refusal_of_print}
 
@@ -62,7 +62,7 @@ parameter_quiet raw name refusal (inr memory) = rw memory tt
 
 -- an input that wasn't read has nothing to do with writes
 pub sheets_unwritten : (files : Option Files) (parameters calibrations containers : List ℕ) (faults faults' : ℕ) (refusal : Refusal) (writes : ℕ) →
-    IsRefusal files parameters calibrations containers faults faults' refusal → WritesCounted (Some refusal) writes writes
+    IsSheetsRefusal files parameters calibrations containers faults faults' refusal → WritesCounted (Some refusal) writes writes
 sheets_unwritten files parameters calibrations containers faults faults' WriteFault writes (inl h) = absurd h
 sheets_unwritten files parameters calibrations containers faults faults' WriteFault writes (inr (inl h)) = absurd h.1
 sheets_unwritten files parameters calibrations containers faults faults' WriteFault writes (inr (inr h)) = absurd h.2

@@ -1,5 +1,5 @@
 -- The disk during a load, and after it.
-use Rattle.std.proofs.Common.{◌≡◌, ◌⊎◌, inl, inr, ℕ, ℤ, ◌+◌, ◌≤◌, ◌<◌, true, List, [], ◌∷◌, ◌++◌, length, map, Some, None, sym, ap, subst, ◌∙◌, arith, length-append}
+use Rattle.std.proofs.Common.{◌≡◌, ◌⊎◌, inl, inr, ℕ, ℤ, ◌+◌, ◌^◌, ◌≤◌, ◌<◌, Bool, true, false, List, [], ◌∷◌, ◌++◌, length, map, Some, None, sym, ap, subst, ◌∙◌, arith, length-append}
 use Rattle.std.specs.Prelude.{Contains, IsTrue, slice_get}
 use Rattle.std.proofs.lemmas.List.{length-map}
 use mathlib.Core.List.{IsPrefix}
@@ -23,7 +23,8 @@ use Rattle.archive_store.specs.Stands.{StandsFor}
 use Rattle.archive_store.proofs.Exact.{stands_once}
 use Rattle.archive_cli.specs.Batches.{HasIngested}
 use Rattle.archive_cli.specs.Consulted.{IsOpenedThen}
-use Rattle.archive_cli.specs.LoadEnding.{IsDuring, IsSettled}
+use Rattle.archive_cli.specs.LoadEnding.{IsDuring}
+use Rattle.archive_cli.specs.Settled.{FailedOnce, IsSettled}
 
 -- a store that was opened on a disk
 pub record IsOpened {D : Type 0} (device : Device D) (disk : D) (store : Seen D) : Type 0 where
@@ -129,19 +130,37 @@ settled device store tells keeps none =
     subst (λ (fills : List Fill). (c : Image) → device.images store.disk c → IsNow store.head store.history (rows_in_hand fills) c) none keeps.now in
     record { reads = now (device.reads store.disk) (device.reads_as_image store.disk tells); now = now }
 
--- and after a fault it may also leave the rows that the fault holds
-pub left : {D : Type 0} (device : Device D) (store : Seen D) (count : ℕ) (rows : List Row) → KeepsImages device store → store.fills ≡ Fault count true rows ∷ [] → (c : Image) → device.images store.disk c
+-- and after a fault whose write stands it may also leave the rows that the fault holds
+pub left : {D : Type 0} (device : Device D) (store : Seen D) (count : ℕ) (wrote : Bool) (rows : List Row) → KeepsImages device store → store.fills ≡ Fault count wrote rows ∷ [] → (c : Image) → device.images store.disk c
     → StandsFor c (archive store.head store.history) ⊎ StandsFor c (archive store.head (store.history ++ items_of rows))
-left device store count rows keeps one c leaves = subst (λ (fills : List Fill). IsNow store.head store.history (rows_in_hand fills) c) one (keeps.now c leaves)
+left device store count true rows keeps one c leaves = subst (λ (fills : List Fill). IsNow store.head store.history (rows_in_hand fills) c) one (keeps.now c leaves)
+left device store count false rows keeps one c leaves = inl (subst (λ (fills : List Fill). IsNow store.head store.history (rows_in_hand fills) c) one (keeps.now c leaves))
+
+-- but not after one whose write was healed
+pub settled_again : {D : Type 0} (device : Device D) (store : Seen D) (count : ℕ) (rows : List Row) → IsTrue device.tells → KeepsImages device store → store.fills ≡ Fault count false rows ∷ []
+    → IsSettled device store.disk store.head store.history
+settled_again device store count rows tells keeps one =
+    let now : (c : Image) → device.images store.disk c → StandsFor c (archive store.head store.history) =
+    subst (λ (fills : List Fill). (c : Image) → device.images store.disk c → IsNow store.head store.history (rows_in_hand fills) c) one keeps.now in
+    record { reads = now (device.reads store.disk) (device.reads_as_image store.disk tells); now = now }
 
 -- ---- counts of faults
 
 -- a store that was given up with a fault has more faults than at its opening
-pub more_faults : {D : Type 0} (device : Device D) (disk : D) (old new : Seen D) (count : ℕ) (rows : List Row) → device.fault_count disk ≤ device.fault_count old.opened → new.opened ≡ old.opened
-    → KeepsFaults device new → new.fills ≡ Fault count true rows ∷ [] → raised (device.fault_count disk) ≤ device.fault_count new.disk
-more_faults device disk old new count rows first same keeps one =
+pub more_faults : {D : Type 0} (device : Device D) (disk : D) (old new : Seen D) (count : ℕ) (wrote : Bool) (rows : List Row) → device.fault_count disk ≤ device.fault_count old.opened → new.opened ≡ old.opened
+    → KeepsFaults device new → new.fills ≡ Fault count wrote rows ∷ [] → raised (device.fault_count disk) ≤ device.fault_count new.disk
+more_faults device disk old new count wrote rows first same keeps one =
     let rising = subst (λ (fills : List Fill). Rising (above (device.fault_count new.opened)) (device.fault_count new.disk) fills) one keeps.rising in
     let later = keeps.later in
     let low = rising.0 in
     let high = rising.1 in
     omega (arith, first, ap device.fault_count same, later, low, high)
+
+-- a disk that failed once didn't fail again after the fault
+not_again : (first then last : ℕ) → raised first ≤ then → raised then ≤ last → last ≤ first + 1 → last + 1 < 2 ^ 64 → ⊥
+not_again first then last once again most below = omega (arith, once, again, most, below)
+
+pub failed_again : {D : Type 0} (device : Device D) (disk then last : D) → raised (device.fault_count disk) ≤ device.fault_count then
+    → raised (device.fault_count then) ≤ device.fault_count last → FailedOnce device disk last → ⊥
+failed_again device disk then last once again one =
+    not_again (device.fault_count disk) (device.fault_count then) (device.fault_count last) once again one.most one.below

@@ -1,14 +1,17 @@
 -- The ending of a call whose words gave no job.
-use Rattle.std.proofs.Common.{◌≡◌, inl, Option, Some, None, refl}
+use Rattle.std.proofs.Common.{◌≡◌, inl, ℕ, Option, Some, None, refl}
 use Rattle.arch_disk.specs.Disk.{Device}
 use Rattle.arch_types.specs.declared.refusal.Refusal.{Refusal}
 use Rattle.arch_types.specs.declared.refusal.Refusal.TheVariants.{Usage, OutOfMemory}
 use Rattle.archive_cli.specs.declared.report.Report.{Report}
+use Rattle.outer_traits.specs.Outside.{Files}
 use Rattle.archive_cli.specs.Call.{Call, IsSilent}
 use Rattle.archive_cli.specs.Ending.{IsCaused, IsEnding, IsJobEnding}
 use Rattle.archive_cli.specs.Job.{Job, Scan, Values, Create, Load, Query, Recover, job_of, IsNoJob}
+use Rattle.archive_cli.specs.Order.{IsInOrder, create_inputs, query_inputs, scan_inputs, values_inputs}
 use Rattle.archive_cli.specs.Report.{unopened, IsReport}
 use Rattle.archive_cli.proofs.Consulted.{untouched}
+use Rattle.archive_cli.proofs.Ordered.{memory_in_order}
 
 jobless_cases : {D : Type 0} (device : Device D) (call : Call) (disk : D) (job : Option Job) (refusal : Refusal) → IsNoJob job refusal → IsSilent call →
     IsJobEnding device call disk disk job (unopened (Some refusal))
@@ -57,3 +60,20 @@ jobless_caused call (Some (Load words)) OutOfMemory none = tt
 jobless_caused call (Some (Query name)) OutOfMemory none = tt
 jobless_caused call (Some Recover) OutOfMemory none = tt
 jobless_caused call job other none = absurd none
+
+-- no input was read
+pub jobless_order : {D : Type 0} (files : Option Files) (job : Option Job) (given : ℕ) (old new : D) (refusal : Refusal) (report : Report) → IsNoJob job refusal →
+    report ≡ unopened (Some refusal) → IsInOrder files job given given old new report
+jobless_order files job given old new refusal report none is = rw is (order_cases files job given old new refusal none)
+  where
+    order_cases : {D : Type 0} (files : Option Files) (job : Option Job) (given : ℕ) (old new : D) (refusal : Refusal) → IsNoJob job refusal →
+        IsInOrder files job given given old new (unopened (Some refusal))
+    order_cases files job given old new Usage none = rw none tt
+    order_cases files None given old new OutOfMemory none = tt
+    order_cases files (Some (Scan name)) given old new OutOfMemory none = memory_in_order files (scan_inputs name) given given
+    order_cases files (Some (Values words)) given old new OutOfMemory none = memory_in_order files (values_inputs words) given given
+    order_cases files (Some (Create words)) given old new OutOfMemory none = memory_in_order files (create_inputs words) given given
+    order_cases files (Some (Load words)) given old new OutOfMemory none = tt
+    order_cases files (Some (Query name)) given old new OutOfMemory none = memory_in_order files (query_inputs name) given given
+    order_cases files (Some Recover) given old new OutOfMemory none = tt
+    order_cases files job given old new other none = absurd none

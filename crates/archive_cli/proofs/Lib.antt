@@ -31,7 +31,11 @@ pub mod LoadReports
 pub mod Taking
 pub mod Batching
 pub mod During
+pub mod Closing
 pub mod Sessions
 pub mod NotLoaded
 pub mod Caused
 pub mod LoadCauses
+pub mod HandedBack
+pub mod Settled
+pub mod Ordered

@@ -33,13 +33,15 @@ use Rattle.archive_cli.specs.declared.report.Report.{Report}
 use Rattle.archive_cli.specs.ArchiveExpected.{NoDiskFault}
 use Rattle.archive_cli.specs.Batches.{batch_at}
 use Rattle.archive_cli.specs.Call.{Call}
-use Rattle.archive_cli.specs.Expecting.{IsOrMemory, NoFault, ending_of_rest}
+use Rattle.archive_cli.specs.Expecting.{IsOrEarlier, IsOrMemory, NoFault, ending_of_rest}
 use Rattle.archive_cli.specs.Job.{LoadWords}
-use Rattle.archive_cli.specs.LoadEnding.{link_rows, history_with, nothing_left, IsLimited, IsLoad, IsLoadEnding}
+use Rattle.archive_cli.specs.LoadEnding.{link_rows, history_with, nothing_left, IsLimited, IsLoad, IsLoadEnding, IsNothingLoaded}
 use Rattle.archive_cli.specs.LoadExpected.{IsLoadExpected, HasRoomFor}
+use Rattle.archive_cli.specs.Order.{IsLoadFault}
 use Rattle.archive_cli.specs.Received.{dump_limit, Received}
 use Rattle.archive_cli.proofs.Arrived.{kept-append}
 use Rattle.archive_cli.proofs.Recovered.{not_raised}
+use Rattle.archive_cli.proofs.Settled.{not_opened}
 use Rattle.archive_cli.proofs.Told.{bad_ending, none_some, not_risen, same_rest, same_some, some_and, some_none, told_input, too_long}
 
 -- ---- the limits of a history
@@ -108,46 +110,84 @@ module _ {D : Type 0} (device : Device D) (call : Call) (all : Files) (words : L
   missing_or (Some OutOfMemory) report h n = inr refl
   missing_or (Some other) report h n = absurd h
 
-  module _ (octets : List ℕ) (d : get all words.dump ≡ Some octets) (calm : NoFault call.read_faults call.read_faults') (whole : NoDiskFault device old new) where
-    -- ---- no archive is opened
+  module _ (given given' : ℕ) (octets : List ℕ) (d : get all words.dump ≡ Some octets) (whole : NoDiskFault device old new) where
+    -- ---- no archive is opened, or no link is there: also where a read failed
 
+    there : IfSome call.files (λ all. IsNone (get all words.dump)) → ⊥
+    there h = some_none (get all words.dump) octets d (rw e at h)
+
+    -- a read that failed before the dump was opened
+    unread_or : (expected : Option Refusal) (report : Report) → IsLoadEnding device call words old new (Some ReadFault) report → IsLoadFault given given' old new report (Some ReadFault)
+        → (words.link ≤ limit_of Links → IsNothingLoaded device call words old new None report → ⊥) → IsOrEarlier given given' 0 (Some ReadFault) expected
+    unread_or expected report h fault not = elim h.2 [
+      | inl unbegun ↦ elim fault [
+        | inl before ↦ inr (refl, omega (arith, before.0))
+        | inr behind ↦ absurd (not_opened report.refusal report unbegun.report_is behind.1)
+      ]
+      | inr nothing ↦ absurd (not nothing.0 nothing.1)
+    ]
+
+    pub none_or : (ending : Option Refusal) (report : Report) → IsLoadEnding device call words old new ending report → IsLoadFault given given' old new report ending → HoldsNone (device.reads old 0) →
+        IsOrEarlier given given' 0 ending (Some NoArchive)
+    none_or None report h fault none = absurd (none_not_stands (device.reads old) h.line.whole.run.before none h.line.whole.run.stands)
+    none_or (Some WriteFault) report h fault none = absurd (none_not_stands (device.reads old) h.1.line.whole.run.before none h.1.line.whole.run.stands)
+    none_or (Some (BadPacket at kind)) report h fault none = absurd (none_not_stands (device.reads old) h.0.whole.run.before none h.0.whole.run.stands)
+    none_or (Some (Limit DumpOctets number)) report h fault none = absurd (none_not_stands (device.reads old) h.1.before none h.1.disk.stands)
+    none_or (Some (Limit Links number)) report h fault none = absurd (none_not_stands (device.reads old) h.2.before none h.2.disk.stands)
+    none_or (Some (Limit which number)) report h fault none =
+        absurd (none_not_stands (device.reads old) h.refused.stopped.run.before none h.refused.stopped.run.stands)
+    none_or (Some (Missing name)) report h fault none = absurd (there h.0.1)
+    none_or (Some ReadFault) report h fault none = unread_or (Some NoArchive) report h fault (λ near nothing. none_not_stands (device.reads old) nothing.before none nothing.disk.stands)
+    none_or (Some NoArchive) report h fault none = inl (inl refl)
+    none_or (Some (Damaged file at)) report h fault none = absurd (none_not_damaged (device.reads old) at none h.cause.1)
+    none_or (Some DiskFault) report h fault none = absurd (not_raised device old new whole h.0)
+    none_or (Some OutOfMemory) report h fault none = inl (inr refl)
+    none_or (Some other) report h fault none = absurd h
+
+    pub damaged_or : (ending : Option Refusal) (report : Report) → IsLoadEnding device call words old new ending report → IsLoadFault given given' old new report ending → (at : ℕ) →
+        IsDamagedAt (device.reads old) at → IsOrEarlier given given' 0 ending (Some (Damaged 0 at))
+    damaged_or None report h fault at bad = absurd (stands_not_damaged (device.reads old) h.line.whole.run.before at h.line.whole.run.stands bad)
+    damaged_or (Some WriteFault) report h fault at bad = absurd (stands_not_damaged (device.reads old) h.1.line.whole.run.before at h.1.line.whole.run.stands bad)
+    damaged_or (Some (BadPacket there kind)) report h fault at bad = absurd (stands_not_damaged (device.reads old) h.0.whole.run.before at h.0.whole.run.stands bad)
+    damaged_or (Some (Limit DumpOctets number)) report h fault at bad = absurd (stands_not_damaged (device.reads old) h.1.before at h.1.disk.stands bad)
+    damaged_or (Some (Limit Links number)) report h fault at bad = absurd (stands_not_damaged (device.reads old) h.2.before at h.2.disk.stands bad)
+    damaged_or (Some (Limit which number)) report h fault at bad =
+        absurd (stands_not_damaged (device.reads old) h.refused.stopped.run.before at h.refused.stopped.run.stands bad)
+    damaged_or (Some (Missing name)) report h fault at bad = absurd (there h.0.1)
+    damaged_or (Some ReadFault) report h fault at bad = unread_or (Some (Damaged 0 at)) report h fault (λ near nothing. stands_not_damaged (device.reads old) nothing.before at nothing.disk.stands bad)
+    damaged_or (Some NoArchive) report h fault at bad = absurd (none_not_damaged (device.reads old) at h.cause bad)
+    damaged_or (Some (Damaged file there)) report h fault at bad =
+        let zero = h.cause.0 in let same = damaged_once (device.reads old) there at h.cause.1 bad in inl (inl cc)
+    damaged_or (Some DiskFault) report h fault at bad = absurd (not_raised device old new whole h.0)
+    damaged_or (Some OutOfMemory) report h fault at bad = inl (inr refl)
+    damaged_or (Some other) report h fault at bad = absurd h
+
+    module _ (archive : Archive) (stands : StandsFor (device.reads old) archive) where
+      unheld : HoldsNone (device.reads old 0) → ⊥
+      unheld none = none_not_stands (device.reads old) archive none stands
+
+      undamaged : (at : ℕ) → IsDamagedAt (device.reads old) at → ⊥
+      undamaged at bad = stands_not_damaged (device.reads old) archive at stands bad
+
+      pub no_link_or : (ending : Option Refusal) (report : Report) → IsLoadEnding device call words old new ending report → IsLoadFault given given' old new report ending → limit_of Links < words.link →
+          IsOrEarlier given given' 0 ending (Some (Limit Links (limit_of Links)))
+      no_link_or None report h fault far = absurd (omega (arith, far, h.line.whole.run.link))
+      no_link_or (Some WriteFault) report h fault far = absurd (omega (arith, far, h.1.line.whole.run.link))
+      no_link_or (Some (BadPacket at kind)) report h fault far = absurd (omega (arith, far, h.0.whole.run.link))
+      no_link_or (Some (Limit DumpOctets number)) report h fault far = absurd (omega (arith, far, h.0.0))
+      no_link_or (Some (Limit Links number)) report h fault far = inl (inl (ap (λ (n : ℕ). Some (Limit Links n)) h.0))
+      no_link_or (Some (Limit which number)) report h fault far = absurd (omega (arith, far, h.refused.stopped.run.link))
+      no_link_or (Some (Missing name)) report h fault far = absurd (there h.0.1)
+      no_link_or (Some ReadFault) report h fault far = unread_or (Some (Limit Links (limit_of Links))) report h fault (λ near nothing. omega (arith, far, near))
+      no_link_or (Some NoArchive) report h fault far = absurd (unheld h.cause)
+      no_link_or (Some (Damaged file at)) report h fault far = absurd (undamaged at h.cause.1)
+      no_link_or (Some DiskFault) report h fault far = absurd (not_raised device old new whole h.0)
+      no_link_or (Some OutOfMemory) report h fault far = inl (inr refl)
+      no_link_or (Some other) report h fault far = absurd h
+
+  module _ (octets : List ℕ) (d : get all words.dump ≡ Some octets) (calm : NoFault call.read_faults call.read_faults') (whole : NoDiskFault device old new) where
     found : IfSome call.files (λ all. IsNone (get all words.dump)) → ⊥
     found h = some_none (get all words.dump) octets d (rw e at h)
-
-    pub none_or : (ending : Option Refusal) (report : Report) → IsLoadEnding device call words old new ending report → HoldsNone (device.reads old 0) →
-        IsOrMemory ending (Some NoArchive)
-    none_or None report h none = absurd (none_not_stands (device.reads old) h.line.whole.run.before none h.line.whole.run.stands)
-    none_or (Some WriteFault) report h none = absurd (none_not_stands (device.reads old) h.1.line.whole.run.before none h.1.line.whole.run.stands)
-    none_or (Some (BadPacket at kind)) report h none = absurd (none_not_stands (device.reads old) h.0.whole.run.before none h.0.whole.run.stands)
-    none_or (Some (Limit DumpOctets number)) report h none = absurd (none_not_stands (device.reads old) h.1.before none h.1.disk.stands)
-    none_or (Some (Limit Links number)) report h none = absurd (none_not_stands (device.reads old) h.2.before none h.2.disk.stands)
-    none_or (Some (Limit which number)) report h none =
-        absurd (none_not_stands (device.reads old) h.refused.stopped.run.before none h.refused.stopped.run.stands)
-    none_or (Some (Missing name)) report h none = absurd (found h.0.1)
-    none_or (Some ReadFault) report h none = absurd (not_risen call.read_faults call.read_faults' calm h.0)
-    none_or (Some NoArchive) report h none = inl refl
-    none_or (Some (Damaged file at)) report h none = absurd (none_not_damaged (device.reads old) at none h.cause.1)
-    none_or (Some DiskFault) report h none = absurd (not_raised device old new whole h.0)
-    none_or (Some OutOfMemory) report h none = inr refl
-    none_or (Some other) report h none = absurd h
-
-    pub damaged_or : (ending : Option Refusal) (report : Report) → IsLoadEnding device call words old new ending report → (at : ℕ) →
-        IsDamagedAt (device.reads old) at → IsOrMemory ending (Some (Damaged 0 at))
-    damaged_or None report h at bad = absurd (stands_not_damaged (device.reads old) h.line.whole.run.before at h.line.whole.run.stands bad)
-    damaged_or (Some WriteFault) report h at bad = absurd (stands_not_damaged (device.reads old) h.1.line.whole.run.before at h.1.line.whole.run.stands bad)
-    damaged_or (Some (BadPacket there kind)) report h at bad = absurd (stands_not_damaged (device.reads old) h.0.whole.run.before at h.0.whole.run.stands bad)
-    damaged_or (Some (Limit DumpOctets number)) report h at bad = absurd (stands_not_damaged (device.reads old) h.1.before at h.1.disk.stands bad)
-    damaged_or (Some (Limit Links number)) report h at bad = absurd (stands_not_damaged (device.reads old) h.2.before at h.2.disk.stands bad)
-    damaged_or (Some (Limit which number)) report h at bad =
-        absurd (stands_not_damaged (device.reads old) h.refused.stopped.run.before at h.refused.stopped.run.stands bad)
-    damaged_or (Some (Missing name)) report h at bad = absurd (found h.0.1)
-    damaged_or (Some ReadFault) report h at bad = absurd (not_risen call.read_faults call.read_faults' calm h.0)
-    damaged_or (Some NoArchive) report h at bad = absurd (none_not_damaged (device.reads old) at h.cause bad)
-    damaged_or (Some (Damaged file there)) report h at bad =
-        let zero = h.cause.0 in let same = damaged_once (device.reads old) there at h.cause.1 bad in inl cc
-    damaged_or (Some DiskFault) report h at bad = absurd (not_raised device old new whole h.0)
-    damaged_or (Some OutOfMemory) report h at bad = inr refl
-    damaged_or (Some other) report h at bad = absurd h
 
     -- ---- an archive is opened
 
@@ -157,22 +197,6 @@ module _ {D : Type 0} (device : Device D) (call : Call) (all : Files) (words : L
 
       not_damaged : (at : ℕ) → IsDamagedAt (device.reads old) at → ⊥
       not_damaged at bad = stands_not_damaged (device.reads old) archive at stands bad
-
-      pub no_link_or : (ending : Option Refusal) (report : Report) → IsLoadEnding device call words old new ending report → limit_of Links < words.link →
-          IsOrMemory ending (Some (Limit Links (limit_of Links)))
-      no_link_or None report h far = absurd (omega (arith, far, h.line.whole.run.link))
-      no_link_or (Some WriteFault) report h far = absurd (omega (arith, far, h.1.line.whole.run.link))
-      no_link_or (Some (BadPacket at kind)) report h far = absurd (omega (arith, far, h.0.whole.run.link))
-      no_link_or (Some (Limit DumpOctets number)) report h far = absurd (omega (arith, far, h.0.0))
-      no_link_or (Some (Limit Links number)) report h far = inl (ap (λ (n : ℕ). Some (Limit Links n)) h.0)
-      no_link_or (Some (Limit which number)) report h far = absurd (omega (arith, far, h.refused.stopped.run.link))
-      no_link_or (Some (Missing name)) report h far = absurd (found h.0.1)
-      no_link_or (Some ReadFault) report h far = absurd (not_risen call.read_faults call.read_faults' calm h.0)
-      no_link_or (Some NoArchive) report h far = absurd (not_none h.cause)
-      no_link_or (Some (Damaged file at)) report h far = absurd (not_damaged at h.cause.1)
-      no_link_or (Some DiskFault) report h far = absurd (not_raised device old new whole h.0)
-      no_link_or (Some OutOfMemory) report h far = inr refl
-      no_link_or (Some other) report h far = absurd h
 
       module _ (near : words.link ≤ limit_of Links) where
         pub long_or : (ending : Option Refusal) (report : Report) → IsLoadEnding device call words old new ending report → dump_limit < length octets →
@@ -241,20 +265,22 @@ module _ {D : Type 0} (device : Device D) (call : Call) (all : Files) (words : L
           ingested_or (Some OutOfMemory) report h quiet room = inr refl
           ingested_or (Some other) report h quiet room = absurd h
 
-load_told : {D : Type 0} (device : Device D) (call : Call) (files : Option Files) (words : LoadWords) (old new : D) (ending : Option Refusal) (report : Report) → call.files ≡ files →
-    IsLoadEnding device call words old new ending report → IfSome files (λ all. IsLoadExpected device call all words old new ending)
-load_told device call None words old new ending report e h = tt
-load_told device call (Some all) words old new ending report e h = record {
+load_told : {D : Type 0} (device : Device D) (call : Call) (files : Option Files) (words : LoadWords) (given given' : ℕ) (old new : D) (ending : Option Refusal) (report : Report) → call.files ≡ files →
+    IsLoadEnding device call words old new ending report → IsLoadFault given given' old new report ending →
+    IfSome files (λ all. IsLoadExpected device call all words given given' old new ending)
+load_told device call None words given given' old new ending report e h fault = tt
+load_told device call (Some all) words given given' old new ending report e h fault = record {
   missing = missing_or device call all words old new e ending report h;
-  none = λ octets d calm whole none. none_or device call all words old new e octets d calm whole ending report h none;
-  damaged = λ octets d calm whole at bad. damaged_or device call all words old new e octets d calm whole ending report h at bad;
-  no_link = λ octets d calm whole archive stands far. no_link_or device call all words old new e octets d calm whole archive stands ending report h far;
+  none = λ octets d whole none. none_or device call all words old new e given given' octets d whole ending report h fault none;
+  damaged = λ octets d whole at bad. damaged_or device call all words old new e given given' octets d whole ending report h fault at bad;
+  no_link = λ octets d whole archive stands far. no_link_or device call all words old new e given given' octets d whole archive stands ending report h fault far;
   long = λ octets d calm whole archive stands near long. long_or device call all words old new e octets d calm whole archive stands near ending report h long;
   ingested = λ octets d calm whole quiet archive stands near short packets rest parts room.
       ingested_or device call all words old new e octets d calm whole archive stands near short packets rest parts ending report h quiet room;
 }
 
 -- the answer that has to come does
-pub load_expected : {D : Type 0} (device : Device D) (call : Call) (words : LoadWords) (old new : D) (ending : Option Refusal) (report : Report) →
-    IsLoadEnding device call words old new ending report → IfSome call.files (λ all. IsLoadExpected device call all words old new ending)
-load_expected device call words old new ending report h = load_told device call call.files words old new ending report refl h
+pub load_expected : {D : Type 0} (device : Device D) (call : Call) (words : LoadWords) (given given' : ℕ) (old new : D) (ending : Option Refusal) (report : Report) →
+    IsLoadEnding device call words old new ending report → IsLoadFault given given' old new report ending →
+    IfSome call.files (λ all. IsLoadExpected device call all words given given' old new ending)
+load_expected device call words given given' old new ending report h fault = load_told device call call.files words given given' old new ending report refl h fault

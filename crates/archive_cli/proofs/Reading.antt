@@ -6,14 +6,14 @@ use Rattle.arch_types.specs.declared.refusal.Refusal.{Refusal}
 use Rattle.arch_types.specs.declared.refusal.Refusal.TheVariants as refused
 use Rattle.arch_types.specs.declared.refusal.Which.{Which}
 use Rattle.arch_types.specs.Limits.{limit_of}
-use Rattle.mdb_sheets.specs.Sheets.{ReadsCounted}
+use Rattle.mdb_sheets.specs.Sheets.{IsRefusal, ReadsCounted}
 use Rattle.outer_traits.specs.Outside.{Files, OpeningCounted}
 use Rattle.outer_traits.specs.Whole.{IsReadFault}
 use Rattle.outer_traits.specs.declared.fault.OpenFault.{OpenFault}
 use Rattle.outer_traits.specs.declared.fault.OpenFault.TheVariants as unopened
 use Rattle.outer_traits.specs.declared.whole.ReadFault.{ReadFault}
 use Rattle.outer_traits.specs.declared.whole.ReadFault.TheVariants.{Missing, Failed, TooLong, OutOfMemory}
-use Rattle.archive_cli.specs.Reading.{IsOpeningFault, IsRefusalOf, IsReadRefusal}
+use Rattle.archive_cli.specs.Reading.{IsOpeningFault, IsRefusalOf, IsReadRefusal, IsSheetsRefusal}
 
 -- the refusal of a fault has the fault's cause
 pub read_refusal : (files : Option Files) (name : List ℕ) (which : Which) (faults faults' : ℕ) (fault : ReadFault) (refusal : Refusal) →
@@ -32,6 +32,13 @@ read_later files files' name which before faults faults' refused.ReadFault same 
 read_later files files' name which before faults faults' (refused.Limit passed number) same less h = (h.0, h.1, rw same at h.2)
 read_later files files' name which before faults faults' refused.OutOfMemory same less h = tt
 read_later files files' name which before faults faults' other same less h = absurd h
+
+-- of three sheets that weren't read, without how many sources were given
+pub sheets_unread : (files : Option Files) (parameters calibrations containers : List ℕ) (faults faults' given given' : ℕ) (refusal : Refusal) →
+    IsRefusal files parameters calibrations containers faults faults' given given' refusal → IsSheetsRefusal files parameters calibrations containers faults faults' refusal
+sheets_unread files parameters calibrations containers faults faults' given given' refusal (inl h) = inl h.0
+sheets_unread files parameters calibrations containers faults faults' given given' refusal (inr (inl h)) = inr (inl (h.0, h.1.0))
+sheets_unread files parameters calibrations containers faults faults' given given' refusal (inr (inr h)) = inr (inr (h.0, h.1, h.2.0))
 
 -- ---- an input that wasn't opened
 

@@ -1,5 +1,5 @@
 -- From what went into a store to the ending of a load.
-use Rattle.std.proofs.Common.{◌≡◌, inl, inr, ℕ, ℤ, ◌+◌, ◌≤◌, ◌<◌, List, [], ◌++◌, length, take, drop, Some, None, Option, refl, sym, ap, subst, ◌∙◌, arith, length-append}
+use Rattle.std.proofs.Common.{◌≡◌, inl, inr, ℕ, ℤ, ◌+◌, ◌≤◌, ◌<◌, Bool, true, false, List, [], ◌∷◌, ◌++◌, length, take, drop, Some, None, Option, refl, sym, ap, subst, ◌∙◌, arith, length-append}
 use Rattle.std.specs.Prelude.{IsTrue}
 use Rattle.std.proofs.lemmas.List.{take_all}
 use Rattle.arch_disk.specs.Disk.{Device}
@@ -9,7 +9,8 @@ use Rattle.arch_types.specs.declared.refusal.Which.TheVariants.{DumpOctets, Link
 use Rattle.arch_types.specs.declared.row.Row.{Row}
 use Rattle.arch_types.specs.Dump.{IsDump}
 use Rattle.arch_types.specs.History.{ingested}
-use Rattle.archive_core.specs.Fills.{held}
+use Rattle.archive_core.specs.declared.fills.Fill.TheVariants.{Fault}
+use Rattle.archive_core.specs.Fills.{held, reopened}
 use Rattle.archive_core.specs.Items.{Item, items_of}
 use Rattle.archive_core.specs.Outcomes.{fresh_of}
 use Rattle.archive_core.proofs.Outcomes.{fresh_added}
@@ -24,12 +25,13 @@ use Rattle.archive_cli.specs.Batches.{batch_at, rows_of_link, HasIngested, IsSto
 use Rattle.archive_cli.specs.Call.{Call, IsMomentOf, WritesCounted}
 use Rattle.archive_cli.specs.Job.{LoadWords}
 use Rattle.archive_cli.specs.LoadEnding as ending
-use Rattle.archive_cli.specs.LoadEnding.{link_rows, new_rows_at, nothing_left, batch_left, IsLoad, IsLoadEnding, IsSettled, IsWhole}
-use Rattle.archive_cli.specs.Loading.{IsDone, IsSession, WentSo}
+use Rattle.archive_cli.specs.LoadEnding.{link_rows, new_rows_at, nothing_left, batch_left, IsLoad, IsLoadEnding, IsWhole}
+use Rattle.archive_cli.specs.Loading.{IsClosed, IsDone, IsReopened, IsSession, WentSo}
 use Rattle.archive_cli.specs.Received.{dump_limit, Received}
 use Rattle.archive_cli.specs.Report.{loaded, IsLoadReport}
+use Rattle.archive_cli.specs.Settled.{FailedOnce, IsSettled}
 use Rattle.archive_cli.proofs.Arrived.{rows_are}
-use Rattle.archive_cli.proofs.During.{has_table, load_images, settled, left, more_faults, IsOpened}
+use Rattle.archive_cli.proofs.During.{failed_again, has_table, load_images, settled, settled_again, left, more_faults, IsOpened}
 
 -- a store that was opened for the words, and the dump that was read for it
 pub record IsReady {D : Type 0} (device : Device D) (call : Call) (words : LoadWords) (disk : D) (store : Seen D) (dump : List ℕ) (moment : ℤ) : Type 0 where
@@ -39,6 +41,15 @@ pub record IsReady {D : Type 0} (device : Device D) (call : Call) (words : LoadW
   pub input : IsInput call.files words.dump dump
   pub short : length dump ≤ dump_limit
   pub clock : IsMomentOf call.moment moment
+
+-- the packets of a dump before a place went into a store, and the batch from there on met a fault with this count
+record Failing (dump : List ℕ) : Type 0 where
+  pub packets : List (List ℕ)
+  pub rest : List ℕ
+  pub place : ℕ
+  pub count : ℕ
+  pub parts : IsDump dump packets rest
+  pub within : place ≤ length packets
 
 module _ {D : Type 0} (device : Device D) (tells : IsTrue device.tells) (call : Call) (words : LoadWords) (disk : D) (old new : Seen D) (dump : List ℕ) (moment : ℤ) (ready : IsReady device call words disk old dump moment) (keeps : KeepsImages device new)
     (faults : KeepsFaults device new) where
@@ -103,53 +114,116 @@ module _ {D : Type 0} (device : Device D) (tells : IsTrue device.tells) (call : 
     settled = calm_now none s.done.head;
   }
 
-  failed_now : (report : Report) (s : IsStopped old new dump words.link moment DiskFault) → call.written' ≡ call.written
+  -- the disk failed in a batch, after these packets
+  failed_now : (report : Report) (wrote : Bool) (s : Failing dump) → HasIngested old new words.link moment (take s.place s.packets)
+      → new.fills ≡ Fault s.count wrote (fresh_of new.history (rows_of_link old.head words.link moment (batch_at s.place s.packets))) ∷ []
+      → (FailedOnce device disk new.disk → wrote ≡ false) → call.written' ≡ call.written
       → report ≡ loaded (Some DiskFault) None (length old.history) (length new.history) 0 0 0 → ending.IsFailed device call words disk new.disk report
-  failed_now report s silent is =
+  failed_now report wrote s done fills once silent is =
       let rows : List Row = fresh_of new.history (rows_of_link old.head words.link moment (batch_at s.place s.packets)) in
       let same : rows ≡ new_rows_at (archive_of old) words.link moment s.packets s.place =
       ap (fresh_of new.history) (rows_same (batch_at s.place s.packets))
       ∙ ap (λ (h : List Item). fresh_of h (link_rows old.head.mdb words.link moment (batch_at s.place s.packets)))
-      (s.done.history ∙ ap (ingested old.history) (rows_same (take s.place s.packets))) in
+      (done.history ∙ ap (ingested old.history) (rows_same (take s.place s.packets))) in
       record {
         stopped = record {
-          run = run_of batch_left s.packets s.rest s.place s.parts s.within s.done (ap held s.cause.1 ∙ ap batch_left same);
+          run = run_of batch_left s.packets s.rest s.place s.parts s.within done (ap held fills ∙ ap batch_left same);
           silent = silent;
           report_is = is;
         };
-        now = λ c leaves. elim (left device new s.cause.0 rows keeps s.cause.1 c leaves) [
-          | inl stands ↦ inl (subst (λ (h : Head). StandsFor c (archive h new.history)) s.done.head stands)
-          | inr more ↦ inr (subst (λ (l : List Row). StandsFor c (archive old.head (new.history ++ items_of l))) same (subst (λ (h : Head). StandsFor c (archive h (new.history ++ items_of rows))) s.done.head more))
+        now = λ c leaves. elim (left device new s.count wrote rows keeps fills c leaves) [
+          | inl stands ↦ inl (subst (λ (h : Head). StandsFor c (archive h new.history)) done.head stands)
+          | inr more ↦ inr (subst (λ (l : List Row). StandsFor c (archive old.head (new.history ++ items_of l))) same (subst (λ (h : Head). StandsFor c (archive h (new.history ++ items_of rows))) done.head more))
         ];
+        settled = λ one.
+            subst (λ (h : Head). IsSettled device new.disk h new.history) done.head
+            (settled_again device new s.count rows tells keeps (subst (λ (b : Bool). new.fills ≡ Fault s.count b rows ∷ []) (once one) fills));
       }
 
-  session_cases : (refusal : Option Refusal) (report : Report) → WentSo old new dump words.link moment call.written call.written' refusal report → WritesCounted refusal call.write_faults call.write_faults'
-      → IsLoadEnding device call words disk new.disk refusal report
-  session_cases None report w writes = record { line = record { whole = whole_of w.0; rest = w.1; printed = w.2 }; report_is = w.3 }
-  session_cases (Some WriteFault) report w writes = (writes, record { line = record { whole = whole_of w.0; rest = w.1; printed = w.2 }; report_is = w.3 })
-  session_cases (Some (BadPacket at kind)) report w writes = (record { whole = whole_of w.0; silent = w.2; report_is = w.3 }, w.1)
-  session_cases (Some (Limit DumpOctets number)) report w writes = absurd w.0.cause.2
-  session_cases (Some (Limit Links number)) report w writes = absurd w.0.cause.2
-  session_cases (Some (Limit which number)) report w writes = record {
+  -- no call of the disk failed in a batch
+  session_cases : (refusal : Option Refusal) (report : Report) → (refusal ≡ Some DiskFault → ⊥) → WentSo old new dump words.link moment call.written call.written' refusal report
+      → WritesCounted refusal call.write_faults call.write_faults' → IsLoadEnding device call words disk new.disk refusal report
+  session_cases None report calm w writes = record { line = record { whole = whole_of w.0; rest = w.1; printed = w.2 }; report_is = w.3 }
+  session_cases (Some WriteFault) report calm w writes = (writes, record { line = record { whole = whole_of w.0; rest = w.1; printed = w.2 }; report_is = w.3 })
+  session_cases (Some (BadPacket at kind)) report calm w writes = (record { whole = whole_of w.0; silent = w.2; report_is = w.3 }, w.1)
+  session_cases (Some (Limit DumpOctets number)) report calm w writes = absurd w.0.cause.2
+  session_cases (Some (Limit Links number)) report calm w writes = absurd w.0.cause.2
+  session_cases (Some (Limit which number)) report calm w writes = record {
     refused = refused_calm (Limit which number) report w.0 w.0.cause.0 w.1 w.2;
     records = new.records;
     few = few_now (w.0.done.records w.0.cause.0);
     number_is = w.0.cause.1;
     passed = subst (λ (l : List Row). IsLimit which new.records (ingested new.history l)) (rows_same (batch_at w.0.place w.0.packets)) w.0.cause.2;
   }
-  session_cases (Some DiskFault) report w writes = (
-    more_faults device disk old new w.0.cause.0 (fresh_of new.history (rows_of_link old.head words.link moment (batch_at w.0.place w.0.packets))) ready.later w.0.done.opened faults w.0.cause.1,
-    inr (failed_now report w.0 w.1 w.2),
-  )
-  session_cases (Some OutOfMemory) report w writes = inr (inr (refused_calm OutOfMemory report w.0 w.0.cause w.1 w.2))
-  session_cases (Some other) report w writes = absurd w.0.cause
+  session_cases (Some DiskFault) report calm w writes = absurd (calm refl)
+  session_cases (Some OutOfMemory) report calm w writes = inr (inr (refused_calm OutOfMemory report w.0 w.0.cause w.1 w.2))
+  session_cases (Some other) report calm w writes = absurd w.0.cause
+
+-- ---- a store that was opened again
+
+-- the packets of an earlier store went into the one that was opened again too
+ingested_again : {D : Type 0} (device : Device D) (old new last : Seen D) (link : ℕ) (moment : ℤ) (packets : List (List ℕ)) → HasIngested old new link moment packets → IsReopened device new last
+    → (last.fills ≡ [] → ⊥) → HasIngested old last link moment packets
+ingested_again device old new last link moment packets done again some = record {
+  history = again.history ∙ done.history;
+  head = again.head ∙ done.head;
+  opened = again.opened ∙ done.opened;
+  records = λ none. absurd (some none);
+}
+
+module _ {D : Type 0} (device : Device D) (tells : IsTrue device.tells) (call : Call) (words : LoadWords) (disk : D) (old new last : Seen D) (dump : List ℕ) (moment : ℤ)
+    (ready : IsReady device call words disk old dump moment) (keeps : KeepsImages device last) (faults : KeepsFaults device last) where
+  -- with this fault
+  failed_with : (report : Report) (s : IsStopped old new dump words.link moment DiskFault) (again : IsReopened device new last) (wrote : Bool)
+      → last.fills ≡ Fault s.cause.0 wrote (fresh_of new.history (rows_of_link old.head words.link moment (batch_at s.place s.packets))) ∷ []
+      → (FailedOnce device disk last.disk → wrote ≡ false) → call.written' ≡ call.written
+      → report ≡ loaded (Some DiskFault) None (length old.history) (length new.history) 0 0 0 → IsLoadEnding device call words disk last.disk (Some DiskFault) report
+  failed_with report s again wrote fills once silent is =
+      let rows : List Item → List Row = λ h. fresh_of h (rows_of_link old.head words.link moment (batch_at s.place s.packets)) in
+      let some : last.fills ≡ [] → ⊥ = λ none. (let e = sym none ∙ fills in cc) in
+      let done = ingested_again device old new last words.link moment (take s.place s.packets) s.done again some in
+      let now : last.fills ≡ Fault s.cause.0 wrote (rows last.history) ∷ [] = fills ∙ ap (λ (h : List Item). Fault s.cause.0 wrote (rows h) ∷ []) (sym again.history) in
+      let failing : Failing dump = record {
+        packets = s.packets;
+        rest = s.rest;
+        place = s.place;
+        count = s.cause.0;
+        parts = s.parts;
+        within = s.within;
+      } in
+      (
+        more_faults device disk old last s.cause.0 wrote (rows last.history) ready.later done.opened faults now,
+        inr (failed_now device tells call words disk old last dump moment ready keeps faults report wrote failing done now once silent
+        (is ∙ ap (λ (h : List Item). loaded (Some DiskFault) None (length old.history) (length h) 0 0 0) (sym again.history))),
+      )
+
+  failed_again_so : (report : Report) → WentSo old new dump words.link moment call.written call.written' (Some DiskFault) report → IsReopened device new last
+      → IsLoadEnding device call words disk last.disk (Some DiskFault) report
+  failed_again_so report w again =
+      let s = w.0 in
+      let rows : List Row = fresh_of new.history (rows_of_link old.head words.link moment (batch_at s.place s.packets)) in
+      let rose = more_faults device disk old new s.cause.0 true rows ready.later s.done.opened again.counted s.cause.1 in
+      elim again.healed [
+        | inl healed ↦ failed_with report s again false (healed ∙ ap reopened s.cause.1) (λ one. refl) w.1 w.2
+        | inr failed ↦ failed_with report s again true (failed.0 ∙ s.cause.1) (λ one. absurd (failed_again device disk new.disk last.disk rose failed.1 one)) w.1 w.2
+      ]
+
+  -- by the refusal
+  closed_cases : (refusal : Option Refusal) (report : Report) → IsClosed device refusal new last → WentSo old new dump words.link moment call.written call.written' refusal report
+      → WritesCounted refusal call.write_faults call.write_faults' → IsLoadEnding device call words disk last.disk refusal report
+  closed_cases (Some DiskFault) report closed w writes = failed_again_so report w closed
+  closed_cases refusal report closed w writes =
+      subst (λ (x : Seen D). IsLoadEnding device call words disk x.disk refusal report) (sym closed)
+      (session_cases device tells call words disk old new dump moment ready (subst (λ (x : Seen D). KeepsImages device x) closed keeps) (subst (λ (x : Seen D). KeepsFaults device x) closed faults)
+      refusal report (λ e. cc) w writes)
 
 -- the ending of a load whose dump was read
 pub session_ending : {D : Type 0} (device : Device D) → IsTrue device.tells → (call : Call) (words : LoadWords) (disk new : D) (old : Seen D) (dump : List ℕ) (moment : ℤ) (report : Report) → IsReady device call words disk old dump moment
     → IsSession device old dump words.link moment call.written call.written' new report → WritesCounted report.refusal call.write_faults call.write_faults' → IsLoadEnding device call words disk new report.refusal report
 session_ending device tells call words disk new old dump moment report ready s writes =
-    subst (λ d. IsLoadEnding device call words disk d report.refusal report) (sym s.given_up.disk_is)
-    (session_cases device tells call words disk old s.new dump moment ready (s.given_up.images tells) s.given_up.faults report.refusal report s.went writes)
+    let given_up = s.let_go.given_up in
+    subst (λ d. IsLoadEnding device call words disk d report.refusal report) (sym given_up.disk_is)
+    (closed_cases device tells call words disk old s.new s.let_go.last dump moment ready (given_up.images tells) given_up.faults report.refusal report s.let_go.closed s.went writes)
 
 -- the history is no shorter
 grown : {D : Type 0} (old new : Seen D) (link : ℕ) (moment : ℤ) (packets : List (List ℕ)) → HasIngested old new link moment packets → length old.history ≤ length new.history

@@ -32,17 +32,17 @@ pub longer : (limit n : ℕ) → limit < n → nat_lt limit n ≡ true
 longer limit n h = grind (arith, nat_tests)
 
 -- an input within its limit is no refusal
-within : (which : Which) (name : List ℕ) (o : Option (List ℕ)) → IsSomeAnd o (λ octets. length octets ≤ limit_of which) → refusal_of_input which name o ≡ None
+pub within : (which : Which) (name : List ℕ) (o : Option (List ℕ)) → IsSomeAnd o (λ octets. length octets ≤ limit_of which) → refusal_of_input which name o ≡ None
 within which name None h = absurd h
 within which name (Some octets) h = rw (not-longer (limit_of which) (length octets) h) refl
 
 -- one that is longer is
-beyond : (which : Which) (name : List ℕ) (o : Option (List ℕ)) → IsSomeAnd o (λ octets. limit_of which < length octets) →
+pub beyond : (which : Which) (name : List ℕ) (o : Option (List ℕ)) → IsSomeAnd o (λ octets. limit_of which < length octets) →
     refusal_of_input which name o ≡ Some (Limit which (limit_of which))
 beyond which name None h = absurd h
 beyond which name (Some octets) h = rw (longer (limit_of which) (length octets) h) refl
 
-absent : (which : Which) (name lacking : List ℕ) (o : Option (List ℕ)) → lacking ≡ name → IsNone o → refusal_of_input which name o ≡ Some (Missing lacking)
+pub absent : (which : Which) (name lacking : List ℕ) (o : Option (List ℕ)) → lacking ≡ name → IsNone o → refusal_of_input which name o ≡ Some (Missing lacking)
 absent which name lacking None e n = ap (λ (l : List ℕ). Some (Missing l)) (sym e)
 absent which name lacking (Some octets) e n = cc
 

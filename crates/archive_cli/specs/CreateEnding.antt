@@ -7,7 +7,7 @@ use Rattle.arch_types.specs.declared.refusal.Refusal.TheVariants.{WriteFault, Ex
 use Rattle.mdb_model.specs.declared.sheet.RawMdb.{RawMdb}
 use Rattle.mdb_model.specs.Database.{Database}
 use Rattle.mdb_model.specs.Sheets.{sheets_database}
-use Rattle.mdb_sheets.specs.Sheets.{AreSheets, IsRefusal}
+use Rattle.mdb_sheets.specs.Sheets.{AreSheets}
 use Rattle.outer_traits.specs.Outside.{Files}
 use Rattle.disk_journal.specs.Format.{HoldsNone}
 use Rattle.archive_store.specs.declared.head.Head.{Head}
@@ -19,6 +19,7 @@ use Rattle.archive_cli.specs.Call.{Call, IsSilent, Prints, PrintsSome, WritesFai
 use Rattle.archive_cli.specs.Consulted.{IsUntouched, DiskFailed}
 use Rattle.archive_cli.specs.Job.{SheetWords}
 use Rattle.archive_cli.specs.Parameter.{sheets_refusal}
+use Rattle.archive_cli.specs.Reading.{IsSheetsRefusal}
 use Rattle.archive_cli.specs.Report.{unopened, consulted}
 
 -- the head of a new archive: table `tm`, and the database of the sheets
@@ -42,7 +43,7 @@ IsHead files words head = (raw : RawMdb) × AreGood files words raw × (head ≡
 -- a sheet wasn't read, or they were and are refused
 abbrev pub AreRefused : Option Files → SheetWords → ℕ → ℕ → Refusal → Type 0
 AreRefused files words faults faults' refusal =
-    IsRefusal files words.parameters words.calibrations words.containers faults faults' refusal
+    IsSheetsRefusal files words.parameters words.calibrations words.containers faults faults' refusal
     ⊎ ((raw : RawMdb) × AreSheets files words.parameters words.calibrations words.containers raw × (sheets_refusal raw ≡ Some refusal))
 
 -- the disk holds an archive: file 0 has two octets at least, and the first is 1

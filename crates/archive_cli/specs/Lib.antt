@@ -1,5 +1,6 @@
 pub mod Words
 pub mod Batches
+pub mod Settled
 pub mod LoadEnding
 pub mod LoadCaused
 pub mod Loading
@@ -31,3 +32,5 @@ pub mod ArchiveExpected
 pub mod LoadExpected
 pub mod Expected
 pub mod Report
+pub mod HandedBack
+pub mod Order

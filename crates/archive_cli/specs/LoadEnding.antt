@@ -28,6 +28,7 @@ use Rattle.archive_cli.specs.Consulted.{IsUntouched, IsConsulted, IsOpenedThen, 
 use Rattle.archive_cli.specs.Job.{LoadWords}
 use Rattle.archive_cli.specs.Received.{dump_limit, Received, IsBadRest}
 use Rattle.archive_cli.specs.Report.{unopened, consulted, loaded}
+pub use Rattle.archive_cli.specs.Settled.{FailedOnce, IsSettled}
 
 -- the rows of packets of a link, all in table `tm`, with the packet names that a database gives them
 abbrev pub link_rows : Database → ℕ → ℤ → List (List ℕ) → List Row
@@ -78,11 +79,6 @@ abbrev pub IsReached : {D : Type 0} {device : Device D} {call : Call} {words : L
 IsReached {words = words} run image =
     StandsFor image (archive run.before.head run.reached)
     ⊎ StandsFor image (archive run.before.head (run.reached ++ items_of (new_rows_at run.before words.link run.received.moment run.received.packets run.place)))
-
--- every image that a crash now leaves stands for the history reached, and so does the disk as it reads
-pub record IsSettled {D : Type 0} (device : Device D) (new : D) (head : Head) (reached : List Item) : Type 0 where
-  pub reads : StandsFor (device.reads new) (archive head reached)
-  pub now : (c : Image) → device.images new c → StandsFor c (archive head reached)
 
 -- the last line of a load: how many packets there were, how many rows are new, were there or are of idle packets, and how long the history is
 abbrev pub load_line : ℕ → ℕ → ℕ → ℕ → ℕ → List ℕ
@@ -140,10 +136,12 @@ pub record IsRefused {D : Type 0} (device : Device D) (call : Call) (words : Loa
   pub stopped : IsStopped device call words nothing_left old new refusal report
   pub settled : IsSettled device new stopped.run.before.head stopped.run.reached
 
--- the disk failed in the writing of a batch, and a crash now leaves the history reached, or that one with the batch's new rows
+-- The disk failed in the writing of a batch, and a crash now leaves the history reached, or that one with the batch's new rows. Where it failed once
+-- the disk was healed: every image that a crash now leaves stands for the history reached, and so does the disk as it reads.
 pub record IsFailed {D : Type 0} (device : Device D) (call : Call) (words : LoadWords) (old new : D) (report : Report) : Type 0 where
   pub stopped : IsStopped device call words batch_left old new DiskFault report
   pub now : (c : Image) → device.images new c → IsReached stopped.run c
+  pub settled : FailedOnce device old new → IsSettled device new stopped.run.before.head stopped.run.reached
 
 -- The batch that is refused passes a limit. The journal has one record for the head, and each further one has a row.
 pub record IsLimited {D : Type 0} (device : Device D) (call : Call) (words : LoadWords) (old new : D) (which : Which) (number : ℕ) (report : Report) : Type 0 where

@@ -14,7 +14,7 @@ use Rattle.archive_store.specs.Limits.{IsWithin}
 use Rattle.archive_store.specs.Stands.{StandsFor, IsDamagedAt}
 use Rattle.archive_cli.specs.ArchiveExpected.{NoDiskFault}
 use Rattle.archive_cli.specs.Call.{Call, IsMomentOf}
-use Rattle.archive_cli.specs.Expecting.{IsOrMemory, NoFault, ending_of_rest}
+use Rattle.archive_cli.specs.Expecting.{IsOrEarlier, IsOrMemory, NoFault, ending_of_rest}
 use Rattle.archive_cli.specs.Job.{LoadWords}
 use Rattle.archive_cli.specs.LoadEnding.{history_with}
 use Rattle.archive_cli.specs.Received.{dump_limit}
@@ -23,17 +23,17 @@ use Rattle.archive_cli.specs.Received.{dump_limit}
 abbrev pub HasRoomFor : Archive → Call → LoadWords → List (List ℕ) → Type 0
 HasRoomFor archive call words packets = (moment : ℤ) → IsMomentOf call.moment moment → IsWithin (history_with archive words.link moment packets)
 
--- `load` of a told dump: Missing where there's none of the name. Where no read failed and no call of the disk did: NoArchive where it holds none and
--- Damaged where it is damaged; where it stands for an archive Limit where there's no link of the number, then Limit where the dump is longer than
--- one may be; and where nothing passes a limit and no write failed either, the ending by the dump's rest.
-pub record IsLoadExpected {D : Type 0} (device : Device D) (call : Call) (all : Files) (words : LoadWords) (old new : D) (ending : Option Refusal) : Type 0 where
+-- `load` of a told dump: Missing where there's none of the name. Where no call of the disk failed, and but for an opening of the dump that failed: NoArchive
+-- where it holds none, Damaged where it is damaged, and where it stands for an archive Limit where there's no link of the number. Where no read failed
+-- either: Limit where the dump is longer than one may be; and where nothing passes a limit and no write failed either, the ending by the dump's rest.
+pub record IsLoadExpected {D : Type 0} (device : Device D) (call : Call) (all : Files) (words : LoadWords) (given given' : ℕ) (old new : D) (ending : Option Refusal) : Type 0 where
   pub missing : IsNone (get all words.dump) → IsOrMemory ending (Some (Missing words.dump))
-  pub none : (octets : List ℕ) → get all words.dump ≡ Some octets → NoFault call.read_faults call.read_faults' → NoDiskFault device old new →
-      HoldsNone (device.reads old 0) → IsOrMemory ending (Some NoArchive)
-  pub damaged : (octets : List ℕ) → get all words.dump ≡ Some octets → NoFault call.read_faults call.read_faults' → NoDiskFault device old new →
-      (at : ℕ) → IsDamagedAt (device.reads old) at → IsOrMemory ending (Some (Damaged 0 at))
-  pub no_link : (octets : List ℕ) → get all words.dump ≡ Some octets → NoFault call.read_faults call.read_faults' → NoDiskFault device old new →
-      (archive : Archive) → StandsFor (device.reads old) archive → limit_of Links < words.link → IsOrMemory ending (Some (Limit Links (limit_of Links)))
+  pub none : (octets : List ℕ) → get all words.dump ≡ Some octets → NoDiskFault device old new → HoldsNone (device.reads old 0) →
+      IsOrEarlier given given' 0 ending (Some NoArchive)
+  pub damaged : (octets : List ℕ) → get all words.dump ≡ Some octets → NoDiskFault device old new → (at : ℕ) → IsDamagedAt (device.reads old) at →
+      IsOrEarlier given given' 0 ending (Some (Damaged 0 at))
+  pub no_link : (octets : List ℕ) → get all words.dump ≡ Some octets → NoDiskFault device old new → (archive : Archive) →
+      StandsFor (device.reads old) archive → limit_of Links < words.link → IsOrEarlier given given' 0 ending (Some (Limit Links (limit_of Links)))
   pub long : (octets : List ℕ) → get all words.dump ≡ Some octets → NoFault call.read_faults call.read_faults' → NoDiskFault device old new →
       (archive : Archive) → StandsFor (device.reads old) archive → words.link ≤ limit_of Links → dump_limit < length octets →
       IsOrMemory ending (Some (Limit DumpOctets dump_limit))

@@ -1,6 +1,6 @@
 -- The steps of a load: how its dump is read, and how the packets go into a store that was opened.
-use Rattle.std.specs.Prelude.{◌≡◌, ◌<◌, ◌≤◌, ◌-◌, ℕ, ℤ, IsTrue, List, [], length, drop, Option, Some, None, IfSome}
-use Rattle.arch_disk.specs.Disk.{Device}
+use Rattle.std.specs.Prelude.{◌≡◌, ◌⊎◌, ◌<◌, ◌≤◌, ◌-◌, ℕ, ℤ, IsTrue, List, [], length, drop, Option, Some, None, IfSome}
+use Rattle.arch_disk.specs.Disk.{Device, raised}
 use Rattle.arch_types.specs.declared.refusal.Refusal.{Refusal}
 use Rattle.arch_types.specs.declared.refusal.Refusal.TheVariants as refused
 use Rattle.arch_types.specs.declared.refusal.Which.TheVariants.{DumpOctets, Links}
@@ -8,6 +8,7 @@ use Rattle.arch_types.specs.Limits.{limit_of}
 use Rattle.outer_traits.specs.declared.whole.ReadFault.{ReadFault}
 use Rattle.outer_traits.specs.declared.whole.ReadFault.TheVariants as faulted
 use Rattle.outer_traits.specs.Outside.{WritesSome}
+use Rattle.archive_core.specs.Fills.{reopened}
 use Rattle.archive_store.specs.Seen.{Seen, KeepsFaults, KeepsImages}
 use Rattle.archive_cli.specs.declared.batches.Whole.{Whole}
 use Rattle.archive_cli.specs.declared.report.Report.{Report}
@@ -44,6 +45,25 @@ pub record IsGivenUp {D : Type 0} (device : Device D) (store : Seen D) (disk : D
   pub images : IsTrue device.tells → KeepsImages device store
   pub faults : KeepsFaults device store
 
+-- A store whose disk failed was opened again: its failed write is as if it had never been made, or one more call of the disk failed.
+pub record IsReopened {D : Type 0} (device : Device D) (old new : Seen D) : Type 0 where
+  pub history : new.history ≡ old.history
+  pub head : new.head ≡ old.head
+  pub opened : new.opened ≡ old.opened
+  pub counted : KeepsFaults device old
+  pub healed : (new.fills ≡ reopened old.fills) ⊎ ((new.fills ≡ old.fills) × (raised (device.fault_count old.disk) ≤ device.fault_count new.disk))
+
+-- what became of a store before it was given up, by the refusal: where its disk failed it was opened again, and else nothing
+abbrev pub IsClosed : {D : Type 0} → Device D → Option Refusal → Seen D → Seen D → Type 0
+IsClosed device (Some refused.DiskFault) store last = IsReopened device store last
+IsClosed device other store last = last ≡ store
+
+-- a store was closed so and given up, and this is its disk
+pub record IsLetGo {D : Type 0} (device : Device D) (store : Seen D) (refusal : Option Refusal) (disk : D) : Type 0 where
+  pub last : Seen D
+  pub closed : IsClosed device refusal store last
+  pub given_up : IsGivenUp device last disk
+
 -- the report of a load whose line was printed, or not
 abbrev pub printed_report : Option Refusal → ℕ → ℕ → ℕ → ℕ → Report
 printed_report None before after packets idle = loaded None None before after packets (packets - idle - (after - before)) idle
@@ -77,5 +97,5 @@ WentSo old new dump link moment written written' (Some refusal) report =
 -- the packets of a dump went into a store, which was then given up
 pub record IsSession {D : Type 0} (device : Device D) (old : Seen D) (dump : List ℕ) (link : ℕ) (moment : ℤ) (written written' : Option (List ℕ)) (disk : D) (report : Report) : Type 0 where
   pub new : Seen D
-  pub given_up : IsGivenUp device new disk
+  pub let_go : IsLetGo device new report.refusal disk
   pub went : WentSo old new dump link moment written written' report.refusal report

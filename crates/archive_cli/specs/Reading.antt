@@ -5,6 +5,7 @@ use Rattle.arch_types.specs.declared.refusal.Refusal.{Refusal}
 use Rattle.arch_types.specs.declared.refusal.Refusal.TheVariants.{Missing, ReadFault, Limit, OutOfMemory}
 use Rattle.arch_types.specs.declared.refusal.Which.{Which}
 use Rattle.arch_types.specs.Limits.{limit_of}
+use Rattle.mdb_sheets.specs.Sheets.{HasSheet, IsSheetRefusal}
 use Rattle.outer_traits.specs.Outside.{Files, HasRisen}
 use Rattle.outer_traits.specs.declared.fault.OpenFault.{OpenFault}
 use Rattle.outer_traits.specs.declared.fault.OpenFault.TheVariants as unopened
@@ -23,6 +24,13 @@ IsRefusalOf name which faulted.Missing refusal = (refusal ≡ Missing name) ⊎ 
 IsRefusalOf name which faulted.Failed refusal = refusal ≡ ReadFault
 IsRefusalOf name which faulted.TooLong refusal = refusal ≡ Limit which (limit_of which)
 IsRefusalOf name which faulted.OutOfMemory refusal = refusal ≡ OutOfMemory
+
+-- the refusal is that of the first of three sheets that isn't read
+abbrev pub IsSheetsRefusal : Option Files → List ℕ → List ℕ → List ℕ → ℕ → ℕ → Refusal → Type 0
+IsSheetsRefusal files parameters calibrations containers faults faults' refusal =
+    IsSheetRefusal files parameters faults faults' refusal
+    ⊎ (HasSheet files parameters × IsSheetRefusal files calibrations faults faults' refusal)
+    ⊎ (HasSheet files parameters × HasSheet files calibrations × IsSheetRefusal files containers faults faults' refusal)
 
 -- why an input wasn't read to its end: there's none of the name, a call failed, or it is longer than its limit
 abbrev pub IsReadRefusal : Option Files → List ℕ → Which → ℕ → ℕ → Refusal → Type 0

@@ -6,12 +6,12 @@ use Rattle.arch_types.specs.declared.refusal.Refusal.TheVariants.{WriteFault, Ba
 use Rattle.arch_types.specs.declared.refusal.Which.TheVariants.{DumpOctets}
 use Rattle.mdb_model.specs.declared.sheet.RawMdb.{RawMdb}
 use Rattle.mdb_model.specs.Database.{Database}
-use Rattle.mdb_sheets.specs.Sheets.{AreSheets, IsRefusal}
+use Rattle.mdb_sheets.specs.Sheets.{AreSheets}
 use Rattle.outer_traits.specs.Outside.{Files}
 use Rattle.archive_cli.specs.Call.{Call, IsSilent, Prints, PrintsSome, WritesFailed}
 use Rattle.archive_cli.specs.Job.{ValuesWords}
 use Rattle.archive_cli.specs.Parameter.{IsParameter, parameter_refusal}
-use Rattle.archive_cli.specs.Reading.{IsReadRefusal}
+use Rattle.archive_cli.specs.Reading.{IsReadRefusal, IsSheetsRefusal}
 use Rattle.archive_cli.specs.Received.{dump_limit, Received, IsBadRest}
 use Rattle.archive_cli.specs.ValuesText.{values_text}
 
@@ -46,7 +46,7 @@ pub record IsParameterRefused (call : Call) (words : ValuesWords) (refusal : Ref
 -- an input wasn't read: the first of the three sheets, or else the dump
 abbrev pub IsInputRefused : Call → ValuesWords → Refusal → Type 0
 IsInputRefused call words refusal =
-    IsRefusal call.files words.parameters words.calibrations words.containers call.read_faults call.read_faults' refusal
+    IsSheetsRefusal call.files words.parameters words.calibrations words.containers call.read_faults call.read_faults' refusal
     ⊎ (((raw : RawMdb) × AreSheetsOf call words raw) × IsReadRefusal call.files words.dump DumpOctets call.read_faults call.read_faults' refusal)
 
 -- the ending of `values`

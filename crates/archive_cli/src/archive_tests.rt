@@ -337,15 +337,14 @@ fn call(alloc: Global, line: &str, disk: MemDisk) -> Result<(u8, u64, MemDisk), 
     Ok((ended.status, ended.report.after, ended.disk))
 }
 
-/// Whether an archive opens that has these rows, or those of the next batch too.
+/// Whether an archive opens that has just these rows.
 fn holds(alloc: Global, disk: MemDisk, rows: u64) -> Result<bool, Fail> {
     let (status, found, _disk) = call(alloc, "recover", disk)?;
-    let with_next = if rows == 0 { 64 } else { 66 };
-    Ok(status == 0 && (found == rows || found == with_next))
+    Ok(status == 0 && found == rows)
 }
 
-/// Loads two batches on a disk of which a call fails: the answer says so, and what was acknowledged is there, whatever a crash leaves. It tells whether
-/// an archive was made.
+/// Loads two batches on a disk of which a call fails. The answer says so, and afterwards the disk has the rows that the report tells, whatever a crash
+/// leaves. It tells whether an archive was made.
 fn load_failing(rt: &(impl Abort + AllocGlobal), fails: u64) -> Result<bool, Fail> {
     let alloc = rt.alloc();
     let disk = MemDisk::failing(alloc, vec![in alloc; fails; 1]?);
@@ -364,6 +363,33 @@ fn load_failing(rt: &(impl Abort + AllocGlobal), fails: u64) -> Result<bool, Fai
     }
     assert!(rt; whole || holds(alloc, disk, rows)?);
     Ok(true)
+}
+
+/// How many calls the making of an archive and the load of two batches make.
+fn calls_of_a_load(alloc: Global) -> Result<u64, Fail> {
+    let (_, _, disk) = call(alloc, CREATE, MemDisk::new(alloc))?;
+    let (_, _, disk) = call(alloc, "load batches", disk)?;
+    Ok(disk.made())
+}
+
+#[test]
+fn a_load_whose_last_sync_fails(rt: HostRuntime) -> Result<(), Fail> {
+    let alloc = rt.alloc();
+    let last = calls_of_a_load(alloc)?;
+    let disk = MemDisk::failing(vec![in alloc; last; 1]?, alloc);
+    let (_, _, disk) = call(alloc, CREATE, disk)?;
+    let (status, rows, disk) = call(alloc, "load batches", disk)?;
+    assert_eq!(&rt; status, 5);
+    assert_eq!(&rt; rows, 64);
+    for crash in Crash::ALL {
+        let image = disk.crashed(disk.moments(), crash)?;
+        assert!(&rt; holds(alloc, image, 64)?, "{crash:?}");
+    }
+    let (status, rows, disk) = call(alloc, "recover", disk)?;
+    assert_eq!(&rt; (status, rows), (0, 64));
+    let (status, rows, _disk) = call(alloc, "load batches", disk)?;
+    assert_eq!(&rt; (status, rows), (0, 66));
+    Ok(())
 }
 
 #[test]

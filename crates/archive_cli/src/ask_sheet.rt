@@ -29,6 +29,7 @@ pub fn read_sheet<I: Inputs>(alloc: Global, name: &str, inputs: &mut I) -> Resul
     ensures refused { IfErr result (IsReadRefusal (I.files inputs.old) name.now Which.SheetOctets (I.faults inputs.old) (I.faults inputs.new)) }
     ensures same { I.files inputs.new ≡ I.files inputs.old }
     ensures closed { I.open_sources inputs.old + 1 < 2 ^ 64 → I.open_sources inputs.new ≡ I.open_sources inputs.old }
+    ensures gave { I.given inputs.new ≤ I.given inputs.old + 1 }
     ensures later { I.faults inputs.old ≤ I.faults inputs.new }
     ensures counted { ReadsCounted (result_err result) (I.faults inputs.old) (I.faults inputs.new) }
     ensures steady { I.never_fails inputs.old → Stays (I.faults inputs.old) (I.faults inputs.new) }

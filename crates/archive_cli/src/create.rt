@@ -13,7 +13,9 @@ ghost use Rattle.archive_cli.specs.Asked.{sheet_words_of};
 ghost use Rattle.archive_cli.specs.Call.{Call, WritesCounted};
 ghost use Rattle.archive_cli.specs.Caused.{IsCreateCaused};
 ghost use Rattle.archive_cli.specs.CreateEnding.{AreGood, AreRefused, IsCreateEnding, IsHead, create_line, new_head};
+ghost use Rattle.archive_cli.specs.HandedBack.{IsCreateBack};
 ghost use Rattle.archive_cli.specs.Job.{SheetWords as GivenWords};
+ghost use Rattle.archive_cli.specs.Order.{AreInOrder, create_inputs};
 ghost use Rattle.archive_cli.specs.Report.{status_at, IsConsulting};
 
 use crate::job::SheetWords;
@@ -68,6 +70,7 @@ pub fn create<D: Disk, I: Inputs, K: Sink>(
     ensures report { IsConsulting result.report.refusal result.report }
     ensures same { I.files inputs.new ≡ I.files inputs.old }
     ensures closed { I.open_sources inputs.old + 1 < 2 ^ 64 → I.open_sources inputs.new ≡ I.open_sources inputs.old }
+    ensures order { AreInOrder (I.files inputs.old) (create_inputs (sheet_words_of words.entry)) (I.given inputs.old) (I.given inputs.new) result.report.refusal }
     ensures later { I.faults inputs.old ≤ I.faults inputs.new }
     ensures writes_later { K.faults sink.old ≤ K.faults sink.new }
     ensures reads_counted { ReadsCounted result.report.refusal (I.faults inputs.old) (I.faults inputs.new) }
@@ -75,6 +78,9 @@ pub fn create<D: Disk, I: Inputs, K: Sink>(
     ensures steady { I.never_fails inputs.old → Stays (I.faults inputs.old) (I.faults inputs.new) }
     ensures disk_later { D.device.fault_count disk ≤ D.device.fault_count result.disk }
     ensures disk_fault { result.report.refusal ≡ Some DiskFault → raised (D.device.fault_count disk) ≤ D.device.fault_count result.disk }
+
+    // Refused before the disk was asked, it hands the very disk back.
+    ensures handed_back { IsCreateBack disk result.disk result.report.refusal }
 {
     match read_head(alloc, words, inputs) {
         Ok(head) => make(alloc, disk, head, sink),
@@ -93,6 +99,7 @@ fn read_head<I: Inputs>(
     ensures refused { IfErr result (AreRefused (I.files inputs.old) (sheet_words_of words.entry) (I.faults inputs.old) (I.faults inputs.new)) }
     ensures same { I.files inputs.new ≡ I.files inputs.old }
     ensures closed { I.open_sources inputs.old + 1 < 2 ^ 64 → I.open_sources inputs.new ≡ I.open_sources inputs.old }
+    ensures order { IfErr result (λ refusal. AreInOrder (I.files inputs.old) (create_inputs (sheet_words_of words.entry)) (I.given inputs.old) (I.given inputs.new) (Some refusal)) }
     ensures later { I.faults inputs.old ≤ I.faults inputs.new }
     ensures counted { ReadsCounted (result_err result) (I.faults inputs.old) (I.faults inputs.new) }
     ensures steady { I.never_fails inputs.old → Stays (I.faults inputs.old) (I.faults inputs.new) }
@@ -154,6 +161,9 @@ fn make<D: Disk, K: Sink>(alloc: Global, disk: D, head: Head, sink: &mut K) -> E
     ensures writes_later { K.faults sink.old ≤ K.faults sink.new }
     ensures disk_later { D.device.fault_count disk ≤ D.device.fault_count result.disk }
     ensures disk_fault { result.report.refusal ≡ Some DiskFault → raised (D.device.fault_count disk) ≤ D.device.fault_count result.disk }
+
+    // Refused before the disk was asked, it hands the very disk back.
+    ensures handed_back { IsCreateBack disk result.disk result.report.refusal }
 {
     let Ok(mut piece) = Piece::new(alloc) else {
         return Ended::unopened(disk, Some(Refusal::OutOfMemory));

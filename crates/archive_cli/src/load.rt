@@ -1,14 +1,16 @@
 //! The command `load`: the packets of a dump, ingested into an archive.
 
-ghost use Rattle.std.specs.Prelude.{◌≡◌, ◌<◌, ◌≤◌, ◌+◌, ◌-◌, ◌^◌, ℕ, [], IsTrue, IfOk, IfErr, IfSome, MatchResult, None, Some, length};
+ghost use Rattle.std.specs.Prelude.{◌≡◌, ◌≢◌, ◌<◌, ◌≤◌, ◌+◌, ◌-◌, ◌^◌, ℕ, [], IsTrue, IfOk, IfErr, IfSome, MatchResult, None, Some, length};
 ghost use Rattle.arch_disk.specs.Disk.{raised};
 ghost use Rattle.outer_traits.specs.Outside.{IsMoment, Stays};
 ghost use Rattle.mdb_sheets.specs.Sheets.{ReadsCounted};
 ghost use Rattle.archive_cli.specs.Asked.{load_words_of};
 ghost use Rattle.archive_cli.specs.Call.{WritesCounted};
+ghost use Rattle.archive_cli.specs.HandedBack.{IsLoadBack};
 ghost use Rattle.archive_cli.specs.LoadCaused.{IsLoadCaused};
 ghost use Rattle.archive_cli.specs.LoadEnding.{load_line, IsLoadEnding};
-ghost use Rattle.archive_cli.specs.Loading.{printed_report, IsGivenUp, IsSession, IsUnread, IsUnreadFor};
+ghost use Rattle.archive_cli.specs.Loading.{printed_report, IsGivenUp, IsLetGo, IsReopened, IsSession, IsUnread, IsUnreadFor};
+ghost use Rattle.archive_cli.specs.Order.{IsLoadFault};
 ghost use Rattle.archive_cli.specs.Printing.{IsFinished};
 ghost use Rattle.archive_cli.specs.Received.{dump_limit, ending_of};
 ghost use Rattle.archive_cli.specs.Report.{consulted, loaded, status_at, IsLoadReport};
@@ -37,6 +39,8 @@ use std::alloc::Global;
 /// Refuses, in this order: by `Missing` or `ReadFault` where the dump isn't opened; by `DiskFault`, `NoArchive` or `Damaged`; by `Limit` Links; by
 /// `ReadFault` or `Limit` DumpOctets; batch by batch by a `Limit` of the history or by `DiskFault`; by `BadPacket`; by `WriteFault`. `OutOfMemory` may come
 /// anywhere before the line.
+///
+/// After a call of the disk that failed in a batch the archive is opened again, so that the disk that is handed back reads as the history reached.
 pub fn load<D: Disk, I: Inputs, K: Sink, C: Clock>(
     alloc: Global,
     words: LoadWords<'_>,
@@ -72,6 +76,7 @@ pub fn load<D: Disk, I: Inputs, K: Sink, C: Clock>(
     ensures report { IsLoadReport (load_words_of words.entry) result.report.refusal result.report }
     ensures same { I.files inputs.new ≡ I.files inputs.old }
     ensures closed { I.open_sources inputs.old + 1 < 2 ^ 64 → I.open_sources inputs.new ≡ I.open_sources inputs.old }
+    ensures order { IsLoadFault (I.given inputs.old) (I.given inputs.new) disk result.disk result.report result.report.refusal }
     ensures later { I.faults inputs.old ≤ I.faults inputs.new }
     ensures writes_later { K.faults sink.old ≤ K.faults sink.new }
     ensures reads_counted { ReadsCounted result.report.refusal (I.faults inputs.old) (I.faults inputs.new) }
@@ -79,6 +84,9 @@ pub fn load<D: Disk, I: Inputs, K: Sink, C: Clock>(
     ensures steady { I.never_fails inputs.old → Stays (I.faults inputs.old) (I.faults inputs.new) }
     ensures disk_later { D.device.fault_count disk ≤ D.device.fault_count result.disk }
     ensures disk_fault { result.report.refusal ≡ Some Refusal.DiskFault → raised (D.device.fault_count disk) ≤ D.device.fault_count result.disk }
+
+    // Refused before the disk was asked, it hands the very disk back.
+    ensures handed_back { IsLoadBack disk result.disk result.report.opened result.report.refusal }
 {
     let Ok(piece) = Piece::new(alloc) else {
         return Ended::unopened(disk, Some(Refusal::OutOfMemory));
@@ -225,7 +233,7 @@ fn load_dump<D: Disk, K: Sink>(
             None => print(store, before, whole, piece, sink),
             Some(refusal) => stopped(store, before, Some(received.link), refusal),
         },
-        Err(refusal) => stopped(store, before, None, refusal),
+        Err(refusal) => refused(store, before, refusal),
     }
 }
 
@@ -250,6 +258,30 @@ fn stopped<D: Disk>(store: Store<D>, before: u64, link: Option<u16>, refusal: Re
     let after = store.front();
     let report = Report::loaded(Some(refusal), link, before, after, LoadCounts::default());
     Ended::of(store.into_disk(), report)
+}
+
+/// The ending of a load that a store refused a batch of. A failed write is healed first, so that what stays in the system's memory is the history too.
+fn refused<D: Disk>(store: Store<D>, before: u64, refusal: Refusal) -> Ended<D>
+    requires { before ≤ length store.history }
+    ensures let_go { IsLetGo D.device store (Some refusal) result.disk }
+    ensures report { result.report ≡ loaded (Some refusal) None before (length store.history) 0 0 0 }
+    ensures status { result.status ≡ status_at (Some refusal) }
+{
+    let mut store = store;
+    heal(&mut store, &refusal);
+    stopped(store, before, None, refusal)
+}
+
+/// Opens the archive again where the disk failed, once. The refusal stays, whether that succeeds or not.
+fn heal<D: Disk>(store: &mut Store<D>, refusal: &Refusal)
+    ensures same { refusal.now ≢ Refusal.DiskFault → store.new ≡ store.old }
+    ensures reopened { refusal.now ≡ Refusal.DiskFault → IsReopened D.device store.old store.new }
+{
+    // This tells the proof that the fault is counted.
+    let _rows = store.front();
+    if matches!(refusal, Refusal::DiskFault) {
+        let _ = store.reopen();
+    }
 }
 
 /// Prints what became of the packets of a whole dump.

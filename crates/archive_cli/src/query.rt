@@ -9,6 +9,8 @@ ghost use Rattle.outer_traits.specs.Outside.{Stays, WritesSome};
 ghost use Rattle.archive_cli.specs.AnswerText.{ask_refusal, ask_text, asks_refusal, asks_text};
 ghost use Rattle.archive_cli.specs.Call.{Call, WritesCounted};
 ghost use Rattle.archive_cli.specs.Caused.{IsQueryCaused};
+ghost use Rattle.archive_cli.specs.HandedBack.{IsQueryBack};
+ghost use Rattle.archive_cli.specs.Order.{AreInOrder, query_inputs};
 ghost use Rattle.archive_cli.specs.Printing.{HasMoved};
 ghost use Rattle.archive_cli.specs.QueryEnding.{IsAskSheet, IsQueryEnding, IsReply, IsSheetReply};
 ghost use Rattle.archive_cli.specs.Report.{status_at, IsConsulting};
@@ -66,6 +68,7 @@ pub fn query<D: Disk, I: Inputs, K: Sink>(
     ensures report { IsConsulting result.report.refusal result.report }
     ensures same { I.files inputs.new ≡ I.files inputs.old }
     ensures closed { I.open_sources inputs.old + 1 < 2 ^ 64 → I.open_sources inputs.new ≡ I.open_sources inputs.old }
+    ensures order { AreInOrder (I.files inputs.old) (query_inputs name.now) (I.given inputs.old) (I.given inputs.new) result.report.refusal }
     ensures later { I.faults inputs.old ≤ I.faults inputs.new }
     ensures writes_later { K.faults sink.old ≤ K.faults sink.new }
     ensures reads_counted { ReadsCounted result.report.refusal (I.faults inputs.old) (I.faults inputs.new) }
@@ -73,6 +76,9 @@ pub fn query<D: Disk, I: Inputs, K: Sink>(
     ensures steady { I.never_fails inputs.old → Stays (I.faults inputs.old) (I.faults inputs.new) }
     ensures disk_later { D.device.fault_count disk ≤ D.device.fault_count result.disk }
     ensures disk_fault { result.report.refusal ≡ Some DiskFault → raised (D.device.fault_count disk) ≤ D.device.fault_count result.disk }
+
+    // Refused before the disk was asked, it hands the very disk back.
+    ensures handed_back { IsQueryBack disk result.disk result.report.refusal }
 {
     match read_sheet(alloc, name, inputs) {
         Ok(sheet) => ask_archive(alloc, sheet, disk, sink),
@@ -103,6 +109,9 @@ fn ask_archive<D: Disk, K: Sink>(alloc: Global, sheet: AskSheet, disk: D, sink: 
     ensures writes_later { K.faults sink.old ≤ K.faults sink.new }
     ensures disk_later { D.device.fault_count disk ≤ D.device.fault_count result.disk }
     ensures disk_fault { result.report.refusal ≡ Some DiskFault → raised (D.device.fault_count disk) ≤ D.device.fault_count result.disk }
+
+    // Refused before the disk was asked, it hands the very disk back.
+    ensures handed_back { IsQueryBack disk result.disk result.report.refusal }
 {
     let Ok(piece) = Piece::new(alloc) else {
         return Ended::unopened(disk, Some(Refusal::OutOfMemory));

@@ -1,6 +1,6 @@
 //! The top call.
 
-ghost use Rattle.std.specs.Prelude.{◌≡◌, map, string_bytes, List, ℕ, Some, ◌+◌, ◌<◌, ◌≤◌, ◌^◌};
+ghost use Rattle.std.specs.Prelude.{◌≡◌, IsTrue, map, string_bytes, List, ℕ, Some, ◌+◌, ◌<◌, ◌≤◌, ◌^◌};
 ghost use Rattle.arch_disk.specs.Disk.{raised};
 ghost use Rattle.outer_traits.specs.Outside.{Stays};
 ghost use Rattle.mdb_sheets.specs.Sheets.{ReadsCounted};
@@ -9,7 +9,10 @@ ghost use Rattle.archive_cli.specs.Call.{call_of, WritesCounted};
 ghost use Rattle.archive_cli.specs.Job.{job_of, HasLink};
 ghost use Rattle.archive_cli.specs.Ending.{IsCaused, IsEnding, IsJobEnding};
 ghost use Rattle.archive_cli.specs.Expected.{IsExpected};
+ghost use Rattle.archive_cli.specs.HandedBack.{IsHandedBack};
+ghost use Rattle.archive_cli.specs.Order.{IsInOrder};
 ghost use Rattle.archive_cli.specs.Report.{status_at, IsReport};
+ghost use Rattle.archive_cli.specs.Settled.{FailedOnce, IsSettledWith};
 
 use crate::create::create;
 use crate::job::{Job, job_of};
@@ -42,7 +45,11 @@ pub fn run<D: Disk, I: Inputs, K: Sink, C: Clock>(
     ensures caused { IsCaused (call_of (map (λ w. string_bytes w) words.now) (I.files inputs.old) (C.next clock.old) (I.faults inputs.old) (I.faults inputs.new) (K.written sink.old) (K.written sink.new) (K.faults sink.old) (K.faults sink.new)) (job_of (map (λ w. string_bytes w) words.now)) result.report.refusal }
 
     // Over told inputs, on a disk that tells what it holds, the answer that it has to be, or want of memory.
-    ensures expected { IsExpected D.device (call_of (map (λ w. string_bytes w) words.now) (I.files inputs.old) (C.next clock.old) (I.faults inputs.old) (I.faults inputs.new) (K.written sink.old) (K.written sink.new) (K.faults sink.old) (K.faults sink.new)) disk result.disk result.report.refusal }
+    ensures expected { IsExpected D.device (call_of (map (λ w. string_bytes w) words.now) (I.files inputs.old) (C.next clock.old) (I.faults inputs.old) (I.faults inputs.new) (K.written sink.old) (K.written sink.new) (K.faults sink.old) (K.faults sink.new)) (I.given inputs.old) (I.given inputs.new) disk result.disk result.report.refusal }
+
+    // Where a read failed, the refusals that stand before it could not come: of the first input that can't be read whole, but for a failed read of an input up to
+    // it, and of `load` those of its archive.
+    ensures order { IsInOrder (I.files inputs.old) (job_of (map (λ w. string_bytes w) words.now)) (I.given inputs.old) (I.given inputs.new) disk result.disk result.report }
 
     // The number of the refusal, and 0 exactly where there's none.
     ensures status { result.status ≡ status_at result.report.refusal }
@@ -64,6 +71,13 @@ pub fn run<D: Disk, I: Inputs, K: Sink, C: Clock>(
     // Nor does the disk's count of faults fall, and it has risen where the answer is DiskFault.
     ensures disk_later { D.device.fault_count disk ≤ D.device.fault_count result.disk }
     ensures disk_fault { result.report.refusal ≡ Some Refusal.DiskFault → raised (D.device.fault_count disk) ≤ D.device.fault_count result.disk }
+
+    // Where an archive was opened or made, and the disk's count of faults stands at most one above its value at entry: the disk that is handed back reads as
+    // a history of `after` rows, and every image that a crash now leaves stands for the same.
+    ensures settled { IsTrue D.device.tells → IsTrue result.report.opened → FailedOnce D.device disk result.disk → IsSettledWith D.device result.disk result.report.after }
+
+    // Refused before the disk was asked, it hands the very disk back, also where that tells nothing.
+    ensures handed_back { IsHandedBack (job_of (map (λ w. string_bytes w) words.now)) disk result.disk result.report }
 {
     match job_of(alloc, words) {
         Ok(job) => run_job(alloc, job, disk, inputs, sink, clock),
@@ -87,6 +101,7 @@ fn run_job<D: Disk, I: Inputs, K: Sink, C: Clock>(
     ensures report { IsReport (Some (asked job.entry)) result.report }
     ensures same { I.files inputs.new ≡ I.files inputs.old }
     ensures closed { I.open_sources inputs.old + 1 < 2 ^ 64 → I.open_sources inputs.new ≡ I.open_sources inputs.old }
+    ensures order { IsInOrder (I.files inputs.old) (Some (asked job.entry)) (I.given inputs.old) (I.given inputs.new) disk result.disk result.report }
     ensures later { I.faults inputs.old ≤ I.faults inputs.new }
     ensures writes_later { K.faults sink.old ≤ K.faults sink.new }
     ensures reads_counted { ReadsCounted result.report.refusal (I.faults inputs.old) (I.faults inputs.new) }
@@ -94,6 +109,7 @@ fn run_job<D: Disk, I: Inputs, K: Sink, C: Clock>(
     ensures steady { I.never_fails inputs.old → Stays (I.faults inputs.old) (I.faults inputs.new) }
     ensures disk_later { D.device.fault_count disk ≤ D.device.fault_count result.disk }
     ensures disk_fault { result.report.refusal ≡ Some Refusal.DiskFault → raised (D.device.fault_count disk) ≤ D.device.fault_count result.disk }
+    ensures handed_back { IsHandedBack (Some (asked job.entry)) disk result.disk result.report }
 {
     match job {
         Job::Scan { dump } => Ended::unopened(disk, scan(alloc, dump, inputs, sink, clock).err()),

@@ -10,6 +10,7 @@ ghost use Rattle.yarch_table.specs.Stored.{rows_of};
 ghost use Rattle.archive_cli.specs.Asked.{words_of};
 ghost use Rattle.archive_cli.specs.Call.{Appends, WritesCounted};
 ghost use Rattle.archive_cli.specs.Loaded.{IsShown};
+ghost use Rattle.archive_cli.specs.Order.{AreInOrder, values_inputs};
 ghost use Rattle.archive_cli.specs.Printing.{HasMoved};
 ghost use Rattle.archive_cli.specs.ValuesEnding.{IsValuesEnding};
 ghost use Rattle.archive_cli.specs.ValuesPrinting.{PrintCounted, line_of, count_of, cells_of_stored, lines_of_cells, end_of_cells, text_of_cells, refusal_of_print};
@@ -52,6 +53,7 @@ pub fn values<I: Inputs, K: Sink, C: Clock>(
     }) (words_of words.entry) (result_err result) }
     ensures same { I.files inputs.new ≡ I.files inputs.old }
     ensures closed { I.open_sources inputs.old + 1 < 2 ^ 64 → I.open_sources inputs.new ≡ I.open_sources inputs.old }
+    ensures order { AreInOrder (I.files inputs.old) (values_inputs (words_of words.entry)) (I.given inputs.old) (I.given inputs.new) (result_err result) }
     ensures reads_counted { ReadsCounted (result_err result) (I.faults inputs.old) (I.faults inputs.new) }
     ensures writes_counted { WritesCounted (result_err result) (K.faults sink.old) (K.faults sink.new) }
     ensures later { I.faults inputs.old ≤ I.faults inputs.new }

@@ -3,6 +3,8 @@ use Rattle.archive_cli.specs.Asked.{sheet_words_of}
 use Rattle.archive_cli.proofs.Caused.{create_refused_cause}
 use Rattle.archive_cli.proofs.Consulted.{untouched}
 use Rattle.archive_cli.proofs.Created.{create_refused, refused_kind, sheet_disk, sheet_writes}
+use Rattle.archive_cli.proofs.HandedBack.{create_same}
+use Rattle.archive_cli.proofs.Ordered.{created_in_order}
 use Rattle.archive_cli.proofs.Scanned.{call_of}
 use Rattle.archive_cli.proofs.create.create.Goals as goal
 
@@ -49,3 +51,14 @@ returns-in-Err-clause-caused g c = λ given moment.
     let faults = g.K.Sink.faults c.args.sink.now in
     let call = call_of given (g.I.Inputs.files c.args.inputs.now) moment (g.I.Inputs.faults c.args.inputs.now) (g.I.Inputs.faults c.read_head.new.inputs) written written faults faults in
     create_refused_cause call (sheet_words_of c.args.words) c.in-Err.refusal c.unopened.result.report c.unopened.ensures.report c.in-Err.ensures.refused
+
+pub returns-in-Err-clause-handed_back : goal.returns-in-Err-clause-handed_back
+returns-in-Err-clause-handed_back g c = create_same c.args.disk c.unopened.result.disk c.unopened.result.report.refusal c.unopened.ensures.disk
+
+pub returns-in-Ok-clause-order : goal.returns-in-Ok-clause-order
+returns-in-Ok-clause-order g c =
+    let h = c.in-Ok.ensures.head in
+    created_in_order (g.I.Inputs.files c.args.inputs.now) (sheet_words_of c.args.words) _ _ _ h.0 h.1.sheets
+
+pub returns-in-Err-clause-order : goal.returns-in-Err-clause-order
+returns-in-Err-clause-order g c = rw c.unopened.ensures.report c.in-Err.ensures.order

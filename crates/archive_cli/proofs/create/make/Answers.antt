@@ -10,6 +10,7 @@ use Rattle.archive_cli.specs.Printing.{IsFinished}
 use Rattle.archive_cli.proofs.Consulted.{untouched}
 use Rattle.archive_cli.proofs.Caused.{create_made_cause, create_unmade_cause}
 use Rattle.archive_cli.proofs.Created.{create_unbegun, create_unmade, created, left_alone, made_store}
+use Rattle.archive_cli.proofs.HandedBack.{create_same, made_back, unmade_back}
 use Rattle.archive_cli.proofs.Scanned.{call_of}
 use Rattle.archive_cli.proofs.create.make.Goals as goal
 
@@ -65,3 +66,16 @@ pub returns-clause-caused : goal.returns-clause-caused
 returns-clause-caused g c = λ call words raw good.
     create_made_cause call words c.finish-refusal.result c.of.result.report 0 (g.K.Sink.written c.args.sink.now) (g.K.Sink.written c.finish-refusal.new.sink) c.put_line.new.piece
     (c.of.ensures.report ∙ c.consulted.ensures) c.finish-refusal.ensures.finished (raw, good)
+
+pub returns-in_default-clause-handed_back : goal.returns-in_default-clause-handed_back
+returns-in_default-clause-handed_back g c = create_same c.args.disk c.unopened.result.disk c.unopened.result.report.refusal c.unopened.ensures.disk
+
+pub returns-in-Err-clause-handed_back : goal.returns-in-Err-clause-handed_back
+returns-in-Err-clause-handed_back g c =
+    unmade_back c.args.disk c.unopened-in-Err.result.disk c.in-Err.refusal c.unopened-in-Err.result.report c.unopened-in-Err.ensures.report c.in-Err.ensures.only
+    (λ e. c.unopened-in-Err.ensures.disk ∙ c.in-Err.ensures.memory e)
+
+pub returns-clause-handed_back : goal.returns-clause-handed_back
+returns-clause-handed_back g c =
+    made_back c.args.disk c.of.result.disk c.finish-refusal.result c.of.result.report (g.K.Sink.written c.args.sink.now) (g.K.Sink.written c.finish-refusal.new.sink) c.put_line.new.piece
+    (c.of.ensures.report ∙ c.consulted.ensures) c.finish-refusal.ensures.finished

@@ -1,4 +1,4 @@
-use Rattle.std.proofs.Common.{Some, refl, sym, subst, arith, rules, w64, SFits}
+use Rattle.std.proofs.Common.{◌∙◌, Some, length, refl, sym, subst, arith, rules, w64, SFits}
 use Rattle.std.proofs.lemmas.Int.{to_z-of_z}
 use Rattle.archive_store.specs.Seen.{archive_of}
 use Rattle.archive_cli.specs.Asked.{load_words_of}
@@ -7,8 +7,10 @@ use Rattle.archive_cli.specs.LoadEnding.{IsLoadEnding}
 use Rattle.archive_cli.proofs.Consulted.{consulted_store}
 use Rattle.archive_cli.proofs.Counted.{reads_closed}
 use Rattle.archive_cli.proofs.During.{opened_store}
+use Rattle.archive_cli.proofs.HandedBack.{load_same, load_unopened_back, load_unread_back, session_back}
 use Rattle.archive_cli.proofs.LoadCauses.{session_cause}
 use Rattle.archive_cli.proofs.NotLoaded.{gives_input, not_there, not_read}
+use Rattle.archive_cli.proofs.Ordered.{session_fault, undumped_fault, unopened_fault, unread_fault}
 use Rattle.archive_cli.proofs.Scanned.{call_of, moment_of}
 use Rattle.archive_cli.proofs.Sessions.{session_ending, session_report, IsReady}
 use Rattle.archive_cli.proofs.load.load.Goals as goal
@@ -102,3 +104,37 @@ returns-in-Ok-received-clause-caused g c = λ given.
     let input = gives_input files c.args.words.dump.now _ received.dump c.in-Ok-open.ensures.found c.in-Ok-received.ensures.whole in
     session_cause device call (load_words_of c.args.words) c.load_dump.result.disk s received.dump received.link moment old new report input c.in-Ok-received.ensures.short
     (moment_of next moment c.now-moment.ensures.told c.now-moment.ensures.range) session
+
+pub returns-in_default-clause-handed_back : goal.returns-in_default-clause-handed_back
+returns-in_default-clause-handed_back g c = load_same c.args.disk c.unopened.result.disk c.unopened.result.report.opened c.unopened.result.report.refusal c.unopened.ensures.disk
+
+pub returns-in-Err-clause-handed_back : goal.returns-in-Err-clause-handed_back
+returns-in-Err-clause-handed_back g c =
+    load_same c.args.disk c.unopened-in-Err.result.disk c.unopened-in-Err.result.report.opened c.unopened-in-Err.result.report.refusal c.unopened-in-Err.ensures.disk
+
+pub returns-in-Err-received-clause-handed_back : goal.returns-in-Err-received-clause-handed_back
+returns-in-Err-received-clause-handed_back g c =
+    let unread = c.in-Err-received.unread in
+    load_unread_back c.args.disk c.nothing_loaded.result.disk _ c.args.words.link unread.refusal unread.link (length c.in-Ok-open-2.store.history) c.nothing_loaded.result.report
+    c.nothing_loaded.ensures.report c.in-Err-received.ensures.unread
+
+pub returns-in-Ok-received-clause-handed_back : goal.returns-in-Ok-received-clause-handed_back
+returns-in-Ok-received-clause-handed_back g c =
+    session_back g.D.Disk.device c.args.disk c.in-Ok-open-2.store c.in-Ok-received.received.dump c.in-Ok-received.received.link _ (g.K.Sink.written c.args.sink.now)
+    (g.K.Sink.written c.load_dump.new.sink) c.load_dump.result.disk c.load_dump.result.report c.load_dump.ensures.session
+
+pub returns-in-Err-clause-order : goal.returns-in-Err-clause-order
+returns-in-Err-clause-order g c =
+    undumped_fault _ _ c.args.disk c.unopened-in-Err.result.disk c.unopened-in-Err.result.report c.refusal_of_opening.result c.in-Err.ensures.gave_none c.unopened-in-Err.ensures.disk
+    c.unopened-in-Err.ensures.report
+
+pub returns-in-Err-received-clause-order : goal.returns-in-Err-received-clause-order
+returns-in-Err-received-clause-order g c =
+    let unread = c.in-Err-received.unread in
+    unread_fault _ _ c.args.disk c.nothing_loaded.result.disk c.nothing_loaded.result.report unread.refusal (length c.in-Ok-open-2.store.history) unread.link
+    (c.close-2.ensures.gave_none ∙ c.in-Ok-open.ensures.gave) c.nothing_loaded.ensures.report
+
+pub returns-in-Ok-received-clause-order : goal.returns-in-Ok-received-clause-order
+returns-in-Ok-received-clause-order g c =
+    session_fault g.D.Disk.device c.args.disk c.in-Ok-open-2.store c.in-Ok-received.received.dump c.in-Ok-received.received.link _ (g.K.Sink.written c.args.sink.now)
+    (g.K.Sink.written c.load_dump.new.sink) c.load_dump.result.disk c.load_dump.result.report _ _ c.load_dump.ensures.session

@@ -1,5 +1,9 @@
-use Rattle.std.proofs.Common.{◌∙◌, w64, refl, sym, arith}
+use Rattle.std.proofs.Common.{◌∙◌, w64, refl, sym, ap, subst, arith, Option}
 use Rattle.std.proofs.lemmas.Int.{to_z-of_z}
+use Rattle.arch_types.specs.declared.refusal.Refusal.{Refusal}
+use Rattle.archive_cli.specs.declared.report.Report.{Report}
+use Rattle.archive_cli.specs.Loading.{IsLetGo}
+use Rattle.archive_cli.proofs.Closing.{bad_closed, printed_closed}
 use Rattle.archive_cli.proofs.LoadReports.{counts_whole, grown_stopped, grown_whole, session_bad, session_printed, session_stopped}
 use Rattle.archive_cli.proofs.load.load_dump.Goals as goal
 
@@ -27,8 +31,8 @@ stopped-requires g c =
     let more = grown_whole c.args.store c.ingest_dump.new.store c.args.received.now.dump c.args.received.now.link c.args.moment c.in-Ok.whole whole in
     omega (arith, front, more)
 
-pub stopped-requires-in-Err : goal.stopped-requires-in-Err
-stopped-requires-in-Err g c =
+pub refused-requires : goal.refused-requires
+refused-requires g c =
     let moment = to_z-of_z w64 c.args.moment c.ranges.moment in
     let front = c.front-before.ensures.front in
     let stopped = rw moment at c.in-Err.ensures.stopped in
@@ -41,7 +45,7 @@ returns-in-None-clause-session g c =
     let front = c.front-before.ensures.front in
     let whole = rw moment at c.in-Ok.ensures.whole in record {
       new = c.ingest_dump.new.store;
-      given_up = c.print.ensures.given_up;
+      let_go = printed_closed g.D.Disk.device c.ingest_dump.new.store c.print.result.report.refusal c.print.result.disk _ _ _ c.print.ensures.finished c.print.ensures.given_up;
       went =
           session_printed c.args.store c.ingest_dump.new.store c.args.received.now.dump c.args.received.now.link c.args.moment (g.K.Sink.written c.args.sink.now) (g.K.Sink.written c.print.new.sink)
           c.print.result.report c.in-Ok.whole whole (sym c.refusal_of_rest.ensures ∙ c.in-None.is) (rw front at c.print.ensures.finished) (rw front at c.print.ensures.report);
@@ -54,7 +58,9 @@ returns-in-Some-clause-session g c =
     let whole = rw moment at c.in-Ok.ensures.whole in
     let written = g.K.Sink.written c.args.sink.now in record {
       new = c.ingest_dump.new.store;
-      given_up = c.stopped.ensures.given_up;
+      let_go =
+          bad_closed g.D.Disk.device c.ingest_dump.new.store c.in-Ok.whole.why c.in-Ok.whole.at c.in-Some.refusal c.stopped.result.report c.stopped.result.disk
+          (sym c.refusal_of_rest.ensures ∙ c.in-Some.is) (ap (λ (r : Report). r.refusal) c.stopped.ensures.report) c.stopped.ensures.given_up;
       went =
           session_bad c.args.store c.ingest_dump.new.store c.args.received.now.dump c.args.received.now.link c.args.moment written written c.in-Some.refusal c.stopped.result.report c.in-Ok.whole
           whole (sym c.refusal_of_rest.ensures ∙ c.in-Some.is) refl (rw front at c.stopped.ensures.report);
@@ -67,8 +73,10 @@ returns-in-Err-clause-session g c =
     let stopped = rw moment at c.in-Err.ensures.stopped in
     let written = g.K.Sink.written c.args.sink.now in record {
       new = c.ingest_dump.new.store;
-      given_up = c.stopped-in-Err.ensures.given_up;
+      let_go =
+          subst (λ (o : Option Refusal). IsLetGo g.D.Disk.device c.ingest_dump.new.store o c.refused.result.disk) (sym (ap (λ (r : Report). r.refusal) c.refused.ensures.report))
+          c.refused.ensures.let_go;
       went =
-          session_stopped c.args.store c.ingest_dump.new.store c.args.received.now.dump c.args.received.now.link c.args.moment written written c.in-Err.refusal c.stopped-in-Err.result.report
-          stopped refl (rw front at c.stopped-in-Err.ensures.report);
+          session_stopped c.args.store c.ingest_dump.new.store c.args.received.now.dump c.args.received.now.link c.args.moment written written c.in-Err.refusal c.refused.result.report
+          stopped refl (rw front at c.refused.ensures.report);
     }

@@ -5,6 +5,7 @@ use Rattle.archive_cli.specs.QueryEnding.{IsQueryEnding}
 use Rattle.archive_cli.specs.Report.{consulted}
 use Rattle.archive_cli.proofs.Caused.{query_replied_cause, query_unopened_cause}
 use Rattle.archive_cli.proofs.Consulted.{consulted_store}
+use Rattle.archive_cli.proofs.HandedBack.{ask_unopened_back, query_same, replied_back}
 use Rattle.archive_cli.proofs.Queried.{query_replied}
 use Rattle.archive_cli.proofs.Scanned.{call_of}
 use Rattle.archive_cli.proofs.query.ask_archive.Goals as goal
@@ -40,4 +41,18 @@ returns-clause-caused g c = λ call name asked.
     let s = c.in-Ok-open.store in
     query_replied_cause call name s.head.mdb s.history c.args.sheet c.answer_sheet-refusal.result c.of.result.report c.front-rows.result (g.K.Sink.written c.args.sink.now)
     (g.K.Sink.written c.answer_sheet-refusal.new.sink) (g.K.Sink.faults c.args.sink.now) (g.K.Sink.faults c.answer_sheet-refusal.new.sink) (c.of.ensures.report ∙ c.consulted.ensures) asked
+    c.answer_sheet-refusal.ensures.reply
+
+pub returns-in_default-clause-handed_back : goal.returns-in_default-clause-handed_back
+returns-in_default-clause-handed_back g c = query_same c.args.disk c.unopened.result.disk c.unopened.result.report.refusal c.unopened.ensures.disk
+
+pub returns-in-Err-clause-handed_back : goal.returns-in-Err-clause-handed_back
+returns-in-Err-clause-handed_back g c =
+    ask_unopened_back c.args.disk c.unopened-in-Err.result.disk c.in-Err.refusal c.unopened-in-Err.result.report c.unopened-in-Err.ensures.report c.in-Err.ensures.only
+
+pub returns-clause-handed_back : goal.returns-clause-handed_back
+returns-clause-handed_back g c =
+    let s = c.in-Ok-open.store in
+    replied_back c.args.disk c.of.result.disk s.head.mdb s.history c.args.sheet c.answer_sheet-refusal.result c.of.result.report c.front-rows.result (g.K.Sink.written c.args.sink.now)
+    (g.K.Sink.written c.answer_sheet-refusal.new.sink) (g.K.Sink.faults c.args.sink.now) (g.K.Sink.faults c.answer_sheet-refusal.new.sink) (c.of.ensures.report ∙ c.consulted.ensures) c.requires
     c.answer_sheet-refusal.ensures.reply

@@ -1,4 +1,8 @@
+use Rattle.arch_types.specs.declared.refusal.Which.TheVariants.{SheetOctets}
 use Rattle.archive_cli.proofs.Caused.{query_unread_cause}
+use Rattle.archive_cli.proofs.HandedBack.{query_same}
+use Rattle.archive_cli.proofs.Ordered.{asks_in_order, input_in_order}
+use Rattle.archive_cli.proofs.Queried.{sheet_there}
 use Rattle.archive_cli.proofs.Scanned.{call_of}
 use Rattle.archive_cli.proofs.query.query.Goals as goal
 
@@ -17,3 +21,16 @@ returns-in-Err-clause-caused g c = λ given moment.
     let faults = g.K.Sink.faults c.args.sink.now in
     let call = call_of given (g.I.Inputs.files c.args.inputs.now) moment (g.I.Inputs.faults c.args.inputs.now) (g.I.Inputs.faults c.read_sheet.new.inputs) written written faults faults in
     query_unread_cause call c.args.name.now c.in-Err.refusal c.unopened.result.report c.unopened.ensures.report c.in-Err.ensures.refused
+
+pub returns-in-Err-clause-handed_back : goal.returns-in-Err-clause-handed_back
+returns-in-Err-clause-handed_back g c = query_same c.args.disk c.unopened.result.disk c.unopened.result.report.refusal c.unopened.ensures.disk
+
+pub returns-in-Ok-clause-order : goal.returns-in-Ok-clause-order
+returns-in-Ok-clause-order g c =
+    let files = g.I.Inputs.files c.args.inputs.now in
+    asks_in_order files c.args.name.now _ _ _ (sheet_there files c.args.name.now c.in-Ok.sheet c.in-Ok.ensures.sheet)
+
+pub returns-in-Err-clause-order : goal.returns-in-Err-clause-order
+returns-in-Err-clause-order g c =
+    rw c.unopened.ensures.report
+    (input_in_order (g.I.Inputs.files c.args.inputs.now) c.args.name.now SheetOctets _ _ _ _ c.in-Err.refusal c.read_sheet.ensures.gave c.in-Err.ensures.refused)

@@ -1,8 +1,13 @@
-use Rattle.std.proofs.Common.{List, Option, map, refl, string_bytes, subst, sym, ℕ}
+use Rattle.std.proofs.Common.{List, Option, Some, map, refl, string_bytes, subst, sym, ℕ}
+use Rattle.archive_cli.specs.Asked.{asked}
+use Rattle.archive_cli.specs.HandedBack.{IsHandedBack}
+use Rattle.archive_cli.specs.Order.{IsInOrder}
 use Rattle.archive_cli.specs.Ending.{IsCaused, IsJobEnding}
 use Rattle.archive_cli.specs.Job.{Job, job_of}
 use Rattle.archive_cli.proofs.Answers.{expected}
-use Rattle.archive_cli.proofs.Jobless.{jobless, jobless_caused}
+use Rattle.archive_cli.proofs.HandedBack.{same_back}
+use Rattle.archive_cli.proofs.Settled.{not_opened, settled_after}
+use Rattle.archive_cli.proofs.Jobless.{jobless, jobless_caused, jobless_order}
 use Rattle.archive_cli.proofs.Scanned.{call_of}
 use Rattle.archive_cli.proofs.run.run.Goals as goal
 
@@ -12,8 +17,11 @@ returns-in-Ok-clause-expected g c =
     let words : List (List ℕ) = map (λ w. string_bytes w) c.args.words.now in
     let call = call_of words (g.I.Inputs.files c.args.inputs.now) (g.C.Clock.next c.args.clock.now) (g.I.Inputs.faults c.args.inputs.now) (g.I.Inputs.faults c.run_job.new.inputs)
     (g.K.Sink.written c.args.sink.now) (g.K.Sink.written c.run_job.new.sink) (g.K.Sink.faults c.args.sink.now) (g.K.Sink.faults c.run_job.new.sink) in
-    expected device call c.args.disk c.run_job.result.disk c.run_job.result.report
+    let given = g.I.Inputs.given c.args.inputs.now in
+    let given' = g.I.Inputs.given c.run_job.new.inputs in
+    expected device call given given' c.args.disk c.run_job.result.disk c.run_job.result.report
     (subst (λ (job : Option Job). IsJobEnding device call c.args.disk c.run_job.result.disk job c.run_job.result.report) (sym c.in-Ok.ensures.job) (c.run_job.ensures.ended words))
+    (subst (λ (job : Option Job). IsInOrder call.files job given given' c.args.disk c.run_job.result.disk c.run_job.result.report) (sym c.in-Ok.ensures.job) c.run_job.ensures.order)
 
 pub returns-in-Err-clause-ended : goal.returns-in-Err-clause-ended
 returns-in-Err-clause-ended g c =
@@ -40,3 +48,31 @@ returns-in-Err-clause-caused g c =
     let reads = g.I.Inputs.faults c.args.inputs.now in
     let call = call_of words (g.I.Inputs.files c.args.inputs.now) (g.C.Clock.next c.args.clock.now) reads reads written written faults faults in
     rw c.unopened.ensures.report (jobless_caused call (job_of words) c.in-Err.refusal c.in-Err.ensures.none)
+
+pub returns-in-Ok-clause-settled : goal.returns-in-Ok-clause-settled
+returns-in-Ok-clause-settled g c = λ tells opened once.
+    let device = g.D.Disk.device in
+    let words : List (List ℕ) = map (λ w. string_bytes w) c.args.words.now in
+    let call = call_of words (g.I.Inputs.files c.args.inputs.now) (g.C.Clock.next c.args.clock.now) (g.I.Inputs.faults c.args.inputs.now) (g.I.Inputs.faults c.run_job.new.inputs)
+    (g.K.Sink.written c.args.sink.now) (g.K.Sink.written c.run_job.new.sink) (g.K.Sink.faults c.args.sink.now) (g.K.Sink.faults c.run_job.new.sink) in
+    settled_after device tells call c.args.disk c.run_job.result.disk (Some (asked c.in-Ok.job)) c.run_job.result.report (c.run_job.ensures.ended words) c.run_job.ensures.report opened once
+
+pub returns-in-Err-clause-settled : goal.returns-in-Err-clause-settled
+returns-in-Err-clause-settled g c = λ tells opened once. absurd (not_opened (Some c.in-Err.refusal) c.unopened.result.report c.unopened.ensures.report opened)
+
+pub returns-in-Ok-clause-handed_back : goal.returns-in-Ok-clause-handed_back
+returns-in-Ok-clause-handed_back g c =
+    subst (λ (job : Option Job). IsHandedBack job c.args.disk c.run_job.result.disk c.run_job.result.report) (sym c.in-Ok.ensures.job) c.run_job.ensures.handed_back
+
+pub returns-in-Err-clause-handed_back : goal.returns-in-Err-clause-handed_back
+returns-in-Err-clause-handed_back g c = same_back _ c.args.disk c.unopened.result.disk c.unopened.result.report c.unopened.ensures.disk
+
+pub returns-in-Ok-clause-order : goal.returns-in-Ok-clause-order
+returns-in-Ok-clause-order g c =
+    subst (λ (job : Option Job). IsInOrder (g.I.Inputs.files c.args.inputs.now) job (g.I.Inputs.given c.args.inputs.now) (g.I.Inputs.given c.run_job.new.inputs) c.args.disk
+    c.run_job.result.disk c.run_job.result.report) (sym c.in-Ok.ensures.job) c.run_job.ensures.order
+
+pub returns-in-Err-clause-order : goal.returns-in-Err-clause-order
+returns-in-Err-clause-order g c =
+    jobless_order (g.I.Inputs.files c.args.inputs.now) _ (g.I.Inputs.given c.args.inputs.now) c.args.disk c.unopened.result.disk c.in-Err.refusal c.unopened.result.report c.in-Err.ensures.none
+    c.unopened.ensures.report

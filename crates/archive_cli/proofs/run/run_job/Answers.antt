@@ -1,6 +1,11 @@
-use Rattle.std.proofs.Common.{[], Some, subst, sym}
+use Rattle.std.proofs.Common.{◌≡◌, ◌∙◌, [], Option, Some, ap, subst, sym}
+use Rattle.std.specs.Result.{result_err}
+use Rattle.arch_types.specs.declared.refusal.Refusal.{Refusal}
+use Rattle.archive_cli.specs.declared.report.Report.{Report}
+use Rattle.archive_cli.specs.Order.{AreInOrder, IsInOrder, scan_inputs, values_inputs}
 use Rattle.archive_cli.specs.declared.job.Job.{Job}
 use Rattle.archive_cli.specs.Asked.{asked, words_of}
+use Rattle.archive_cli.specs.HandedBack.{IsHandedBack}
 use Rattle.archive_cli.specs.Ending.{IsCaused, IsJobEnding}
 use Rattle.archive_cli.specs.ScanEnding.{IsScanEnding}
 use Rattle.archive_cli.specs.ValuesEnding.{IsValuesEnding}
@@ -57,3 +62,50 @@ returns-in-Query-clause-caused g c = λ words.
     let call = call_of words (g.I.Inputs.files c.args.inputs.now) (g.C.Clock.next c.args.clock.now) (g.I.Inputs.faults c.args.inputs.now) (g.I.Inputs.faults c.query.new.inputs)
     (g.K.Sink.written c.args.sink.now) (g.K.Sink.written c.query.new.sink) (g.K.Sink.faults c.args.sink.now) (g.K.Sink.faults c.query.new.sink) in
     subst (λ (job : Job). IsCaused call (Some (asked job)) c.query.result.report.refusal) (sym c.in-Query.is) (c.query.ensures.caused words (g.C.Clock.next c.args.clock.now))
+
+pub returns-in-Create-clause-handed_back : goal.returns-in-Create-clause-handed_back
+returns-in-Create-clause-handed_back g c =
+    subst (λ (job : Job). IsHandedBack (Some (asked job)) c.args.disk c.create.result.disk c.create.result.report) (sym c.in-Create.is) c.create.ensures.handed_back
+
+pub returns-in-Load-clause-handed_back : goal.returns-in-Load-clause-handed_back
+returns-in-Load-clause-handed_back g c =
+    subst (λ (job : Job). IsHandedBack (Some (asked job)) c.args.disk c.load.result.disk c.load.result.report) (sym c.in-Load.is) c.load.ensures.handed_back
+
+pub returns-in-Query-clause-handed_back : goal.returns-in-Query-clause-handed_back
+returns-in-Query-clause-handed_back g c =
+    subst (λ (job : Job). IsHandedBack (Some (asked job)) c.args.disk c.query.result.disk c.query.result.report) (sym c.in-Query.is) c.query.ensures.handed_back
+
+pub returns-in-Create-clause-order : goal.returns-in-Create-clause-order
+returns-in-Create-clause-order g c =
+    subst (λ (job : Job). IsInOrder (g.I.Inputs.files c.args.inputs.now) (Some (asked job)) (g.I.Inputs.given c.args.inputs.now) (g.I.Inputs.given c.create.new.inputs) c.args.disk
+    c.create.result.disk c.create.result.report) (sym c.in-Create.is) c.create.ensures.order
+
+pub returns-in-Load-clause-order : goal.returns-in-Load-clause-order
+returns-in-Load-clause-order g c =
+    subst (λ (job : Job). IsInOrder (g.I.Inputs.files c.args.inputs.now) (Some (asked job)) (g.I.Inputs.given c.args.inputs.now) (g.I.Inputs.given c.load.new.inputs) c.args.disk
+    c.load.result.disk c.load.result.report) (sym c.in-Load.is) c.load.ensures.order
+
+pub returns-in-Query-clause-order : goal.returns-in-Query-clause-order
+returns-in-Query-clause-order g c =
+    subst (λ (job : Job). IsInOrder (g.I.Inputs.files c.args.inputs.now) (Some (asked job)) (g.I.Inputs.given c.args.inputs.now) (g.I.Inputs.given c.query.new.inputs) c.args.disk
+    c.query.result.disk c.query.result.report) (sym c.in-Query.is) c.query.ensures.order
+
+pub returns-in-Scan-clause-order : goal.returns-in-Scan-clause-order
+returns-in-Scan-clause-order g c =
+    let files = g.I.Inputs.files c.args.inputs.now in
+    let given = g.I.Inputs.given c.args.inputs.now in
+    let given' = g.I.Inputs.given c.scan.new.inputs in
+    let ending = c.unopened.result.report.refusal in
+    let is : ending ≡ result_err c.scan.result = ap (λ (r : Report). r.refusal) c.unopened.ensures.report ∙ c.err.ensures.value in
+    subst (λ (job : Job). IsInOrder files (Some (asked job)) given given' c.args.disk c.unopened.result.disk c.unopened.result.report) (sym c.in-Scan.is)
+    (subst (λ (o : Option Refusal). AreInOrder files (scan_inputs c.in-Scan.dump.now) given given' o) (sym is) c.scan.ensures.order)
+
+pub returns-in-Values-clause-order : goal.returns-in-Values-clause-order
+returns-in-Values-clause-order g c =
+    let files = g.I.Inputs.files c.args.inputs.now in
+    let given = g.I.Inputs.given c.args.inputs.now in
+    let given' = g.I.Inputs.given c.values.new.inputs in
+    let ending = c.unopened-in-Values.result.report.refusal in
+    let is : ending ≡ result_err c.values.result = ap (λ (r : Report). r.refusal) c.unopened-in-Values.ensures.report ∙ c.err-in-Values.ensures.value in
+    subst (λ (job : Job). IsInOrder files (Some (asked job)) given given' c.args.disk c.unopened-in-Values.result.disk c.unopened-in-Values.result.report) (sym c.in-Values.is)
+    (subst (λ (o : Option Refusal). AreInOrder files (values_inputs (words_of c.in-Values.words)) given given' o) (sym is) c.values.ensures.order)

@@ -1,7 +1,9 @@
 use Rattle.std.proofs.Common.{refl}
 use Rattle.std.proofs.lemmas.Result.{err_from_is_err_and}
+use Rattle.arch_types.specs.declared.refusal.Which.TheVariants.{DumpOctets}
 use Rattle.archive_cli.specs.Received.{ending_of}
 use Rattle.archive_cli.proofs.Counted.{input_unwritten, reads_quiet, rest_quiet, writes_quiet}
+use Rattle.archive_cli.proofs.Ordered.{dump_in_order, input_in_order}
 use Rattle.archive_cli.proofs.Scanned.{scan_ended, scan_some, call_of}
 use Rattle.archive_cli.proofs.scan.scan.Goals as goal
 
@@ -46,3 +48,20 @@ returns-in-Ok-clause-steady g c = λ s. (c.receive.ensures.steady s).1
 
 pub returns-in_err-reception-clause-steady : goal.returns-in_err-reception-clause-steady
 returns-in_err-reception-clause-steady g c = λ s. (c.receive.ensures.steady s).1
+
+-- the order
+
+pub returns-in_err-reception-clause-order : goal.returns-in_err-reception-clause-order
+returns-in_err-reception-clause-order g c =
+    let p = err_from_is_err_and c.from_residual.result c.from_residual.ensures.1 in
+    rw (p.1, p.2) (input_in_order (g.I.Inputs.files c.args.inputs.now) c.args.name.now DumpOctets _ _ _ _ _ c.receive.ensures.gave c.in_err-reception.ensures.refused)
+
+pub returns-clause-order : goal.returns-clause-order
+returns-clause-order g c =
+    let r = c.in_ok-reception.ensures.received in
+    dump_in_order (g.I.Inputs.files c.args.inputs.now) c.args.name.now r.dump _ _ _ r.input r.short
+
+pub returns-in-Ok-clause-order : goal.returns-in-Ok-clause-order
+returns-in-Ok-clause-order g c =
+    let r = c.in_ok-reception.ensures.received in
+    dump_in_order (g.I.Inputs.files c.args.inputs.now) c.args.name.now r.dump _ _ _ r.input r.short

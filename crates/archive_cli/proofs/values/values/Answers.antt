@@ -1,11 +1,13 @@
-use Rattle.std.proofs.Common.{◌∙◌, inl, inr, refl, Some}
+use Rattle.std.proofs.Common.{◌∙◌, [], ◌∷◌, inl, inr, refl, Some}
 use Rattle.std.proofs.lemmas.Result.{err_from_is_err_and}
+use Rattle.arch_types.specs.declared.refusal.Which.TheVariants.{DumpOctets}
 use Rattle.archive_cli.specs.Asked.{words_of}
 use Rattle.archive_cli.specs.Received.{IsReceived, ending_of}
 use Rattle.archive_cli.proofs.CellCounts.{rows_few}
 use Rattle.archive_cli.proofs.Counted.{input_unwritten, parameter_quiet, print_reads, print_writes, reads_later, reads_quiet, rest_quiet, sheets_unwritten, writes_quiet}
+use Rattle.archive_cli.proofs.Ordered.{sheets_in_order, undumped_in_order, valued_in_order}
 use Rattle.archive_cli.proofs.Parameters.{number_within}
-use Rattle.archive_cli.proofs.Reading.{read_later}
+use Rattle.archive_cli.proofs.Reading.{read_later, sheets_unread}
 use Rattle.archive_cli.proofs.Scanned.{call_of}
 use Rattle.archive_cli.proofs.Valued.{values_ended, values_input, values_unknown, values_unprinted}
 use Rattle.archive_cli.proofs.values.values.Goals as goal
@@ -25,7 +27,7 @@ returns-in_err-sheets-clause-ended g c =
     rw (p.1, p.2) (λ given.
     let call = call_of given (g.I.Inputs.files c.args.inputs.now) (g.C.Clock.next c.args.clock.now) (g.I.Inputs.faults c.args.inputs.now) (g.I.Inputs.faults c.read_mdb.new.inputs)
     (g.K.Sink.written c.args.sink.now) (g.K.Sink.written c.args.sink.now) (g.K.Sink.faults c.args.sink.now) (g.K.Sink.faults c.args.sink.now) in
-    values_input call (words_of c.args.words) _ (inl c.in_err-sheets.ensures.refused) refl)
+    values_input call (words_of c.args.words) _ (inl (sheets_unread _ _ _ _ _ _ _ _ _ c.in_err-sheets.ensures.refused)) refl)
 
 pub returns-in_err-sheets-clause-steady : goal.returns-in_err-sheets-clause-steady
 returns-in_err-sheets-clause-steady g c = λ s. (c.read_mdb.ensures.steady s).1
@@ -92,7 +94,7 @@ returns-clause-steady g c = λ s. (let m = c.read_mdb.ensures.steady s in (c.rec
 pub returns-in_err-sheets-clause-writes_counted : goal.returns-in_err-sheets-clause-writes_counted
 returns-in_err-sheets-clause-writes_counted g c =
     let p = err_from_is_err_and c.from_residual.result c.from_residual.ensures.1 in
-    rw (p.1, p.2) (sheets_unwritten _ _ _ _ _ _ _ _ c.in_err-sheets.ensures.refused)
+    rw (p.1, p.2) (sheets_unwritten _ _ _ _ _ _ _ _ (sheets_unread _ _ _ _ _ _ _ _ _ c.in_err-sheets.ensures.refused))
 
 pub returns-in_err-reception-clause-reads_counted : goal.returns-in_err-reception-clause-reads_counted
 returns-in_err-reception-clause-reads_counted g c =
@@ -135,3 +137,37 @@ returns-clause-reads_counted g c =
 
 pub returns-clause-writes_counted : goal.returns-clause-writes_counted
 returns-clause-writes_counted g c = rw c.refusal_of.ensures (print_writes c.in-Err.fault _ _ c.in-Err.ensures.counted)
+
+-- the order
+
+pub returns-in_err-sheets-clause-order : goal.returns-in_err-sheets-clause-order
+returns-in_err-sheets-clause-order g c =
+    let p = err_from_is_err_and c.from_residual.result c.from_residual.ensures.1 in
+    rw (p.1, p.2) (sheets_in_order (g.I.Inputs.files c.args.inputs.now) c.args.words.parameters.now c.args.words.calibrations.now c.args.words.containers.now
+    ((c.args.words.dump.now, DumpOctets) ∷ []) (g.I.Inputs.faults c.args.inputs.now) (g.I.Inputs.faults c.read_mdb.new.inputs) (g.I.Inputs.given c.args.inputs.now)
+    (g.I.Inputs.given c.read_mdb.new.inputs) c.in_err-sheets.field-0.0 c.in_err-sheets.ensures.refused)
+
+pub returns-in_err-reception-clause-order : goal.returns-in_err-reception-clause-order
+returns-in_err-reception-clause-order g c =
+    let p = err_from_is_err_and c.from_residual-in_err-reception.result c.from_residual-in_err-reception.ensures.1 in
+    rw (p.1, p.2) (undumped_in_order (g.I.Inputs.files c.args.inputs.now) (g.I.Inputs.files c.read_mdb.new.inputs) (words_of c.args.words) _ _ (g.I.Inputs.given c.args.inputs.now)
+    (g.I.Inputs.given c.read_mdb.new.inputs) (g.I.Inputs.given c.receive.new.inputs) _ c.in_ok-sheets.sheets c.in_ok-sheets.ensures.sheets c.read_mdb.ensures.same c.in_ok-sheets.ensures.gave
+    c.receive.ensures.gave c.in_err-reception.ensures.refused)
+
+pub returns-in_err-known-clause-order : goal.returns-in_err-known-clause-order
+returns-in_err-known-clause-order g c =
+    let received : IsReceived (g.I.Inputs.files c.args.inputs.now) (g.C.Clock.next c.args.clock.now) c.args.words.dump.now c.in_ok-reception.reception.loaded =
+    rw c.read_mdb.ensures.same at c.in_ok-reception.ensures.received in
+    valued_in_order (g.I.Inputs.files c.args.inputs.now) (words_of c.args.words) received.dump _ _ _ c.in_ok-sheets.sheets c.in_ok-sheets.ensures.sheets received.input received.short
+
+pub returns-in-Ok-clause-order : goal.returns-in-Ok-clause-order
+returns-in-Ok-clause-order g c =
+    let received : IsReceived (g.I.Inputs.files c.args.inputs.now) (g.C.Clock.next c.args.clock.now) c.args.words.dump.now c.in_ok-reception.reception.loaded =
+    rw c.read_mdb.ensures.same at c.in_ok-reception.ensures.received in
+    valued_in_order (g.I.Inputs.files c.args.inputs.now) (words_of c.args.words) received.dump _ _ _ c.in_ok-sheets.sheets c.in_ok-sheets.ensures.sheets received.input received.short
+
+pub returns-clause-order : goal.returns-clause-order
+returns-clause-order g c =
+    let received : IsReceived (g.I.Inputs.files c.args.inputs.now) (g.C.Clock.next c.args.clock.now) c.args.words.dump.now c.in_ok-reception.reception.loaded =
+    rw c.read_mdb.ensures.same at c.in_ok-reception.ensures.received in
+    valued_in_order (g.I.Inputs.files c.args.inputs.now) (words_of c.args.words) received.dump _ _ _ c.in_ok-sheets.sheets c.in_ok-sheets.ensures.sheets received.input received.short

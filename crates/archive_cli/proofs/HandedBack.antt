@@ -1,0 +1,150 @@
+-- Disks that are handed back unasked.
+use Rattle.std.proofs.Common.{◌≡◌, ◌∙◌, ℕ, ℤ, List, length, Bool, true, false, Option, Some, None, refl, sym, ap, subst}
+use Rattle.std.proofs.lemmas.Bool.{false≢true}
+use Rattle.std.specs.Prelude.{IfSome}
+use Rattle.arch_disk.specs.Disk.{Device}
+use Rattle.arch_types.specs.declared.refusal.Refusal.{Refusal}
+use Rattle.arch_types.specs.declared.refusal.Refusal.TheVariants.{Missing, ReadFault, WriteFault, BadPacket, NoArchive, Exists, Damaged, DiskFault, Limit, OutOfMemory}
+use Rattle.arch_types.specs.declared.refusal.Which.TheVariants.{SheetOctets}
+use Rattle.archive_core.specs.Items.{Item}
+use Rattle.mdb_model.specs.Database.{Database}
+use Rattle.archive_store.specs.Answers.{IsCreateAnswer, IsOpenAnswer}
+use Rattle.archive_store.specs.Seen.{Seen}
+use Rattle.archive_cli.specs.declared.ask_sheet.AskSheet.{AskSheet}
+use Rattle.archive_cli.specs.declared.ask_sheet.AskSheet.TheVariants.{Read, Refused}
+use Rattle.archive_cli.specs.declared.report.Report.{Report}
+use Rattle.archive_cli.specs.HandedBack.{IsCreateBack, IsHandedBack, IsLoadBack, IsQueryBack}
+use Rattle.archive_cli.specs.Job.{Job, Scan, Values, Create, Load, Query, Recover}
+use Rattle.archive_cli.specs.Loading.{IsSession, IsUnread, WentSo}
+use Rattle.archive_cli.specs.Printing.{IsFinished}
+use Rattle.archive_cli.specs.QueryEnding.{IsReply, IsSheetReply, IsWaiting}
+use Rattle.archive_cli.specs.Report.{unopened, consulted}
+
+-- ---- the same disk
+
+pub create_same : {D : Type 0} (old new : D) (refusal : Option Refusal) → new ≡ old → IsCreateBack old new refusal
+create_same old new None same = tt
+create_same old new (Some WriteFault) same = tt
+create_same old new (Some Exists) same = tt
+create_same old new (Some DiskFault) same = tt
+create_same old new (Some other) same = same
+
+pub load_same : {D : Type 0} (old new : D) (opened : Bool) (refusal : Option Refusal) → new ≡ old → IsLoadBack old new opened refusal
+load_same old new opened (Some (Missing name)) same = same
+load_same old new opened (Some ReadFault) same = λ unopened. same
+load_same old new opened other same = tt
+
+pub query_same : {D : Type 0} (old new : D) (refusal : Option Refusal) → new ≡ old → IsQueryBack old new refusal
+query_same old new (Some (Missing name)) same = same
+query_same old new (Some ReadFault) same = same
+query_same old new (Some (Limit SheetOctets number)) same = same
+query_same old new other same = tt
+
+-- whichever the job
+pub same_back : {D : Type 0} (job : Option Job) (old new : D) (report : Report) → new ≡ old → IsHandedBack job old new report
+same_back None old new report same = same
+same_back (Some (Scan name)) old new report same = same
+same_back (Some (Values words)) old new report same = same
+same_back (Some (Create words)) old new report same = create_same old new report.refusal same
+same_back (Some (Load words)) old new report same = load_same old new report.opened report.refusal same
+same_back (Some (Query name)) old new report same = query_same old new report.refusal same
+same_back (Some Recover) old new report same = tt
+
+-- ---- create
+
+unmade_cases : {D : Type 0} (old new : D) (refusal : Refusal) → IsCreateAnswer refusal → (refusal ≡ OutOfMemory → new ≡ old) → IsCreateBack old new (Some refusal)
+unmade_cases old new Exists answer memory = tt
+unmade_cases old new DiskFault answer memory = tt
+unmade_cases old new OutOfMemory answer memory = memory refl
+unmade_cases old new other answer memory = absurd answer
+
+-- no archive was made
+pub unmade_back : {D : Type 0} (old new : D) (refusal : Refusal) (report : Report) → report ≡ unopened (Some refusal) → IsCreateAnswer refusal → (refusal ≡ OutOfMemory → new ≡ old)
+    → IsCreateBack old new report.refusal
+unmade_back old new refusal report is answer memory = subst (λ (r : Report). IsCreateBack old new r.refusal) (sym is) (unmade_cases old new refusal answer memory)
+
+made_cases : {D : Type 0} (old new : D) (refusal : Option Refusal) (before now : Option (List ℕ)) (text : List ℕ) → IsFinished refusal before now text → IsCreateBack old new refusal
+made_cases old new None before now text finished = tt
+made_cases old new (Some WriteFault) before now text finished = tt
+made_cases old new (Some other) before now text finished = absurd finished
+
+-- an archive was made
+pub made_back : {D : Type 0} (old new : D) (refusal : Option Refusal) (report : Report) (before now : Option (List ℕ)) (text : List ℕ) → report ≡ consulted refusal 0
+    → IsFinished refusal before now text → IsCreateBack old new report.refusal
+made_back old new refusal report before now text is finished =
+    subst (λ (r : Report). IsCreateBack old new r.refusal) (sym is) (made_cases old new refusal before now text finished)
+
+-- ---- load
+
+unopened_cases : {D : Type 0} (old new : D) (opened : Bool) (refusal : Refusal) → IsOpenAnswer refusal → IsLoadBack old new opened (Some refusal)
+unopened_cases old new opened NoArchive answer = tt
+unopened_cases old new opened (Damaged file at) answer = tt
+unopened_cases old new opened DiskFault answer = tt
+unopened_cases old new opened OutOfMemory answer = tt
+unopened_cases old new opened other answer = absurd answer
+
+-- no archive was opened
+pub load_unopened_back : {D : Type 0} (old new : D) (refusal : Refusal) (report : Report) → report ≡ unopened (Some refusal) → IsOpenAnswer refusal
+    → IsLoadBack old new report.opened report.refusal
+load_unopened_back old new refusal report is answer =
+    subst (λ (r : Report). IsLoadBack old new r.opened r.refusal) (sym is) (unopened_cases old new false refusal answer)
+
+unread_cases : {D : Type 0} (old new : D) (left : Option (List ℕ)) (number : ℕ) (refusal : Refusal) (link : Option ℕ) → IsUnread left number refusal link
+    → IsLoadBack old new true (Some refusal)
+unread_cases old new left number (Missing name) link unread = absurd unread
+unread_cases old new left number ReadFault link unread = λ unopened. absurd (false≢true (sym unopened))
+unread_cases old new left number other link unread = tt
+
+-- an archive was opened, and the dump wasn't read
+pub load_unread_back : {D : Type 0} (old new : D) (left : Option (List ℕ)) (number : ℕ) (refusal : Refusal) (link : Option ℕ) (rows : ℕ) (report : Report)
+    → report ≡ record (consulted (Some refusal) rows) { link = link } → IsUnread left number refusal link → IsLoadBack old new report.opened report.refusal
+load_unread_back old new left number refusal link rows report is unread =
+    subst (λ (r : Report). IsLoadBack old new r.opened r.refusal) (sym is) (unread_cases old new left number refusal link unread)
+
+went_cases : {D : Type 0} (old new : Seen D) (dump : List ℕ) (link : ℕ) (moment : ℤ) (written written' : Option (List ℕ)) (first last : D) (opened : Bool) (refusal : Option Refusal)
+    (report : Report) → WentSo old new dump link moment written written' refusal report → IsLoadBack first last opened refusal
+went_cases old new dump link moment written written' first last opened (Some (Missing name)) report went = absurd went.0.cause
+went_cases old new dump link moment written written' first last opened (Some ReadFault) report went = absurd went.0.cause
+went_cases old new dump link moment written written' first last opened other report went = tt
+
+-- the dump was read
+pub session_back : {D : Type 0} (device : Device D) (first : D) (old : Seen D) (dump : List ℕ) (link : ℕ) (moment : ℤ) (written written' : Option (List ℕ)) (disk : D) (report : Report)
+    → IsSession device old dump link moment written written' disk report → IsLoadBack first disk report.opened report.refusal
+session_back device first old dump link moment written written' disk report s =
+    went_cases old s.new dump link moment written written' first disk report.opened report.refusal report s.went
+
+-- ---- query
+
+ask_unopened_cases : {D : Type 0} (old new : D) (refusal : Refusal) → IsOpenAnswer refusal → IsQueryBack old new (Some refusal)
+ask_unopened_cases old new NoArchive answer = tt
+ask_unopened_cases old new (Damaged file at) answer = tt
+ask_unopened_cases old new DiskFault answer = tt
+ask_unopened_cases old new OutOfMemory answer = tt
+ask_unopened_cases old new other answer = absurd answer
+
+-- no archive was opened
+pub ask_unopened_back : {D : Type 0} (old new : D) (refusal : Refusal) (report : Report) → report ≡ unopened (Some refusal) → IsOpenAnswer refusal → IsQueryBack old new report.refusal
+ask_unopened_back old new refusal report is answer =
+    subst (λ (r : Report). IsQueryBack old new r.refusal) (sym is) (ask_unopened_cases old new refusal answer)
+
+reply_cases : {D : Type 0} (first last : D) (db : Database) (history : List Item) (sheet : AskSheet) (refusal : Option Refusal) (before now : Option (List ℕ)) (faults faults' : ℕ)
+    → IsWaiting sheet → IsSheetReply db history sheet refusal before now faults faults' → IsQueryBack first last refusal
+reply_cases first last db history (Read asks) (Some (Missing name)) before now faults faults' waiting reply = absurd reply
+reply_cases first last db history (Read asks) (Some ReadFault) before now faults faults' waiting reply = absurd reply
+reply_cases first last db history (Read asks) (Some (Limit SheetOctets number)) before now faults faults' waiting reply = absurd reply
+reply_cases first last db history (Read asks) other before now faults faults' waiting reply = tt
+reply_cases first last db history (Refused refused) refusal before now faults faults' waiting reply =
+    subst (λ (o : Option Refusal). IsQueryBack first last o) (sym reply.0) (waiting_cases refused waiting)
+  where
+    waiting_cases : (refused : Refusal) → IsWaiting (Refused refused) → IsQueryBack first last (Some refused)
+    waiting_cases (Missing name) waits = absurd (false≢true waits)
+    waiting_cases ReadFault waits = absurd (false≢true waits)
+    waiting_cases (Limit SheetOctets number) waits = absurd (false≢true waits)
+    waiting_cases other waits = tt
+
+-- the asks were answered, or refused
+pub replied_back : {D : Type 0} (first last : D) (db : Database) (history : List Item) (sheet : AskSheet) (refusal : Option Refusal) (report : Report) (rows : ℕ)
+    (before now : Option (List ℕ)) (faults faults' : ℕ) → report ≡ consulted refusal rows → IsWaiting sheet → IsSheetReply db history sheet refusal before now faults faults'
+    → IsQueryBack first last report.refusal
+replied_back first last db history sheet refusal report rows before now faults faults' is waiting reply =
+    subst (λ (r : Report). IsQueryBack first last r.refusal) (sym is) (reply_cases first last db history sheet refusal before now faults faults' waiting reply)
