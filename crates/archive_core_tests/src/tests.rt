@@ -1,8 +1,8 @@
 //! A reopen over each kind of item.
 
-use archive_core::fills::{Fill, settle};
 use arch_types::interval::Interval;
 use arch_types::row::Rows;
+use archive_core::fills::{Fill, settle};
 use std::test::*;
 
 #[test]

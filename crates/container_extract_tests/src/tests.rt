@@ -2,11 +2,11 @@
 
 ghost use Rattle.std.specs.Prelude.{◌≡◌, ◌<◌};
 
+use arch_types::cell::Eng;
+use arch_types::steps::Steps;
 use container_extract::chain::Chain;
 use container_extract::values::{ParameterValue, Values};
 use container_extract::{Extracted, bits, extract, packet_name};
-use arch_types::cell::Eng;
-use arch_types::steps::Steps;
 use mdb_model::{Coding, Items, Mdb, MdbFault, RawMdb, Record, Sheet};
 use std::alloc::{AllocError, Global};
 use std::marker::Brand;

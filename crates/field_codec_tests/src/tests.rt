@@ -1,7 +1,7 @@
 //! Worked octets of a head and of rows, both ways, and each octet of them left out or changed.
 
-use field_codec::{Entry, NotAnEntry, read_entry, read_shared, write_entry};
 use arch_types::octets::Octets;
+use field_codec::{Entry, NotAnEntry, read_entry, read_shared, write_entry};
 use std::test::*;
 
 /// Tables `tm` and `copy`, and a database of the parameter `apid` (uint of 11 bits) in the container `A`, from bit 5 on.

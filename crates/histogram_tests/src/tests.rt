@@ -1,7 +1,7 @@
 //! What no clause says: that calls succeed where memory is ample, and worked rows.
 
-use histogram::histogram::Histogram;
 use arch_types::spans::Span;
+use histogram::histogram::Histogram;
 use std::alloc::{AllocError, Global};
 
 /// The histogram of these times, each of a packet name.

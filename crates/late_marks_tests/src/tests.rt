@@ -1,7 +1,7 @@
 //! What no clause says: that calls succeed where memory is ample, and a worked course of rows and fills.
 
-use late_marks::marks::LateMarks;
 use arch_types::interval::Interval;
+use late_marks::marks::LateMarks;
 use std::alloc::AllocError;
 
 /// Notes a row, with room made for it.

@@ -1,10 +1,10 @@
 //! Vectors from outside: headers, keys and dumps.
 
+use arch_types::octets::Octets;
 use space_packet::dump::{Why, first_packet};
 use space_packet::header::{Header, Version, is_idle_packet};
 use space_packet::key::key_of;
 use space_packet::split::split;
-use arch_types::octets::Octets;
 use std::alloc::AllocError;
 
 /// A packet with a secondary header and one octet of data, at 1.5 s.

@@ -1,7 +1,7 @@
 //! Vectors from outside: GNU date's seconds and days.
 
-use time_text::{BadTime, day_name, day_of, read_time, write_time};
 use std::alloc::AllocError;
+use time_text::{BadTime, day_name, day_of, read_time, write_time};
 
 const LAST: i64 = 253_402_300_799_999;
 
