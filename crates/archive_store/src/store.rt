@@ -204,7 +204,7 @@ impl<D: Disk> Store<D> {
         // A write failed only where the sync at the beginning did.
         ensures writes { MatchResult result (λ s. D.device.failed_writes s.disk ≡ D.device.failed_writes disk)
             (λ e. (D.device.failed_writes e.0 ≡ D.device.failed_writes disk)
-                ⊎ ((e.1 ≡ DiskFault) × (D.device.failed_writes e.0 ≡ raised (D.device.failed_writes disk)))) }
+            ⊎ ((e.1 ≡ DiskFault) × (D.device.failed_writes e.0 ≡ raised (D.device.failed_writes disk)))) }
         ensures cause { IfErr result (λ e. e.1 ≡ DiskFault → raised (D.device.fault_count disk) ≤ D.device.fault_count e.0) }
     {
         let mut disk = disk;
