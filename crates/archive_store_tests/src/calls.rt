@@ -133,7 +133,7 @@ fn disks_that_are_not_opened(rt: HostRuntime) -> Result<(), Fail> {
     assert_eq!(rt; why_no_archive(cut_short), "damaged 0 0");
     let short = Store::open(alloc, holding(alloc, b"\x01")?);
     assert_eq!(rt; why_no_archive(short), "no archive");
-    let failing = Store::open(alloc, MemDisk::failing(vec![in alloc; 1; 1]?, alloc));
+    let failing = Store::open(alloc, MemDisk::failing(alloc, vec![in alloc; 1; 1]?));
     assert_eq!(rt; why_no_archive(failing), "disk fault");
     Ok(())
 }

@@ -7,14 +7,13 @@ ghost use Rattle.archive_store.specs.Batches.{IsBatch};
 ghost use Rattle.archive_store.specs.Seen.{archive_of};
 ghost use Rattle.archive_store.specs.Stands.{StandsFor};
 
-use crate::parts::{answer_to, batch, shows, with_a_failing_gate};
+use crate::parts::{batch, shows, why_no_ingest, with_a_failing_gate};
 use arch_disk::Disk;
-use arch_types::refusal::Refusal;
 use archive_store::{Batch, Store};
 use std::alloc::Global;
 use std::test::Fail;
 
-/// An ingest, and a reopen where the disk failed.
+/// An ingest, and a reopen where it is refused. With fewer than two faults every image stands for the history that is reached.
 fn ingest_and_reopen<D: Disk>(alloc: Global, store: &mut Store<D>, batch: &Batch)
     requires batch { IsBatch store.old.head batch.now }
     requires calm { standing store.old.fills ≡ None }
@@ -23,12 +22,12 @@ fn ingest_and_reopen<D: Disk>(alloc: Global, store: &mut Store<D>, batch: &Batch
         → (c : Image) → D.device.images store.new.disk c → StandsFor c (archive_of store.new) }
 {
     match store.ingest(alloc, batch) {
-        Err(Refusal::DiskFault) => {
-            let _ = store.reopen();
-        }
         // It tells the proof what the type keeps.
-        _ => {
+        Ok(_ingested) => {
             let _ = store.front();
+        }
+        Err(_) => {
+            let _ = store.reopen();
         }
     }
 }
@@ -40,6 +39,6 @@ fn a_batch_that_failed_is_taken_back(rt: HostRuntime) -> Result<(), Fail> {
     let batch = batch(alloc, store.head(), &[0], &[0])?;
     ingest_and_reopen(alloc, &mut store, &batch);
     assert!(rt; shows(alloc, &mut store, 0)?);
-    assert_eq!(rt; answer_to(alloc, &mut store, &batch)?, "an ingest");
+    assert_eq!(rt; why_no_ingest(alloc, &mut store, &[0])?, "an ingest");
     Ok(())
 }

@@ -78,7 +78,7 @@ fn make_calls(
 
 /// Makes an archive and calls of its store on a disk that fails at these calls, and tells the front that is reached.
 fn front_reached(rt: &impl Abort, alloc: Global, failing: Vec<u64>) -> Result<Option<u64>, Fail> {
-    let disk = MemDisk::failing(failing, alloc);
+    let disk = MemDisk::failing(alloc, failing);
     match Store::create(alloc, disk, head(alloc)?) {
         Ok(mut store) => {
             open_since(rt, alloc, store.disk(), 0, None)?;

@@ -255,7 +255,7 @@ pub fn with_a_failing_gate(alloc: Global) -> Result<Store<MemDisk>, Fail>
 {
     let made = created(alloc, MemDisk::new(alloc))?.into_disk().made();
     let calls = vec![in alloc; made.saturating_add(3); 1]?;
-    created(alloc, MemDisk::failing(calls, alloc))
+    created(alloc, MemDisk::failing(alloc, calls))
 }
 
 /// A disk whose file 0 holds octets.

@@ -1,4 +1,4 @@
-use Rattle.std.proofs.Common.{◌≡◌, ◌⊎◌, inl, ◌++◌, [], ◌∷◌, ℕ, List, length, Bool, true, false, Result, Err, Some, None, refl, sym, ◌∙◌, ap, subst, arith, map}
+use Rattle.std.proofs.Common.{◌≡◌, ◌⊎◌, inl, ◌++◌, [], ◌∷◌, ℕ, List, length, Bool, true, false, Result, Err, Some, None, refl, sym, ◌∙◌, ap, subst, arith}
 use Rattle.std.specs.Prelude.{IsTrue}
 use Rattle.arch_disk.specs.Disk.{LeavesOnly}
 use Rattle.arch_types.specs.declared.row.Row.{Row}
@@ -12,7 +12,6 @@ use Rattle.disk_journal.specs.State.{unhealed, faults_of, file_of}
 use Rattle.disk_journal.specs.declared.fault.JournalFault.{JournalFault}
 use Rattle.disk_journal.specs.declared.fault.JournalFault.TheVariants.{DiskFault, Limit}
 use Rattle.field_codec.specs.declared.entry.Entry.TheVariants as entries
-use Rattle.disk_journal.proofs.Appending.{keeps_same}
 use Rattle.field_codec.specs.Spelling.{entry_octets}
 use Rattle.std.specs.List.{AllByRecursion}
 use Rattle.archive_store.specs.Entries.{archive, AreAdmitted, IsPlaced}
