@@ -64,14 +64,29 @@ fffeff: 0: 0 3: 0=-1 1=-2
 05: 0: 0: 0=5",
 );
 
+// A flag on each container of a chain.
+const FLAGGED: Worked = (
+    "name,coding,bits,calibration|a,uint,8,",
+    "name,kind,x,y",
+    "container,parent,condition,archive,entry,position|R,,,yes,a,0|A,R,a<9,yes,,|B,A,a<5,yes,,|C,B,a<3,no,,",
+    "09: 0: 0: 0=9
+08: 1: 0 1: 0=8
+04: 2: 0 1 2: 0=4
+02: 2: 0 1 2 3: 0=2",
+);
+
+fn record(alloc: Global, line: &str) -> Result<Record, AllocError> {
+    let mut fields = Record::new(alloc);
+    for field in line.split(',') {
+        fields.push(Vec::from_slice(alloc, field.as_bytes())?)?;
+    }
+    Ok(fields)
+}
+
 fn sheet(alloc: Global, text: &str) -> Result<Sheet, AllocError> {
     let mut records = Items::new(alloc);
     for line in text.split('|') {
-        let mut fields = Record::new(alloc);
-        for field in line.split(',') {
-            fields.push(Vec::from_slice(alloc, field.as_bytes())?)?;
-        }
-        records.push(fields)?;
+        records.push(record(alloc, line)?)?;
     }
     Ok(records)
 }
@@ -142,68 +157,138 @@ fn value_text(alloc: Global, value: ParameterValue) -> Result<String, AllocError
     }
 }
 
-/// What a packet says, as text.
-fn said(alloc: Global, mdb: &Mdb, packet: &[u8]) -> Result<String, AllocError> {
-    let found = extracted::<Brand>(alloc, Blank::new(1), mdb, packet)?;
-    let name = packet_name(alloc, mdb, packet)?;
-    let mut text = format!(in alloc; " {name}:")?;
-    for number in found.chain.as_slice() {
+/// The numbers of a chain, each behind a blank.
+fn chain_text(alloc: Global, chain: &Chain) -> Result<String, AllocError> {
+    let mut text = String::new(alloc);
+    for number in chain.as_slice() {
         text.push_str(format!(in alloc; " {number}")?.as_str())?;
     }
-    text.push_str(":")?;
-    for value in found.values.as_slice() {
+    Ok(text)
+}
+
+fn values_text(alloc: Global, values: &Values) -> Result<String, AllocError> {
+    let mut text = String::new(alloc);
+    for value in values.as_slice() {
         text.push_str(value_text(alloc, *value)?.as_str())?;
     }
     Ok(text)
 }
 
+fn extracted_text(alloc: Global, found: &Extracted) -> Result<String, AllocError> {
+    let chain = chain_text(alloc, &found.chain)?;
+    let values = values_text(alloc, &found.values)?;
+    format!(in alloc; "{chain}:{values}")
+}
+
+/// What a packet says, as text.
+fn said(alloc: Global, mdb: &Mdb, packet: &[u8]) -> Result<String, AllocError> {
+    let name = packet_name(alloc, mdb, packet)?;
+    let found = extracted::<Brand>(alloc, Blank::new(1), mdb, packet)?;
+    let text = extracted_text(alloc, &found)?;
+    format!(in alloc; " {name}:{text}")
+}
+
+/// What a packet says that hexadecimal digits spell.
+fn said_by(alloc: Global, mdb: &Mdb, digits: &str) -> Result<String, AllocError> {
+    let packet = octets_of(alloc, digits)?;
+    said(alloc, mdb, packet.as_slice())
+}
+
+/// The first line of a table that says something else than its packet.
+fn other_line<'a>(alloc: Global, mdb: &Mdb, lines: &'a str) -> Result<Option<&'a str>, Fail> {
+    for line in lines.split('\n') {
+        let Some((digits, want)) = line.split_once(':') else {
+            return Ok(Some(line));
+        };
+        let text = said_by(alloc, mdb, digits)?;
+        if text.as_str() != want {
+            return Ok(Some(line));
+        }
+    }
+    Ok(None)
+}
+
+fn other(alloc: Global, worked: Worked) -> Result<Option<&'static str>, Fail> {
+    let mdb = database(alloc, worked)?;
+    other_line(alloc, &mdb, worked.3)
+}
+
+const TABLES: [Worked; 5] = [FLIGHT, WIDE, CALIBRATED, COMPARED, FLAGGED];
+
 #[test]
 fn worked_packets(rt: HostRuntime) -> Result<(), Fail> {
-    let alloc = rt.alloc();
-    for worked in [FLIGHT, WIDE, CALIBRATED, COMPARED] {
-        let mdb = database(alloc, worked)?;
-        for line in worked.3.split('\n') {
-            let (digits, want) = line.split_once(':').expect(&rt, "a colon");
-            let packet = octets_of(alloc, digits)?;
-            let text = said(alloc, &mdb, packet.as_slice())?;
-            assert_eq!(rt; text.as_str(), want, "{line}");
-        }
+    for worked in TABLES {
+        assert_eq!(rt; other(rt.alloc(), worked)?, None);
     }
     Ok(())
 }
 
+/// Fields of three octets.
+fn three(octets: &[u8]) -> Option<[i128; 3]> {
+    if octets.len() < 3 {
+        return None;
+    }
+    Some([
+        bits(octets, 4, 12, Coding::Uint),
+        bits(octets, 4, 16, Coding::UintLe),
+        bits(octets, 11, 3, Coding::Int),
+    ])
+}
+
 #[test]
-fn worked_fields(rt: HostRuntime) {
+fn short_fields(rt: HostRuntime) {
     let octets: [u8; 3] = [0x12, 0x34, 0x56];
-    assert_eq!(rt; bits(&octets, 4, 12, Coding::Uint), 0x234);
-    assert_eq!(rt; bits(&octets, 4, 16, Coding::UintLe), 0x4523);
-    assert_eq!(rt; bits(&octets, 11, 3, Coding::Int), -3);
+    assert_eq!(rt; three(&octets), Some([0x234, 0x4523, -3]));
+}
+
+/// Fields of 64 bits of nine octets.
+fn wide(octets: &[u8]) -> Option<[i128; 3]> {
+    if octets.len() < 9 {
+        return None;
+    }
+    Some([
+        bits(octets, 3, 64, Coding::Int),
+        bits(octets, 8, 64, Coding::UintLe),
+        bits(octets, 8, 64, Coding::IntLe),
+    ])
+}
+
+#[test]
+fn wide_fields(rt: HostRuntime) {
     let ones: [u8; 9] = [0xFF; 9];
-    assert_eq!(rt; bits(&ones, 3, 64, Coding::Int), -1);
-    assert_eq!(rt; bits(&ones, 8, 64, Coding::UintLe), 18446744073709551615);
+    assert_eq!(rt; wide(&ones), Some([-1, 18446744073709551615, -1]));
     let least: [u8; 9] = [1, 0, 0, 0, 0, 0, 0, 0, 0x80];
-    assert_eq!(rt; bits(&least, 8, 64, Coding::IntLe), -9223372036854775808);
+    let [_, unsigned, signed] = wide(&least).unwrap_or([0, 0, 0]);
+    assert_eq!(rt;
+        (unsigned, signed),
+        (9223372036854775808, -9223372036854775808)
+    );
+}
+
+/// A chain of one number, made again of its vector.
+fn chain_of(alloc: Global, number: u16) -> Result<Chain, AllocError> {
+    let mut chain = Chain::new(alloc);
+    chain.push(number)?;
+    Ok(Chain::from_vec(chain.into_vec()))
+}
+
+/// Values of one, made again of their vector.
+fn values_of(alloc: Global, value: ParameterValue) -> Result<Values, AllocError> {
+    let mut values = Values::new(alloc);
+    values.push(value)?;
+    Ok(Values::from_vec(values.into_vec()))
 }
 
 #[test]
 fn lists(rt: HostRuntime) -> Result<(), Fail> {
-    let alloc = rt.alloc();
-    let mut chain = Chain::new(alloc);
-    chain.push(7)?;
-    assert_eq!(rt;
-        Chain::from_vec(chain.into_vec()).as_slice(),
-        [7].as_slice()
-    );
-    let mut values = Values::new(alloc);
+    let chain = chain_of(rt.alloc(), 7)?;
+    assert_eq!(rt; chain.as_slice(), [7].as_slice());
     let value = ParameterValue {
         parameter: 1,
         raw: -2,
         eng: Eng::Undef,
     };
-    values.push(value)?;
-    assert_eq!(rt;
-        Values::from_vec(values.into_vec()).as_slice(),
-        [value].as_slice()
-    );
+    let values = values_of(rt.alloc(), value)?;
+    assert_eq!(rt; values.as_slice(), [value].as_slice());
     Ok(())
 }

@@ -19,6 +19,10 @@ const CONTAINERS: &str =
 const OCTETS: &str =
     "00030461706964000b00000176000800000177010800000000000303484452000000000001000000000005014100010101000000000000000000000000000000000000640002000100000060000200000068014200010101000000000000000000000000000000000000650001000100000060";
 
+// As those, with two calibrations beside each other that have one name: their rows would be those of one calibration.
+const NEIGHBOURS: &str =
+    "00030461706964000b00000176000800000177010800000002016b0000000001000000000000000000016b0000000001010000000000000000000303484452000000000001000000000005014100010101000000000000000000000000000000000000640002000100000060000200000068014200010101000000000000000000000000000000000000650001000100000060";
+
 // Sheets with each coding, kind of calibration, operator and form of a position.
 const EACH_PARAMETER: &str =
     "name,coding,bits,calibration|a,uint,8,|b,intLE,16,k|c,int,8,p|d,uintLE,8,e";
@@ -112,14 +116,18 @@ const BROKEN_CONTAINERS: &str = "2#2#|HDR,,,,apid
 3#25#|HDR,,,,apid,5|A,HDR,,,apid,x
 3#26#|HDR,,,,apid,5|,,,,,x";
 
+fn record(alloc: Global, line: &str) -> Result<Record, AllocError> {
+    let mut fields = Record::new(alloc);
+    for field in line.split(',') {
+        fields.push(Vec::from_slice(alloc, field.as_bytes())?)?;
+    }
+    Ok(fields)
+}
+
 fn sheet(alloc: Global, text: &str) -> Result<Sheet, AllocError> {
     let mut records = Items::new(alloc);
     for line in text.split('|') {
-        let mut fields = Record::new(alloc);
-        for field in line.split(',') {
-            fields.push(Vec::from_slice(alloc, field.as_bytes())?)?;
-        }
-        records.push(fields)?;
+        records.push(record(alloc, line)?)?;
     }
     Ok(records)
 }
@@ -138,59 +146,60 @@ fn check(
     Mdb::check(alloc, &raw)
 }
 
-/// What is answered where one sheet is this text, a containers sheet below its header.
-fn fault(alloc: Global, sheet: MdbSheet, text: &str) -> Result<Option<MdbFault>, AllocError> {
-    let calibration = "name,kind,x,y|k,poly,1,0.000007";
-    let checked = match sheet {
-        MdbSheet::Calibrations => check(alloc, PARAMETERS, text, CONTAINERS),
-        MdbSheet::Parameters => check(alloc, text, calibration, CONTAINERS),
-        MdbSheet::Containers => {
-            let header = "container,parent,condition,archive,entry,position";
-            let whole = format!(in alloc; "{header}{text}")?;
-            check(alloc, PARAMETERS, calibration, whole.as_str())
-        }
-    };
-    Ok(checked.err())
+const CALIBRATION: &str = "name,kind,x,y|k,poly,1,0.000007";
+
+/// What is answered where the containers are this text below their header.
+fn containers_fault(
+    alloc: Global,
+    parameters: &str,
+    text: &str,
+) -> Result<Option<MdbFault>, AllocError> {
+    let header = "container,parent,condition,archive,entry,position";
+    let whole = format!(in alloc; "{header}{text}")?;
+    Ok(check(alloc, parameters, CALIBRATION, whole.as_str()).err())
 }
 
-/// The fault that a line says, and what is answered.
-fn both(
-    alloc: Global,
-    sheet: MdbSheet,
-    line: &str,
-) -> Result<(Option<MdbFault>, Option<MdbFault>), AllocError> {
-    let mut parts = line.split('#');
-    let row = number(parts.next());
-    let rule = number(parts.next()) as u8;
-    let bad = MdbFault::Bad { sheet, row, rule };
-    let text = parts.next().unwrap_or("");
-    Ok((Some(bad), fault(alloc, sheet, text)?))
+/// What is answered where one sheet is this text, a containers sheet below its header.
+fn fault(alloc: Global, sheet: MdbSheet, text: &str) -> Result<Option<MdbFault>, AllocError> {
+    match sheet {
+        MdbSheet::Calibrations => Ok(check(alloc, PARAMETERS, text, CONTAINERS).err()),
+        MdbSheet::Parameters => Ok(check(alloc, text, CALIBRATION, CONTAINERS).err()),
+        MdbSheet::Containers => containers_fault(alloc, PARAMETERS, text),
+    }
 }
 
 /// A number below 256.
-fn number(text: Option<&str>) -> usize
-    ensures { result < 256 }
-{
-    match text.unwrap_or("").parse::<u8>() {
-        Ok(number) => usize::from(number),
-        Err(_) => 0,
-    }
+fn number(text: Option<&str>) -> u8 {
+    text.unwrap_or("").parse().unwrap_or(0)
+}
+
+/// The row and the rule that a line says, and its sheet.
+fn parts_of(line: &str) -> (usize, u8, &str) {
+    let mut parts = line.split('#');
+    let row = usize::from(number(parts.next()));
+    let rule = number(parts.next());
+    (row, rule, parts.next().unwrap_or(""))
 }
 
 #[test]
 fn broken_rules(rt: HostRuntime) -> Result<(), Fail> {
-    let alloc = rt.alloc();
     for (sheet, lines) in [
         (MdbSheet::Calibrations, BROKEN_CALIBRATIONS),
         (MdbSheet::Parameters, BROKEN_PARAMETERS),
         (MdbSheet::Containers, BROKEN_CONTAINERS),
     ] {
         for line in lines.split('\n') {
-            let (want, answer) = both(alloc, sheet, line)?;
-            assert_eq!(rt; answer, want, "{line}");
+            let (row, rule, text) = parts_of(line);
+            let bad = MdbFault::Bad { sheet, row, rule };
+            assert_eq!(rt; fault(rt.alloc(), sheet, text)?, Some(bad), "{line}");
         }
     }
-    let headless = check(alloc, PARAMETERS, CALIBRATIONS, "container").err();
+    Ok(())
+}
+
+#[test]
+fn broken_header(rt: HostRuntime) -> Result<(), Fail> {
+    let headless = check(rt.alloc(), PARAMETERS, CALIBRATIONS, "container").err();
     let bad = MdbFault::Bad {
         sheet: MdbSheet::Containers,
         row: 1,
@@ -217,91 +226,108 @@ fn listed(
     Ok(text)
 }
 
+const PARAMETERS_HEADER: &str = "name,coding,bits,calibration";
+
+const ROOT: &str = "container,parent,condition,archive,entry,position|root,,,,,";
+
+/// What is answered for so many calibrations and parameters, and so many containers below the root.
+fn counted(
+    alloc: Global,
+    calibrations: usize,
+    parameters: usize,
+    containers: usize,
+) -> Result<Option<MdbFault>, AllocError> {
+    let calibrations = listed(alloc, CALIBRATIONS, calibrations, "n", ",enum,0,A")?;
+    let parameters = listed(alloc, PARAMETERS_HEADER, parameters, "n", ",uint,8,")?;
+    let containers = listed(alloc, ROOT, containers, "n", ",root,,,,")?;
+    Ok(check(
+        alloc,
+        parameters.as_str(),
+        calibrations.as_str(),
+        containers.as_str(),
+    )
+    .err())
+}
+
 #[test]
 fn limits_in_their_order(rt: HostRuntime) -> Result<(), Fail> {
-    let alloc = rt.alloc();
-    for (calibrations, parameters, containers, which) in [
-        (4097, 4097, 4097, MdbLimit::Calibrations),
-        (4096, 4097, 4097, MdbLimit::Parameters),
-        (4096, 4096, 4097, MdbLimit::Containers),
+    for (calibrations, parameters, which) in [
+        (4097, 4097, MdbLimit::Calibrations),
+        (4096, 4097, MdbLimit::Parameters),
+        (4096, 4096, MdbLimit::Containers),
     ] {
-        let calibrations = listed(alloc, "name,kind,x,y", calibrations, "n", ",enum,0,A")?;
-        let parameters = listed(
-            alloc,
-            "name,coding,bits,calibration",
-            parameters,
-            "n",
-            ",uint,8,",
-        )?;
-        let header = "container,parent,condition,archive,entry,position|root,,,,,";
-        let containers = listed(alloc, header, containers - 1, "n", ",root,,,,")?;
-        let passed = check(
-            alloc,
-            parameters.as_str(),
-            calibrations.as_str(),
-            containers.as_str(),
-        );
         let limit = MdbFault::Limit {
             which,
             number: 4096,
         };
-        assert_eq!(rt; passed.err(), Some(limit));
+        let passed = counted(rt.alloc(), calibrations, parameters, 4096)?;
+        assert_eq!(rt; passed, Some(limit));
     }
     Ok(())
 }
 
+/// What is answered for a calibration of so many rows.
+fn rows_fault(alloc: Global, rows: usize) -> Result<Option<MdbFault>, AllocError> {
+    let text = listed(alloc, CALIBRATIONS, rows, "k,enum,", ",A")?;
+    fault(alloc, MdbSheet::Calibrations, text.as_str())
+}
+
 #[test]
 fn most_calibration_rows(rt: HostRuntime) -> Result<(), Fail> {
-    let alloc = rt.alloc();
-    let most = listed(alloc, "name,kind,x,y", 65_536, "k,enum,", ",A")?;
-    let more = listed(alloc, "name,kind,x,y", 65_537, "k,enum,", ",A")?;
     let limit = MdbFault::Limit {
         which: MdbLimit::CalibrationRows,
         number: 65_536,
     };
-    assert_eq!(rt; fault(alloc, MdbSheet::Calibrations, most.as_str())?, None);
-    assert_eq!(rt;
-        fault(alloc, MdbSheet::Calibrations, more.as_str())?,
-        Some(limit)
-    );
+    assert_eq!(rt; rows_fault(rt.alloc(), 65_536)?, None);
+    assert_eq!(rt; rows_fault(rt.alloc(), 65_537)?, Some(limit));
     Ok(())
 }
 
 /// What is answered where these are the containers, over 257 parameters.
 fn many(alloc: Global, containers: &str) -> Result<Option<MdbFault>, AllocError> {
-    let parameters = listed(alloc, "name,coding,bits,calibration", 257, "n", ",uint,8,")?;
-    let header = "container,parent,condition,archive,entry,position";
-    let whole = format!(in alloc; "{header}{containers}")?;
-    Ok(check(alloc, parameters.as_str(), CALIBRATIONS, whole.as_str()).err())
+    let parameters = listed(alloc, PARAMETERS_HEADER, 257, "n", ",uint,8,")?;
+    containers_fault(alloc, parameters.as_str(), containers)
+}
+
+/// A root, and 256 containers of 256 entries each below it, and what follows.
+fn full(alloc: Global, rest: &str) -> Result<String, AllocError> {
+    let entries = listed(alloc, ",root,,,,", 256, ",,,,n", ",")?;
+    let mut text = listed(alloc, "|root,,,,,", 256, "c", entries.as_str())?;
+    text.push_str(rest)?;
+    Ok(text)
 }
 
 #[test]
 fn most_entries(rt: HostRuntime) -> Result<(), Fail> {
-    let alloc = rt.alloc();
-    let full = listed(alloc, ",root,,,,", 256, ",,,,n", ",")?;
-    let mut text = listed(alloc, "|root,,,,,", 256, "c", full.as_str())?;
     let limit = MdbFault::Limit {
         which: MdbLimit::Entries,
         number: 65_536,
     };
-    assert_eq!(rt; many(alloc, text.as_str())?, None);
-    text.push_str("|one,root,,,n0,")?;
-    assert_eq!(rt; many(alloc, text.as_str())?, Some(limit));
+    for (rest, want) in [("", None), ("|one,root,,,n0,", Some(limit))] {
+        let text = full(rt.alloc(), rest)?;
+        assert_eq!(rt; many(rt.alloc(), text.as_str())?, want);
+    }
     Ok(())
+}
+
+/// A root of 256 entries, and what follows.
+fn full_root(alloc: Global, rest: &str) -> Result<String, AllocError> {
+    let mut text = listed(alloc, "|root,,,,,", 256, ",,,,n", ",")?;
+    text.push_str(rest)?;
+    Ok(text)
 }
 
 #[test]
 fn most_entries_of_a_path(rt: HostRuntime) -> Result<(), Fail> {
-    let alloc = rt.alloc();
-    let mut text = listed(alloc, "|root,,,,,", 256, ",,,,n", ",")?;
     let bad = MdbFault::Bad {
         sheet: MdbSheet::Containers,
         row: 259,
         rule: 29,
     };
-    assert_eq!(rt; many(alloc, text.as_str())?, None);
-    text.push_str("|one,root,,,n256,")?;
-    assert_eq!(rt; many(alloc, text.as_str())?, Some(bad));
+    for (rest, want) in [("", None), ("|one,root,,,n256,", Some(bad))] {
+        let text = full_root(rt.alloc(), rest)?;
+        assert_eq!(rt; many(rt.alloc(), text.as_str())?, want);
+    }
     Ok(())
 }
 
@@ -319,19 +345,18 @@ fn comparing(alloc: Global, count: usize) -> Result<String, AllocError> {
 
 #[test]
 fn most_comparisons(rt: HostRuntime) -> Result<(), Fail> {
-    let alloc = rt.alloc();
-    let most = comparing(alloc, 255)?;
-    let more = comparing(alloc, 256)?;
     let bad = MdbFault::Bad {
         sheet: MdbSheet::Containers,
         row: 3,
         rule: 20,
     };
-    assert_eq!(rt; fault(alloc, MdbSheet::Containers, most.as_str())?, None);
-    assert_eq!(rt;
-        fault(alloc, MdbSheet::Containers, more.as_str())?,
-        Some(bad)
-    );
+    for (count, want) in [(255, None), (256, Some(bad))] {
+        let text = comparing(rt.alloc(), count)?;
+        assert_eq!(rt;
+            containers_fault(rt.alloc(), PARAMETERS, text.as_str())?,
+            want
+        );
+    }
     Ok(())
 }
 
@@ -349,19 +374,18 @@ fn path(alloc: Global, count: usize) -> Result<String, AllocError> {
 
 #[test]
 fn longest_path(rt: HostRuntime) -> Result<(), Fail> {
-    let alloc = rt.alloc();
-    let longest = path(alloc, 32)?;
-    let longer = path(alloc, 33)?;
     let bad = MdbFault::Bad {
         sheet: MdbSheet::Containers,
         row: 34,
         rule: 29,
     };
-    assert_eq!(rt; fault(alloc, MdbSheet::Containers, longest.as_str())?, None);
-    assert_eq!(rt;
-        fault(alloc, MdbSheet::Containers, longer.as_str())?,
-        Some(bad)
-    );
+    for (count, want) in [(32, None), (33, Some(bad))] {
+        let text = path(rt.alloc(), count)?;
+        assert_eq!(rt;
+            containers_fault(rt.alloc(), PARAMETERS, text.as_str())?,
+            want
+        );
+    }
     Ok(())
 }
 
@@ -456,18 +480,19 @@ fn is_refused_or_own(alloc: Global, octets: &[u8]) -> Result<bool, AllocError> {
     }
 }
 
-/// The front of the octets up to a place is refused, and so is each change of the octet there that isn't a database's own spelling.
-fn holds_at(alloc: Global, octets: &[u8], place: usize, octet: u8) -> Result<bool, AllocError> {
-    let front: Vec<u8> = octets.iter().take(place).copied().collect(alloc)?;
-    if Mdb::from_bytes(alloc, front.as_slice()).is_ok() {
-        return Ok(false);
+/// The octets, with the one at a place changed by these bits.
+fn changed(alloc: Global, octets: &[u8], place: usize, bits: u8) -> Result<Vec<u8>, AllocError> {
+    let mut changed = Vec::from_slice(alloc, octets)?;
+    if place < changed.len() {
+        changed[place] ^= bits;
     }
-    for change in [1u8, 2, 128] {
-        let mut changed = Vec::from_slice(alloc, front.as_slice())?;
-        changed.push(octet ^ change)?;
-        for octet in octets.iter().skip(place).skip(1) {
-            changed.push(*octet)?;
-        }
+    Ok(changed)
+}
+
+/// Each change of the octet at a place is refused that isn't a database's own spelling.
+fn is_own_at(alloc: Global, octets: &[u8], place: usize) -> Result<bool, AllocError> {
+    for bits in [1u8, 2, 128] {
+        let changed = changed(alloc, octets, place, bits)?;
         if !is_refused_or_own(alloc, changed.as_slice())? {
             return Ok(false);
         }
@@ -482,29 +507,63 @@ fn again(alloc: Global, mdb: &Mdb) -> Result<Vec<u8>, Fail> {
     Ok(mdb.to_bytes(alloc)?)
 }
 
+/// The octets of the database of these sheets, written, read and written again.
+fn spelled(
+    alloc: Global,
+    parameters: &str,
+    calibrations: &str,
+    containers: &str,
+) -> Result<Vec<u8>, Fail> {
+    let mdb = check(alloc, parameters, calibrations, containers)?;
+    again(alloc, &mdb)
+}
+
 #[test]
 fn octets_both_ways(rt: HostRuntime) -> Result<(), Fail> {
     let alloc = rt.alloc();
-    for (parameters, calibrations, containers, digits) in [
-        (PARAMETERS, CALIBRATIONS, CONTAINERS, OCTETS),
-        (
-            EACH_PARAMETER,
-            EACH_CALIBRATION,
-            EACH_CONTAINER,
-            EACH_OCTETS,
-        ),
-    ] {
-        let octets = octets_of(alloc, digits)?;
-        let mdb = check(alloc, parameters, calibrations, containers)?;
-        let own = again(alloc, &mdb)?;
-        assert_eq!(rt; own, octets);
-        for (place, octet) in octets.iter().enumerate() {
-            assert!(rt;
-                holds_at(alloc, octets.as_slice(), place, *octet)?,
-                "{place}"
-            );
+    let octets = octets_of(alloc, OCTETS)?;
+    let own = spelled(alloc, PARAMETERS, CALIBRATIONS, CONTAINERS)?;
+    assert_eq!(rt; own, octets);
+    Ok(())
+}
+
+#[test]
+fn each_octets_both_ways(rt: HostRuntime) -> Result<(), Fail> {
+    let alloc = rt.alloc();
+    let octets = octets_of(alloc, EACH_OCTETS)?;
+    let own = spelled(alloc, EACH_PARAMETER, EACH_CALIBRATION, EACH_CONTAINER)?;
+    assert_eq!(rt; own, octets);
+    Ok(())
+}
+
+#[test]
+fn refuses_each_front(rt: HostRuntime) -> Result<(), Fail> {
+    for digits in [OCTETS, EACH_OCTETS] {
+        let octets = octets_of(rt.alloc(), digits)?;
+        for place in 0..octets.len() {
+            let front = Mdb::from_bytes(rt.alloc(), &octets.as_slice()[..place]);
+            assert_eq!(rt; front.err(), Some(NotMdb::Malformed), "{place}");
         }
     }
+    Ok(())
+}
+
+#[test]
+fn refuses_other_spellings(rt: HostRuntime) -> Result<(), Fail> {
+    for digits in [OCTETS, EACH_OCTETS] {
+        let octets = octets_of(rt.alloc(), digits)?;
+        for place in 0..octets.len() {
+            assert!(rt; is_own_at(rt.alloc(), octets.as_slice(), place)?, "{place}");
+        }
+    }
+    Ok(())
+}
+
+#[test]
+fn refuses_neighbours_of_one_name(rt: HostRuntime) -> Result<(), Fail> {
+    let octets = octets_of(rt.alloc(), NEIGHBOURS)?;
+    let read = Mdb::from_bytes(rt.alloc(), octets.as_slice());
+    assert_eq!(rt; read.err(), Some(NotMdb::Malformed));
     Ok(())
 }
 

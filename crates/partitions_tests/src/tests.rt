@@ -26,65 +26,90 @@ fn pairs(alloc: Global, parts: &PartList) -> Result<Vec<(i64, u16)>, AllocError>
 }
 
 #[test]
+fn partition_before_1970(rt: HostRuntime) {
+    assert_eq!(rt; partition_of(-1, 7), Partition { day: -1, pname: 7 });
+}
+
+/// Times of rows, and their packet names.
+const ROWS: [(i64, u16); 9] = [
+    (5 * DAY + 7, 5),
+    (-1, 3),
+    (i64::MAX, 9),
+    (0, 3),
+    (DAY - 1, 3),
+    (DAY, 5),
+    (DAY, 3),
+    (0, 3),
+    (i64::MIN, 9),
+];
+
+fn held(alloc: Global, rows: &[(i64, u16)]) -> Result<Partitions, AllocError> {
+    let mut held = Partitions::new(alloc);
+    for (time, pname) in rows {
+        held.reserve(1)?;
+        held.add(*time, *pname);
+    }
+    Ok(held)
+}
+
+/// A range, names, and the partitions left of those of the rows.
+type Ask = (i64, i64, Option<&'static [u16]>, &'static [(i64, u16)]);
+
+const ASKS: [Ask; 10] = [
+    (
+        i64::MIN,
+        i64::MAX,
+        None,
+        &[
+            (-106_751_991_168, 9),
+            (-1, 3),
+            (0, 3),
+            (1, 3),
+            (1, 5),
+            (5, 5),
+            (106_751_991_167, 9),
+        ],
+    ),
+    (i64::MIN, i64::MIN + 1, None, &[(-106_751_991_168, 9)]),
+    (0, DAY, None, &[(0, 3)]),
+    (0, DAY + 1, None, &[(0, 3), (1, 3), (1, 5)]),
+    (-1, 0, None, &[(-1, 3)]),
+    (0, 0, None, &[]),
+    (2 * DAY, 5 * DAY, None, &[]),
+    (0, 6 * DAY, Some(&[5]), &[(1, 5), (5, 5)]),
+    (
+        0,
+        6 * DAY,
+        Some(&[9, 5, 3, 5]),
+        &[(0, 3), (1, 3), (1, 5), (5, 5)],
+    ),
+    (0, 6 * DAY, Some(&[]), &[]),
+];
+
+fn bounds(alloc: Global, from: i64, to: i64, names: Option<&[u16]>) -> Result<Bounds, AllocError> {
+    let names = match names {
+        Some(names) => Some(listed(alloc, names)?),
+        None => None,
+    };
+    Ok(Bounds { from, to, names })
+}
+
+fn pruned(
+    alloc: Global,
+    held: &Partitions,
+    bounds: &Bounds,
+) -> Result<Vec<(i64, u16)>, AllocError> {
+    let parts = held.pruned(bounds)?;
+    pairs(alloc, &parts)
+}
+
+#[test]
 fn prunes(rt: HostRuntime) -> Result<(), Fail> {
     let alloc = rt.alloc();
-    assert_eq!(rt; partition_of(-1, 7), Partition { day: -1, pname: 7 });
-    let mut held = Partitions::new(alloc);
-    for (time, pname) in [
-        (5 * DAY + 7, 5),
-        (-1, 3),
-        (i64::MAX, 9),
-        (0, 3),
-        (DAY - 1, 3),
-        (DAY, 5),
-        (DAY, 3),
-        (0, 3),
-        (i64::MIN, 9),
-    ] {
-        held.reserve(1)?;
-        held.add(time, pname);
-    }
-    let asks: [(i64, i64, Option<&[u16]>, &[(i64, u16)]); 10] = [
-        (
-            i64::MIN,
-            i64::MAX,
-            None,
-            &[
-                (-106_751_991_168, 9),
-                (-1, 3),
-                (0, 3),
-                (1, 3),
-                (1, 5),
-                (5, 5),
-                (106_751_991_167, 9),
-            ],
-        ),
-        (i64::MIN, i64::MIN + 1, None, &[(-106_751_991_168, 9)]),
-        (0, DAY, None, &[(0, 3)]),
-        (0, DAY + 1, None, &[(0, 3), (1, 3), (1, 5)]),
-        (-1, 0, None, &[(-1, 3)]),
-        (0, 0, None, &[]),
-        (2 * DAY, 5 * DAY, None, &[]),
-        (0, 6 * DAY, Some(&[5]), &[(1, 5), (5, 5)]),
-        (
-            0,
-            6 * DAY,
-            Some(&[9, 5, 3, 5]),
-            &[(0, 3), (1, 3), (1, 5), (5, 5)],
-        ),
-        (0, 6 * DAY, Some(&[]), &[]),
-    ];
-    for (from, to, names, want) in asks {
-        let names = match names {
-            Some(names) => Some(listed(alloc, names)?),
-            None => None,
-        };
-        let parts = held.pruned(&Bounds { from, to, names })?;
-        assert_eq!(rt;
-            pairs(alloc, &parts)?.as_slice(),
-            want,
-            "from {from} to {to}"
-        );
+    let held = held(alloc, &ROWS)?;
+    for (from, to, names, want) in ASKS {
+        let parts = pruned(alloc, &held, &bounds(alloc, from, to, names)?)?;
+        assert_eq!(rt; parts.as_slice(), want, "from {from} to {to}");
     }
     Ok(())
 }
