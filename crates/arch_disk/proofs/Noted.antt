@@ -1,5 +1,5 @@
 -- What a crash leaves after a call that was kept, or that memory was wanting for.
-use Rattle.std.proofs.Common.{◌≡◌, ℕ, List, ◌∷◌, length, sym, subst}
+use Rattle.std.proofs.Common.{◌≡◌, ◌⊎◌, inl, inr, ℕ, List, ◌∷◌, length, sym, subst}
 use Rattle.std.specs.Prelude.{Result, Ok, Err, OnOk, OnErr}
 use Rattle.arch_disk.specs.declared.history.Call.{Call}
 use Rattle.arch_disk.specs.declared.history.Call.TheVariants.{Wrote, FailedWrite, Cut, FailedCut}
@@ -15,6 +15,11 @@ Comes step past now = (c : Image) → images_of now c → (d : Image) × images_
 noted : {T E : Type 0} (result : Result T E) (past now : List Call) (call : Call) (P : List Call → Type 0) → OnOk result (now ≡ call ∷ past) → OnErr result (now ≡ past) → P (call ∷ past) → P past → P now
 noted (Ok x) past now call P ok err with_it without = subst P (sym ok) with_it
 noted (Err e) past now call P ok err with_it without = subst P (sym err) without
+
+-- the call was kept, or not
+pub kept_or_not : {T E : Type 0} (result : Result T E) (past now : List Call) (call : Call) → OnOk result (now ≡ call ∷ past) → OnErr result (now ≡ past) → (now ≡ call ∷ past) ⊎ (now ≡ past)
+kept_or_not (Ok x) past now call ok err = inl ok
+kept_or_not (Err e) past now call ok err = inr err
 
 pub cut_noted : {T E : Type 0} (result : Result T E) (past now : List Call) (file len : ℕ) → OnOk result (now ≡ Cut file len ∷ past) → OnErr result (now ≡ past) → Comes (InFile (Shortened len) file) past now
 cut_noted result past now file len ok err = noted result past now (Cut file len) (Comes (InFile (Shortened len) file) past) ok err (λ c left. left) (λ c left. (c, left, cut_still len file c))

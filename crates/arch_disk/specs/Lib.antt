@@ -4,4 +4,5 @@ pub mod Files
 pub mod History
 pub mod Image
 pub mod Laws
+pub mod Memory
 pub mod Steps

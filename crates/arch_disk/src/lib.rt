@@ -15,6 +15,7 @@
 
 mod crash;
 mod disk;
+mod faults;
 mod files;
 mod history;
 mod memory;
@@ -22,6 +23,7 @@ mod silent;
 
 pub use crash::{Crash, Length, Unsynced};
 pub use disk::{Disk, Failed};
+pub use faults::FaultCounts;
 pub use files::Files;
 pub use history::{Call, Write};
 pub use memory::MemDisk;

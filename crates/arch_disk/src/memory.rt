@@ -1,16 +1,17 @@
 // A disk in memory. It keeps every call that changed something, so that each image since a moment can be asked for.
-ghost use Rattle.std.specs.Prelude.{◌≡◌, [], ◌+◌, ◌-◌, ◌^◌, ◌≤◌, ◌==◌, true, length, min, IfOk};
-ghost use Rattle.std.specs.List.{list_any};
-ghost use Rattle.arch_disk.specs.Disk.{raised};
+ghost use Rattle.std.specs.Prelude.{◌≡◌, ◌⊎◌, [], ◌∷◌, ◌+◌, ◌-◌, ◌^◌, ◌≤◌, ◌==◌, length, take, drop, min, is_err, IsTrue, IsErr, IfOk, OnOk, OnErr};
+ghost use Rattle.arch_disk.specs.declared.history.Call.TheVariants.{Wrote, FailedWrite, Cut, FailedCut, Synced};
+ghost use Rattle.arch_disk.specs.Image.{Torn, Shortened, InFile, Becomes, overwritten};
+ghost use Rattle.arch_disk.specs.Disk.{Follows, AddsNoImage, IsDurable, Elapses, HasCause, CountsFailure};
 ghost use Rattle.arch_disk.specs.Files.{image_in};
 ghost use Rattle.arch_disk.specs.Crash.{crash_of};
 ghost use Rattle.arch_disk.specs.History.{reads_of, images_of, since_of, first_calls, HoldsOnly};
-ghost use Rattle.arch_disk.specs.Laws.{now_counts, only_now, reads_as_image, lengths_fit};
+ghost use Rattle.arch_disk.specs.Memory.{memory_device, IsFresh, is_listed, next_number, next_fails, HasCounted, KeepsWrite};
 
 use crate::crash::{Crash, image_after};
 use crate::files::Files;
 use crate::history::{Call, History, Write};
-use crate::{Disk, Failed};
+use crate::{Disk, Failed, FaultCounts};
 use std::alloc::{AllocError, Global};
 
 #[derive(Drop)]
@@ -20,8 +21,7 @@ pub struct MemDisk {
     failing: Vec<u64>,
     alloc: Global,
     made: u64,
-    faults: u64,
-    failed_writes: u64,
+    counts: FaultCounts,
 }
 
 impl MemDisk {
@@ -29,24 +29,23 @@ impl MemDisk {
     pub fn new(alloc: Global) -> MemDisk
         ensures empty { result.history ≡ [] }
         ensures unlisted { result.failing.items ≡ [] }
-        ensures fresh { (result.made ≡ 0) × (result.faults ≡ 0) × (result.failed_writes ≡ 0) }
+        ensures fresh { IsFresh result }
     {
-        MemDisk::failing(Vec::new(alloc), alloc)
+        MemDisk::failing(alloc, Vec::new(alloc))
     }
 
     /// Empty files. The calls of these numbers fail, counted from 1 over all calls but `faults`.
-    pub fn failing(calls: Vec<u64>, alloc: Global) -> MemDisk
+    pub fn failing(alloc: Global, calls: Vec<u64>) -> MemDisk
         ensures empty { result.history ≡ [] }
         ensures listed { result.failing ≡ calls }
-        ensures fresh { (result.made ≡ 0) × (result.faults ≡ 0) × (result.failed_writes ≡ 0) }
+        ensures fresh { IsFresh result }
     {
         MemDisk {
             history: History::new(alloc),
             failing: calls,
             alloc,
             made: 0,
-            faults: 0,
-            failed_writes: 0,
+            counts: FaultCounts::NONE,
         }
     }
 
@@ -78,18 +77,18 @@ impl MemDisk {
         ensures since { IfOk result (λ disk. since_of self.now.history moment (reads_of disk.history)) }
         ensures kind { IfOk result (λ disk. HoldsOnly disk.history (crash_of crash (first_calls moment self.now.history))) }
         ensures unlisted { IfOk result (λ disk. disk.failing.items ≡ []) }
-        ensures fresh { IfOk result (λ disk. (disk.made ≡ 0) × (disk.faults ≡ 0) × (disk.failed_writes ≡ 0)) }
+        ensures fresh { IfOk result IsFresh }
     {
         let files = image_after(self.alloc, self.history.first(moment), crash)?;
-        let disk = MemDisk::holding(&files, self.alloc)?;
+        let disk = MemDisk::holding(self.alloc, &files)?;
         Ok(disk)
     }
 
     /// Files that hold this, and all of it is synced.
-    pub fn holding(files: &Files, alloc: Global) -> Result<MemDisk, AllocError>
+    pub fn holding(alloc: Global, files: &Files) -> Result<MemDisk, AllocError>
         ensures image { IfOk result (λ disk. HoldsOnly disk.history (image_in files.now)) }
         ensures unlisted { IfOk result (λ disk. disk.failing.items ≡ []) }
-        ensures fresh { IfOk result (λ disk. (disk.made ≡ 0) × (disk.faults ≡ 0) × (disk.failed_writes ≡ 0)) }
+        ensures fresh { IfOk result IsFresh }
     {
         let history = History::holding(alloc, files)?;
         Ok(MemDisk {
@@ -97,100 +96,135 @@ impl MemDisk {
             failing: Vec::new(alloc),
             alloc,
             made: 0,
-            faults: 0,
-            failed_writes: 0,
+            counts: FaultCounts::NONE,
         })
     }
 }
 
-// Counts a call, and says whether it is one that is to fail.
-fn strikes(made: &mut u64, failing: &[u64]) -> bool
-    ensures counted { made.new ≡ min (made.old + 1) (2 ^ 64 - 1) }
-    ensures listed { result ≡ list_any (λ n. n == made.new) failing.now }
+// Counts a call, and says whether its number is listed.
+fn next_is_listed(made: &mut u64, failing: &[u64]) -> bool
+    ensures number { made.new ≡ next_number made.old }
+    ensures listed { result ≡ is_listed failing.now (next_number made.old) }
 {
     *made = made.saturating_add(1);
     failing.contains(made)
 }
 
-// Counts a fault.
-pub(crate) fn fault(faults: &mut u64) -> Failed
-    ensures { faults.new ≡ raised faults.old }
-{
-    *faults = faults.saturating_add(1);
-    Failed
-}
-
-// Counts a write, a cut or a sync that failed.
-pub(crate) fn failed_write(faults: &mut u64, failed_writes: &mut u64) -> Failed
-    ensures faults { faults.new ≡ raised faults.old }
-    ensures writes { failed_writes.new ≡ raised failed_writes.old }
-{
-    *failed_writes = failed_writes.saturating_add(1);
-    fault(faults)
-}
-
 impl Disk for MemDisk {
-    ghost device = { record {
-      tells = true;
-      reads = λ m. reads_of m.history;
-      images = λ m. images_of m.history;
-      moment = λ m. length m.history;
-      images_since = λ m. since_of m.history;
-      fault_count = λ m. m.faults;
-      failed_writes = λ m. m.failed_writes;
-      now_counts = λ m t c le now. now_counts m.history t c now;
-      only_now = λ m c left. only_now m.history c left;
-      reads_as_image = λ m told. reads_as_image m.history;
-      lengths_fit = λ m f told. lengths_fit m.history f;
-    } };
+    ghost device = { memory_device };
 
-    fn len(&mut self, file: u32) -> Result<u64, Failed> {
-        if strikes(&mut self.made, &self.failing) {
-            return Err(fault(&mut self.faults));
+    fn len(&mut self, file: u32) -> Result<u64, Failed>
+        ensures length { IfOk result (λ n. IsTrue memory_device.tells → n ≡ length (memory_device.reads self.old file)) }
+        ensures reads { memory_device.reads self.new ≡ memory_device.reads self.old }
+        ensures crash { AddsNoImage memory_device self.old self.new }
+        ensures time { Elapses memory_device self.old self.new }
+        ensures cause { HasCause memory_device self.old self.new result }
+        ensures writes { memory_device.failed_writes self.new ≡ memory_device.failed_writes self.old }
+
+        ensures counted { HasCounted self.old self.new }
+        ensures fails { is_err result ≡ next_fails self.old }
+        ensures unchanged { self.new.history ≡ self.old.history }
+    {
+        if next_is_listed(&mut self.made, &self.failing) {
+            return Err(self.counts.look_failed());
         }
         Ok(self.history.content(file).len() as u64)
     }
 
-    fn read_at(&mut self, file: u32, at: u64, into: &mut [u8]) -> Result<(), Failed> {
-        if strikes(&mut self.made, &self.failing) {
-            return Err(fault(&mut self.faults));
+    fn read_at(&mut self, file: u32, at: u64, into: &mut [u8]) -> Result<(), Failed>
+        requires { IsTrue memory_device.tells → at + length into.old ≤ length (memory_device.reads self.old file) }
+        ensures octets { OnOk result (IsTrue memory_device.tells → into.new ≡ take (length into.old) (drop at (memory_device.reads self.old file))) }
+        ensures len { length into.new ≡ length into.old }
+        ensures reads { memory_device.reads self.new ≡ memory_device.reads self.old }
+        ensures crash { AddsNoImage memory_device self.old self.new }
+        ensures time { Elapses memory_device self.old self.new }
+        ensures cause { HasCause memory_device self.old self.new result }
+        ensures writes { memory_device.failed_writes self.new ≡ memory_device.failed_writes self.old }
+
+        ensures counted { HasCounted self.old self.new }
+        ensures fails { is_err result ≡ next_fails self.old }
+        ensures unchanged { self.new.history ≡ self.old.history }
+    {
+        if next_is_listed(&mut self.made, &self.failing) {
+            return Err(self.counts.look_failed());
         }
         let start = at as usize;
         into.copy_from_slice(&self.history.content(file)[start..start + into.len()]);
         Ok(())
     }
 
-    fn write_at(&mut self, file: u32, at: u64, from: &[u8]) -> Result<(), Failed> {
-        let strikes = strikes(&mut self.made, &self.failing);
+    // A write that fails leaves all octets, and is kept where its number was listed and memory lasts.
+    fn write_at(&mut self, file: u32, at: u64, from: &[u8]) -> Result<(), Failed>
+        requires { IsTrue memory_device.tells → at ≤ length (memory_device.reads self.old file) }
+        ensures written { OnOk result (IsTrue memory_device.tells → InFile (Becomes (overwritten at from.now)) file (memory_device.reads self.old) (memory_device.reads self.new)) }
+        ensures torn { OnErr result (IsTrue memory_device.tells → InFile (Torn at (length from.now)) file (memory_device.reads self.old) (memory_device.reads self.new)) }
+        ensures crash { Follows memory_device (InFile (Torn at (length from.now)) file) self.old self.new }
+        ensures time { Elapses memory_device self.old self.new }
+        ensures cause { HasCause memory_device self.old self.new result }
+        ensures writes { CountsFailure memory_device self.old self.new result }
+
+        ensures counted { HasCounted self.old self.new }
+        ensures fails { IsTrue (next_fails self.old) → IsErr result }
+        ensures kept { OnOk result (KeepsWrite Wrote file at from.now self.old.history self.new.history) }
+        ensures failed { OnErr result ((IsTrue (next_fails self.old) × KeepsWrite FailedWrite file at from.now self.old.history self.new.history)
+            ⊎ (self.new.history ≡ self.old.history)) }
+    {
+        let listed = next_is_listed(&mut self.made, &self.failing);
         if let Ok(write) = Write::copy(self.alloc, file, at, from) {
-            if strikes {
+            if listed {
                 let _ = self.history.note(Call::FailedWrite(write));
             } else if self.history.write(write).is_ok() {
                 return Ok(());
             }
         }
-        Err(failed_write(&mut self.faults, &mut self.failed_writes))
+        Err(self.counts.write_failed())
     }
 
-    fn cut(&mut self, file: u32, len: u64) -> Result<(), Failed> {
-        if strikes(&mut self.made, &self.failing) {
+    // As for a write.
+    fn cut(&mut self, file: u32, len: u64) -> Result<(), Failed>
+        ensures done { OnOk result (IsTrue memory_device.tells → InFile (Becomes (take len)) file (memory_device.reads self.old) (memory_device.reads self.new)) }
+        ensures torn { OnErr result (IsTrue memory_device.tells → InFile (Shortened len) file (memory_device.reads self.old) (memory_device.reads self.new)) }
+        ensures crash { Follows memory_device (InFile (Shortened len) file) self.old self.new }
+        ensures time { Elapses memory_device self.old self.new }
+        ensures cause { HasCause memory_device self.old self.new result }
+        ensures writes { CountsFailure memory_device self.old self.new result }
+
+        ensures counted { HasCounted self.old self.new }
+        ensures fails { IsTrue (next_fails self.old) → IsErr result }
+        ensures kept { OnOk result (self.new.history ≡ Cut file len ∷ self.old.history) }
+        ensures failed { OnErr result ((IsTrue (next_fails self.old) × (self.new.history ≡ FailedCut file len ∷ self.old.history))
+            ⊎ (self.new.history ≡ self.old.history)) }
+    {
+        if next_is_listed(&mut self.made, &self.failing) {
             let _ = self.history.note(Call::FailedCut { file, len });
         } else if self.history.cut(file, len).is_ok() {
             return Ok(());
         }
-        Err(failed_write(&mut self.faults, &mut self.failed_writes))
+        Err(self.counts.write_failed())
     }
 
-    fn sync(&mut self, file: u32) -> Result<(), Failed> {
-        if !strikes(&mut self.made, &self.failing)
+    fn sync(&mut self, file: u32) -> Result<(), Failed>
+        ensures durable { OnOk result (IsDurable memory_device file (memory_device.reads self.old file) self.new) }
+        ensures reads { memory_device.reads self.new ≡ memory_device.reads self.old }
+        ensures crash { AddsNoImage memory_device self.old self.new }
+        ensures time { Elapses memory_device self.old self.new }
+        ensures cause { HasCause memory_device self.old self.new result }
+        ensures writes { CountsFailure memory_device self.old self.new result }
+
+        ensures counted { HasCounted self.old self.new }
+        ensures fails { IsTrue (next_fails self.old) → IsErr result }
+        ensures kept { OnOk result (self.new.history ≡ Synced file ∷ self.old.history) }
+        ensures failed { OnErr result (self.new.history ≡ self.old.history) }
+    {
+        if !next_is_listed(&mut self.made, &self.failing)
             && self.history.note(Call::Synced { file }).is_ok()
         {
             return Ok(());
         }
-        Err(failed_write(&mut self.faults, &mut self.failed_writes))
+        Err(self.counts.write_failed())
     }
 
     fn faults(&self) -> u64 {
-        self.faults
+        self.counts.faults
     }
 }

@@ -2,15 +2,13 @@
 ghost use Rattle.std.specs.Prelude.{◌≡◌, [], false};
 ghost use Rattle.arch_disk.specs.Laws.{untold};
 
-use crate::memory::{failed_write, fault};
-use crate::{Disk, Failed, MemDisk};
+use crate::{Disk, Failed, FaultCounts, MemDisk};
 
 /// Passes each call on. A range that doesn't lie in the file, which no contract rules out here, is a fault.
 #[derive(Drop)]
 pub struct Silent {
     inner: MemDisk,
-    faults: u64,
-    failed_writes: u64,
+    counts: FaultCounts,
 }
 
 impl Silent {
@@ -19,8 +17,7 @@ impl Silent {
     {
         Silent {
             inner,
-            faults: 0,
-            failed_writes: 0,
+            counts: FaultCounts::NONE,
         }
     }
 
@@ -39,8 +36,8 @@ impl Disk for Silent {
       images = λ _ _. ⊥;
       moment = λ _. 0;
       images_since = λ _ _ _. ⊥;
-      fault_count = λ s. s.faults;
-      failed_writes = λ s. s.failed_writes;
+      fault_count = λ s. s.counts.faults;
+      failed_writes = λ s. s.counts.failed_writes;
       now_counts = λ _ _ _ _ left. left;
       only_now = λ _ _ left. left;
       reads_as_image = λ _ told. untold told;
@@ -50,7 +47,7 @@ impl Disk for Silent {
     fn len(&mut self, file: u32) -> Result<u64, Failed> {
         match self.inner.len(file) {
             Ok(len) => Ok(len),
-            Err(_) => Err(fault(&mut self.faults)),
+            Err(_) => Err(self.counts.look_failed()),
         }
     }
 
@@ -62,7 +59,7 @@ impl Disk for Silent {
         {
             return Ok(());
         }
-        Err(fault(&mut self.faults))
+        Err(self.counts.look_failed())
     }
 
     fn write_at(&mut self, file: u32, at: u64, from: &[u8]) -> Result<(), Failed> {
@@ -71,24 +68,24 @@ impl Disk for Silent {
         {
             return Ok(());
         }
-        Err(failed_write(&mut self.faults, &mut self.failed_writes))
+        Err(self.counts.write_failed())
     }
 
     fn cut(&mut self, file: u32, len: u64) -> Result<(), Failed> {
         match self.inner.cut(file, len) {
             Ok(()) => Ok(()),
-            Err(_) => Err(failed_write(&mut self.faults, &mut self.failed_writes)),
+            Err(_) => Err(self.counts.write_failed()),
         }
     }
 
     fn sync(&mut self, file: u32) -> Result<(), Failed> {
         match self.inner.sync(file) {
             Ok(()) => Ok(()),
-            Err(_) => Err(failed_write(&mut self.faults, &mut self.failed_writes)),
+            Err(_) => Err(self.counts.write_failed()),
         }
     }
 
     fn faults(&self) -> u64 {
-        self.faults
+        self.counts.faults
     }
 }

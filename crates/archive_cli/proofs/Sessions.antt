@@ -190,11 +190,10 @@ module _ {D : Type 0} (device : Device D) (tells : IsTrue device.tells) (call : 
         count = s.cause.0;
         parts = s.parts;
         within = s.within;
-      } in
-      (
+      } in (
         more_faults device disk old last s.cause.0 wrote (rows last.history) ready.later done.opened faults now,
         inr (failed_now device tells call words disk old last dump moment ready keeps faults report wrote failing done now once silent
-        (is ∙ ap (λ (h : List Item). loaded (Some DiskFault) None (length old.history) (length h) 0 0 0) (sym again.history))),
+            (is ∙ ap (λ (h : List Item). loaded (Some DiskFault) None (length old.history) (length h) 0 0 0) (sym again.history))),
       )
 
   failed_again_so : (report : Report) → WentSo old new dump words.link moment call.written call.written' (Some DiskFault) report → IsReopened device new last

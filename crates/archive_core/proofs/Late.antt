@@ -1,15 +1,15 @@
 -- The last row of an interval decides whether it is late.
-use Rattle.std.proofs.Common.{◌≡◌, ℕ, zero, suc, ◌+◌, ◌≤◌, List, [], ◌∷◌, ◌++◌, length, Bool, true, false, eqb, leb, true≢false, Option, Some, None, refl, sym, ap, subst, ◌∙◌, arith, add-one}
+use Rattle.std.proofs.Common.{◌≡◌, ℕ, zero, suc, ◌+◌, ◌≤◌, List, [], ◌∷◌, ◌++◌, length, Bool, true, false, eqb, true≢false, Option, Some, None, refl, sym, ap, subst, ◌∙◌, arith, add-one}
 use Rattle.std.specs.Prelude.{slice_get, if◌then◌else◌, ◌&&◌, ◌↔◌, IsTrue, MatchOption, ⊤}
 use Rattle.std.specs.Ordering.{int_eq}
-use Rattle.std.proofs.lemmas.Bool.{eqb-true, leb-true, le-leb}
+use Rattle.std.proofs.lemmas.Bool.{eqb-true}
 use Rattle.std.proofs.lemmas.Bool.Decides.{Decides-int_eq, nat_tests}
 use Rattle.arch_types.specs.declared.interval.Interval.{Interval}
 use Rattle.arch_types.specs.Interval.{interval_of}
 use Rattle.archive_core.specs.declared.fills.Fill.{Fill}
 use Rattle.archive_core.specs.Items.{Item, is_row_of_interval}
 use Rattle.archive_core.specs.Fills.{base_of}
-use Rattle.archive_core.specs.Places.{last_place, last_with}
+use Rattle.archive_core.specs.Places.{last_with}
 use Rattle.archive_core.specs.Late.{StandsIn, IsLate, IsLastIn, last_in, is_late_by, is_late}
 use Rattle.archive_core.proofs.Places.{last_push}
 

@@ -1,7 +1,9 @@
 -- What an ingest answers, and what it adds.
-use Rattle.std.proofs.Common.{◌≡◌, ℕ, zero, suc, ◌+◌, ◌≤◌, List, [], ◌∷◌, ◌++◌, length, take, Bool, true, false, cond, eqb, true≢false, Option, Some, None, refl, sym, ap, subst, ◌∙◌, arith, append-nil, append_assoc, length-append, add-one}
+use Rattle.std.proofs.Common.{◌≡◌, ℕ, zero, suc, ◌+◌, ◌≤◌, List, [], ◌∷◌, ◌++◌, length, take, Bool, true, false, eqb, true≢false, Option, Some, None, refl, sym, ap, subst, ◌∙◌, arith, append-nil, append_assoc, length-append, add-one}
+use mathlib.Core.List.{Sublist}
+use mathlib.Core.List.Sublist as sublist
 use Rattle.std.specs.Prelude.{slice_get, if◌then◌else◌, ◌&&◌, ◌↔◌, option_map}
-use Rattle.std.specs.List.{AllByRecursion, list_any}
+use Rattle.std.specs.List.{AllByRecursion}
 use Rattle.std.specs.Ordering.{is_eq}
 use Rattle.std.specs.declared.cmp.Ordering.{Ordering}
 use Rattle.std.specs.declared.cmp.Ordering.TheVariants.{Less, Equal, Greater}
@@ -75,6 +77,15 @@ length-fresh history (row ∷ rows) = go (first_place (is_duplicate_of row) hist
     go : (o : Option ℕ) → length (fresh_of (with_row history row) rows) ≤ length rows → length (fresh_after o history row rows) ≤ length (row ∷ rows)
     go (Some place) others = omega (arith, others)
     go None others = omega (arith, others)
+
+-- the rows that are new are rows of the batch, in its order
+pub fresh_sublist : (history : List Item) (rows : List Row) → Sublist (fresh_of history rows) rows
+fresh_sublist history [] = sublist.refl []
+fresh_sublist history (row ∷ rows) = go (first_place (is_duplicate_of row) history) (fresh_sublist (with_row history row) rows)
+  where
+    go : (o : Option ℕ) → Sublist (fresh_of (with_row history row) rows) rows → Sublist (fresh_after o history row rows) (row ∷ rows)
+    go (Some place) others = sublist.cons row others
+    go None others = sublist.cons-cons row others
 
 -- as many new rows as rows are all of them
 fresh_all : (history : List Item) (rows : List Row) → length (fresh_of history rows) ≡ length rows → fresh_of history rows ≡ rows

@@ -1,5 +1,5 @@
 -- What a fill list tells: bases of fills, flights, and faults.
-use Rattle.std.specs.Prelude.{◌≡◌, ℕ, ◌+◌, ◌-◌, ◌^◌, ◌≤◌, Bool, true, false, List, [], ◌∷◌, fold, map, min, Option, Some, None, if◌then◌else◌}
+use Rattle.std.specs.Prelude.{◌≡◌, ℕ, ◌+◌, ◌-◌, ◌^◌, ◌<◌, ◌≤◌, slice_get, Bool, true, false, List, [], ◌∷◌, fold, map, min, Option, Some, None, if◌then◌else◌}
 use Rattle.std.specs.Ordering.{int_eq}
 use Rattle.arch_types.specs.declared.interval.Interval.{Interval}
 use Rattle.archive_core.specs.declared.fills.Fill.{Fill}
@@ -33,6 +33,25 @@ flight_after interval base (Fault count wrote rows) = base
 -- the base of an interval that is in flight: the last item that names it is Begun, with this base
 abbrev pub in_flight : Interval → List Fill → Option ℕ
 in_flight interval fills = fold (flight_after interval) None fills
+
+-- a Done of the interval with this base stands at a place, and no Done of it behind that place
+pub record IsLastDone (interval : Interval) (base : ℕ) (fills : List Fill) : Type 0 where
+  pub place : ℕ
+  pub there : slice_get fills place ≡ Some (Done interval base)
+  pub last : (later other : ℕ) → place < later → slice_get fills later ≡ Some (Done interval other) → ⊥
+
+-- the item is a Begun, a Done or a Freed of the interval
+abbrev pub EndsFlight : Interval → Fill → Type 0
+EndsFlight interval (Begun i b) = i ≡ interval
+EndsFlight interval (Done i b) = i ≡ interval
+EndsFlight interval (Freed i) = i ≡ interval
+EndsFlight interval (Fault count wrote rows) = ⊥
+
+-- a Begun of the interval with this base stands at a place, and behind it neither another Begun of it nor a Done or Freed of it
+pub record IsBegunLast (interval : Interval) (base : ℕ) (fills : List Fill) : Type 0 where
+  pub place : ℕ
+  pub there : slice_get fills place ≡ Some (Begun interval base)
+  pub last : (later : ℕ) (item : Fill) → place < later → slice_get fills later ≡ Some item → EndsFlight interval item → ⊥
 
 -- ---- faults
 

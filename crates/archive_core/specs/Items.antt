@@ -1,5 +1,5 @@
 -- The items of a history.
-use Rattle.std.specs.Prelude.{◌≡◌, ◌==◌, ◌&&◌, Bool, ℕ, List, take}
+use Rattle.std.specs.Prelude.{◌==◌, ◌&&◌, Bool, ℕ, List, take}
 use Rattle.std.specs.Ordering.{int_eq}
 use Rattle.arch_types.specs.declared.interval.Interval.{Interval}
 use Rattle.arch_types.specs.declared.row.Row.{Row}

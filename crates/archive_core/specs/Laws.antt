@@ -1,15 +1,16 @@
 -- What holds of outcomes, late intervals and fill lists.
-use Rattle.std.specs.Prelude.{◌≡◌, ◌↔◌, ℕ, ◌+◌, ◌<◌, ◌≤◌, List, [], ◌∷◌, ◌++◌, length, take, slice_get, Option, Some, None, Bool, true, IsTrue, if◌then◌else◌}
+use mathlib.Core.List.{Sublist}
+use Rattle.std.specs.Prelude.{◌≡◌, ◌↔◌, ℕ, ◌≤◌, List, [], ◌∷◌, ◌++◌, length, take, slice_get, Some, None, IsTrue, if◌then◌else◌}
 use Rattle.std.specs.Option.{option_or}
 use Rattle.arch_types.specs.declared.interval.Interval.{Interval}
 use Rattle.arch_types.specs.declared.inserted.Inserted.{Inserted}
 use Rattle.arch_types.specs.declared.row.Row.{Row}
 use Rattle.arch_types.specs.History.{ingested, IsHistory}
 use Rattle.archive_core.specs.declared.fills.Fill.{Fill}
-use Rattle.archive_core.specs.declared.fills.Fill.TheVariants.{Fault}
+use Rattle.archive_core.specs.declared.fills.Fill.TheVariants.{Done}
 use Rattle.archive_core.specs.Items.{Item, is_row_of_interval}
 use Rattle.archive_core.specs.Outcomes.{outcomes_of, fresh_of, Says}
-use Rattle.archive_core.specs.Fills.{base_of, base_after, in_flight, flight_after, held, standing, reopened, above, Rising}
+use Rattle.archive_core.specs.Fills.{base_of, base_after, in_flight, flight_after, IsLastDone, IsBegunLast, held, standing, reopened, above, Rising}
 use Rattle.archive_core.specs.Late.{IsLate, IsLastIn, last_in, is_late}
 
 -- ---- outcomes
@@ -26,6 +27,11 @@ OutcomesSay = (history : List Item) (rows : List Row) (i : ℕ) (row : Row) (out
 -- an ingest puts the rows that are new behind the history
 abbrev pub FreshRowsAreAdded : Type 0
 FreshRowsAreAdded = (history : List Item) (rows : List Row) → ingested history rows ≡ history ++ fresh_of history rows
+
+-- what an ingest puts behind the history are rows of the batch, in its order
+abbrev pub IngestAddsRowsInOrder : Type 0
+IngestAddsRowsInOrder = (history : List Item) (rows : List Row) →
+    (more : List Row) × (ingested history rows ≡ history ++ more) × Sublist more rows
 
 -- the rows that are new are a batch of which each is new
 abbrev pub FreshRowsAreNew : Type 0
@@ -53,6 +59,17 @@ abbrev pub LateByLast : Type 0
 LateByLast = (interval : Interval) (history : List Item) (fills : List Fill) → IsTrue (is_late interval history fills) ↔ IsLate interval history fills
 
 -- ---- fill lists
+
+-- the base of an interval is that of its last Done, and there is none exactly where no Done of it stands in the list
+abbrev pub BaseIsOfLastDone : Type 0
+BaseIsOfLastDone = (interval : Interval) (fills : List Fill) →
+    ((base : ℕ) → (base_of interval fills ≡ Some base) ↔ IsLastDone interval base fills)
+    × ((base_of interval fills ≡ None) ↔ ((place base : ℕ) → slice_get fills place ≡ Some (Done interval base) → ⊥))
+
+-- an interval is in flight, with a base, exactly where a Begun of it with that base stands in the list and nothing that ends the flight behind
+abbrev pub FlightIsBegunLast : Type 0
+FlightIsBegunLast = (interval : Interval) (base : ℕ) (fills : List Fill) →
+    (in_flight interval fills ≡ Some base) ↔ IsBegunLast interval base fills
 
 -- one item more
 abbrev pub BasesAfterItem : Type 0

@@ -1,6 +1,6 @@
 //! Laws of the definitions, carried by functions that do nothing.
 
-ghost use Rattle.archive_core.specs.Laws.{OneOutcomePerRow, OutcomesSay, FreshRowsAreAdded, FreshRowsAreNew, NewInTurn, LastIsGreatest, LastAfterItem, LateByLast, BasesAfterItem, FaultsAfterItems, CountsGoOn, ReopenSettles};
+ghost use Rattle.archive_core.specs.Laws.{OneOutcomePerRow, OutcomesSay, FreshRowsAreAdded, IngestAddsRowsInOrder, FreshRowsAreNew, NewInTurn, LastIsGreatest, LastAfterItem, LateByLast, BaseIsOfLastDone, FlightIsBegunLast, BasesAfterItem, FaultsAfterItems, CountsGoOn, ReopenSettles};
 
 /// A batch has one outcome per row.
 pub fn one_outcome_per_row()
@@ -16,6 +16,11 @@ pub fn outcomes_say()
 /// An ingest puts the rows that are new behind the history.
 pub fn fresh_rows_are_added()
     ensures { FreshRowsAreAdded }
+{}
+
+/// What an ingest puts behind the history are rows of the batch, in its order.
+pub fn ingest_adds_rows_in_order()
+    ensures { IngestAddsRowsInOrder }
 {}
 
 /// The rows that are new are a batch of which each is new.
@@ -41,6 +46,16 @@ pub fn last_after_item()
 /// The last row of an interval decides whether it is late.
 pub fn late_by_last()
     ensures { LateByLast }
+{}
+
+/// The base of an interval is that of its last Done.
+pub fn base_is_of_last_done()
+    ensures { BaseIsOfLastDone }
+{}
+
+/// An interval is in flight exactly where a Begun of it is the last that is said of its flight.
+pub fn flight_is_begun_last()
+    ensures { FlightIsBegunLast }
 {}
 
 /// Bases and flights after one more item.

@@ -1,7 +1,8 @@
 //! Batches, and what is done after a write that failed.
 
 ghost use Rattle.std.specs.Prelude.{◌≡◌, ◌≢◌, ◌<◌, ◌≤◌, ◌⊎◌, ◌+◌, ◌^◌, [], ℕ, None, Some, IsTrue, length, if◌then◌else◌, ◌++◌, OnOk, OnErr, IfOk, IfErr, IfSome, IfNone, MatchResult, Err, vec_len, vec_capacity};
-ghost use Rattle.arch_disk.specs.Disk.{LeavesOnly, HasCause};
+ghost use Rattle.arch_disk.specs.Image.{Image};
+ghost use Rattle.arch_disk.specs.Disk.{LeavesOnly, HasCause, CountsFailure};
 ghost use Rattle.arch_types.specs.declared.refusal.Refusal.TheVariants.{DiskFault, Limit, OutOfMemory};
 ghost use Rattle.arch_types.specs.declared.refusal.Which.{Which as AWhich};
 ghost use Rattle.arch_types.specs.History.{ingested};
@@ -95,7 +96,7 @@ impl<D: Disk> Store<D> {
         ensures ok { OnOk result ((self.new.history ≡ self.old.history ++ items_of fresh) × (self.new.fills ≡ self.old.fills) × (self.new.records ≡ self.old.records + 1)) }
         ensures same { (self.new.head ≡ self.old.head) × (self.new.opened ≡ self.old.opened) }
         ensures refused { OnErr result (self.new.history ≡ self.old.history) }
-        ensures no_record { IsTrue D.device.tells → OnErr result (self.new.records ≡ self.old.records) }
+        ensures no_record { OnErr result (self.new.records ≡ self.old.records) }
         ensures fault { result ≡ Err DiskFault → AddsFault D.device self.old self.new fresh }
         ensures untouched { OnErr result ((result ≡ Err DiskFault) ⊎ (self.new ≡ self.old)) }
         ensures any_moment { IsTrue D.device.tells → LeavesOnly D.device self.old.disk self.new.disk (λ c. StandsFor c (archive_of self.old) ⊎ StandsFor c (archive self.old.head (self.old.history ++ items_of fresh))) }
@@ -142,7 +143,7 @@ impl<D: Disk> Store<D> {
 
         // Refused, it leaves all as it was, but for the fault of a disk that failed, which holds the new rows.
         ensures refused { OnErr result (self.new.history ≡ self.old.history) }
-        ensures no_record { IsTrue D.device.tells → OnErr result (self.new.records ≡ self.old.records) }
+        ensures no_record { OnErr result (self.new.records ≡ self.old.records) }
         ensures fault { result ≡ Err DiskFault → AddsFault D.device self.old self.new (fresh_of self.old.history (batch_rows batch.now)) }
         ensures untouched { OnErr result ((result ≡ Err DiskFault) ⊎ (self.new ≡ self.old)) }
 
@@ -197,11 +198,15 @@ impl<D: Disk> Store<D> {
         ensures err { OnErr result (self.new.fills ≡ self.old.fills) }
         ensures same { (self.new.history ≡ self.old.history) × (self.new.head ≡ self.old.head) × (self.new.opened ≡ self.old.opened) × (self.new.records ≡ self.old.records) }
 
+        // Afterwards every image stands for the history, whatever failed before.
+        ensures healed { IsTrue D.device.tells → OnOk result ((c : Image) → D.device.images self.new.disk c → StandsFor c (archive_of self.new)) }
+
         // A crash at any moment of the call leaves what it could have left before.
         ensures any_moment { IsTrue D.device.tells → LeavesOnly D.device self.old.disk self.new.disk (IsNow self.old.head self.old.history (rows_in_hand self.old.fills)) }
         ensures no_call { standing self.old.fills ≡ None → self.new.disk ≡ self.old.disk }
         ensures only { IfErr result (λ e. e ≡ DiskFault) }
         ensures later { HasCounts D.device self.old.disk self.new.disk }
+        ensures writes { CountsFailure D.device self.old.disk self.new.disk result }
         ensures cause { HasCause D.device self.old.disk self.new.disk result }
     {
         match self.journal.heal(&mut self.disk) {

@@ -1,6 +1,7 @@
 //! The store.
 
-ghost use Rattle.std.specs.Prelude.{◌≡◌, ◌<◌, ◌≤◌, ◌⊎◌, [], ◌∷◌, List, ℕ, None, Some, IsTrue, length, get_or, OnOk, IfOk, IfErr, MatchResult};
+ghost use Rattle.std.specs.Prelude.{◌≡◌, ◌≢◌, ◌<◌, ◌≤◌, ◌⊎◌, [], ◌∷◌, List, ℕ, None, Some, IsTrue, length, get_or, OnOk, IfOk, IfErr, MatchResult};
+ghost use Rattle.arch_disk.specs.Image.{Image};
 ghost use Rattle.arch_disk.specs.Disk.{LeavesOnly, raised};
 ghost use Rattle.arch_types.specs.declared.refusal.Refusal.TheVariants.{DiskFault, OutOfMemory};
 ghost use Rattle.disk_journal.specs.Format.{HasRecords, HoldsNone};
@@ -119,12 +120,12 @@ impl<D: Disk> Store<D> {
     ghost use Rattle.archive_store.specs.Seen.{archive_of, KeepsImages, KeepsFaults, HasCounts};
     ghost use Rattle.archive_store.specs.Answers.{IsOpenAnswer, IsOpenRefusal, IsDamagedOr, IsNoneOr, IsPlain, IsCreateAnswer, IsCreateRefusal, IsMaking};
 
-    /// Makes an archive without rows on a disk that holds none. That its journal then has one record, the head, is known where the disk tells
-    /// what it holds: of a disk that tells nothing a journal promises no records.
+    /// Makes an archive without rows on a disk that holds none. Where the last write or sync fails it closes the gate again, as far as the disk
+    /// lets it.
     pub fn create(alloc: Global, disk: D, head: Head) -> Result<Store<D>, (D, Refusal)>
         requires head { IsEntry (entries.Head head.tables head.mdb) }
         ensures made { IfOk result (λ s. (s.history ≡ []) × (s.fills ≡ []) × (s.head ≡ head) × (s.opened ≡ s.disk)) }
-        ensures records { IsTrue D.device.tells → IfOk result (λ s. s.records ≡ 1) }
+        ensures records { IfOk result (λ s. s.records ≡ 1) }
 
         // Exists comes exactly where file 0 has two octets at least and the first is 1, and then the disk reads as before.
         ensures none { IsTrue D.device.tells → OnOk result (HoldsNone (D.device.reads disk 0)) }
@@ -137,9 +138,17 @@ impl<D: Disk> Store<D> {
         ensures any_moment { IsTrue D.device.tells → HoldsNone (D.device.reads disk 0)
             → MatchResult result (λ s. LeavesOnly D.device disk s.disk (IsMaking (D.device.images disk) head)) (λ e. LeavesOnly D.device disk e.0 (IsMaking (D.device.images disk) head)) }
 
+        // After a failure with fewer than two faults a crash leaves no archive, or what it could have left before.
+        ensures closed { IsTrue D.device.tells → HoldsNone (D.device.reads disk 0) → IfErr result (λ e. e.1 ≡ DiskFault
+            → D.device.fault_count e.0 < raised (raised (D.device.fault_count disk))
+            → (c : Image) → D.device.images e.0 c → D.device.images disk c ⊎ HoldsNone (c 0)) }
+
         ensures only { IfErr result (λ e. IsCreateAnswer e.1) }
         ensures memory { IfErr result (λ e. e.1 ≡ OutOfMemory → e.0 ≡ disk) }
         ensures later { MatchResult result (λ s. HasCounts D.device disk s.disk) (λ e. HasCounts D.device disk e.0) }
+        ensures writes { MatchResult result (λ s. D.device.failed_writes s.disk ≡ D.device.failed_writes disk)
+            (λ e. D.device.failed_writes e.0 ≢ D.device.failed_writes disk → e.1 ≡ DiskFault) }
+        ensures writes_most { IfErr result (λ e. D.device.failed_writes e.0 ≤ raised (raised (D.device.failed_writes disk))) }
         ensures cause { IfErr result (λ e. e.1 ≡ DiskFault → raised (D.device.fault_count disk) ≤ D.device.fault_count e.0) }
     {
         let mut disk = disk;
@@ -191,6 +200,11 @@ impl<D: Disk> Store<D> {
         ensures handed_in { MatchResult result (λ s. LeavesOnly D.device disk s.opened (D.device.images disk)) (λ e. LeavesOnly D.device disk e.0 (D.device.images disk)) }
         ensures only { IfErr result (λ e. IsOpenAnswer e.1) }
         ensures later { MatchResult result (λ s. HasCounts D.device disk s.opened) (λ e. HasCounts D.device disk e.0) }
+
+        // A write failed only where the sync at the beginning did.
+        ensures writes { MatchResult result (λ s. D.device.failed_writes s.disk ≡ D.device.failed_writes disk)
+            (λ e. (D.device.failed_writes e.0 ≡ D.device.failed_writes disk)
+            ⊎ ((e.1 ≡ DiskFault) × (D.device.failed_writes e.0 ≡ raised (D.device.failed_writes disk)))) }
         ensures cause { IfErr result (λ e. e.1 ≡ DiskFault → raised (D.device.fault_count disk) ≤ D.device.fault_count e.0) }
     {
         let mut disk = disk;
@@ -246,6 +260,13 @@ impl<D: Disk> Store<D> {
         ensures faults { KeepsFaults D.device self.now }
     {
         self.history.len() as u64
+    }
+
+    /// The disk, to be looked at.
+    pub fn disk(&self) -> &D
+        ensures { result.now ≡ self.now.disk }
+    {
+        &self.disk
     }
 
     /// The tables and the mission database.

@@ -1,6 +1,6 @@
 -- What the two writes of an append leave.
-use Rattle.std.proofs.Common.{◌≡◌, inl, ℕ, ◌+◌, ◌^◌, ◌<◌, ◌≤◌, List, [], ◌∷◌, ◌++◌, length, sym, ◌∙◌, ap, subst, arith, length-append}
-use Rattle.arch_disk.specs.Image.{Image, AgreesBut, Torn, InFile, Becomes, overwritten}
+use Rattle.std.proofs.Common.{◌≡◌, inl, ℕ, ◌+◌, ◌^◌, ◌<◌, List, [], ◌∷◌, ◌++◌, length, sym, ◌∙◌, ap, subst, arith, length-append}
+use Rattle.arch_disk.specs.Image.{Image, Torn, InFile, Becomes, overwritten}
 use Rattle.arch_disk.specs.Disk.{Device, IsDurable, LeavesOnly}
 use Rattle.arch_disk.proofs.Moments.{joins, weakens, at_end}
 use Rattle.disk_journal.specs.Format.{framed, written, HasRecords, HasStaged, IsBeforeOrAfter, IsClosed, HoldsNone}

@@ -4,7 +4,6 @@ use Rattle.std.specs.Prelude.{slice_get}
 use Rattle.std.proofs.lemmas.List.{take_at, drop_at, drop-drop}
 use Rattle.disk_journal.specs.Format.{framed, written}
 use Rattle.std.specs.Prelude.{IsTrue, Result, Ok, Err, IfOk}
-use Rattle.arch_disk.specs.Image.{Image}
 use Rattle.arch_disk.specs.Disk.{Device}
 use Rattle.disk_journal.specs.State.{extents_from, StateIs, Keeps}
 use Rattle.disk_journal.specs.declared.journal.Journal.{Journal}

@@ -1,5 +1,5 @@
 -- What a reading of a file gives, to its end or to a record that passes the end.
-use Rattle.std.proofs.Common.{◌≡◌, ℕ, List, [], refl, sym, ◌∙◌, ap, subst}
+use Rattle.std.proofs.Common.{◌≡◌, ℕ, List, [], sym, ◌∙◌, ap, subst}
 use Rattle.std.specs.Prelude.{None}
 use Rattle.arch_disk.specs.Image.{Image}
 use Rattle.arch_disk.specs.Disk.{Device, IsDurable, Looked}

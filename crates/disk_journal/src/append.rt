@@ -1,7 +1,7 @@
 // One record more, and what is done when that fails.
 ghost use Rattle.std.specs.Prelude.{◌≡◌, ◌≢◌, ◌+◌, ◌-◌, ◌^◌, ◌≤◌, ◌↔◌, ◌++◌, [], ◌∷◌, List, ℕ, None, Some, IsTrue, min, OnOk, OnErr, IfOk, IfErr};
 ghost use Rattle.arch_disk.specs.Image.{AgreesBut};
-ghost use Rattle.arch_disk.specs.Disk.{LeavesOnly, HasCause, raised};
+ghost use Rattle.arch_disk.specs.Disk.{LeavesOnly, HasCause, CountsFailure, raised};
 ghost use Rattle.disk_journal.specs.Format.{IsBeforeOrAfter};
 ghost use Rattle.disk_journal.specs.State.{Keeps, KeepsSome, IsOldBut, HasRoom, count_of, file_of, unhealed, asks_reopen, IsSame, IsEarly, IsAppendFault};
 
@@ -30,6 +30,7 @@ impl Journal {
             → Keeps D.device self.new bodies frame.now disk.new }
         ensures still { IsTrue D.device.tells → KeepsSome D.device self.new disk.new }
         ensures room { OnErr result (HasRoom self.new) }
+        ensures count { OnErr result (count_of self.new ≡ count_of self.old) }
         ensures early { IfErr result (λ e. IsEarly e → (disk.new ≡ disk.old) × IsSame self.old self.new) }
 
         // A crash at any moment of the call leaves the records from before it, with the new one or without,
@@ -103,6 +104,7 @@ impl Journal {
         ensures reads { IsTrue D.device.tells → AgreesBut (file_of self.old) (D.device.reads disk.old) (D.device.reads disk.new) }
 
         ensures no_call { unhealed self.old ≡ None → disk.new ≡ disk.old }
+        ensures writes { CountsFailure D.device disk.old disk.new result }
         ensures writes_later { D.device.failed_writes disk.old ≤ D.device.failed_writes disk.new }
         ensures only { IfErr result (λ e. e ≡ JournalFault.DiskFault) }
         ensures cause { HasCause D.device disk.old disk.new result }

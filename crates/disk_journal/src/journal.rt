@@ -1,8 +1,8 @@
 // The records of one file.
-ghost use Rattle.std.specs.Prelude.{◌≡◌, ◌+◌, ◌<◌, ◌≤◌, ◌⊎◌, ◌++◌, [], ◌∷◌, List, ℕ, None, IsTrue, length, get_or, OnOk, IfOk, IfErr, IfSome, IsErrAnd, slice_get};
+ghost use Rattle.std.specs.Prelude.{◌≡◌, ◌≢◌, ◌+◌, ◌<◌, ◌≤◌, ◌⊎◌, ◌++◌, [], ◌∷◌, List, ℕ, None, IsTrue, length, get_or, OnOk, OnErr, IfOk, IfErr, IfSome, IsErrAnd, slice_get};
 ghost use Rattle.arch_disk.specs.Image.{Image, AgreesBut};
 ghost use Rattle.arch_disk.specs.Disk.{IsDurable, LeavesOnly, Looked, HasCause, raised};
-ghost use Rattle.disk_journal.specs.Format.{HasRecords, IsDamagedAt, HoldsNone};
+ghost use Rattle.disk_journal.specs.Format.{HasRecords, IsDamagedAt, HoldsNone, IsBeforeOrAfter};
 ghost use Rattle.disk_journal.specs.State.{IsOldBut, IsUntouched};
 
 use crate::steps::{flush, len_of, octet_at, octets_at, put};
@@ -68,7 +68,8 @@ fn prepare<D: Disk>(disk: &mut D, file: u32) -> Result<(), JournalFault>
     ensures kept { IsTrue D.device.tells → 2 ≤ length (D.device.reads disk.old file) → get_or (D.device.reads disk.old file) 0 0 ≡ 1 → IsUntouched D.device disk.old disk.new }
     ensures cause { result ≡ Err JournalFault.DiskFault → raised (D.device.fault_count disk.old) ≤ D.device.fault_count disk.new }
     ensures later { D.device.fault_count disk.old ≤ D.device.fault_count disk.new }
-    ensures writes_later { D.device.failed_writes disk.old ≤ D.device.failed_writes disk.new }
+    ensures writes { (D.device.failed_writes disk.new ≡ D.device.failed_writes disk.old)
+        ⊎ ((result ≡ Err JournalFault.DiskFault) × (D.device.failed_writes disk.new ≡ raised (D.device.failed_writes disk.old))) }
 {
     flush(disk, file)?;
     let len = len_of(disk, file)?;
@@ -85,7 +86,8 @@ fn prepare<D: Disk>(disk: &mut D, file: u32) -> Result<(), JournalFault>
 impl Journal {
     ghost use Rattle.disk_journal.specs.State.{Keeps, KeepsSome, HasRoom, count_of, file_of, unhealed, IsSame, IsOpenFault, IsDamagedOr};
 
-    /// Makes a journal with one record in a file that holds none. It begins with a sync.
+    /// Makes a journal with one record in a file that holds none. It begins with a sync. Where the record can't be
+    /// written it closes the gate again, as far as the disk lets it.
     pub fn create<D: Disk>(
         alloc: Global,
         disk: &mut D,
@@ -95,6 +97,7 @@ impl Journal {
         ensures ok { IsTrue D.device.tells → IfOk result (λ journal. Keeps D.device journal (first.now ∷ []) [] disk.new) }
         ensures still { IsTrue D.device.tells → IfOk result (λ journal. KeepsSome D.device journal disk.new) }
         ensures healthy { IfOk result (λ journal. (unhealed journal ≡ None) × (file_of journal ≡ file)) }
+        ensures count { IfOk result (λ journal. count_of journal ≡ 1) }
 
         // Exists comes exactly where the file has two octets at least and the first is 1.
         ensures none { IsTrue D.device.tells → OnOk result (HoldsNone (D.device.reads disk.old file)) }
@@ -109,10 +112,18 @@ impl Journal {
         ensures elsewhere { LeavesOnly D.device disk.old disk.new (IsOldBut D.device file disk.old) }
         ensures reads { IsTrue D.device.tells → AgreesBut file (D.device.reads disk.old) (D.device.reads disk.new) }
 
+        // After a failure with fewer than two faults a crash leaves no archive, or what it could have left before.
+        ensures closed { IsTrue D.device.tells → HoldsNone (D.device.reads disk.old file) → result ≡ Err JournalFault.DiskFault
+            → D.device.fault_count disk.new < raised (raised (D.device.fault_count disk.old))
+            → (c : Image) → D.device.images disk.new c → D.device.images disk.old c ⊎ HoldsNone (c file) }
+
         ensures only { IfErr result (λ e. (e ≡ JournalFault.Exists) ⊎ ((e ≡ JournalFault.DiskFault) ⊎ (e ≡ JournalFault.OutOfMemory))) }
         ensures cause { result ≡ Err JournalFault.DiskFault → raised (D.device.fault_count disk.old) ≤ D.device.fault_count disk.new }
         ensures later { D.device.fault_count disk.old ≤ D.device.fault_count disk.new }
         ensures writes_later { D.device.failed_writes disk.old ≤ D.device.failed_writes disk.new }
+        ensures writes_most { D.device.failed_writes disk.new ≤ raised (raised (D.device.failed_writes disk.old)) }
+        ensures writes { (D.device.failed_writes disk.new ≢ D.device.failed_writes disk.old) → result ≡ Err JournalFault.DiskFault }
+        ensures calm { OnOk result (D.device.failed_writes disk.new ≡ D.device.failed_writes disk.old) }
         ensures memory { result ≡ Err JournalFault.OutOfMemory → disk.new ≡ disk.old }
     {
         let _size = first.len();
@@ -124,8 +135,37 @@ impl Journal {
         };
         journal.reserve()?;
         prepare(disk, file)?;
-        journal.append(disk, first)?;
+        journal.append_first(disk, first)?;
         Ok(journal)
+    }
+
+    // Adds the first record. An open gate that the system reads and the device lacks would have a later program build on
+    // it, so a failed one is closed again.
+    fn append_first<D: Disk>(&mut self, disk: &mut D, first: &Frame) -> Result<(), Failed>
+        requires room { HasRoom self.old }
+        requires healthy { (unhealed self.old ≡ None) × (count_of self.old ≡ 0) }
+        requires kept { IsTrue D.device.tells → Keeps D.device self.old [] [] disk.old }
+        ensures ok { IsTrue D.device.tells → OnOk result (Keeps D.device self.new (first.now ∷ []) [] disk.new) }
+        ensures healthy { OnOk result ((unhealed self.new ≡ None) × (count_of self.new ≡ 1)) }
+        ensures file { file_of self.new ≡ file_of self.old }
+        ensures any_moment { IsTrue D.device.tells → LeavesOnly D.device disk.old disk.new (λ c. IsBeforeOrAfter [] first.now (c (file_of self.old))) }
+        ensures closed { IsTrue D.device.tells → OnErr result (D.device.fault_count disk.new < raised (raised (D.device.fault_count disk.old))
+            → (c : Image) → D.device.images disk.new c → HoldsNone (c (file_of self.old))) }
+        ensures elsewhere { LeavesOnly D.device disk.old disk.new (IsOldBut D.device (file_of self.old) disk.old) }
+        ensures reads { IsTrue D.device.tells → AgreesBut (file_of self.old) (D.device.reads disk.old) (D.device.reads disk.new) }
+        ensures cause { HasCause D.device disk.old disk.new result }
+        ensures calm { OnOk result (D.device.failed_writes disk.new ≡ D.device.failed_writes disk.old) }
+        ensures counted { OnErr result ((raised (D.device.failed_writes disk.old) ≤ D.device.failed_writes disk.new)
+            × (D.device.failed_writes disk.new ≤ raised (raised (D.device.failed_writes disk.old)))) }
+    {
+        match self.append(disk, first) {
+            Ok(_) => Ok(()),
+            Err(_) => {
+                // That it fails too shows in the disk's count of faults.
+                let _ = self.heal(disk);
+                Err(Failed)
+            }
+        }
     }
 
     /// Opens the journal in a file. It begins with a sync, and reads of each record the gate and the length.
@@ -149,6 +189,11 @@ impl Journal {
         ensures only { IfErr result IsOpenFault }
         ensures cause { result ≡ Err JournalFault.DiskFault → raised (D.device.fault_count disk.old) ≤ D.device.fault_count disk.new }
         ensures later { D.device.fault_count disk.old ≤ D.device.fault_count disk.new }
+
+        // A write failed only where the sync at the beginning did.
+        ensures writes { (D.device.failed_writes disk.new ≡ D.device.failed_writes disk.old)
+            ⊎ ((result ≡ Err JournalFault.DiskFault) × (D.device.failed_writes disk.new ≡ raised (D.device.failed_writes disk.old))) }
+        ensures calm { OnOk result (D.device.failed_writes disk.new ≡ D.device.failed_writes disk.old) }
     {
         let opening = Opening::begin(alloc, disk, file)?;
         opening.finish_all(disk)

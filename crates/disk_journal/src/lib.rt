@@ -11,13 +11,14 @@
 // The one idea of the proof: `Keeps` (specs/State.antt) ties a journal in memory to every image that a crash may leave, by
 // the failures since the last heal: gate closed, or touched and the record whole behind it. To touch together: the format
 // (specs/Format.antt), `StateIs`, and the order of the calls in src/append.rt. That a file's octets mean one list of records
-// is proofs/Once.antt.
+// is `laws::records_are_one`.
 #![tactic(auto)]
 
 mod append;
 mod fault;
 mod frame;
 mod journal;
+pub mod laws;
 mod opening;
 mod steps;
 

@@ -38,6 +38,8 @@ impl Opening {
         ensures only { IfErr result (λ e. (e ≡ NoArchive) ⊎ (e ≡ DiskFault)) }
         ensures cause { result ≡ Err JournalFault.DiskFault → raised (D.device.fault_count disk.old) ≤ D.device.fault_count disk.new }
         ensures later { D.device.fault_count disk.old ≤ D.device.fault_count disk.new }
+        ensures writes { (D.device.failed_writes disk.new ≡ D.device.failed_writes disk.old)
+            ⊎ ((result ≡ Err JournalFault.DiskFault) × (D.device.failed_writes disk.new ≡ raised (D.device.failed_writes disk.old))) }
         ensures writes_later { D.device.failed_writes disk.old ≤ D.device.failed_writes disk.new }
         ensures images { AddsNoImage D.device disk.old disk.new }
     {

@@ -151,7 +151,7 @@ fn images_of_appends_and_heals(rt: HostRuntime) -> Result<(), Fail> {
         }};
     }
     for fails in 0..24u64 {
-        let mut disk = MemDisk::failing(vec![in rt.alloc(); fails; 1]?, rt.alloc());
+        let mut disk = MemDisk::failing(rt.alloc(), vec![in rt.alloc(); fails; 1]?);
         let first = Frame::of(rt.alloc(), body_at(0))?;
         let made = Journal::create(rt.alloc(), &mut disk, 0, &first);
         open_images(&rt, rt.alloc(), &disk, 0, 0)?;

@@ -1,4 +1,4 @@
-use Rattle.std.proofs.Common.{◌≡◌, ap, set, ◌∙◌, sym}
+use Rattle.std.proofs.Common.{ap, set, ◌∙◌, sym}
 use Rattle.std.proofs.lemmas.List.Edits.{map_over_more}
 use Rattle.archive_core.specs.declared.fills.Fill.{Fill}
 use Rattle.archive_core.specs.Fills.{settled}

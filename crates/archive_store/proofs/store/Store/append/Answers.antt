@@ -1,4 +1,4 @@
-use Rattle.std.proofs.Common.{◌≡◌, ◌⊎◌, inl, ◌++◌, [], ◌∷◌, ℕ, List, length, Bool, true, false, Result, Err, Some, None, refl, sym, ◌∙◌, ap, subst, arith, map}
+use Rattle.std.proofs.Common.{◌≡◌, ◌⊎◌, inl, ◌++◌, [], ◌∷◌, ℕ, List, length, Bool, true, false, Result, Err, Some, None, refl, sym, ◌∙◌, ap, subst, arith}
 use Rattle.std.specs.Prelude.{IsTrue}
 use Rattle.arch_disk.specs.Disk.{LeavesOnly}
 use Rattle.arch_types.specs.declared.row.Row.{Row}
@@ -12,7 +12,6 @@ use Rattle.disk_journal.specs.State.{unhealed, faults_of, file_of}
 use Rattle.disk_journal.specs.declared.fault.JournalFault.{JournalFault}
 use Rattle.disk_journal.specs.declared.fault.JournalFault.TheVariants.{DiskFault, Limit}
 use Rattle.field_codec.specs.declared.entry.Entry.TheVariants as entries
-use Rattle.disk_journal.proofs.Appending.{keeps_same}
 use Rattle.field_codec.specs.Spelling.{entry_octets}
 use Rattle.std.specs.List.{AllByRecursion}
 use Rattle.archive_store.specs.Entries.{archive, AreAdmitted, IsPlaced}
@@ -140,17 +139,5 @@ add_all-requires-clause-tables g c =
     placed_tables s.head c.in-Ok.fresh c.prepare-prepared.new.history.tables (c.prepare-prepared.ensures.history.1 ∙ c.self.invariant.1) placed
 
 pub returns-clause-no_record : goal.returns-clause-no_record
-returns-clause-no_record g c told =
-    let device = g.D.Disk.device in
-    let s = c.self.inside in
-    let k = c.self.invariant.0 in
-    let mid = c.prepare-prepared.new.journal in
-    let calm : standing s.fills.items ≡ None = subst (λ (x : Seen g.row.D.Denot). standing x.fills ≡ None) (sym c.self.view_is) c.requires.calm in
-    let err : JournalFault → Result ℕ JournalFault = λ x. Err x in
-    let below : c.in-Err.field-0 ≡ Limit → ⊥ = λ is. absurd (omega (arith, (c.in-Err.ensures.limit.0 (ap err is)).1, c.requires.records, ap (λ (x : Seen g.row.D.Denot). x.records) c.self.view_is, ap length c.prepare-prepared.ensures.journal.extents)) in
-    let fails = only_fault c.in-Err.field-0 c.in-Err.ensures.only (c.in-Err.ensures.needs_reopen ∙ ap faults_of c.prepare-prepared.ensures.journal.trouble ∙ k.unhealed_is ∙ calm) below in
-    let e = k.entries told in
-    let bodies : List (List ℕ) = map entry_octets e.entries in
-    let old = keeps_same device s.journal mid bodies e.pending s.disk c.prepare-prepared.ensures.journal e.keeps in
-    let new = c.in-Err.ensures.failed told bodies e.pending old (ap err fails) in
-    ap length (new.extents ∙ sym old.extents ∙ c.prepare-prepared.ensures.journal.extents) ∙ ap (λ (x : Seen g.row.D.Denot). x.records) c.self.view_is
+returns-clause-no_record g c =
+    c.in-Err.ensures.count ∙ ap length c.prepare-prepared.ensures.journal.extents ∙ ap (λ (x : Seen g.row.D.Denot). x.records) c.self.view_is

@@ -1,4 +1,4 @@
-use Rattle.std.proofs.Common.{◌≡◌, ◌⊎◌, ◌∷◌, [], List, length, ℕ, None, inl, refl, sym, ◌∙◌, subst}
+use Rattle.std.proofs.Common.{◌≡◌, ◌⊎◌, ◌∷◌, [], List, length, ℕ, None, inl, refl, sym, ap, ◌∙◌, subst}
 use Rattle.std.specs.Prelude.{IsTrue}
 use Rattle.std.specs.Arc.{arc_value}
 use Rattle.arch_disk.proofs.Moments.{weakens, started}
@@ -7,7 +7,9 @@ use Rattle.archive_core.specs.Items.{Item}
 use Rattle.disk_journal.specs.Format.{HasRecords, HoldsNone}
 use Rattle.disk_journal.specs.State.{Keeps as JournalKeeps}
 use Rattle.archive_store.specs.declared.head.Head.{Head}
+use Rattle.disk_journal.specs.declared.fault.JournalFault.TheVariants.{DiskFault}
 use Rattle.archive_store.specs.Inside.{Keeps}
+use Rattle.archive_store.specs.Made.{making_refusal}
 use Rattle.archive_store.specs.Answers.{IsCreateAnswer, IsCreateRefusal}
 use Rattle.archive_store.proofs.Opened.{kept_made, making}
 use Rattle.archive_store.proofs.Refusals.{making_answers, making_refused, making_failed, making_wanting}
@@ -60,6 +62,16 @@ pub returns-clause-cause : goal.returns-clause-cause
 returns-clause-cause g c is =
     let failed = making_failed c.in-Err.fault c.in-Err.ensures.only (sym c.making_refusal.ensures ∙ is) in
     c.in-Err.ensures.cause (cc (failed))
+
+pub returns-clause-closed : goal.returns-clause-closed
+returns-clause-closed g c told none is =
+    let failed = making_failed c.in-Err.fault c.in-Err.ensures.only (sym c.making_refusal.ensures ∙ is) in
+    c.in-Err.ensures.closed told none (cc (failed))
+
+pub returns-clause-writes : goal.returns-clause-writes
+returns-clause-writes g c differs =
+    let failed : c.in-Err.fault ≡ DiskFault = cc (c.in-Err.ensures.writes differs) in
+    c.making_refusal.ensures ∙ ap making_refusal failed
 
 pub returns-clause-only : goal.returns-clause-only
 returns-clause-only g c = subst IsCreateAnswer (sym c.making_refusal.ensures) (making_answers c.in-Err.fault)

@@ -1,12 +1,14 @@
-use Rattle.std.proofs.Common.{◌≡◌, List, None, sym, subst, ap, ◌∙◌, length, map, ℕ}
+use Rattle.std.proofs.Common.{◌≡◌, inl, inr, ⊎_elim, List, None, sym, subst, ap, ◌∙◌, length, map, ℕ}
 use Rattle.arch_disk.specs.Image.{Image}
 use Rattle.archive_core.specs.declared.fills.Fill.{Fill}
 use Rattle.disk_journal.specs.Format.{HasRecords}
 use Rattle.disk_journal.proofs.Bodies.{length-extents}
+use Rattle.disk_journal.specs.declared.fault.JournalFault.TheVariants.{DiskFault}
 use Rattle.field_codec.specs.Spelling.{entry_octets}
 use Rattle.archive_store.specs.Answers.{IsOpenAnswer, IsOpenRefusal}
 use Rattle.archive_store.specs.Entries.{archive}
 use Rattle.archive_store.specs.Inside.{Keeps}
+use Rattle.archive_store.specs.Made.{read_refusal}
 use Rattle.archive_store.specs.Stands.{IsDamagedAt}
 use Rattle.archive_store.proofs.Opened.{kept_open, stands_found}
 use Rattle.archive_store.proofs.Exact.{stands_once, stands_not_damaged}
@@ -79,3 +81,16 @@ returns-clause-records g c told =
     let f = c.in-Ok-read_archive.ensures.found told in
     let bodies : List (List ℕ) = map entry_octets f.entries in
     (bodies, subst (λ (x : Image). HasRecords (x 0) bodies) c.begin.ensures.reads f.has, ap length f.extents ∙ length-extents 0 bodies)
+
+pub returns-in-Err-clause-writes : goal.returns-in-Err-clause-writes
+returns-in-Err-clause-writes g c =
+    ⊎_elim (λ same. inl same)
+    (λ failed. let is : c.in-Err.fault ≡ DiskFault = cc (failed.0) in inr (c.refusal_of.ensures ∙ ap read_refusal is, failed.1)) c.in-Err.ensures.writes
+
+pub returns-in-Err-read_archive-clause-writes : goal.returns-in-Err-read_archive-clause-writes
+returns-in-Err-read_archive-clause-writes g c =
+    inl (c.read_archive.ensures.looked.no_write ∙ ⊎_elim (λ same. same) (λ failed. absurd (cc (failed.0))) c.in-Ok.ensures.writes)
+
+pub returns-clause-writes : goal.returns-clause-writes
+returns-clause-writes g c =
+    c.read_archive.ensures.looked.no_write ∙ ⊎_elim (λ same. same) (λ failed. absurd (cc (failed.0))) c.in-Ok.ensures.writes

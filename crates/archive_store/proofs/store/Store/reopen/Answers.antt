@@ -1,11 +1,13 @@
-use Rattle.std.proofs.Common.{◌≡◌, ◌++◌, ℕ, List, None, length, take, drop, sym, ◌∙◌, ap, subst}
+use Rattle.std.proofs.Common.{◌≡◌, ◌++◌, ℕ, List, Option, None, length, take, drop, sym, ◌∙◌, ap, subst}
 use Rattle.std.specs.Prelude.{IsTrue}
 use Rattle.arch_disk.specs.Disk.{LeavesOnly}
 use Rattle.archive_core.specs.declared.fills.Fill.{Fill}
 use Rattle.archive_core.specs.Fills.{standing, reopened}
+use Rattle.archive_core.specs.Items.{Item}
 use Rattle.archive_core.proofs.FillLists.{standing-reopened, length-reopened}
 use Rattle.archive_store.specs.Seen.{Seen, IsNow, rows_in_hand}
 use Rattle.archive_store.specs.Inside.{Keeps}
+use Rattle.archive_store.proofs.Kept.{hand-reopened}
 use Rattle.archive_store.proofs.Healing.{heal_moments, kept_healed, kept_unhealed}
 use Rattle.archive_store.proofs.Steps.{written_back}
 use Rattle.archive_store.proofs.store.Store.reopen.Goals as goal
@@ -40,6 +42,15 @@ returns-in-Ok-clause-ok g c =
     let fills = settled_back s.fills.len s.fills.items c.as_mut_slice.result.now c.settle.new.fills (s.fills.ok.0) c.as_mut_slice.ensures.value c.settle.ensures in
     let is = fills ∙ ap (λ (x : Seen g.row.D.Denot). reopened x.fills) c.self.view_is in
     (is, ap standing is ∙ standing-reopened c.args.self.now.fills)
+
+pub returns-in-Ok-clause-healed : goal.returns-in-Ok-clause-healed
+returns-in-Ok-clause-healed g c told image left =
+    let device = g.D.Disk.device in
+    let s = c.self.inside in
+    let k = c.self.invariant.0 in
+    let moments = heal_moments device s.disk c.heal.new.disk s.opened.value s.journal s.head s.history.items s.fills.items s.trouble k c.heal.ensures.any_moment c.heal.ensures.no_call in
+    let done = kept_healed device s.disk c.heal.new.disk s.opened.value s.journal c.heal.new.self s.head s.history.items s.fills.items s.trouble k moments c.heal.ensures.kept c.heal.ensures.file c.in-Ok.ensures.healed c.heal.ensures.cause.later c.heal.ensures.writes_later in
+    subst (λ (o : Option (List Item)). IsNow s.head s.history.items o image) (hand-reopened s.fills.items) ((done.images told).now image left)
 
 pub returns-in-Ok-clause-any_moment : goal.returns-in-Ok-clause-any_moment
 returns-in-Ok-clause-any_moment g c =

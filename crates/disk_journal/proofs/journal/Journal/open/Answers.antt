@@ -1,4 +1,4 @@
-use Rattle.std.proofs.Common.{◌≡◌, ℕ, List, [], sym, subst}
+use Rattle.std.proofs.Common.{ℕ, List, [], sym, subst}
 use Rattle.disk_journal.specs.Format.{IsDamagedAt}
 use Rattle.disk_journal.specs.Reading.{file_read}
 use Rattle.disk_journal.proofs.Bodies.{weaker_2}

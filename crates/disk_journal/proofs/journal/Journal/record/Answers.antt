@@ -1,5 +1,4 @@
 use Rattle.std.proofs.Common.{◌≡◌, ℕ, List, take, drop, Some, sym, ◌∙◌, ap, arith}
-use Rattle.std.specs.Prelude.{IfOk}
 use Rattle.disk_journal.proofs.Bodies.{found, weaker}
 use Rattle.disk_journal.proofs.journal.Journal.record.Goals as goal
 

@@ -1,4 +1,4 @@
-use Rattle.std.proofs.Common.{◌≡◌, ◌+◌, ◌<◌, [], ◌∷◌, ◌++◌, arith}
+use Rattle.std.proofs.Common.{arith}
 use Rattle.disk_journal.proofs.Reading.{one_more, more_extents}
 use Rattle.disk_journal.proofs.opening.Opening.advance.Goals as goal
 
