@@ -1,5 +1,5 @@
 -- How `create` ends.
-use Rattle.std.proofs.Common.{◌≡◌, ◌⊎◌, ◌≤◌, inl, inr, ℕ, List, [], ◌∷◌, ◌++◌, Option, Some, None, refl, sym, ◌∙◌, ap, subst}
+use Rattle.std.proofs.Common.{◌≡◌, ◌⊎◌, ◌≤◌, inl, inr, ℕ, List, [], ◌∷◌, ◌++◌, Option, Some, None, refl, sym, ◌∙◌, ap, subst, ◌<◌, ◌+◌, ◌^◌, arith}
 use Rattle.std.specs.Prelude.{option_map, Ok, Err}
 use mathlib.Core.List.{IsPrefix}
 use Rattle.arch_disk.specs.Image.{Image}
@@ -27,10 +27,11 @@ use Rattle.archive_store.specs.Stands.{StandsFor}
 use Rattle.archive_cli.specs.declared.report.Report.{Report}
 use Rattle.archive_cli.specs.Call.{Call, IsSilent, WritesCounted}
 use Rattle.archive_cli.specs.Consulted.{IsUntouched}
-use Rattle.archive_cli.specs.CreateEnding.{AreGood, AreRefused, HoldsOne, IsCreateEnding, IsMade, create_line, new_head}
+use Rattle.archive_cli.specs.CreateEnding.{AreGood, AreRefused, create_line, HoldsOne, IsCreateEnding, IsMade, IsStillNone, new_head}
 use Rattle.archive_cli.specs.Job.{SheetWords}
 use Rattle.archive_cli.specs.Parameter.{broken_rule, passed_limit, refusal_of_sheets, sheets_refusal}
 use Rattle.archive_cli.specs.Printing.{IsFinished}
+use Rattle.archive_cli.specs.Settled.{FailedOnce}
 use Rattle.archive_cli.specs.Report.{unopened, consulted}
 use Rattle.archive_cli.proofs.Consulted.{untouched}
 
@@ -138,25 +139,34 @@ create_unbegun device call words old new report is silent disk =
 same_untouched : {D : Type 0} (device : Device D) (old new : D) → new ≡ old → IsUntouched device old new
 same_untouched device old new same = subst (λ d. IsUntouched device old d) (sym same) (untouched device old)
 
+-- one that failed once has fewer than two faults more
+pub fewer_than_two : {D : Type 0} (device : Device D) (old new : D) → FailedOnce device old new → device.fault_count new < raised (raised (device.fault_count old))
+fewer_than_two device old new one = few (device.fault_count old) (device.fault_count new) one.most one.below
+  where
+    few : (before now : ℕ) → now ≤ before + 1 → now + 1 < 2 ^ 64 → now < raised (raised before)
+    few before now most below = omega (arith, most, below)
+
 unmade_cases : {D : Type 0} (device : Device D) (call : Call) (words : SheetWords) (old new : D) (raw : RawMdb) (refusal : Refusal) → AreGood call.files words raw → IsSilent call →
     IsCreateRefusal (device.reads old) (device.reads new) refusal → (refusal ≡ DiskFault → raised (device.fault_count old) ≤ device.fault_count new) → (refusal ≡ OutOfMemory → new ≡ old) →
     (HoldsOne (device.reads old) → IsUntouched device old new) → (HoldsNone (device.reads old 0) → LeavesOnly device old new (IsMaking (device.images old) (new_head raw))) →
+    (refusal ≡ DiskFault → HoldsNone (device.reads old 0) → FailedOnce device old new → IsStillNone device old new) →
     IsCreateEnding device call words old new (Some refusal) (unopened (Some refusal))
-unmade_cases device call words old new raw Exists good silent h cause memory kept images =
+unmade_cases device call words old new raw Exists good silent h cause memory kept images closed =
     record { raw = raw; good = good; there = (h.0, h.1); disk = kept (h.0, h.1); silent = silent; report_is = refl }
-unmade_cases device call words old new raw DiskFault good silent h cause memory kept images =
-    (cause refl, record { raw = raw; good = good; silent = silent; kept = kept; images = images; report_is = refl })
-unmade_cases device call words old new raw OutOfMemory good silent h cause memory kept images =
+unmade_cases device call words old new raw DiskFault good silent h cause memory kept images closed =
+    (cause refl, record { raw = raw; good = good; silent = silent; kept = kept; images = images; closed = closed refl; report_is = refl })
+unmade_cases device call words old new raw OutOfMemory good silent h cause memory kept images closed =
     record { silent = silent; disk = same_untouched device old new (memory refl); report_is = refl }
-unmade_cases device call words old new raw other good silent h cause memory kept images = absurd h
+unmade_cases device call words old new raw other good silent h cause memory kept images closed = absurd h
 
 -- no archive was made
 pub create_unmade : {D : Type 0} (device : Device D) (call : Call) (words : SheetWords) (old new : D) (raw : RawMdb) (refusal : Refusal) (report : Report) → report ≡ unopened (Some refusal) →
     AreGood call.files words raw → IsSilent call → IsCreateRefusal (device.reads old) (device.reads new) refusal →
     (refusal ≡ DiskFault → raised (device.fault_count old) ≤ device.fault_count new) → (refusal ≡ OutOfMemory → new ≡ old) → (HoldsOne (device.reads old) → IsUntouched device old new) →
-    (HoldsNone (device.reads old 0) → LeavesOnly device old new (IsMaking (device.images old) (new_head raw))) → IsCreateEnding device call words old new report.refusal report
-create_unmade device call words old new raw refusal report is good silent h cause memory kept images =
-    subst (λ (r : Report). IsCreateEnding device call words old new r.refusal r) (sym is) (unmade_cases device call words old new raw refusal good silent h cause memory kept images)
+    (HoldsNone (device.reads old 0) → LeavesOnly device old new (IsMaking (device.images old) (new_head raw))) →
+    (refusal ≡ DiskFault → HoldsNone (device.reads old 0) → FailedOnce device old new → IsStillNone device old new) → IsCreateEnding device call words old new report.refusal report
+create_unmade device call words old new raw refusal report is good silent h cause memory kept images closed =
+    subst (λ (r : Report). IsCreateEnding device call words old new r.refusal r) (sym is) (unmade_cases device call words old new raw refusal good silent h cause memory kept images closed)
 
 created_cases : {D : Type 0} (device : Device D) (call : Call) (words : SheetWords) (old new : D) (raw : RawMdb) (refusal : Option Refusal) → AreGood call.files words raw →
     IsMade device old new (new_head raw) → IsFinished refusal call.written call.written' (create_line (sheets_database raw)) →

@@ -21,6 +21,7 @@ use Rattle.archive_cli.specs.Job.{SheetWords}
 use Rattle.archive_cli.specs.Parameter.{sheets_refusal}
 use Rattle.archive_cli.specs.Reading.{IsSheetsRefusal}
 use Rattle.archive_cli.specs.Report.{unopened, consulted}
+use Rattle.archive_cli.specs.Settled.{FailedOnce}
 
 -- the head of a new archive: table `tm`, and the database of the sheets
 abbrev pub new_head : RawMdb → Head
@@ -58,6 +59,10 @@ pub record IsMade {D : Type 0} (device : Device D) (old new : D) (head : Head) :
   pub now : (c : Image) → device.images new c → StandsFor c (archive head [])
   pub images : LeavesOnly device old new (IsMaking (device.images old) head)
 
+-- each image that a crash now leaves holds no archive, or could have been left before
+abbrev pub IsStillNone : {D : Type 0} → Device D → D → D → Type 0
+IsStillNone device old new = (c : Image) → device.images new c → device.images old c ⊎ HoldsNone (c 0)
+
 -- nothing was written to the disk, for a cause that the words and the inputs give, or for want of memory
 pub record IsNotBegun {D : Type 0} (device : Device D) (call : Call) (old new : D) (report : Report) : Type 0 where
   pub silent : IsSilent call
@@ -73,13 +78,15 @@ pub record IsThere {D : Type 0} (device : Device D) (call : Call) (words : Sheet
   pub silent : IsSilent call
   pub report_is : report ≡ unopened (Some Exists)
 
--- the making failed: a disk that holds an archive is left as it was, and on one that holds none a crash leaves what a making leaves
+-- The making failed: a disk that holds an archive is left as it was, and on one that holds none a crash leaves what a making leaves. Where it failed once
+-- a crash now leaves no archive, or what it could have left before.
 pub record IsNotMade {D : Type 0} (device : Device D) (call : Call) (words : SheetWords) (old new : D) (report : Report) : Type 0 where
   pub raw : RawMdb
   pub good : AreGood call.files words raw
   pub silent : IsSilent call
   pub kept : HoldsOne (device.reads old) → IsUntouched device old new
   pub images : HoldsNone (device.reads old 0) → LeavesOnly device old new (IsMaking (device.images old) (new_head raw))
+  pub closed : HoldsNone (device.reads old 0) → FailedOnce device old new → IsStillNone device old new
   pub report_is : report ≡ unopened report.refusal
 
 -- an archive was made, and a text on it was printed as P says

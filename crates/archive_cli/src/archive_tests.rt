@@ -343,6 +343,12 @@ fn holds(alloc: Global, disk: MemDisk, rows: u64) -> Result<bool, Fail> {
     Ok(status == 0 && found == rows)
 }
 
+/// Whether there's no archive.
+fn holds_none(alloc: Global, disk: MemDisk) -> Result<bool, Fail> {
+    let (status, _, _disk) = call(alloc, "recover", disk)?;
+    Ok(status == 1)
+}
+
 /// Loads two batches on a disk of which a call fails. The answer says so, and afterwards the disk has the rows that the report tells, whatever a crash
 /// leaves. It tells whether an archive was made.
 fn load_failing(rt: &(impl Abort + AllocGlobal), fails: u64) -> Result<bool, Fail> {
@@ -351,6 +357,10 @@ fn load_failing(rt: &(impl Abort + AllocGlobal), fails: u64) -> Result<bool, Fai
     let (created, _, disk) = call(alloc, CREATE, disk)?;
     if created != 0 {
         assert_eq!(rt; created, 5);
+        for crash in Crash::ALL {
+            let image = disk.crashed(disk.moments(), crash)?;
+            assert!(rt; holds_none(alloc, image)?, "{crash:?} after call {fails}");
+        }
         return Ok(false);
     }
     let (status, rows, disk) = call(alloc, "load batches", disk)?;
@@ -376,7 +386,7 @@ fn calls_of_a_load(alloc: Global) -> Result<u64, Fail> {
 fn a_load_whose_last_sync_fails(rt: HostRuntime) -> Result<(), Fail> {
     let alloc = rt.alloc();
     let last = calls_of_a_load(alloc)?;
-    let disk = MemDisk::failing(vec![in alloc; last; 1]?, alloc);
+    let disk = MemDisk::failing(alloc, vec![in alloc; last; 1]?);
     let (_, _, disk) = call(alloc, CREATE, disk)?;
     let (status, rows, disk) = call(alloc, "load batches", disk)?;
     assert_eq!(&rt; status, 5);

@@ -70,7 +70,8 @@ pub fn create<D: Disk, I: Inputs, K: Sink>(
     ensures report { IsConsulting result.report.refusal result.report }
     ensures same { I.files inputs.new ≡ I.files inputs.old }
     ensures closed { I.open_sources inputs.old + 1 < 2 ^ 64 → I.open_sources inputs.new ≡ I.open_sources inputs.old }
-    ensures order { AreInOrder (I.files inputs.old) (create_inputs (sheet_words_of words.entry)) (I.given inputs.old) (I.given inputs.new) result.report.refusal }
+    ensures order { AreInOrder (I.files inputs.old) (create_inputs (sheet_words_of words.entry))
+        (I.given inputs.old) (I.given inputs.new) result.report.refusal }
     ensures later { I.faults inputs.old ≤ I.faults inputs.new }
     ensures writes_later { K.faults sink.old ≤ K.faults sink.new }
     ensures reads_counted { ReadsCounted result.report.refusal (I.faults inputs.old) (I.faults inputs.new) }
@@ -99,7 +100,8 @@ fn read_head<I: Inputs>(
     ensures refused { IfErr result (AreRefused (I.files inputs.old) (sheet_words_of words.entry) (I.faults inputs.old) (I.faults inputs.new)) }
     ensures same { I.files inputs.new ≡ I.files inputs.old }
     ensures closed { I.open_sources inputs.old + 1 < 2 ^ 64 → I.open_sources inputs.new ≡ I.open_sources inputs.old }
-    ensures order { IfErr result (λ refusal. AreInOrder (I.files inputs.old) (create_inputs (sheet_words_of words.entry)) (I.given inputs.old) (I.given inputs.new) (Some refusal)) }
+    ensures order { IfErr result (λ refusal. AreInOrder (I.files inputs.old) (create_inputs (sheet_words_of words.entry))
+        (I.given inputs.old) (I.given inputs.new) (Some refusal)) }
     ensures later { I.faults inputs.old ≤ I.faults inputs.new }
     ensures counted { ReadsCounted (result_err result) (I.faults inputs.old) (I.faults inputs.new) }
     ensures steady { I.never_fails inputs.old → Stays (I.faults inputs.old) (I.faults inputs.new) }

@@ -40,7 +40,7 @@ use std::alloc::Global;
 /// `ReadFault` or `Limit` DumpOctets; batch by batch by a `Limit` of the history or by `DiskFault`; by `BadPacket`; by `WriteFault`. `OutOfMemory` may come
 /// anywhere before the line.
 ///
-/// After a call of the disk that failed in a batch the archive is opened again, so that the disk that is handed back reads as the history reached.
+/// Where a call of the disk failed in a batch, the write is taken back before it ends, as far as the disk lets it.
 pub fn load<D: Disk, I: Inputs, K: Sink, C: Clock>(
     alloc: Global,
     words: LoadWords<'_>,
@@ -76,7 +76,8 @@ pub fn load<D: Disk, I: Inputs, K: Sink, C: Clock>(
     ensures report { IsLoadReport (load_words_of words.entry) result.report.refusal result.report }
     ensures same { I.files inputs.new ≡ I.files inputs.old }
     ensures closed { I.open_sources inputs.old + 1 < 2 ^ 64 → I.open_sources inputs.new ≡ I.open_sources inputs.old }
-    ensures order { IsLoadFault (I.given inputs.old) (I.given inputs.new) disk result.disk result.report result.report.refusal }
+    ensures order { IsLoadFault (I.given inputs.old) (I.given inputs.new)
+        disk result.disk result.report result.report.refusal }
     ensures later { I.faults inputs.old ≤ I.faults inputs.new }
     ensures writes_later { K.faults sink.old ≤ K.faults sink.new }
     ensures reads_counted { ReadsCounted result.report.refusal (I.faults inputs.old) (I.faults inputs.new) }
@@ -260,7 +261,8 @@ fn stopped<D: Disk>(store: Store<D>, before: u64, link: Option<u16>, refusal: Re
     Ended::of(store.into_disk(), report)
 }
 
-/// The ending of a load that a store refused a batch of. A failed write is healed first, so that what stays in the system's memory is the history too.
+/// The ending of a load of which a batch was refused. A write that failed is taken back first, so that a program that opens
+/// the archive after it reads no gate that the medium may lack.
 fn refused<D: Disk>(store: Store<D>, before: u64, refusal: Refusal) -> Ended<D>
     requires { before ≤ length store.history }
     ensures let_go { IsLetGo D.device store (Some refusal) result.disk }
@@ -272,7 +274,7 @@ fn refused<D: Disk>(store: Store<D>, before: u64, refusal: Refusal) -> Ended<D>
     stopped(store, before, None, refusal)
 }
 
-/// Opens the archive again where the disk failed, once. The refusal stays, whether that succeeds or not.
+/// Takes a failed write back where the disk failed. It is tried once, and the refusal stays, whether it succeeds or not.
 fn heal<D: Disk>(store: &mut Store<D>, refusal: &Refusal)
     ensures same { refusal.now ≢ Refusal.DiskFault → store.new ≡ store.old }
     ensures reopened { refusal.now ≡ Refusal.DiskFault → IsReopened D.device store.old store.new }

@@ -68,7 +68,8 @@ pub fn query<D: Disk, I: Inputs, K: Sink>(
     ensures report { IsConsulting result.report.refusal result.report }
     ensures same { I.files inputs.new ≡ I.files inputs.old }
     ensures closed { I.open_sources inputs.old + 1 < 2 ^ 64 → I.open_sources inputs.new ≡ I.open_sources inputs.old }
-    ensures order { AreInOrder (I.files inputs.old) (query_inputs name.now) (I.given inputs.old) (I.given inputs.new) result.report.refusal }
+    ensures order { AreInOrder (I.files inputs.old) (query_inputs name.now)
+        (I.given inputs.old) (I.given inputs.new) result.report.refusal }
     ensures later { I.faults inputs.old ≤ I.faults inputs.new }
     ensures writes_later { K.faults sink.old ≤ K.faults sink.new }
     ensures reads_counted { ReadsCounted result.report.refusal (I.faults inputs.old) (I.faults inputs.new) }

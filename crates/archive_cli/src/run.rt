@@ -47,9 +47,10 @@ pub fn run<D: Disk, I: Inputs, K: Sink, C: Clock>(
     // Over told inputs, on a disk that tells what it holds, the answer that it has to be, or want of memory.
     ensures expected { IsExpected D.device (call_of (map (λ w. string_bytes w) words.now) (I.files inputs.old) (C.next clock.old) (I.faults inputs.old) (I.faults inputs.new) (K.written sink.old) (K.written sink.new) (K.faults sink.old) (K.faults sink.new)) (I.given inputs.old) (I.given inputs.new) disk result.disk result.report.refusal }
 
-    // Where a read failed, the refusals that stand before it could not come: of the first input that can't be read whole, but for a failed read of an input up to
-    // it, and of `load` those of its archive.
-    ensures order { IsInOrder (I.files inputs.old) (job_of (map (λ w. string_bytes w) words.now)) (I.given inputs.old) (I.given inputs.new) disk result.disk result.report }
+    // A read that failed takes the place of no answer that stands before it: that the first input that can't be read whole
+    // gives, and of `load` those of its archive.
+    ensures order { IsInOrder (I.files inputs.old) (job_of (map (λ w. string_bytes w) words.now))
+        (I.given inputs.old) (I.given inputs.new) disk result.disk result.report }
 
     // The number of the refusal, and 0 exactly where there's none.
     ensures status { result.status ≡ status_at result.report.refusal }
@@ -72,9 +73,10 @@ pub fn run<D: Disk, I: Inputs, K: Sink, C: Clock>(
     ensures disk_later { D.device.fault_count disk ≤ D.device.fault_count result.disk }
     ensures disk_fault { result.report.refusal ≡ Some Refusal.DiskFault → raised (D.device.fault_count disk) ≤ D.device.fault_count result.disk }
 
-    // Where an archive was opened or made, and the disk's count of faults stands at most one above its value at entry: the disk that is handed back reads as
-    // a history of `after` rows, and every image that a crash now leaves stands for the same.
-    ensures settled { IsTrue D.device.tells → IsTrue result.report.opened → FailedOnce D.device disk result.disk → IsSettledWith D.device result.disk result.report.after }
+    // Where an archive was opened or made, and the disk's count of faults stands at most one above its value at entry:
+    // the disk reads as a history of `after` rows, and every image that a crash now leaves stands for the same.
+    ensures settled { IsTrue D.device.tells → IsTrue result.report.opened
+        → FailedOnce D.device disk result.disk → IsSettledWith D.device result.disk result.report.after }
 
     // Refused before the disk was asked, it hands the very disk back, also where that tells nothing.
     ensures handed_back { IsHandedBack (job_of (map (λ w. string_bytes w) words.now)) disk result.disk result.report }
@@ -101,7 +103,8 @@ fn run_job<D: Disk, I: Inputs, K: Sink, C: Clock>(
     ensures report { IsReport (Some (asked job.entry)) result.report }
     ensures same { I.files inputs.new ≡ I.files inputs.old }
     ensures closed { I.open_sources inputs.old + 1 < 2 ^ 64 → I.open_sources inputs.new ≡ I.open_sources inputs.old }
-    ensures order { IsInOrder (I.files inputs.old) (Some (asked job.entry)) (I.given inputs.old) (I.given inputs.new) disk result.disk result.report }
+    ensures order { IsInOrder (I.files inputs.old) (Some (asked job.entry))
+        (I.given inputs.old) (I.given inputs.new) disk result.disk result.report }
     ensures later { I.faults inputs.old ≤ I.faults inputs.new }
     ensures writes_later { K.faults sink.old ≤ K.faults sink.new }
     ensures reads_counted { ReadsCounted result.report.refusal (I.faults inputs.old) (I.faults inputs.new) }

@@ -9,7 +9,7 @@ use Rattle.archive_cli.specs.CreateEnding.{IsCreateEnding, IsMade, create_line}
 use Rattle.archive_cli.specs.Printing.{IsFinished}
 use Rattle.archive_cli.proofs.Consulted.{untouched}
 use Rattle.archive_cli.proofs.Caused.{create_made_cause, create_unmade_cause}
-use Rattle.archive_cli.proofs.Created.{create_unbegun, create_unmade, created, left_alone, made_store}
+use Rattle.archive_cli.proofs.Created.{create_unbegun, create_unmade, created, fewer_than_two, left_alone, made_store}
 use Rattle.archive_cli.proofs.HandedBack.{create_same, made_back, unmade_back}
 use Rattle.archive_cli.proofs.Scanned.{call_of}
 use Rattle.archive_cli.proofs.create.make.Goals as goal
@@ -34,7 +34,8 @@ returns-in-Err-clause-ended g c = λ told given files moment reads reads' words 
     let images = subst (λ (h : Head). HoldsNone (device.reads old 0) → LeavesOnly device old new (IsMaking (device.images old) h)) is (c.in-Err.ensures.any_moment told) in
     rw c.unopened-in-Err.ensures.disk
     (create_unmade device call words old new raw c.in-Err.refusal c.unopened-in-Err.result.report c.unopened-in-Err.ensures.report good refl (c.in-Err.ensures.refused told)
-    c.in-Err.ensures.cause c.in-Err.ensures.memory (λ one. left_alone device old new (c.in-Err.ensures.kept told one.0 one.1)) images)
+    c.in-Err.ensures.cause c.in-Err.ensures.memory (λ one. left_alone device old new (c.in-Err.ensures.kept told one.0 one.1)) images
+    (λ fault none one. c.in-Err.ensures.closed told none fault (fewer_than_two device old new one)))
 
 pub returns-clause-ended : goal.returns-clause-ended
 returns-clause-ended g c = λ told given files moment reads reads' words raw good is.
