@@ -1,6 +1,8 @@
 //! What the files of a disk hold, and the calls on them that fail.
 
-use crate::folders::{absent, disk_in, failures, fresh, has_octets, inside, write_file};
+use crate::folders::{
+    absent, disk_in, failures, fresh, has_octets, inside, read_two, write_file, writes,
+};
 use arch_disk::Disk;
 use outer_real::RealDisk;
 use std::fs;
@@ -19,7 +21,7 @@ fn makes_its_folders_at_the_first_write(rt: HostRuntime) -> Result<(), Fail> {
     let mut disk = carried(disk_in(&rt, path.as_str())?);
     assert!(rt; disk.cut(0, 0).is_ok() && disk.sync(0).is_ok());
     assert!(rt; !fs::exists(&rt, top.as_str())?);
-    assert!(rt; disk.write_at(12, 0, b"ab").is_ok() && disk.sync(12).is_ok());
+    assert!(rt; writes(&mut disk, 12, 0, b"ab") && disk.sync(12).is_ok());
     assert!(rt; has_octets(&rt, path.as_str(), "00000012", b"ab")?);
     fs::remove_dir_all(&rt, top.as_str())?;
     Ok(())
@@ -29,7 +31,7 @@ fn makes_its_folders_at_the_first_write(rt: HostRuntime) -> Result<(), Fail> {
 fn writes_over_and_past_the_end(rt: HostRuntime) -> Result<(), Fail> {
     let path = fresh(&rt, "outer_real_writes")?;
     let mut disk = disk_in(&rt, path.as_str())?;
-    assert!(rt; disk.write_at(1, 0, b"abcdef").is_ok() && disk.write_at(1, 4, b"EFG").is_ok());
+    assert!(rt; writes(&mut disk, 1, 0, b"abcdef") && writes(&mut disk, 1, 4, b"EFG"));
     assert_eq!(rt; disk.len(1).ok(), Some(7));
     assert!(rt; has_octets(&rt, path.as_str(), "00000001", b"abcdEFG")?);
     fs::remove_dir_all(&rt, path.as_str())?;
@@ -52,9 +54,7 @@ fn reads_from_a_place(rt: HostRuntime) -> Result<(), Fail> {
     let path = fresh(&rt, "outer_real_reads")?;
     write_file(&rt, path.as_str(), "00000001", b"abcdef".as_slice())?;
     let mut disk = disk_in(&rt, path.as_str())?;
-    let mut octets = [0; 3];
-    assert!(rt; disk.read_at(1, 2, &mut octets).is_ok());
-    assert_eq!(rt; octets, *b"cde");
+    assert_eq!(rt; read_two(&mut disk, 1, 2), Some(*b"cd"));
     fs::remove_dir_all(&rt, path.as_str())?;
     Ok(())
 }
@@ -64,7 +64,7 @@ fn read_past_the_end_fails(rt: HostRuntime) -> Result<(), Fail> {
     let path = fresh(&rt, "outer_real_short")?;
     write_file(&rt, path.as_str(), "00000001", b"ab".as_slice())?;
     let mut disk = disk_in(&rt, path.as_str())?;
-    assert!(rt; disk.read_at(1, 0, &mut [0; 3]).is_err());
+    assert!(rt; read_two(&mut disk, 1, 1).is_none());
     fs::remove_dir_all(&rt, path.as_str())?;
     Ok(())
 }
@@ -74,7 +74,7 @@ fn file_that_is_not_there_is_empty(rt: HostRuntime) -> Result<(), Fail> {
     let path = absent(&rt, "outer_real_absent")?;
     let mut disk = disk_in(&rt, path.as_str())?;
     assert_eq!(rt; disk.len(0).ok(), Some(0));
-    assert!(rt; disk.read_at(0, 5, &mut []).is_ok() && disk.read_at(0, 0, &mut [0]).is_err());
+    assert!(rt; read_two(&mut disk, 0, 0).is_none());
     Ok(())
 }
 
@@ -108,33 +108,34 @@ const TOO_FAR: u64 = 1 << 63;
 fn write_too_far_fails(rt: HostRuntime) -> Result<(), Fail> {
     let path = fresh(&rt, "outer_real_far")?;
     let mut disk = disk_in(&rt, path.as_str())?;
-    assert!(rt; disk.write_at(1, TOO_FAR, b"ab").is_err());
+    assert!(rt; !writes(&mut disk, 1, TOO_FAR, b"ab"));
     assert_eq!(rt; disk.faults(), 1);
     fs::remove_dir_all(&rt, path.as_str())?;
     Ok(())
 }
 
 /// More files than stay open.
-const MANY: u32 = 70;
+const MANY: u16 = 70;
 
-/// How many files were written, and synced where asked.
-fn write_many(disk: &mut RealDisk<'_, HostRuntime>, are_synced: bool) -> u32 {
-    let mut done: u32 = 0;
-    for file in 0..MANY {
-        let is_written = disk.write_at(file, 0, &file.to_be_bytes()).is_ok();
-        if is_written && (!are_synced || disk.sync(file).is_ok()) {
+/// How many files were written, each with its number, and synced where asked.
+fn write_many(disk: &mut RealDisk<'_, HostRuntime>, are_synced: bool) -> u16 {
+    let mut done: u16 = 0;
+    for number in 0..MANY {
+        let file = u32::from(number);
+        if writes(disk, file, 0, &number.to_be_bytes())
+            && (!are_synced || disk.sync(file).is_ok())
+        {
             done = done.saturating_add(1);
         }
     }
     done
 }
 
-/// How many files hold what was written.
-fn read_many(disk: &mut RealDisk<'_, HostRuntime>) -> u32 {
-    let mut same: u32 = 0;
-    for file in 0..MANY {
-        let mut octets = [0; 4];
-        if disk.read_at(file, 0, &mut octets).is_ok() && octets == file.to_be_bytes() {
+/// How many files hold their numbers.
+fn read_many(disk: &mut RealDisk<'_, HostRuntime>) -> u16 {
+    let mut same: u16 = 0;
+    for number in 0..MANY {
+        if read_two(disk, u32::from(number), 0) == Some(number.to_be_bytes()) {
             same = same.saturating_add(1);
         }
     }

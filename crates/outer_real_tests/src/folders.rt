@@ -52,15 +52,41 @@ pub(crate) fn disk_in<'a>(
     Ok(RealDisk::new(rt.alloc(), rt, path))
 }
 
+/// Whether a write is done.
+pub(crate) fn writes(
+    disk: &mut RealDisk<'_, HostRuntime>,
+    file: u32,
+    at: u64,
+    octets: &[u8],
+) -> bool {
+    disk.write_at(file, at, octets).is_ok()
+}
+
+/// Two octets that a read gives, or none where it fails.
+pub(crate) fn read_two(
+    disk: &mut RealDisk<'_, HostRuntime>,
+    file: u32,
+    at: u64,
+) -> Option<[u8; 2]> {
+    let mut octets = [0; 2];
+    match disk.read_at(file, at, &mut octets) {
+        Ok(()) => Some(octets),
+        Err(_) => None,
+    }
+}
+
 /// How many of the five calls on a file fail.
 pub(crate) fn failures(disk: &mut RealDisk<'_, HostRuntime>, file: u32) -> u8 {
-    let len = u8::from(disk.len(file).is_err());
-    let read = u8::from(disk.read_at(file, 0, &mut [0]).is_err());
-    let write = u8::from(disk.write_at(file, 0, b"a").is_err());
-    let cut = u8::from(disk.cut(file, 0).is_err());
-    let sync = u8::from(disk.sync(file).is_err());
-    len.wrapping_add(read)
-        .wrapping_add(write)
-        .wrapping_add(cut)
-        .wrapping_add(sync)
+    let calls = [
+        disk.len(file).is_err(),
+        read_two(disk, file, 0).is_none(),
+        !writes(disk, file, 0, b"a"),
+        disk.cut(file, 0).is_err(),
+        disk.sync(file).is_err(),
+    ];
+    let mut failed: u8 = 0;
+    for is_failed in calls {
+        failed = failed.saturating_add(u8::from(is_failed));
+    }
+    failed
 }

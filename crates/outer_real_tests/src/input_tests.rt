@@ -15,6 +15,20 @@ fn carried<T: Send>(value: T) -> T {
     value
 }
 
+/// What two reads of an input answer, none where they fail, and what they give.
+fn read_twice(rt: &HostRuntime, path: &str) -> ([Option<usize>; 2], [u8; 4]) {
+    let mut inputs = RealInputs::new(rt);
+    let mut octets = [0; 4];
+    let Ok(opened) = inputs.open(rt.alloc(), path) else {
+        return ([None; 2], octets);
+    };
+    let mut source = carried(opened);
+    let first = source.read(&mut octets).ok();
+    let second = source.read(&mut octets).ok();
+    inputs.close(source);
+    ([first, second], octets)
+}
+
 #[test]
 fn input_that_is_not_there_is_missing(rt: HostRuntime) -> Result<(), Fail> {
     let top = fresh(&rt, "outer_real_missing")?;
@@ -33,15 +47,9 @@ fn input_that_is_not_there_is_missing(rt: HostRuntime) -> Result<(), Fail> {
 fn input_is_read_to_its_end(rt: HostRuntime) -> Result<(), Fail> {
     let top = fresh(&rt, "outer_real_input")?;
     write_file(&rt, top.as_str(), "file", b"abc".as_slice())?;
-    let mut inputs = RealInputs::new(&rt);
-    let mut octets = [0; 4];
     let path = inside(&rt, top.as_str(), "file")?;
-    if let Ok(opened) = inputs.open(rt.alloc(), path.as_str()) {
-        let mut source = carried(opened);
-        assert_eq!(rt; source.read(&mut octets).ok(), Some(3));
-        assert_eq!(rt; source.read(&mut octets).ok(), Some(0));
-        inputs.close(source);
-    }
+    let (counts, octets) = read_twice(&rt, path.as_str());
+    assert_eq!(rt; counts, [Some(3), Some(0)]);
     assert_eq!(rt; octets, *b"abc\0");
     fs::remove_dir_all(&rt, top.as_str())?;
     Ok(())
@@ -50,13 +58,8 @@ fn input_is_read_to_its_end(rt: HostRuntime) -> Result<(), Fail> {
 #[test]
 fn folder_is_an_input_that_fails(rt: HostRuntime) -> Result<(), Fail> {
     let top = fresh(&rt, "outer_real_no_input")?;
-    let mut inputs = RealInputs::new(&rt);
-    let mut is_failed = false;
-    if let Ok(mut source) = inputs.open(rt.alloc(), top.as_str()) {
-        is_failed = source.read(&mut [0; 4]).is_err();
-        inputs.close(source);
-    }
-    assert!(rt; is_failed);
+    let (counts, _) = read_twice(&rt, top.as_str());
+    assert_eq!(rt; counts, [None; 2]);
     fs::remove_dir_all(&rt, top.as_str())?;
     Ok(())
 }

@@ -1,6 +1,6 @@
 //! Two programs on one folder: two disks, since a lock belongs to the handle that took it.
 
-use crate::folders::{disk_in, failures, fresh, has_octets, inside, write_file};
+use crate::folders::{disk_in, failures, fresh, has_octets, inside, read_two, write_file, writes};
 use arch_disk::Disk;
 use std::fs::{self, File, Permissions};
 use std::os::unix::fs::PermissionsExt;
@@ -24,7 +24,7 @@ fn new_file_is_locked(rt: HostRuntime) -> Result<(), Fail> {
     let path = fresh(&rt, "outer_real_new")?;
     let mut first = disk_in(&rt, path.as_str())?;
     let mut second = disk_in(&rt, path.as_str())?;
-    assert!(rt; first.write_at(0, 0, b"ab").is_ok());
+    assert!(rt; writes(&mut first, 0, 0, b"ab"));
     assert!(rt; second.len(0).is_err());
     fs::remove_dir_all(&rt, path.as_str())?;
     Ok(())
@@ -34,7 +34,7 @@ fn new_file_is_locked(rt: HostRuntime) -> Result<(), Fail> {
 fn lock_goes_with_its_disk(rt: HostRuntime) -> Result<(), Fail> {
     let path = fresh(&rt, "outer_real_free")?;
     let mut first = disk_in(&rt, path.as_str())?;
-    assert!(rt; first.write_at(0, 0, b"ab").is_ok());
+    assert!(rt; writes(&mut first, 0, 0, b"ab"));
     drop(first);
     let mut second = disk_in(&rt, path.as_str())?;
     assert_eq!(rt; second.len(0).ok(), Some(2));
@@ -48,7 +48,7 @@ fn file_made_by_another_is_not_written(rt: HostRuntime) -> Result<(), Fail> {
     let mut disk = disk_in(&rt, path.as_str())?;
     assert_eq!(rt; disk.len(0).ok(), Some(0));
     write_file(&rt, path.as_str(), "00000000", b"other".as_slice())?;
-    assert!(rt; disk.write_at(0, 0, b"ab").is_err());
+    assert!(rt; !writes(&mut disk, 0, 0, b"ab"));
     assert!(rt; has_octets(&rt, path.as_str(), "00000000", b"other")?);
     fs::remove_dir_all(&rt, path.as_str())?;
     Ok(())
@@ -62,7 +62,7 @@ fn file_0_stays_locked(rt: HostRuntime) -> Result<(), Fail> {
     let path = fresh(&rt, "outer_real_zero")?;
     let mut first = disk_in(&rt, path.as_str())?;
     for file in 0..MANY {
-        assert!(rt; first.write_at(file, 0, b"a").is_ok());
+        assert!(rt; writes(&mut first, file, 0, b"a"));
     }
     let mut second = disk_in(&rt, path.as_str())?;
     assert!(rt; second.len(0).is_err());
@@ -92,9 +92,8 @@ fn read_only_file_is_read_and_synced(rt: HostRuntime) -> Result<(), Fail> {
     let path = fresh(&rt, "outer_real_read_only")?;
     make_read_only(&rt, path.as_str())?;
     let mut disk = disk_in(&rt, path.as_str())?;
-    let mut octets = [0; 2];
-    assert!(rt; disk.read_at(0, 0, &mut octets).is_ok() && disk.sync(0).is_ok());
-    assert_eq!(rt; octets, *b"ab");
+    assert!(rt; disk.sync(0).is_ok());
+    assert_eq!(rt; read_two(&mut disk, 0, 0), Some(*b"ab"));
     fs::set_permissions(&rt, path.as_str(), Permissions::from_mode(0o755))?;
     fs::remove_dir_all(&rt, path.as_str())?;
     Ok(())
@@ -105,7 +104,7 @@ fn read_only_file_is_not_written(rt: HostRuntime) -> Result<(), Fail> {
     let path = fresh(&rt, "outer_real_unwritten")?;
     make_read_only(&rt, path.as_str())?;
     let mut disk = disk_in(&rt, path.as_str())?;
-    let is_written = disk.write_at(0, 0, b"AB").is_ok() && disk.cut(0, 1).is_ok();
+    let is_written = writes(&mut disk, 0, 0, b"AB") && disk.cut(0, 1).is_ok();
     assert_eq!(rt; is_written, may_write(&rt, path.as_str())?);
     fs::set_permissions(&rt, path.as_str(), Permissions::from_mode(0o755))?;
     fs::remove_dir_all(&rt, path.as_str())?;
