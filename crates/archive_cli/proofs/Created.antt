@@ -31,7 +31,7 @@ use Rattle.archive_cli.specs.CreateEnding.{AreGood, AreRefused, create_line, Hol
 use Rattle.archive_cli.specs.Job.{SheetWords}
 use Rattle.archive_cli.specs.Parameter.{broken_rule, passed_limit, refusal_of_sheets, sheets_refusal}
 use Rattle.archive_cli.specs.Printing.{IsFinished}
-use Rattle.archive_cli.specs.Settled.{FailedOnce}
+use Rattle.archive_cli.specs.Settled.{FailedAtMostOnce}
 use Rattle.archive_cli.specs.Report.{unopened, consulted}
 use Rattle.archive_cli.proofs.Consulted.{untouched}
 
@@ -140,7 +140,7 @@ same_untouched : {D : Type 0} (device : Device D) (old new : D) → new ≡ old 
 same_untouched device old new same = subst (λ d. IsUntouched device old d) (sym same) (untouched device old)
 
 -- one that failed once has fewer than two faults more
-pub fewer_than_two : {D : Type 0} (device : Device D) (old new : D) → FailedOnce device old new → device.fault_count new < raised (raised (device.fault_count old))
+pub fewer_than_two : {D : Type 0} (device : Device D) (old new : D) → FailedAtMostOnce device old new → device.fault_count new < raised (raised (device.fault_count old))
 fewer_than_two device old new one = few (device.fault_count old) (device.fault_count new) one.most one.below
   where
     few : (before now : ℕ) → now ≤ before + 1 → now + 1 < 2 ^ 64 → now < raised (raised before)
@@ -149,7 +149,7 @@ fewer_than_two device old new one = few (device.fault_count old) (device.fault_c
 unmade_cases : {D : Type 0} (device : Device D) (call : Call) (words : SheetWords) (old new : D) (raw : RawMdb) (refusal : Refusal) → AreGood call.files words raw → IsSilent call →
     IsCreateRefusal (device.reads old) (device.reads new) refusal → (refusal ≡ DiskFault → raised (device.fault_count old) ≤ device.fault_count new) → (refusal ≡ OutOfMemory → new ≡ old) →
     (HoldsOne (device.reads old) → IsUntouched device old new) → (HoldsNone (device.reads old 0) → LeavesOnly device old new (IsMaking (device.images old) (new_head raw))) →
-    (refusal ≡ DiskFault → HoldsNone (device.reads old 0) → FailedOnce device old new → IsStillNone device old new) →
+    (refusal ≡ DiskFault → HoldsNone (device.reads old 0) → FailedAtMostOnce device old new → IsStillNone device old new) →
     IsCreateEnding device call words old new (Some refusal) (unopened (Some refusal))
 unmade_cases device call words old new raw Exists good silent h cause memory kept images closed =
     record { raw = raw; good = good; there = (h.0, h.1); disk = kept (h.0, h.1); silent = silent; report_is = refl }
@@ -164,7 +164,7 @@ pub create_unmade : {D : Type 0} (device : Device D) (call : Call) (words : Shee
     AreGood call.files words raw → IsSilent call → IsCreateRefusal (device.reads old) (device.reads new) refusal →
     (refusal ≡ DiskFault → raised (device.fault_count old) ≤ device.fault_count new) → (refusal ≡ OutOfMemory → new ≡ old) → (HoldsOne (device.reads old) → IsUntouched device old new) →
     (HoldsNone (device.reads old 0) → LeavesOnly device old new (IsMaking (device.images old) (new_head raw))) →
-    (refusal ≡ DiskFault → HoldsNone (device.reads old 0) → FailedOnce device old new → IsStillNone device old new) → IsCreateEnding device call words old new report.refusal report
+    (refusal ≡ DiskFault → HoldsNone (device.reads old 0) → FailedAtMostOnce device old new → IsStillNone device old new) → IsCreateEnding device call words old new report.refusal report
 create_unmade device call words old new raw refusal report is good silent h cause memory kept images closed =
     subst (λ (r : Report). IsCreateEnding device call words old new r.refusal r) (sym is) (unmade_cases device call words old new raw refusal good silent h cause memory kept images closed)
 

@@ -24,7 +24,7 @@ use Rattle.archive_store.proofs.Exact.{stands_once}
 use Rattle.archive_cli.specs.Batches.{HasIngested}
 use Rattle.archive_cli.specs.Consulted.{IsOpenedThen}
 use Rattle.archive_cli.specs.LoadEnding.{IsDuring}
-use Rattle.archive_cli.specs.Settled.{FailedOnce, IsSettled}
+use Rattle.archive_cli.specs.Settled.{FailedAtMostOnce, IsSettled}
 
 -- a store that was opened on a disk
 pub record IsOpened {D : Type 0} (device : Device D) (disk : D) (store : Seen D) : Type 0 where
@@ -161,6 +161,6 @@ not_again : (first then last : ℕ) → raised first ≤ then → raised then �
 not_again first then last once again most below = omega (arith, once, again, most, below)
 
 pub failed_again : {D : Type 0} (device : Device D) (disk then last : D) → raised (device.fault_count disk) ≤ device.fault_count then
-    → raised (device.fault_count then) ≤ device.fault_count last → FailedOnce device disk last → ⊥
+    → raised (device.fault_count then) ≤ device.fault_count last → FailedAtMostOnce device disk last → ⊥
 failed_again device disk then last once again one =
     not_again (device.fault_count disk) (device.fault_count then) (device.fault_count last) once again one.most one.below

@@ -10,11 +10,11 @@ use Rattle.arch_types.specs.declared.refusal.Which.TheVariants.{DumpOctets, Shee
 use Rattle.arch_types.specs.Limits.{limit_of}
 use Rattle.mdb_model.specs.Checks.{or_else}
 use Rattle.mdb_model.specs.declared.sheet.RawMdb.{RawMdb}
-use Rattle.mdb_sheets.specs.Sheets.{AreSheets, HasSheet, IsRefusal, IsSheetRefusal, SheetGiven, more}
+use Rattle.mdb_sheets.specs.Sheets.{AreSheets, HasSheet, IsRefusal, IsSheetRefusal, SourcesOfSheet, more}
 use Rattle.outer_traits.specs.declared.whole.ReadFault.{ReadFault as AReadFault}
 use Rattle.outer_traits.specs.declared.whole.ReadFault.TheVariants as fault
 use Rattle.outer_traits.specs.Outside.{Files, IsOneMoreAtMost, one_more}
-use Rattle.outer_traits.specs.Whole.{IsInput, ReadingGiven}
+use Rattle.outer_traits.specs.Whole.{IsInput, SourcesOfReading}
 use Rattle.archive_store.specs.Answers.{IsOpenAnswer}
 use Rattle.archive_store.specs.Seen.{Seen}
 use Rattle.archive_cli.specs.declared.report.Report.{Report}
@@ -105,7 +105,7 @@ module _ (all : Files) (given given' : ℕ) where
 -- ---- how many sources were given
 
 -- a reading gives one source at most
-pub reading_few : {X : Type 0} (result : Result X AReadFault) (before now : ℕ) → ReadingGiven result before now → now ≤ before + 1
+pub reading_few : {X : Type 0} (result : Result X AReadFault) (before now : ℕ) → SourcesOfReading result before now → now ≤ before + 1
 reading_few (Ok octets) before now given = omega (arith, given)
 reading_few (Err fault.TooLong) before now given = omega (arith, given)
 reading_few (Err fault.Missing) before now given = omega (arith, given)
@@ -115,7 +115,7 @@ reading_few (Err other) before now given = one_few before now given
     one_few before now (inl same) = omega (arith, same)
     one_few before now (inr one) = omega (arith, one)
 
-sheet_few : (first before now k : ℕ) (refusal : Refusal) → before ≤ first + k → SheetGiven refusal before now → now ≤ first + suc k
+sheet_few : (first before now k : ℕ) (refusal : Refusal) → before ≤ first + k → SourcesOfSheet refusal before now → now ≤ first + suc k
 sheet_few first before now k (Missing name) few given = omega (arith, few, given)
 sheet_few first before now k (Limit which number) few given = omega (arith, few, given)
 sheet_few first before now k other few given = one_few first before now k few given

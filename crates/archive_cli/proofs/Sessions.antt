@@ -29,7 +29,7 @@ use Rattle.archive_cli.specs.LoadEnding.{link_rows, new_rows_at, nothing_left, b
 use Rattle.archive_cli.specs.Loading.{IsClosed, IsDone, IsReopened, IsSession, WentSo}
 use Rattle.archive_cli.specs.Received.{dump_limit, Received}
 use Rattle.archive_cli.specs.Report.{loaded, IsLoadReport}
-use Rattle.archive_cli.specs.Settled.{FailedOnce, IsSettled}
+use Rattle.archive_cli.specs.Settled.{FailedAtMostOnce, IsSettled}
 use Rattle.archive_cli.proofs.Arrived.{rows_are}
 use Rattle.archive_cli.proofs.During.{failed_again, has_table, load_images, settled, settled_again, left, more_faults, IsOpened}
 
@@ -117,7 +117,7 @@ module _ {D : Type 0} (device : Device D) (tells : IsTrue device.tells) (call : 
   -- the disk failed in a batch, after these packets
   failed_now : (report : Report) (wrote : Bool) (s : Failing dump) → HasIngested old new words.link moment (take s.place s.packets)
       → new.fills ≡ Fault s.count wrote (fresh_of new.history (rows_of_link old.head words.link moment (batch_at s.place s.packets))) ∷ []
-      → (FailedOnce device disk new.disk → wrote ≡ false) → call.written' ≡ call.written
+      → (FailedAtMostOnce device disk new.disk → wrote ≡ false) → call.written' ≡ call.written
       → report ≡ loaded (Some DiskFault) None (length old.history) (length new.history) 0 0 0 → ending.IsFailed device call words disk new.disk report
   failed_now report wrote s done fills once silent is =
       let rows : List Row = fresh_of new.history (rows_of_link old.head words.link moment (batch_at s.place s.packets)) in
@@ -176,7 +176,7 @@ module _ {D : Type 0} (device : Device D) (tells : IsTrue device.tells) (call : 
   -- with this fault
   failed_with : (report : Report) (s : IsStopped old new dump words.link moment DiskFault) (again : IsReopened device new last) (wrote : Bool)
       → last.fills ≡ Fault s.cause.0 wrote (fresh_of new.history (rows_of_link old.head words.link moment (batch_at s.place s.packets))) ∷ []
-      → (FailedOnce device disk last.disk → wrote ≡ false) → call.written' ≡ call.written
+      → (FailedAtMostOnce device disk last.disk → wrote ≡ false) → call.written' ≡ call.written
       → report ≡ loaded (Some DiskFault) None (length old.history) (length new.history) 0 0 0 → IsLoadEnding device call words disk last.disk (Some DiskFault) report
   failed_with report s again wrote fills once silent is =
       let rows : List Item → List Row = λ h. fresh_of h (rows_of_link old.head words.link moment (batch_at s.place s.packets)) in

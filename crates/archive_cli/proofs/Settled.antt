@@ -20,7 +20,7 @@ use Rattle.archive_cli.specs.LoadEnding.{IsLoadEnding}
 use Rattle.archive_cli.specs.QueryEnding.{IsQueryEnding}
 use Rattle.archive_cli.specs.RecoverEnding.{IsRecoverEnding}
 use Rattle.archive_cli.specs.Report.{unopened, IsReport}
-use Rattle.archive_cli.specs.Settled.{FailedOnce, IsSettled, IsSettledWith}
+use Rattle.archive_cli.specs.Settled.{FailedAtMostOnce, IsSettled, IsSettledWith}
 
 -- no archive was opened by a call with such a report
 pub not_opened : (refusal : Option Refusal) (report : Report) → report ≡ unopened refusal → IsTrue report.opened → ⊥
@@ -74,7 +74,7 @@ module _ {D : Type 0} (device : Device D) (call : Call) (old new : D) (report : 
   create_with words (Some other) h = absurd (not_opened report.refusal report h.1.report_is opened)
 
   -- packets were loaded
-  load_with : (words : LoadWords) → FailedOnce device old new → (refusal : Option Refusal) → IsLoadEnding device call words old new refusal report
+  load_with : (words : LoadWords) → FailedAtMostOnce device old new → (refusal : Option Refusal) → IsLoadEnding device call words old new refusal report
       → IsSettledWith device new report.after
   load_with words once None h = record {
     head = _;
@@ -130,7 +130,7 @@ module _ {D : Type 0} (device : Device D) (call : Call) (old new : D) (report : 
 
 -- by the ending of any job
 pub settled_after : {D : Type 0} (device : Device D) → IsTrue device.tells → (call : Call) (old new : D) (job : Option Job) (report : Report)
-    → IsJobEnding device call old new job report → IsReport job report → IsTrue report.opened → FailedOnce device old new → IsSettledWith device new report.after
+    → IsJobEnding device call old new job report → IsReport job report → IsTrue report.opened → FailedAtMostOnce device old new → IsSettledWith device new report.after
 settled_after device tells call old new None report ended is opened once = absurd (not_opened report.refusal report is opened)
 settled_after device tells call old new (Some (Scan name)) report ended is opened once = absurd (not_opened report.refusal report is opened)
 settled_after device tells call old new (Some (Values words)) report ended is opened once = absurd (not_opened report.refusal report is opened)

@@ -21,7 +21,7 @@ use Rattle.archive_cli.specs.Job.{SheetWords}
 use Rattle.archive_cli.specs.Parameter.{sheets_refusal}
 use Rattle.archive_cli.specs.Reading.{IsSheetsRefusal}
 use Rattle.archive_cli.specs.Report.{unopened, consulted}
-use Rattle.archive_cli.specs.Settled.{FailedOnce}
+use Rattle.archive_cli.specs.Settled.{FailedAtMostOnce}
 
 -- the head of a new archive: table `tm`, and the database of the sheets
 abbrev pub new_head : RawMdb → Head
@@ -86,7 +86,7 @@ pub record IsNotMade {D : Type 0} (device : Device D) (call : Call) (words : She
   pub silent : IsSilent call
   pub kept : HoldsOne (device.reads old) → IsUntouched device old new
   pub images : HoldsNone (device.reads old 0) → LeavesOnly device old new (IsMaking (device.images old) (new_head raw))
-  pub closed : HoldsNone (device.reads old 0) → FailedOnce device old new → IsStillNone device old new
+  pub closed : HoldsNone (device.reads old 0) → FailedAtMostOnce device old new → IsStillNone device old new
   pub report_is : report ≡ unopened report.refusal
 
 -- an archive was made, and a text on it was printed as P says

@@ -28,7 +28,7 @@ use Rattle.archive_cli.specs.Consulted.{IsUntouched, IsConsulted, IsOpenedThen, 
 use Rattle.archive_cli.specs.Job.{LoadWords}
 use Rattle.archive_cli.specs.Received.{dump_limit, Received, IsBadRest}
 use Rattle.archive_cli.specs.Report.{unopened, consulted, loaded}
-pub use Rattle.archive_cli.specs.Settled.{FailedOnce, IsSettled}
+pub use Rattle.archive_cli.specs.Settled.{FailedAtMostOnce, IsSettled}
 
 -- the rows of packets of a link, all in table `tm`, with the packet names that a database gives them
 abbrev pub link_rows : Database → ℕ → ℤ → List (List ℕ) → List Row
@@ -141,7 +141,7 @@ pub record IsRefused {D : Type 0} (device : Device D) (call : Call) (words : Loa
 pub record IsFailed {D : Type 0} (device : Device D) (call : Call) (words : LoadWords) (old new : D) (report : Report) : Type 0 where
   pub stopped : IsStopped device call words batch_left old new DiskFault report
   pub now : (c : Image) → device.images new c → IsReached stopped.run c
-  pub settled : FailedOnce device old new → IsSettled device new stopped.run.before.head stopped.run.reached
+  pub settled : FailedAtMostOnce device old new → IsSettled device new stopped.run.before.head stopped.run.reached
 
 -- The batch that is refused passes a limit. The journal has one record for the head, and each further one has a row.
 pub record IsLimited {D : Type 0} (device : Device D) (call : Call) (words : LoadWords) (old new : D) (which : Which) (number : ℕ) (report : Report) : Type 0 where

@@ -8,7 +8,7 @@ use Rattle.archive_store.specs.Entries.{archive}
 use Rattle.archive_store.specs.Stands.{StandsFor}
 
 -- the disk's count of faults stands at most one above its value at entry, and below its last value
-pub record FailedOnce {D : Type 0} (device : Device D) (old new : D) : Type 0 where
+pub record FailedAtMostOnce {D : Type 0} (device : Device D) (old new : D) : Type 0 where
   pub most : device.fault_count new ≤ device.fault_count old + 1
   pub below : device.fault_count new + 1 < 2 ^ 64
 

@@ -60,7 +60,7 @@ fn main(rt: HostRuntime) -> ExitCode {
         return refused(&rt, &Refusal::ReadFault);
     };
     let status = run_command(&rt);
-    // not before anything was printed
+    // only now, when all is printed
     drop(streams);
     status
 }

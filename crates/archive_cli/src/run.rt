@@ -12,7 +12,7 @@ ghost use Rattle.archive_cli.specs.Expected.{IsExpected};
 ghost use Rattle.archive_cli.specs.HandedBack.{IsHandedBack};
 ghost use Rattle.archive_cli.specs.Order.{IsInOrder};
 ghost use Rattle.archive_cli.specs.Report.{status_at, IsReport};
-ghost use Rattle.archive_cli.specs.Settled.{FailedOnce, IsSettledWith};
+ghost use Rattle.archive_cli.specs.Settled.{FailedAtMostOnce, IsSettledWith};
 
 use crate::create::create;
 use crate::job::{Job, job_of};
@@ -76,7 +76,7 @@ pub fn run<D: Disk, I: Inputs, K: Sink, C: Clock>(
     // Where an archive was opened or made, and the disk's count of faults stands at most one above its value at entry:
     // the disk reads as a history of `after` rows, and every image that a crash now leaves stands for the same.
     ensures settled { IsTrue D.device.tells → IsTrue result.report.opened
-        → FailedOnce D.device disk result.disk → IsSettledWith D.device result.disk result.report.after }
+        → FailedAtMostOnce D.device disk result.disk → IsSettledWith D.device result.disk result.report.after }
 
     // Refused before the disk was asked, it hands the very disk back, also where that tells nothing.
     ensures handed_back { IsHandedBack (job_of (map (λ w. string_bytes w) words.now)) disk result.disk result.report }

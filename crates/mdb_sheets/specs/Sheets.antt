@@ -42,15 +42,15 @@ IsSheetRefusal files name faults faults' OutOfMemory = Unit {0}
 IsSheetRefusal files name faults faults' other = ⊥
 
 -- how many sources a sheet that isn't read gave: none where there's none of the name, one where it is too long, else one at most
-abbrev pub SheetGiven : Refusal → ℕ → ℕ → Type 0
-SheetGiven (Missing lacking) before now = now ≡ before
-SheetGiven (Limit which number) before now = now ≡ one_more before
-SheetGiven other before now = IsOneMoreAtMost before now
+abbrev pub SourcesOfSheet : Refusal → ℕ → ℕ → Type 0
+SourcesOfSheet (Missing lacking) before now = now ≡ before
+SourcesOfSheet (Limit which number) before now = now ≡ one_more before
+SourcesOfSheet other before now = IsOneMoreAtMost before now
 
 -- a sheet isn't read for this refusal, and so many sources were given for it
 abbrev pub IsSheetRefused : Option Files → List ℕ → ℕ → ℕ → ℕ → ℕ → Refusal → Type 0
 IsSheetRefused files name faults faults' given given' refusal =
-    IsSheetRefusal files name faults faults' refusal × SheetGiven refusal given given'
+    IsSheetRefusal files name faults faults' refusal × SourcesOfSheet refusal given given'
 
 -- so many more, up to a counter's last value
 abbrev pub more : ℕ → ℕ → ℕ

@@ -1,9 +1,12 @@
 //! The sheet of asks.
 
-ghost use Rattle.std.specs.Prelude.{◌≡◌, ◌+◌, ◌<◌, ◌≤◌, ◌^◌, length, IfOk, IfErr};
+ghost use Rattle.std.specs.Prelude.{◌≡◌, ◌+◌, ◌<◌, ◌≤◌, ◌^◌, length, IfOk, IfErr, IsErrOf};
+ghost use Rattle.arch_types.specs.declared.refusal.Which.TheVariants.{SheetOctets};
+ghost use Rattle.arch_types.specs.Limits.{limit_of};
 ghost use Rattle.mdb_model.specs.Sheets.{are_texts};
 ghost use Rattle.std.specs.Result.{result_err};
 ghost use Rattle.outer_traits.specs.Outside.{Stays};
+ghost use Rattle.outer_traits.specs.Whole.{TookAtMost};
 ghost use Rattle.mdb_sheets.specs.Asks.{AreAsks, AsksGiven, IsAsksRefusal, RowsGiven, is_ask_header};
 ghost use Rattle.mdb_sheets.specs.Sheets.{ReadsCounted, sheet_of};
 
@@ -95,6 +98,7 @@ fn asks_in(alloc: Global, octets: &[u8]) -> Result<Asks, Refusal>
 pub fn read_asks<S: Source>(alloc: Global, source: &mut S) -> Result<Asks, Refusal>
     ensures asks { IfOk result (AreAsks (S.left source.old)) }
     ensures refused { IfErr result (IsAsksRefusal (S.left source.old) (S.faults source.old) (S.faults source.new)) }
+    ensures within { IsErrOf result Refusal.ReadFault → TookAtMost (limit_of SheetOctets) (S.left source.old) (S.left source.new) }
     ensures counted { ReadsCounted (result_err result) (S.faults source.old) (S.faults source.new) }
     ensures later { S.faults source.old ≤ S.faults source.new }
     ensures steady { S.never_fails source.old → S.never_fails source.new × Stays (S.faults source.old) (S.faults source.new) }

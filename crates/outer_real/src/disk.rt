@@ -1,10 +1,9 @@
 //! A folder of the system as a disk.
 
 ghost use Rattle.std.specs.Prelude.{◌≡◌};
-ghost use Rattle.arch_disk.specs.Disk.{raised};
 
 use crate::folder::Folder;
-use arch_disk::{Disk, Failed};
+use arch_disk::{Disk, Failed, FaultCounts};
 use std::alloc::Global;
 use std::fs::File;
 use std::rt::Files;
@@ -14,38 +13,19 @@ use std::rt::Files;
 #[derive(Drop)]
 pub struct RealDisk<'a, R> {
     folder: Folder<'a, R>,
-    faults: u64,
-    failed_writes: u64,
+    counts: FaultCounts,
 }
 
 impl<'a, R> RealDisk<'a, R> {
     /// The files in the folder of this path. It asks nothing of the system.
     pub fn new(alloc: Global, rt: &'a R, path: String) -> Self
-        ensures { (result.faults ≡ 0) × (result.failed_writes ≡ 0) }
+        ensures { (result.counts.faults ≡ 0) × (result.counts.failed_writes ≡ 0) }
     {
         RealDisk {
             folder: Folder::new(alloc, rt, path),
-            faults: 0,
-            failed_writes: 0,
+            counts: FaultCounts::NONE,
         }
     }
-}
-
-/// Counts a call that failed.
-fn fault(faults: &mut u64) -> Failed
-    ensures { faults.new ≡ raised faults.old }
-{
-    *faults = faults.saturating_add(1);
-    Failed
-}
-
-/// Counts a write, a cut or a sync that failed.
-fn failed_write(faults: &mut u64, failed_writes: &mut u64) -> Failed
-    ensures faults { faults.new ≡ raised faults.old }
-    ensures writes { failed_writes.new ≡ raised failed_writes.old }
-{
-    *failed_writes = failed_writes.saturating_add(1);
-    fault(faults)
 }
 
 impl<'a, R: Files<File = File>> Disk for RealDisk<'a, R> {
@@ -58,8 +38,8 @@ impl<'a, R: Files<File = File>> Disk for RealDisk<'a, R> {
       images = λ _ _. ⊥;
       moment = λ _. 0;
       images_since = λ _ _ _. ⊥;
-      fault_count = λ disk. disk.faults;
-      failed_writes = λ disk. disk.failed_writes;
+      fault_count = λ disk. disk.counts.faults;
+      failed_writes = λ disk. disk.counts.failed_writes;
       now_counts = λ _ _ _ _ left. left;
       only_now = λ _ _ left. left;
       reads_as_image = λ _ told. untold told;
@@ -69,39 +49,39 @@ impl<'a, R: Files<File = File>> Disk for RealDisk<'a, R> {
     fn len(&mut self, file: u32) -> Result<u64, Failed> {
         match self.folder.len(file) {
             Ok(len) => Ok(len),
-            Err(_) => Err(fault(&mut self.faults)),
+            Err(_) => Err(self.counts.look_failed()),
         }
     }
 
     fn read_at(&mut self, file: u32, at: u64, into: &mut [u8]) -> Result<(), Failed> {
         match self.folder.read_at(file, at, into) {
             Ok(()) => Ok(()),
-            Err(_) => Err(fault(&mut self.faults)),
+            Err(_) => Err(self.counts.look_failed()),
         }
     }
 
     fn write_at(&mut self, file: u32, at: u64, from: &[u8]) -> Result<(), Failed> {
         match self.folder.write_at(file, at, from) {
             Ok(()) => Ok(()),
-            Err(_) => Err(failed_write(&mut self.faults, &mut self.failed_writes)),
+            Err(_) => Err(self.counts.write_failed()),
         }
     }
 
     fn cut(&mut self, file: u32, len: u64) -> Result<(), Failed> {
         match self.folder.cut(file, len) {
             Ok(()) => Ok(()),
-            Err(_) => Err(failed_write(&mut self.faults, &mut self.failed_writes)),
+            Err(_) => Err(self.counts.write_failed()),
         }
     }
 
     fn sync(&mut self, file: u32) -> Result<(), Failed> {
         match self.folder.sync(file) {
             Ok(()) => Ok(()),
-            Err(_) => Err(failed_write(&mut self.faults, &mut self.failed_writes)),
+            Err(_) => Err(self.counts.write_failed()),
         }
     }
 
     fn faults(&self) -> u64 {
-        self.faults
+        self.counts.faults
     }
 }

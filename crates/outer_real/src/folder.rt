@@ -210,20 +210,33 @@ fn make_folders<R: Files<File = File>>(rt: &R, path: &str) -> io::Result<()> {
     make_folder(rt, path)
 }
 
-/// Makes a folder where there is none, and takes its entry to the device, or else takes it away again.
+/// Makes a folder where there is none, and takes its entry to the device, or else takes it away again. The entry of one that is there may
+/// have been left off the device by a program that was killed, so it is taken there too.
 fn make_folder<R: Files<File = File>>(rt: &R, path: &str) -> io::Result<()> {
-    let folder = Path::new(path);
-    if path.is_empty() || folder.is_dir(rt) {
+    if path.is_empty() {
         return Ok(());
     }
-    fs::create_dir(rt, path)?;
+    let folder = Path::new(path);
     let above = match folder.parent() {
         Some(above) => above.to_string_lossy(),
         None => "",
     };
+    if folder.is_dir(rt) {
+        return sync_entry(rt, above);
+    }
+    fs::create_dir(rt, path)?;
     let answer = sync_folder(rt, above);
     if answer.is_err() {
         let _ = fs::remove_dir(rt, path);
     }
     answer
+}
+
+/// Takes the entries of a folder to the device. One that may not be read can't be asked to; it is passed over, so that an archive can be made
+/// below it.
+fn sync_entry<R: Files<File = File>>(rt: &R, path: &str) -> io::Result<()> {
+    match sync_folder(rt, path) {
+        Err(error) if is_for_reading(error.kind()) => Ok(()),
+        answer => answer,
+    }
 }

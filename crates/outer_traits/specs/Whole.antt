@@ -1,5 +1,5 @@
 -- Inputs that are read to their end.
-use Rattle.std.specs.Prelude.{◌≡◌, ℕ, ◌<◌, List, ◌++◌, Option, Some, None, IfSome, IsNone, IsSome, IsSomeAnd, Result, Ok, Err, length}
+use Rattle.std.specs.Prelude.{◌≡◌, ℕ, ◌+◌, ◌<◌, ◌≤◌, List, ◌++◌, Option, Some, None, IfSome, IsNone, IsSome, IsSomeAnd, Result, Ok, Err, length}
 use Rattle.std.specs.FinMap.{get}
 use Rattle.outer_traits.specs.declared.whole.ReadFault.{ReadFault}
 use Rattle.outer_traits.specs.declared.whole.ReadFault.TheVariants.{Missing, Failed, TooLong, OutOfMemory}
@@ -9,6 +9,10 @@ use Rattle.outer_traits.specs.Outside.{Files, HasRisen, IsOneMoreAtMost, Stays, 
 abbrev pub IsTaken : Option (List ℕ) → List ℕ → Option (List ℕ) → Type 0
 IsTaken None taken left = left ≡ None
 IsTaken (Some octets) taken left = (more : List ℕ) × (octets ≡ taken ++ more) × (left ≡ Some more)
+
+-- not more octets than the limit were taken of those that were left, where they are told
+abbrev pub TookAtMost : ℕ → Option (List ℕ) → Option (List ℕ) → Type 0
+TookAtMost limit old new = IfSome old (λ octets. IfSome new (λ more. length octets ≤ limit + length more))
 
 -- the named input has these octets, where the inputs are told
 abbrev pub IsInput : Option Files → List ℕ → List ℕ → Type 0

@@ -86,7 +86,7 @@ impl Source for MemSource {
     /// The reads that are listed fail, and no others.
     fn read(&mut self, into: &mut [u8]) -> Result<usize, Failed>
         ensures numbered { self.new.reads ≡ one_more self.old.reads }
-        ensures struck { is_err result ≡ is_listed self.old.calls.items self.old.opening self.new.reads }
+        ensures listed_fails { is_err result ≡ is_listed self.old.calls.items self.old.opening self.new.reads }
         ensures same_calls { (self.new.calls ≡ self.old.calls) × (self.new.opening ≡ self.old.opening) }
         ensures count { IfOk result (λ n. n ≤ length into.old) }
         ensures taken { IfOk result (λ n.
@@ -117,6 +117,7 @@ impl MemInputs {
         ensures files { result.files ≡ files }
         ensures no_calls { result.calls.items ≡ [] }
         ensures no_faults { result.faults ≡ 0 }
+        ensures none_given { (result.held ≡ 0) × (result.given ≡ 0) }
     {
         MemInputs::failing(files, Vec::new(alloc))
     }
@@ -127,6 +128,7 @@ impl MemInputs {
         ensures calls { result.calls ≡ calls }
         ensures none_made { result.opened ≡ 0 }
         ensures no_faults { result.faults ≡ 0 }
+        ensures none_given { (result.held ≡ 0) × (result.given ≡ 0) }
     {
         MemInputs {
             files,
@@ -160,9 +162,9 @@ impl Inputs for MemInputs {
     /// `Missing` where there's no file of the name, and else the openings that are listed fail, and no others.
     fn open(&mut self, alloc: Global, name: &str) -> Result<MemSource, OpenFault>
         ensures numbered { self.new.opened ≡ one_more self.old.opened }
-        ensures struck { is_listed self.old.calls.items self.new.opened 0 ≡ true
+        ensures listed_fails { is_listed self.old.calls.items self.new.opened 0 ≡ true
             → IsSome (get (files_of self.old.files.items) name.now) → IsErrOf result OpenFault.Failed }
-        ensures spared { is_listed self.old.calls.items self.new.opened 0 ≡ false → IsErrOf result OpenFault.Failed → ⊥ }
+        ensures unlisted_never_fails { is_listed self.old.calls.items self.new.opened 0 ≡ false → IsErrOf result OpenFault.Failed → ⊥ }
         ensures told { IfOk result (λ source.
             (source.opening ≡ self.new.opened) × (source.calls.items ≡ self.old.calls.items)) }
         ensures unread { IfOk result (λ source. source.reads ≡ 0) }

@@ -63,7 +63,7 @@ impl Sink for MemSink {
     /// The writes that are listed fail. Another appends the whole piece, or fails for want of memory.
     fn write(&mut self, piece: &[u8]) -> Result<usize, Failed>
         ensures numbered { self.new.writes ≡ one_more self.old.writes }
-        ensures struck { is_listed self.old.calls.items self.new.writes ≡ true → IsErr result }
+        ensures listed_fails { is_listed self.old.calls.items self.new.writes ≡ true → IsErr result }
         ensures same_calls { self.new.calls ≡ self.old.calls }
         ensures whole { IfOk result (λ n. n ≡ length piece.now) }
         ensures count { IfOk result (λ n. n ≤ length piece.now) }

@@ -2,7 +2,7 @@
 
 ghost use Rattle.std.specs.Prelude.{◌≡◌, ◌+◌, ◌^◌, ◌≤◌, ◌<◌, length, IfOk, IfErr, IsErrOf, IfSome, vec_len};
 ghost use Rattle.outer_traits.specs.Outside.{Stays};
-ghost use Rattle.outer_traits.specs.Whole.{IsInput, IsReadFault, ReadingCounted, ReadingGiven};
+ghost use Rattle.outer_traits.specs.Whole.{IsInput, IsReadFault, ReadingCounted, ReadingGiven, TookAtMost};
 
 use crate::fault::OpenFault;
 use crate::inputs::Inputs;
@@ -65,7 +65,8 @@ pub fn read_input<I: Inputs>(
     }
 }
 
-/// All octets that a source has left, of which there may be `limit`. The count of faults rises exactly where the answer is `Failed`.
+/// All octets that a source has left, of which there may be `limit`. The count of faults rises exactly where the answer is `Failed`, and no read
+/// is made once the limit was passed.
 pub fn read_whole<S: Source>(
     alloc: Global,
     source: &mut S,
@@ -74,6 +75,7 @@ pub fn read_whole<S: Source>(
     ensures whole { IfOk result (λ octets. IfSome (S.left source.old) (λ left. left ≡ octets.items)) }
     ensures short { IfOk result (λ octets. vec_len octets ≤ limit) }
     ensures long { IsErrOf result ReadFault.TooLong → IfSome (S.left source.old) (λ left. limit < length left) }
+    ensures within { IsErrOf result ReadFault.Failed → TookAtMost limit (S.left source.old) (S.left source.new) }
     ensures counted { ReadingCounted result (S.faults source.old) (S.faults source.new) }
     ensures not_missing { IsErrOf result ReadFault.Missing → ⊥ }
     ensures later { S.faults source.old ≤ S.faults source.new }
