@@ -1,10 +1,11 @@
 // That each call succeeds while memory lasts, with worked answers, and what it refuses.
 use crate::parts::{
-    created, head, holding, ingest, request, shows, shows_at, text_of, why_no_archive,
-    why_no_ingest, with_a_failing_gate,
+    created, disk_of, holding, ingest, is_reopened, making, opened, opening, request, shows,
+    shows_at, text_of, why_no_ingest, with_a_failing_gate,
 };
 use arch_disk::MemDisk;
 use arch_types::inserted::Inserted;
+use arch_types::name::Names;
 use archive_store::Store;
 use std::alloc::Global;
 use std::marker::Send;
@@ -47,20 +48,17 @@ fn two_tables(rt: HostRuntime) -> Result<(), Fail> {
     Ok(())
 }
 
-/// Makes an archive with two packets in both tables, and opens it.
-fn reopened(alloc: Global) -> Result<Store<MemDisk>, Fail> {
+/// A disk with an archive of two packets, each in both tables.
+fn filled(alloc: Global) -> Result<MemDisk, Fail> {
     let mut store = created(alloc, MemDisk::new(alloc))?;
     let _ = ingest(alloc, &mut store, &[0, 1], &[0, 1])?;
-    match Store::open(alloc, store.into_disk()) {
-        Ok(store) => Ok(store),
-        Err(_) => Err(Fail::from("an archive")),
-    }
+    Ok(disk_of(store))
 }
 
 #[test]
 fn an_archive_is_opened_again(rt: HostRuntime) -> Result<(), Fail> {
     let alloc = rt.alloc();
-    let mut store = reopened(alloc)?;
+    let mut store = opened(alloc, filled(alloc)?)?;
     assert!(rt; shows_at(alloc, &mut store, 4, 2)?);
     let outcomes = ingest(alloc, &mut store, &[0, 2], &[0])?;
     assert_eq!(rt;
@@ -72,21 +70,21 @@ fn an_archive_is_opened_again(rt: HostRuntime) -> Result<(), Fail> {
 
 #[test]
 fn an_archive_is_made_once(rt: HostRuntime) -> Result<(), Fail> {
-    let alloc = rt.alloc();
-    let disk = created(alloc, MemDisk::new(alloc))?.into_disk();
-    assert_eq!(rt;
-        why_no_archive(Store::create(alloc, disk, head(alloc)?)),
-        "exists"
-    );
+    assert_eq!(rt; making(rt.alloc(), filled(rt.alloc())?)?, "exists");
     Ok(())
+}
+
+fn names_of(alloc: Global, store: &Store<MemDisk>) -> Result<Names, Fail> {
+    match store.names(alloc) {
+        Ok(names) => Ok(names),
+        Err(refusal) => Err(Fail::from(text_of(&refusal))),
+    }
 }
 
 #[test]
 fn names_of_packets(rt: HostRuntime) -> Result<(), Fail> {
     let store = created(rt.alloc(), MemDisk::new(rt.alloc()))?;
-    let Ok(names) = store.names(rt.alloc()) else {
-        return Err(Fail::from("names"));
-    };
+    let names = names_of(rt.alloc(), &store)?;
     let [name] = names.as_slice() else {
         return Err(Fail::from("one name"));
     };
@@ -95,7 +93,7 @@ fn names_of_packets(rt: HostRuntime) -> Result<(), Fail> {
 }
 
 /// What a plan of a parameter over a range answers.
-fn why_no_plan(alloc: Global, name: &[u8], from: i64, to: i64) -> Result<&'static str, Fail> {
+fn planning(alloc: Global, name: &[u8], from: i64, to: i64) -> Result<&'static str, Fail> {
     let mut store = created(alloc, MemDisk::new(alloc))?;
     let request = request(alloc, name, from, to)?;
     match store.plan(alloc, &request) {
@@ -107,9 +105,9 @@ fn why_no_plan(alloc: Global, name: &[u8], from: i64, to: i64) -> Result<&'stati
 #[test]
 fn plans_that_are_refused(rt: HostRuntime) -> Result<(), Fail> {
     let alloc = rt.alloc();
-    assert_eq!(rt; why_no_plan(alloc, b"zz", 5, 4)?, "unknown parameter");
-    assert_eq!(rt; why_no_plan(alloc, b"v", 5, 4)?, "bad range 5 4");
-    assert_eq!(rt; why_no_plan(alloc, b"v", 4, 4)?, "a plan");
+    assert_eq!(rt; planning(alloc, b"zz", 5, 4)?, "unknown parameter");
+    assert_eq!(rt; planning(alloc, b"v", 5, 4)?, "bad range 5 4");
+    assert_eq!(rt; planning(alloc, b"v", 4, 4)?, "a plan");
     Ok(())
 }
 
@@ -120,20 +118,20 @@ fn a_gate_fails(rt: HostRuntime) -> Result<(), Fail> {
     assert_eq!(rt; why_no_ingest(alloc, &mut store, &[9])?, "disk fault");
     assert!(rt; shows(alloc, &mut store, 0)?);
     assert_eq!(rt; why_no_ingest(alloc, &mut store, &[9])?, "needs reopen 1");
-    assert!(rt; store.reopen().is_ok());
-    let outcomes = ingest(alloc, &mut store, &[9], &[0])?;
-    assert_eq!(rt; outcomes.as_slice(), [Inserted::New(0)].as_slice());
+    assert!(rt; is_reopened(&mut store));
+    assert_eq!(rt; why_no_ingest(alloc, &mut store, &[9])?, "an ingest");
     Ok(())
 }
 
 #[test]
 fn disks_that_are_not_opened(rt: HostRuntime) -> Result<(), Fail> {
     let alloc = rt.alloc();
-    let cut_short = Store::open(alloc, holding(alloc, b"\x01\x00\x00\x00\x09\x01\x00")?);
-    assert_eq!(rt; why_no_archive(cut_short), "damaged 0 0");
-    let short = Store::open(alloc, holding(alloc, b"\x01")?);
-    assert_eq!(rt; why_no_archive(short), "no archive");
-    let failing = Store::open(alloc, MemDisk::failing(alloc, vec![in alloc; 1; 1]?));
-    assert_eq!(rt; why_no_archive(failing), "disk fault");
+    assert_eq!(rt;
+        opening(alloc, holding(alloc, b"\x01\x00\x00\x00\x09\x01\x00")?),
+        "damaged 0 0"
+    );
+    assert_eq!(rt; opening(alloc, holding(alloc, b"\x01")?), "no archive");
+    let failing = MemDisk::failing(alloc, vec![in alloc; 1; 1]?);
+    assert_eq!(rt; opening(alloc, failing), "disk fault");
     Ok(())
 }

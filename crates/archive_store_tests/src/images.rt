@@ -2,7 +2,7 @@
 // after the call of the store, whatever kind of crash it is.
 ghost use Rattle.std.specs.Prelude.{◌≤◌, length};
 
-use crate::parts::{head, shows, why_no_ingest};
+use crate::parts::{head, is_reopened, shows, why_no_ingest};
 use arch_disk::{Crash, MemDisk};
 use arch_types::refusal::Refusal;
 use archive_store::Store;
@@ -53,6 +53,11 @@ fn open_since(
     Ok(())
 }
 
+/// How many calls of its disk are kept, and the front of a store.
+fn moments_and_front(store: &Store<MemDisk>) -> (usize, u64) {
+    (store.disk().moments(), store.front())
+}
+
 /// Makes calls, `i` an ingest of the next packet and `r` a reopen, and opens the images of each.
 fn make_calls(
     rt: &impl Abort,
@@ -61,11 +66,10 @@ fn make_calls(
     calls: &[u8],
 ) -> Result<(), Fail> {
     for call in calls {
-        let from = store.disk().moments();
-        let low = store.front();
+        let (from, low) = moments_and_front(store);
         match *call {
             b'r' => {
-                let _ = store.reopen();
+                let _ = is_reopened(store);
             }
             _ => {
                 let _ = why_no_ingest(alloc, store, &[low])?;
@@ -76,16 +80,23 @@ fn make_calls(
     Ok(())
 }
 
+/// An archive that was made, or the disk.
+fn made(alloc: Global, failing: Vec<u64>) -> Result<Result<Store<MemDisk>, MemDisk>, Fail> {
+    match Store::create(alloc, MemDisk::failing(alloc, failing), head(alloc)?) {
+        Ok(store) => Ok(Ok(store)),
+        Err((disk, _)) => Ok(Err(disk)),
+    }
+}
+
 /// Makes an archive and calls of its store on a disk that fails at these calls, and tells the front that is reached.
 fn front_reached(rt: &impl Abort, alloc: Global, failing: Vec<u64>) -> Result<Option<u64>, Fail> {
-    let disk = MemDisk::failing(alloc, failing);
-    match Store::create(alloc, disk, head(alloc)?) {
+    match made(alloc, failing)? {
         Ok(mut store) => {
             open_since(rt, alloc, store.disk(), 0, None)?;
             make_calls(rt, alloc, &mut store, b"iirri")?;
-            Ok(Some(store.front()))
+            Ok(Some(moments_and_front(&store).1))
         }
-        Err((disk, _)) => {
+        Err(disk) => {
             open_since(rt, alloc, &disk, 0, None)?;
             Ok(None)
         }

@@ -2,7 +2,7 @@
 ghost use Rattle.std.specs.Prelude.{IfOk};
 ghost use Rattle.archive_store.specs.Batches.{IsBatch};
 
-use crate::parts::{answer_to, arrival, created};
+use crate::parts::{answer_to, arrival, created, front_and_calls};
 use arch_disk::MemDisk;
 use archive_store::{Arrivals, Batch, Head, Store};
 use std::alloc::Global;
@@ -61,12 +61,13 @@ fn full(alloc: Global) -> Result<Store<MemDisk>, Fail> {
 fn an_interval_is_full(rt: HostRuntime) -> Result<(), Fail> {
     let alloc = rt.alloc();
     let mut store = full(alloc)?;
-    let calls = store.disk().made();
+    let before = front_and_calls(&store);
     assert_eq!(rt;
         answer(alloc, &mut store, 262_143, 262_145, 0)?,
         "limit IntervalRows 262144"
     );
-    assert_eq!(rt; (store.front(), store.disk().made()), (262_144, calls));
+    assert_eq!(rt; before.0, 262_144);
+    assert_eq!(rt; front_and_calls(&store), before);
     assert_eq!(rt; answer(alloc, &mut store, 0, 64, 0)?, "an ingest");
     assert_eq!(rt;
         answer(alloc, &mut store, 262_144, 262_145, 1)?,

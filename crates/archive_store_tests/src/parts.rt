@@ -23,7 +23,7 @@ use std::test::Fail;
 
 /// The entry of the tables `tm` and `hk`, the parameters `apid` (uint of 11 bits) and `v` (uint of 8 bits), and the container `HDR`, which has
 /// them at the bits 5 and 96.
-pub const HEAD: &[u8] =
+const HEAD: &[u8] =
     b"\x01\x01\x16\x02\x02tm\x02hk\x00\x02\x04apid\x00\x0B\x00\x00\x01v\x00\x08\x00\x00\x00\x00\x00\x01\x03HDR\x00\x00\x00\x00\x00\x02\x00\x00\x00\x00\x00\x05\x00\x01\x00\x00\x00\x60";
 
 /// The octets of the entry. A function, so that they stand in no goal of its callers.
@@ -183,6 +183,8 @@ pub fn text_of(refusal: &Refusal) -> &'static str {
         Refusal::NoArchive => "no archive",
         Refusal::Exists => "exists",
         Refusal::Damaged { file: 0, at: 0 } => "damaged 0 0",
+        Refusal::Damaged { file: 0, at: 58 } => "damaged 0 58",
+        Refusal::Damaged { file: 0, at: 91 } => "damaged 0 91",
         Refusal::DiskFault => "disk fault",
         Refusal::NeedsReopen { faults: 1 } => "needs reopen 1",
         Refusal::Limit {
@@ -253,9 +255,48 @@ pub fn created(alloc: Global, disk: MemDisk) -> Result<Store<MemDisk>, Fail>
 pub fn with_a_failing_gate(alloc: Global) -> Result<Store<MemDisk>, Fail>
     ensures { IfOk result (λ store. store.fills ≡ []) }
 {
-    let made = created(alloc, MemDisk::new(alloc))?.into_disk().made();
+    let made = disk_of(created(alloc, MemDisk::new(alloc))?).made();
     let calls = vec![in alloc; made.saturating_add(3); 1]?;
     created(alloc, MemDisk::failing(alloc, calls))
+}
+
+/// What the making of an archive on a disk answers.
+pub fn making(alloc: Global, disk: MemDisk) -> Result<&'static str, Fail> {
+    match Store::create(alloc, disk, head(alloc)?) {
+        Ok(_store) => Ok("an archive"),
+        Err((_disk, refusal)) => Ok(text_of(&refusal)),
+    }
+}
+
+/// What the opening of a disk answers.
+pub fn opening(alloc: Global, disk: MemDisk) -> &'static str {
+    match Store::open(alloc, disk) {
+        Ok(_store) => "an archive",
+        Err((_disk, refusal)) => text_of(&refusal),
+    }
+}
+
+/// The archive of a disk.
+pub fn opened(alloc: Global, disk: MemDisk) -> Result<Store<MemDisk>, Fail> {
+    match Store::open(alloc, disk) {
+        Ok(store) => Ok(store),
+        Err((_disk, refusal)) => Err(Fail::from(text_of(&refusal))),
+    }
+}
+
+/// The disk of a store.
+pub fn disk_of(store: Store<MemDisk>) -> MemDisk {
+    store.into_disk()
+}
+
+/// Whether a reopen is answered Ok.
+pub fn is_reopened(store: &mut Store<MemDisk>) -> bool {
+    store.reopen().is_ok()
+}
+
+/// The front of a store, and how many calls its disk has counted.
+pub fn front_and_calls(store: &Store<MemDisk>) -> (u64, u64) {
+    (store.front(), store.disk().made())
 }
 
 /// A disk whose file 0 holds octets.
@@ -263,11 +304,4 @@ pub fn holding(alloc: Global, octets: &[u8]) -> Result<MemDisk, Fail> {
     let mut disk = MemDisk::new(alloc);
     disk.write_at(0, 0, octets)?;
     Ok(disk)
-}
-
-pub fn why_no_archive(made: Result<Store<MemDisk>, (MemDisk, Refusal)>) -> &'static str {
-    match made {
-        Ok(_store) => "an archive",
-        Err((_disk, refusal)) => text_of(&refusal),
-    }
 }

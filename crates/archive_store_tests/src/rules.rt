@@ -1,89 +1,130 @@
 // Each rule of a record, broken once: the archive is damaged at the gate of that record.
-use crate::parts::{HEAD, holding, shows_at};
-use arch_types::refusal::Refusal;
-use archive_store::Store;
+use crate::parts::{head_octets, holding, octets_of, opened, opening, shows_at};
 use std::alloc::Global;
 use std::test::Fail;
 
-/// One row of table `tm`: the packet 0 of link 1, with the packet name 0.
-const ROW: &[u8] =
-    b"\x02\x00\x01\x00\x00\x00\x00\x00\x00\x00\x23\x28\x01\x00\x00\x08\x64\xC0\x00\x00\x06\x00\x00\x00\x01\x80\x00\x2A";
+/// The body of a record.
+enum Body {
+    Head,
+    /// Rows in tables and with packet names, each the packet 0 of link 1, behind this kind and before so many octets more.
+    Rows(u8, &'static [(u8, u8)], usize),
+    Nothing,
+}
 
-/// The same row in table `hk`.
-const OTHER_TABLE: &[u8] =
-    b"\x02\x00\x01\x01\x00\x00\x00\x00\x00\x00\x23\x28\x01\x00\x00\x08\x64\xC0\x00\x00\x06\x00\x00\x00\x01\x80\x00\x2A";
-
-const KIND_9: &[u8] =
-    b"\x09\x00\x01\x00\x00\x00\x00\x00\x00\x00\x23\x28\x01\x00\x00\x08\x64\xC0\x00\x00\x06\x00\x00\x00\x01\x80\x00\x2A";
-
-const TABLE_2: &[u8] =
-    b"\x02\x00\x01\x02\x00\x00\x00\x00\x00\x00\x23\x28\x01\x00\x00\x08\x64\xC0\x00\x00\x06\x00\x00\x00\x01\x80\x00\x2A";
-
-const NAME_1: &[u8] =
-    b"\x02\x00\x01\x00\x00\x00\x00\x00\x00\x00\x23\x28\x01\x00\x01\x08\x64\xC0\x00\x00\x06\x00\x00\x00\x01\x80\x00\x2A";
-
-const KEY_TWICE: &[u8] =
-    b"\x02\x00\x02\x00\x00\x00\x00\x00\x00\x00\x23\x28\x01\x00\x00\x08\x64\xC0\x00\x00\x06\x00\x00\x00\x01\x80\x00\x2A\x00\x00\x00\x00\x00\x00\x00\x23\x28\x02\x00\x00\x08\x64\xC0\x00\x00\x06\x00\x00\x00\x01\x80\x00\x2B";
-
-const LEFT_OVER: &[u8] =
-    b"\x02\x00\x01\x00\x00\x00\x00\x00\x00\x00\x23\x28\x01\x00\x00\x08\x64\xC0\x00\x00\x06\x00\x00\x00\x01\x80\x00\x2A\x00";
-
-const NO_ROWS: &[u8] = b"\x02\x00\x00";
-
-/// Records of which the last breaks a rule, and its gate: a head is 53 octets long, and a record has 5 more.
-const BROKEN: [(&str, &[&[u8]], u64); 10] = [
-    ("an unknown kind", &[HEAD, KIND_9], 58),
-    ("rows before the head", &[ROW], 0),
-    ("a second head", &[HEAD, HEAD], 58),
-    ("a table that isn't there", &[HEAD, TABLE_2], 58),
-    ("a packet name that isn't there", &[HEAD, NAME_1], 58),
-    ("a key twice in one record", &[HEAD, KEY_TWICE], 58),
-    ("a key twice in two records", &[HEAD, ROW, ROW], 91),
-    ("octets behind the last row", &[HEAD, LEFT_OVER], 58),
-    ("no rows", &[HEAD, NO_ROWS], 58),
-    ("no octets", &[HEAD, ROW, b""], 91),
+/// Records of which the last breaks a rule, and the answer at its gate: a head is 53 octets long, a row 25 and what stands before it 3, and a record
+/// has 5 more.
+const BROKEN: [(&str, &[Body], &str); 10] = [
+    (
+        "an unknown kind",
+        &[Body::Head, Body::Rows(9, &[(0, 0)], 0)],
+        "damaged 0 58",
+    ),
+    (
+        "rows before the head",
+        &[Body::Rows(2, &[(0, 0)], 0)],
+        "damaged 0 0",
+    ),
+    ("a second head", &[Body::Head, Body::Head], "damaged 0 58"),
+    (
+        "a table that isn't there",
+        &[Body::Head, Body::Rows(2, &[(2, 0)], 0)],
+        "damaged 0 58",
+    ),
+    (
+        "a name that isn't there",
+        &[Body::Head, Body::Rows(2, &[(0, 1)], 0)],
+        "damaged 0 58",
+    ),
+    (
+        "a key twice in a record",
+        &[Body::Head, Body::Rows(2, &[(0, 0), (0, 0)], 0)],
+        "damaged 0 58",
+    ),
+    (
+        "a key twice in two",
+        &[
+            Body::Head,
+            Body::Rows(2, &[(0, 0)], 0),
+            Body::Rows(2, &[(0, 0)], 0),
+        ],
+        "damaged 0 91",
+    ),
+    (
+        "octets behind the last row",
+        &[Body::Head, Body::Rows(2, &[(0, 0)], 1)],
+        "damaged 0 58",
+    ),
+    (
+        "no rows",
+        &[Body::Head, Body::Rows(2, &[], 0)],
+        "damaged 0 58",
+    ),
+    (
+        "no octets",
+        &[Body::Head, Body::Rows(2, &[(0, 0)], 0), Body::Nothing],
+        "damaged 0 91",
+    ),
 ];
 
-/// A journal of records with these bodies.
-fn journal_of(alloc: Global, bodies: &[&[u8]]) -> Result<Vec<u8>, Fail> {
-    let mut octets = Vec::new(alloc);
-    for body in bodies {
-        octets.push(1)?;
-        octets.extend_from_slice(&(body.len() as u64).to_be_bytes()[4..])?;
-        octets.extend_from_slice(body)?;
+fn put_rows(out: &mut Vec<u8>, kind: u8, rows: &[(u8, u8)], behind: usize) -> Result<(), Fail> {
+    let count = (rows.len() as u64).to_be_bytes();
+    out.extend_from_slice(&[kind, count[6], count[7]])?;
+    for (table, name) in rows {
+        out.extend_from_slice(&[*table, 0, 0, 0, 0, 0, 0, 0x23, 0x28, 1, 0, *name])?;
+        out.extend_from_slice(octets_of(0))?;
     }
-    octets.push(0)?;
+    out.extend_from_slice(&[0; 4][..behind.min(4)])?;
+    Ok(())
+}
+
+fn octets_in(alloc: Global, body: &Body) -> Result<Vec<u8>, Fail> {
+    let mut octets = Vec::new(alloc);
+    match body {
+        Body::Head => octets.extend_from_slice(head_octets())?,
+        Body::Rows(kind, rows, behind) => put_rows(&mut octets, *kind, rows, *behind)?,
+        Body::Nothing => {}
+    }
     Ok(octets)
 }
 
-/// The gate at which an archive of these records is damaged, if it is.
-fn damage(alloc: Global, bodies: &[&[u8]]) -> Result<Option<u64>, Fail> {
-    let octets = journal_of(alloc, bodies)?;
-    match Store::open(alloc, holding(alloc, octets.as_slice())?) {
-        Err((_disk, Refusal::Damaged { file: 0, at })) => Ok(Some(at)),
-        _ => Ok(None),
+/// A journal of records with these bodies.
+fn journal_of(alloc: Global, bodies: &[Body]) -> Result<Vec<u8>, Fail> {
+    let mut journal = Vec::new(alloc);
+    for body in bodies {
+        let octets = octets_in(alloc, body)?;
+        journal.push(1)?;
+        journal.extend_from_slice(&(octets.len() as u64).to_be_bytes()[4..])?;
+        journal.extend_from_slice(octets.as_slice())?;
     }
+    journal.push(0)?;
+    Ok(journal)
+}
+
+/// What the opening of an archive of these records answers.
+fn answer(alloc: Global, bodies: &[Body]) -> Result<&'static str, Fail> {
+    let journal = journal_of(alloc, bodies)?;
+    Ok(opening(alloc, holding(alloc, journal.as_slice())?))
 }
 
 #[test]
 fn records_that_break_a_rule(rt: HostRuntime) -> Result<(), Fail> {
-    for (rule, bodies, gate) in BROKEN {
-        assert_eq!(rt; damage(rt.alloc(), bodies)?, Some(gate), "{rule}");
+    for (rule, bodies, damaged) in BROKEN {
+        assert_eq!(rt; answer(rt.alloc(), bodies)?, damaged, "{rule}");
     }
     Ok(())
 }
 
-/// Whether records are an archive with one packet in each of two tables.
-fn are_whole(alloc: Global, bodies: &[&[u8]]) -> Result<bool, Fail> {
-    let octets = journal_of(alloc, bodies)?;
-    match Store::open(alloc, holding(alloc, octets.as_slice())?) {
-        Ok(mut store) => shows_at(alloc, &mut store, 2, 1),
-        Err(_) => Ok(false),
-    }
-}
+/// The same row in each of two tables.
+const WHOLE: &[Body] = &[
+    Body::Head,
+    Body::Rows(2, &[(0, 0)], 0),
+    Body::Rows(2, &[(1, 0)], 0),
+];
 
 #[test]
 fn records_that_break_none(rt: HostRuntime) -> Result<(), Fail> {
-    assert!(rt; are_whole(rt.alloc(), &[HEAD, ROW, OTHER_TABLE])?);
+    let journal = journal_of(rt.alloc(), WHOLE)?;
+    let mut store = opened(rt.alloc(), holding(rt.alloc(), journal.as_slice())?)?;
+    assert!(rt; shows_at(rt.alloc(), &mut store, 2, 1)?);
     Ok(())
 }
