@@ -1,10 +1,9 @@
 -- Disks that are handed back unasked.
-use Rattle.std.proofs.Common.{◌≡◌, ◌∙◌, ℕ, ℤ, List, length, Bool, true, false, Option, Some, None, refl, sym, ap, subst}
+use Rattle.std.proofs.Common.{◌≡◌, ℕ, ℤ, List, Bool, true, false, Option, Some, None, refl, sym, subst}
 use Rattle.std.proofs.lemmas.Bool.{false≢true}
-use Rattle.std.specs.Prelude.{IfSome}
 use Rattle.arch_disk.specs.Disk.{Device}
 use Rattle.arch_types.specs.declared.refusal.Refusal.{Refusal}
-use Rattle.arch_types.specs.declared.refusal.Refusal.TheVariants.{Missing, ReadFault, WriteFault, BadPacket, NoArchive, Exists, Damaged, DiskFault, Limit, OutOfMemory}
+use Rattle.arch_types.specs.declared.refusal.Refusal.TheVariants.{Missing, ReadFault, WriteFault, NoArchive, Exists, Damaged, DiskFault, Limit, OutOfMemory}
 use Rattle.arch_types.specs.declared.refusal.Which.TheVariants.{SheetOctets}
 use Rattle.archive_core.specs.Items.{Item}
 use Rattle.mdb_model.specs.Database.{Database}
@@ -17,7 +16,7 @@ use Rattle.archive_cli.specs.HandedBack.{IsCreateBack, IsHandedBack, IsLoadBack,
 use Rattle.archive_cli.specs.Job.{Job, Scan, Values, Create, Load, Query, Recover}
 use Rattle.archive_cli.specs.Loading.{IsSession, IsUnread, WentSo}
 use Rattle.archive_cli.specs.Printing.{IsFinished}
-use Rattle.archive_cli.specs.QueryEnding.{IsReply, IsSheetReply, IsWaiting}
+use Rattle.archive_cli.specs.QueryEnding.{IsSheetReply, IsWaiting}
 use Rattle.archive_cli.specs.Report.{unopened, consulted}
 
 -- ---- the same disk
@@ -75,19 +74,6 @@ made_back old new refusal report before now text is finished =
     subst (λ (r : Report). IsCreateBack old new r.refusal) (sym is) (made_cases old new refusal before now text finished)
 
 -- ---- load
-
-unopened_cases : {D : Type 0} (old new : D) (opened : Bool) (refusal : Refusal) → IsOpenAnswer refusal → IsLoadBack old new opened (Some refusal)
-unopened_cases old new opened NoArchive answer = tt
-unopened_cases old new opened (Damaged file at) answer = tt
-unopened_cases old new opened DiskFault answer = tt
-unopened_cases old new opened OutOfMemory answer = tt
-unopened_cases old new opened other answer = absurd answer
-
--- no archive was opened
-pub load_unopened_back : {D : Type 0} (old new : D) (refusal : Refusal) (report : Report) → report ≡ unopened (Some refusal) → IsOpenAnswer refusal
-    → IsLoadBack old new report.opened report.refusal
-load_unopened_back old new refusal report is answer =
-    subst (λ (r : Report). IsLoadBack old new r.opened r.refusal) (sym is) (unopened_cases old new false refusal answer)
 
 unread_cases : {D : Type 0} (old new : D) (left : Option (List ℕ)) (number : ℕ) (refusal : Refusal) (link : Option ℕ) → IsUnread left number refusal link
     → IsLoadBack old new true (Some refusal)

@@ -1,10 +1,10 @@
 -- Inputs that are read in their order.
-use Rattle.std.proofs.Common.{◌≡◌, ◌∙◌, ◌<◌, ◌≤◌, ◌+◌, ℕ, ℤ, suc, Bool, true, false, List, [], ◌∷◌, length, Option, Some, None, inl, inr, refl, sym, ap, subst, arith}
-use Rattle.std.specs.Prelude.{◌⊎◌, IfSome, IsNone, IsSome, IsSomeAnd, IsTrue, Result, Ok, Err, nat_lt, if◌then◌else◌}
+use Rattle.std.proofs.Common.{◌≡◌, ◌<◌, ◌≤◌, ◌+◌, ℕ, ℤ, suc, Bool, true, false, List, [], ◌∷◌, length, Option, Some, None, inl, inr, refl, sym, subst, arith}
+use Rattle.std.specs.Prelude.{IfSome, IsSome, IsSomeAnd, Result, Ok, Err, nat_lt, if◌then◌else◌}
 use Rattle.std.specs.FinMap.{get}
 use Rattle.arch_disk.specs.Disk.{Device}
 use Rattle.arch_types.specs.declared.refusal.Refusal.{Refusal}
-use Rattle.arch_types.specs.declared.refusal.Refusal.TheVariants.{Missing, ReadFault, NoArchive, Damaged, DiskFault, Limit, OutOfMemory}
+use Rattle.arch_types.specs.declared.refusal.Refusal.TheVariants.{Missing, ReadFault, Limit, OutOfMemory}
 use Rattle.arch_types.specs.declared.refusal.Which.{Which}
 use Rattle.arch_types.specs.declared.refusal.Which.TheVariants.{DumpOctets, SheetOctets}
 use Rattle.arch_types.specs.Limits.{limit_of}
@@ -15,7 +15,6 @@ use Rattle.outer_traits.specs.declared.whole.ReadFault.{ReadFault as AReadFault}
 use Rattle.outer_traits.specs.declared.whole.ReadFault.TheVariants as fault
 use Rattle.outer_traits.specs.Outside.{Files, IsOneMoreAtMost, one_more}
 use Rattle.outer_traits.specs.Whole.{IsInput, SourcesOfReading}
-use Rattle.archive_store.specs.Answers.{IsOpenAnswer}
 use Rattle.archive_store.specs.Seen.{Seen}
 use Rattle.archive_cli.specs.declared.report.Report.{Report}
 use Rattle.archive_cli.specs.Expecting.{IsOrEarlier}
@@ -220,20 +219,7 @@ valued_in_order (Some all) words octets given given' ending raw sheets is short 
 
 -- ---- load
 
-open_cases : {D : Type 0} (given given' : ℕ) (old new : D) (report : Report) (refusal : Refusal) → IsOpenAnswer refusal → IsLoadFault given given' old new report (Some refusal)
-open_cases given given' old new report NoArchive answer = tt
-open_cases given given' old new report (Damaged file at) answer = tt
-open_cases given given' old new report DiskFault answer = tt
-open_cases given given' old new report OutOfMemory answer = tt
-open_cases given given' old new report other answer = absurd answer
-
--- no archive was opened
-pub unopened_fault : {D : Type 0} (given given' : ℕ) (old new : D) (report : Report) (refusal : Refusal) → report ≡ unopened (Some refusal) → IsOpenAnswer refusal
-    → IsLoadFault given given' old new report report.refusal
-unopened_fault given given' old new report refusal is answer =
-    subst (λ (r : Report). IsLoadFault given given' old new r r.refusal) (sym is) (open_cases given given' old new (unopened (Some refusal)) refusal answer)
-
--- the dump wasn't
+-- the dump wasn't opened
 pub undumped_fault : {D : Type 0} (given given' : ℕ) (old new : D) (report : Report) (refusal : Refusal) → given' ≡ given → new ≡ old → report ≡ unopened (Some refusal)
     → IsLoadFault given given' old new report report.refusal
 undumped_fault given given' old new report refusal same back is =
@@ -243,7 +229,7 @@ undumped_fault given given' old new report refusal same back is =
     cases ReadFault = inl (same, back, refl)
     cases other = tt
 
--- it was, and an archive too
+-- it was, and an archive too, but it wasn't read
 pub unread_fault : {D : Type 0} (given given' : ℕ) (old new : D) (report : Report) (refusal : Refusal) (rows : ℕ) (link : Option ℕ) → given' ≡ one_more given
     → report ≡ record (consulted (Some refusal) rows) { link = link } → IsLoadFault given given' old new report report.refusal
 unread_fault given given' old new report refusal rows link one is =

@@ -1,5 +1,5 @@
 -- The disk of a call that opened or made an archive, by the ending of the call.
-use Rattle.std.proofs.Common.{◌≡◌, ℕ, List, [], length, false, true, Option, Some, None, inl, inr, refl, sym, ap, subst, ◌∙◌}
+use Rattle.std.proofs.Common.{◌≡◌, ℕ, List, [], length, Option, Some, None, inl, inr, sym, ap, subst}
 use Rattle.std.specs.Prelude.{IsTrue}
 use Rattle.std.proofs.lemmas.Bool.{false≢true}
 use Rattle.arch_disk.specs.Image.{Image}
@@ -7,7 +7,6 @@ use Rattle.arch_disk.specs.Disk.{Device}
 use Rattle.arch_types.specs.declared.refusal.Refusal.{Refusal}
 use Rattle.arch_types.specs.declared.refusal.Refusal.TheVariants.{Missing, ReadFault, WriteFault, BadPacket, NoArchive, Exists, Damaged, DiskFault, Limit, OutOfMemory, BadSheet, UnknownParameter, BadRange}
 use Rattle.arch_types.specs.declared.refusal.Which.TheVariants.{Asks, DumpOctets, Links}
-use Rattle.archive_core.specs.Items.{Item}
 use Rattle.archive_store.specs.Entries.{Archive}
 use Rattle.archive_store.specs.Stands.{StandsFor}
 use Rattle.archive_cli.specs.declared.report.Report.{Report}
@@ -20,7 +19,7 @@ use Rattle.archive_cli.specs.LoadEnding.{IsLoadEnding}
 use Rattle.archive_cli.specs.QueryEnding.{IsQueryEnding}
 use Rattle.archive_cli.specs.RecoverEnding.{IsRecoverEnding}
 use Rattle.archive_cli.specs.Report.{unopened, IsReport}
-use Rattle.archive_cli.specs.Settled.{FailedAtMostOnce, IsSettled, IsSettledWith}
+use Rattle.archive_cli.specs.Settled.{FailedAtMostOnce, IsSettledWith}
 
 -- no archive was opened by a call with such a report
 pub not_opened : (refusal : Option Refusal) (report : Report) → report ≡ unopened refusal → IsTrue report.opened → ⊥

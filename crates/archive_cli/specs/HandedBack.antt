@@ -1,5 +1,5 @@
 -- The disk of a command that refused before it asked anything of it: it is the very one that was handed in, also where it tells nothing.
-use Rattle.std.specs.Prelude.{◌≡◌, ℕ, Bool, false, Option, Some, None}
+use Rattle.std.specs.Prelude.{◌≡◌, Bool, false, Option, Some, None}
 use Rattle.arch_types.specs.declared.refusal.Refusal.{Refusal}
 use Rattle.arch_types.specs.declared.refusal.Refusal.TheVariants.{Missing, ReadFault, WriteFault, Exists, DiskFault, Limit}
 use Rattle.arch_types.specs.declared.refusal.Which.TheVariants.{SheetOctets}

@@ -17,7 +17,6 @@ use Rattle.archive_core.specs.Outcomes.{fresh_of}
 use Rattle.container_extract.specs.Chain.{packet_name_of}
 use Rattle.mdb_model.specs.Database.{Database}
 use Rattle.outer_traits.specs.Whole.{IsThere}
-use Rattle.archive_store.specs.declared.head.Head.{Head}
 use Rattle.archive_store.specs.Entries.{Archive, archive}
 use Rattle.archive_store.specs.Limits.{IsLimit}
 use Rattle.archive_store.specs.Stands.{StandsFor}

@@ -7,10 +7,10 @@ use Rattle.archive_cli.specs.LoadEnding.{IsLoadEnding}
 use Rattle.archive_cli.proofs.Consulted.{consulted_store}
 use Rattle.archive_cli.proofs.Counted.{reads_closed}
 use Rattle.archive_cli.proofs.During.{opened_store}
-use Rattle.archive_cli.proofs.HandedBack.{load_same, load_unopened_back, load_unread_back, session_back}
+use Rattle.archive_cli.proofs.HandedBack.{load_same, load_unread_back, session_back}
 use Rattle.archive_cli.proofs.LoadCauses.{session_cause}
 use Rattle.archive_cli.proofs.NotLoaded.{gives_input, not_there, not_read}
-use Rattle.archive_cli.proofs.Ordered.{session_fault, undumped_fault, unopened_fault, unread_fault}
+use Rattle.archive_cli.proofs.Ordered.{session_fault, undumped_fault, unread_fault}
 use Rattle.archive_cli.proofs.Scanned.{call_of, moment_of}
 use Rattle.archive_cli.proofs.Sessions.{session_ending, session_report, IsReady}
 use Rattle.archive_cli.proofs.load.load.Goals as goal
