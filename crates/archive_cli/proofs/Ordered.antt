@@ -14,7 +14,7 @@ use Rattle.mdb_sheets.specs.Sheets.{AreSheets, HasSheet, IsRefusal, IsSheetRefus
 use Rattle.outer_traits.specs.declared.whole.ReadFault.{ReadFault as AReadFault}
 use Rattle.outer_traits.specs.declared.whole.ReadFault.TheVariants as fault
 use Rattle.outer_traits.specs.Outside.{Files, IsOneMoreAtMost, one_more}
-use Rattle.outer_traits.specs.Whole.{IsInput, SourcesOfReading}
+use Rattle.outer_traits.specs.Whole.{IsInput, ReadingGiven}
 use Rattle.archive_store.specs.Seen.{Seen}
 use Rattle.archive_cli.specs.declared.report.Report.{Report}
 use Rattle.archive_cli.specs.Expecting.{IsOrEarlier}
@@ -104,7 +104,7 @@ module _ (all : Files) (given given' : ℕ) where
 -- ---- how many sources were given
 
 -- a reading gives one source at most
-pub reading_few : {X : Type 0} (result : Result X AReadFault) (before now : ℕ) → SourcesOfReading result before now → now ≤ before + 1
+pub reading_few : {X : Type 0} (result : Result X AReadFault) (before now : ℕ) → ReadingGiven result before now → now ≤ before + 1
 reading_few (Ok octets) before now given = omega (arith, given)
 reading_few (Err fault.TooLong) before now given = omega (arith, given)
 reading_few (Err fault.Missing) before now given = omega (arith, given)
