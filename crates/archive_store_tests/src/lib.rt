@@ -1,16 +1,10 @@
-// Tests of archive_store: worked answers, each call once with ample memory, each rule of a record and the limit that a test can reach, and what a
-// crash leaves where calls of the disk fail.
+// Tests of archive_store: each rule of a record, broken once, and that a store goes from one thread to another. What a load leaves where calls of
+// the disk fail is tried by the program's tests.
 #![tactic(auto)]
 
-#[cfg(test)]
-mod calls;
-#[cfg(test)]
-mod healing;
-#[cfg(test)]
-mod images;
-#[cfg(test)]
-mod limits;
 #[cfg(test)]
 mod parts;
 #[cfg(test)]
 mod rules;
+#[cfg(test)]
+mod threads;

@@ -1,5 +1,5 @@
 // Each rule of a record, broken once: the archive is damaged at the gate of that record.
-use crate::parts::{head_octets, holding, octets_of, opened, opening, shows_at};
+use crate::parts::{head_octets, holding, opening, packet_octets};
 use std::alloc::Global;
 use std::test::Fail;
 
@@ -11,9 +11,12 @@ enum Body {
     Nothing,
 }
 
-/// Records of which the last breaks a rule, and the answer at its gate: a head is 53 octets long, a row 25 and what stands before it 3, and a record
+/// What the records are, their bodies, and what an opening answers.
+type Records = (&'static str, &'static [Body], &'static str);
+
+/// Records of which the last breaks a rule but in the last row, and the answer at its gate: a head is 53 octets long, a row 25 and what stands before it 3, and a record
 /// has 5 more.
-const BROKEN: [(&str, &[Body], &str); 10] = [
+const BROKEN: [Records; 11] = [
     (
         "an unknown kind",
         &[Body::Head, Body::Rows(9, &[(0, 0)], 0)],
@@ -64,6 +67,15 @@ const BROKEN: [(&str, &[Body], &str); 10] = [
         &[Body::Head, Body::Rows(2, &[(0, 0)], 0), Body::Nothing],
         "damaged 0 91",
     ),
+    (
+        "the same row in each of two tables",
+        &[
+            Body::Head,
+            Body::Rows(2, &[(0, 0)], 0),
+            Body::Rows(2, &[(1, 0)], 0),
+        ],
+        "an archive",
+    ),
 ];
 
 fn put_rows(out: &mut Vec<u8>, kind: u8, rows: &[(u8, u8)], behind: usize) -> Result<(), Fail> {
@@ -71,7 +83,7 @@ fn put_rows(out: &mut Vec<u8>, kind: u8, rows: &[(u8, u8)], behind: usize) -> Re
     out.extend_from_slice(&[kind, count[6], count[7]])?;
     for (table, name) in rows {
         out.extend_from_slice(&[*table, 0, 0, 0, 0, 0, 0, 0x23, 0x28, 1, 0, *name])?;
-        out.extend_from_slice(octets_of(0))?;
+        out.extend_from_slice(packet_octets())?;
     }
     out.extend_from_slice(&[0; 4][..behind.min(4)])?;
     Ok(())
@@ -106,25 +118,18 @@ fn answer(alloc: Global, bodies: &[Body]) -> Result<&'static str, Fail> {
     Ok(opening(alloc, holding(alloc, journal.as_slice())?))
 }
 
-#[test]
-fn records_that_break_a_rule(rt: HostRuntime) -> Result<(), Fail> {
-    for (rule, bodies, damaged) in BROKEN {
-        assert_eq!(rt; answer(rt.alloc(), bodies)?, damaged, "{rule}");
+/// The first of these whose answer is another.
+fn other(alloc: Global, records: &[Records]) -> Result<Option<&'static str>, Fail> {
+    for (rule, bodies, expected) in records {
+        if answer(alloc, bodies)? != *expected {
+            return Ok(Some(*rule));
+        }
     }
-    Ok(())
+    Ok(None)
 }
 
-/// The same row in each of two tables.
-const WHOLE: &[Body] = &[
-    Body::Head,
-    Body::Rows(2, &[(0, 0)], 0),
-    Body::Rows(2, &[(1, 0)], 0),
-];
-
 #[test]
-fn records_that_break_none(rt: HostRuntime) -> Result<(), Fail> {
-    let journal = journal_of(rt.alloc(), WHOLE)?;
-    let mut store = opened(rt.alloc(), holding(rt.alloc(), journal.as_slice())?)?;
-    assert!(rt; shows_at(rt.alloc(), &mut store, 2, 1)?);
+fn records_and_the_rules_that_they_break(rt: HostRuntime) -> Result<(), Fail> {
+    assert_eq!(rt; other(rt.alloc(), &BROKEN)?, None);
     Ok(())
 }
