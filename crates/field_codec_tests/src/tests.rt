@@ -1,12 +1,8 @@
 //! Worked octets of a head and of rows, both ways, and each octet of them left out or changed.
 
-use arch_types::key::Key;
-use arch_types::name::Names;
 use arch_types::octets::Octets;
-use arch_types::row::{Row, Rows};
 use field_codec::{Entry, NotAnEntry, read_entry, read_shared, write_entry};
-use std::alloc::Global;
-use std::test::Fail;
+use std::test::*;
 
 /// Tables `tm` and `copy`, and a database of the parameter `apid` (uint of 11 bits) in the container `A`, from bit 5 on.
 const HEAD: [u8; 41] = [
@@ -28,52 +24,32 @@ const ROWS: [u8; 47] = [
     0x00, 0x65, 0xC0, 1, 0, 0, 7, // a packet
 ];
 
-/// The tables of a head, and the number of its containers.
-fn head_of(alloc: Global, octets: &[u8]) -> Result<(Names, u16), Fail> {
-    match read_entry(alloc, octets) {
-        Ok(Entry::Head { tables, mdb }) => Ok((tables, mdb.containers())),
-        _ => Err(Fail::new("no head")),
-    }
-}
-
 #[test]
 fn worked_head(rt: HostRuntime) -> Result<(), Fail> {
-    let (tables, containers) = head_of(rt.alloc(), &HEAD)?;
+    let Ok(Entry::Head { tables, mdb }) = read_entry(rt.alloc(), &HEAD) else {
+        return Err(Fail::from("a head"));
+    };
     let [_, copy] = tables.as_slice() else {
-        return Err(Fail::new("not two tables"));
+        return Err(Fail::from("two tables"));
     };
     assert_eq!(rt; copy.as_slice(), b"copy".as_slice());
-    assert_eq!(rt; containers, 1);
+    assert_eq!(rt; mdb.containers(), 1);
     Ok(())
 }
 
-fn rows_of(alloc: Global, octets: &[u8]) -> Result<Rows, Fail> {
-    match read_shared(alloc, &Octets::from_slice(alloc, octets)?) {
-        Ok(Entry::Rows(rows)) => Ok(rows),
-        _ => Err(Fail::new("no rows")),
-    }
-}
-
-/// What a row says: the two numbers of its key, its table, reception time, link and packet name.
-type Said = (i64, u32, u8, i64, u8, u16);
-
-fn said(row: &Row) -> Said {
-    let Key { time, seq } = row.key;
-    (time, seq, row.table, row.rectime, row.link, row.pname)
-}
-
-const SAID: [Said; 2] = [
-    (1500, 140_820_480, 0, 9000, 1, 2),
-    (9000, 6_668_289, 1, 9000, 255, 258),
-];
-
 #[test]
 fn worked_rows(rt: HostRuntime) -> Result<(), Fail> {
-    let rows = rows_of(rt.alloc(), &ROWS)?;
-    let [first, last] = rows.as_slice() else {
-        return Err(Fail::new("not two rows"));
+    let alloc = rt.alloc();
+    let Ok(Entry::Rows(rows)) = read_shared(alloc, &Octets::from_slice(alloc, &ROWS)?) else {
+        return Err(Fail::from("rows"));
     };
-    assert_eq!(rt; [said(first), said(last)], SAID);
+    let [first, last] = rows.as_slice() else {
+        return Err(Fail::from("two rows"));
+    };
+    assert_eq!(rt; (first.key.time, first.key.seq), (1500, 140_820_480));
+    assert_eq!(rt; (last.key.time, last.key.seq), (9000, 6_668_289));
+    assert_eq!(rt; (last.table, last.rectime), (1, 9000));
+    assert_eq!(rt; (last.link, last.pname), (255, 258));
     assert_eq!(rt; last.packet.as_slice(), &ROWS[40..]);
     Ok(())
 }

@@ -2,7 +2,7 @@
 
 use arch_types::ask::{Ask, Asks};
 use arch_types::refusal::{Refusal, Sheet as Named, Which};
-use mdb_model::{RawMdb, Record, Sheet};
+use mdb_model::{RawMdb, Sheet};
 use mdb_sheets::{read_asks, read_mdb};
 use outer_traits::inputs::Inputs;
 use outer_traits::mem_inputs::{FailingCall, File, MemInputs};
@@ -25,28 +25,22 @@ fn files(alloc: Global, octets: &[u8]) -> Result<Vec<File>, AllocError> {
     Ok(files)
 }
 
-/// The three sheets of these files.
-fn sheets(alloc: Global, files: Vec<File>) -> Result<RawMdb, Refusal> {
-    let mut inputs = MemInputs::new(alloc, files);
-    read_mdb(alloc, &mut inputs, "p", "c", "k")
+/// The three sheets, where `c` has these octets.
+fn sheets(alloc: Global, octets: &[u8]) -> Result<RawMdb, Fail> {
+    let mut inputs = MemInputs::new(alloc, files(alloc, octets)?);
+    Ok(read_mdb(alloc, &mut inputs, "p", "c", "k")?)
 }
 
-/// Shows a record, each field in brackets.
-fn show(text: &mut Vec<u8>, record: &Record) -> Result<(), AllocError> {
-    for place in 0..record.len() {
-        text.push(b'[')?;
-        text.extend_from_slice(record.field(place))?;
-        text.push(b']')?;
-    }
-    text.push(b'\n')?;
-    Ok(())
-}
-
-/// The records of a sheet, a line each.
+/// The records of a sheet, each field in brackets and each record ended by a line feed.
 fn shown(alloc: Global, sheet: &Sheet) -> Result<Vec<u8>, AllocError> {
     let mut text = Vec::new(alloc);
     for record in sheet.as_slice() {
-        show(&mut text, record)?;
+        for place in 0..record.len() {
+            text.push(b'[')?;
+            text.extend_from_slice(record.field(place))?;
+            text.push(b']')?;
+        }
+        text.push(b'\n')?;
     }
     Ok(text)
 }
@@ -66,12 +60,27 @@ const SHEETS: [(&str, &str); 7] = [
 fn reads_records(rt: HostRuntime) -> Result<(), Fail> {
     let alloc = rt.alloc();
     for (sheet, records) in SHEETS {
-        let raw = sheets(alloc, files(alloc, sheet.as_bytes())?)?;
+        let raw = sheets(alloc, sheet.as_bytes())?;
         assert_eq!(rt;
             shown(alloc, &raw.calibrations)?.as_slice(),
             records.as_bytes()
         );
     }
+    Ok(())
+}
+
+#[test]
+fn reads_the_sheets_by_their_names(rt: HostRuntime) -> Result<(), Fail> {
+    let alloc = rt.alloc();
+    let raw = sheets(alloc, b"c")?;
+    assert_eq!(rt;
+        shown(alloc, &raw.parameters)?.as_slice(),
+        b"[p]\n".as_slice()
+    );
+    assert_eq!(rt;
+        shown(alloc, &raw.containers)?.as_slice(),
+        b"[k]\n".as_slice()
+    );
     Ok(())
 }
 
@@ -102,51 +111,34 @@ fn answer(
     alloc: Global,
     octets: usize,
     call: FailingCall,
-    names: [&str; 3],
+    names: (&str, &str, &str),
 ) -> Result<&'static str, AllocError> {
+    let octets = Vec::from_elem(alloc, b'a', octets)?;
     let calls = Vec::from_slice(alloc, &[call])?;
-    let files = files(alloc, Vec::from_elem(alloc, b'a', octets)?.as_slice())?;
-    let mut inputs = MemInputs::failing(files, calls);
-    Ok(said(&read_mdb(alloc, &mut inputs, names[0], names[1], names[2])))
+    let mut inputs = MemInputs::failing(files(alloc, octets.as_slice())?, calls);
+    Ok(said(&read_mdb(alloc, &mut inputs, names.0, names.1, names.2)))
 }
 
-/// The opening and the read that fail, the names that are read, and what is said.
-const ANSWERS: [(u64, u64, [&str; 3], &str); 6] = [
-    (9, 0, ["x", "c", "y"], "missing x"),
-    (9, 0, ["p", "", "x"], "missing"),
-    (1, 0, ["p", "x", "y"], "read fault"),
-    (1, 0, ["x", "c", "k"], "missing x"),
-    (2, 2, ["p", "c", "x"], "read fault"),
-    (3, 1, ["p", "c", "k"], "read fault"),
+/// The octets of `c`, the opening and the read that fail, the names that are read, and what is said.
+const ANSWERS: [(usize, u64, u64, (&str, &str, &str), &str); 9] = [
+    (4_194_304, 9, 0, ("p", "c", "k"), "read"),
+    (4_194_305, 9, 0, ("p", "c", "x"), "limit"),
+    (4_194_305, 9, 0, ("x", "c", "y"), "missing x"),
+    (1, 9, 0, ("p", "", "x"), "missing"),
+    (1, 1, 0, ("p", "x", "y"), "read fault"),
+    (1, 1, 0, ("x", "c", "k"), "missing x"),
+    (1, 2, 2, ("p", "c", "x"), "read fault"),
+    (4_194_305, 2, 1, ("p", "c", "k"), "read fault"),
+    (1, 3, 1, ("p", "c", "k"), "read fault"),
 ];
 
 #[test]
 fn refuses_at_the_first_sheet(rt: HostRuntime) -> Result<(), Fail> {
     let alloc = rt.alloc();
-    for (opening, read, names, words) in ANSWERS {
+    for (octets, opening, read, names, words) in ANSWERS {
         let call = FailingCall { opening, read };
-        assert_eq!(rt; answer(alloc, 1, call, names)?, words);
+        assert_eq!(rt; answer(alloc, octets, call, names)?, words);
     }
-    Ok(())
-}
-
-/// No call fails.
-const NONE: FailingCall = FailingCall {
-    opening: 9,
-    read: 9,
-};
-
-#[test]
-fn reads_a_sheet_of_the_limit(rt: HostRuntime) -> Result<(), Fail> {
-    let alloc = rt.alloc();
-    assert_eq!(rt; answer(alloc, 4_194_304, NONE, ["p", "c", "k"])?, "read");
-    Ok(())
-}
-
-#[test]
-fn refuses_a_longer_sheet(rt: HostRuntime) -> Result<(), Fail> {
-    let alloc = rt.alloc();
-    assert_eq!(rt; answer(alloc, 4_194_305, NONE, ["p", "c", "x"])?, "limit");
     Ok(())
 }
 
@@ -180,17 +172,12 @@ fn counted(answer: &Result<Asks, Refusal>) -> (u64, u8) {
 
 const HEADER: &str = "kind,name,from,to,order,limit,names\n";
 
-fn push_rows(sheet: &mut Vec<u8>, row: &str, times: u32) -> Result<(), AllocError> {
-    for _ in 0..times {
-        sheet.extend_from_slice(row.as_bytes())?;
-    }
-    Ok(())
-}
-
 /// A sheet of a row so many times over, and of a last row.
 fn sheet_of_rows(alloc: Global, row: &str, times: u32, last: &str) -> Result<Vec<u8>, AllocError> {
     let mut sheet = Vec::from_slice(alloc, HEADER.as_bytes())?;
-    push_rows(&mut sheet, row, times)?;
+    for _ in 0..times {
+        sheet.extend_from_slice(row.as_bytes())?;
+    }
     sheet.extend_from_slice(last.as_bytes())?;
     Ok(sheet)
 }
@@ -229,6 +216,14 @@ fn counts_asks_or_tells_the_first_rule_broken(rt: HostRuntime) -> Result<(), Fai
     Ok(())
 }
 
+#[test]
+fn tells_a_rule_before_the_limit(rt: HostRuntime) -> Result<(), Fail> {
+    let alloc = rt.alloc();
+    let sheet = sheet_of_rows(alloc, "values,v,0,1,,,\n", 256, "values,v,0,1,,x,\n")?;
+    assert_eq!(rt; counted(&asks(alloc, sheet.as_slice())?), (258, 33));
+    Ok(())
+}
+
 /// Sheets without the header of asks.
 const HEADLESS: [&str; 3] = ["", "values,v,0,1,,,\n", "kind,name,from,to,order,limit\n"];
 
@@ -241,24 +236,22 @@ fn asks_have_a_header(rt: HostRuntime) -> Result<(), Fail> {
     Ok(())
 }
 
-/// Bounds, order and limit of an ask.
-type Asked = (i64, i64, bool, Option<u64>);
-
-/// What the second of two asks is for.
-fn second(asks: &Asks) -> Option<Asked> {
-    match asks.as_slice() {
-        [_, Ask::Values(request)] => Some((
+/// Bounds, order and limit of the second ask of a sheet that has this row, or no bounds.
+fn second_ask(alloc: Global, row: &str) -> Result<(i64, i64, bool, Option<u64>), Fail> {
+    let sheet = sheet_of_rows(alloc, "values,w,0,1,,,\n", 1, row)?;
+    match asks(alloc, sheet.as_slice())??.as_slice() {
+        [_, Ask::Values(request)] => Ok((
             request.from,
             request.to,
             request.descending,
             request.limit,
         )),
-        _ => None,
+        _ => Err(Fail::new("another number of asks")),
     }
 }
 
 /// A row, and its bounds, its order and its limit.
-const ASKS: [(&str, Asked); 3] = [
+const ASKS: [(&str, (i64, i64, bool, Option<u64>)); 3] = [
     ("values,v,-5,0002000,desc,07,\n", (-5, 2000, true, Some(7))),
     (
         "values,v,1970-01-01T00:00:01.5Z,1970-01-02T00:00:00,asc,,\n",
@@ -271,8 +264,7 @@ const ASKS: [(&str, Asked); 3] = [
 fn reads_what_is_asked(rt: HostRuntime) -> Result<(), Fail> {
     let alloc = rt.alloc();
     for (row, ask) in ASKS {
-        let sheet = sheet_of_rows(alloc, "values,w,0,1,,,\n", 1, row)?;
-        assert_eq!(rt; second(&asks(alloc, sheet.as_slice())??), Some(ask));
+        assert_eq!(rt; second_ask(alloc, row)?, ask);
     }
     Ok(())
 }

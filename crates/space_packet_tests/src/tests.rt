@@ -5,7 +5,7 @@ use space_packet::dump::{Why, first_packet};
 use space_packet::header::{Header, Version, is_idle_packet};
 use space_packet::key::key_of;
 use space_packet::split::split;
-use std::alloc::{AllocError, Global};
+use std::alloc::AllocError;
 
 /// A packet with a secondary header and one octet of data, at 1.5 s.
 const TIMED: [u8; 13] = [8, 0x64, 0xC0, 0, 0, 6, 0, 0, 0, 1, 0x80, 0, 0x2A];
@@ -37,48 +37,43 @@ fn reads_headers(rt: HostRuntime) {
     }
 }
 
-/// Packets one after the other: an idle one, one without a time, the last and the first moment of an interval, and one too short for a time.
-const PIECES: [&[u8]; 6] = [
-    &TIMED,
-    &[7, 0xFF, 0xC0, 0, 0, 0, 0],
-    &[0, 0x65, 0xC0, 1, 0, 0, 7],
-    &[8, 0x64, 0xC0, 0, 0, 5, 0, 0, 0x10, 0x62, 0x4D, 0xD2],
-    &[8, 0x64, 0xC0, 0, 0, 5, 0, 0, 0x10, 0x62, 0x4D, 0xD3],
-    &[8, 0x64, 0xC0, 0, 0, 4, 0, 0, 0x10, 0x62, 0x4D],
-];
-
-/// The length of each, whether it is idle, and its key where it is received at 9,000 ms.
-const WANTS: [(usize, bool, i64, u32); 6] = [
-    (13, false, 1500, 140820480),
-    (7, true, 9000, 134201344),
-    (7, false, 9000, 6668289),
-    (12, false, 4194303, 140820480),
-    (12, false, 4194304, 140820480),
-    (11, false, 9000, 140820480),
-];
-
-fn dump_of(alloc: Global, pieces: &[&[u8]]) -> Result<Octets, AllocError> {
-    let mut dump = Vec::new(alloc);
-    for piece in pieces {
-        dump.extend_from_slice(piece)?;
-    }
-    Octets::from_vec(alloc, dump)
-}
-
-fn told(packet: &[u8]) -> (usize, bool, i64, u32) {
-    let key = key_of(packet, 9000);
-    (packet.len(), is_idle_packet(packet), key.time, key.seq)
-}
-
 #[test]
 fn splits_dumps(rt: HostRuntime) -> Result<(), AllocError> {
-    let dump = dump_of(rt.alloc(), &PIECES)?;
-    let whole = split(rt.alloc(), &dump)?;
+    let alloc = rt.alloc();
+    let idle: [u8; 7] = [7, 0xFF, 0xC0, 0, 0, 0, 0];
+    let timeless: [u8; 7] = [0, 0x65, 0xC0, 1, 0, 0, 7];
+    let first: [u8; 12] = [8, 0x64, 0xC0, 0, 0, 5, 0, 0, 0x10, 0x62, 0x4D, 0xD2];
+    let short: [u8; 11] = [8, 0x64, 0xC0, 0, 0, 4, 0, 0, 0x10, 0x62, 0x4D];
+    let second: [u8; 12] = [8, 0x64, 0xC0, 0, 0, 5, 0, 0, 0x10, 0x62, 0x4D, 0xD3];
+    let mut dump = Vec::new(alloc);
+    for piece in [
+        TIMED.as_slice(),
+        idle.as_slice(),
+        timeless.as_slice(),
+        first.as_slice(),
+        second.as_slice(),
+        short.as_slice(),
+    ] {
+        dump.extend_from_slice(piece)?;
+    }
+    let whole = split(alloc, &Octets::from_slice(alloc, dump.as_slice())?)?;
     assert_eq!(rt; (whole.at, whole.why), (62, Why::End));
-    let packets = whole.packets.as_slice();
-    assert_eq!(rt; packets.len(), WANTS.len());
-    for (packet, want) in packets.iter().zip(WANTS) {
-        assert_eq!(rt; told(packet.as_slice()), want);
+    let wants = [
+        (13, false, 1500, 140820480),
+        (7, true, 9000, 134201344),
+        (7, false, 9000, 6668289),
+        (12, false, 4194303, 140820480),
+        (12, false, 4194304, 140820480),
+        (11, false, 9000, 140820480),
+    ];
+    assert_eq!(rt; whole.packets.as_slice().len(), wants.len());
+    for (packet, want) in whole.packets.as_slice().iter().zip(wants) {
+        let octets = packet.as_slice();
+        let key = key_of(octets, 9000);
+        assert_eq!(rt;
+            (octets.len(), is_idle_packet(octets), key.time, key.seq),
+            want
+        );
     }
     Ok(())
 }
