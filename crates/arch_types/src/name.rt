@@ -1,6 +1,6 @@
 //! Names of tables, parameters, calibrations and containers.
 
-ghost use Rattle.std.specs.Prelude.{◌≡◌, ◌↔◌, length, true, IfOk, IsOk, OnOk, OnErr, OkIff, ◌++◌, [], ◌∷◌, ◌≤◌};
+ghost use Rattle.std.specs.Prelude.{◌≡◌, ◌↔◌, length, true, IfOk, IsOk, OnOk, OnErr, OkIff, ◌++◌, [], ◌∷◌, ◌≤◌, option_map, Some, None, if◌then◌else◌};
 ghost use Rattle.arch_types.specs.Name.{is_name, is_name_octet};
 
 use crate::octets::Octets;
@@ -73,8 +73,6 @@ impl Name {
         Ok(Name { octets })
     }
 }
-
-ghost use Rattle.std.specs.Prelude.{option_map, Some, None, if◌then◌else◌};
 
 /// Names in some order.
 #[derive(Debug, Drop)]

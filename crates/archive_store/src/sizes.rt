@@ -32,7 +32,7 @@ impl Sizes {
     {
         Ok(Sizes {
             octets: 0,
-            rows: Index::new(alloc)?,
+            rows: Index::new(alloc),
         })
     }
 

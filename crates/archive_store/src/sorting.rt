@@ -147,7 +147,7 @@ pub(crate) fn sort(alloc: Global, history: &History, batch: &Batch) -> Result<So
     let mut sorted = Sorted {
         outcomes: Outcomes::new(alloc),
         fresh: Rows::new(alloc),
-        places: Index::new(alloc)?,
+        places: Index::new(alloc),
     };
     for arrival in batch.arrivals.as_slice() {
         sort_arrival(history, &mut sorted, batch, arrival)?;

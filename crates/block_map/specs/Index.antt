@@ -1,5 +1,5 @@
 -- What contracts see of an index, and what is true of its fields.
-use Rattle.std.specs.Prelude.{◌≡◌, ℕ, ◌+◌, ◌*◌, ◌^◌, ◌<◌, ◌≤◌, List, length, vec_len, vec_capacity}
+use Rattle.std.specs.Prelude.{◌≡◌, ℕ, ◌+◌, ◌*◌, ◌^◌, ◌<◌, ◌≤◌, List, [], Option, Some, None, length, vec_len, vec_capacity}
 use Rattle.std.specs.Global.{Vec}
 use Rattle.std.specs.BTreeMap.{insert_entry}
 use Rattle.std.specs.declared.cmp.Ordering.{Ordering}
@@ -10,6 +10,11 @@ use Rattle.block_map.specs.Blocks.{entries_of, IsBlocks, AreReady}
 pub record Listing (K V : Type 0) : Type 0 where
   pub entries : List (K × V)
   pub room : ℕ
+
+-- the listing of an index, whose body is there once room was made
+abbrev pub listing_of : {K V : Type 0} → Option (Listing K V) → Listing K V
+listing_of None = record { entries = []; room = 0 }
+listing_of (Some listing) = listing
 
 -- blocks in order, and as many spare ones as the room that was promised may take; either list may come to hold all of them
 pub record IsIndex {K V : Type 0} (cmp : K → K → Ordering) (blocks spare : Vec (Vec (K × V))) (len room : ℕ) : Type 0 where

@@ -1,17 +1,14 @@
 //! The index.
 
-ghost use Rattle.std.specs.Prelude.{◌≡◌, ◌+◌, ◌<◌, ◌≤◌, [], length, max, IfSome, IfNone, IfOk, OnSome, OnOk, OnErr, slice_get, vec_len, vec_capacity};
+ghost use Rattle.std.specs.Prelude.{◌≡◌, ◌+◌, ◌<◌, ◌≤◌, [], length, max, IfSome, IfNone, OnSome, OnOk, OnErr, slice_get};
 ghost use Rattle.std.specs.Map.{lookup, remove_entry};
 ghost use Rattle.std.specs.BTreeMap.{is_at, insert_entry};
 ghost use Rattle.std.specs.BTreeMap.Range.{entries_from};
 ghost use Rattle.block_map.specs.Rising.{IsRising};
-ghost use Rattle.block_map.specs.Blocks.{AreReady};
 ghost use Rattle.block_map.specs.Index.{IsAdded};
 
-use crate::blocks::{Block, FULL, LEAST, open_block, put, set_value};
+use crate::body::Body;
 use crate::entries::Entries;
-use crate::removal::{refill, take_out};
-use crate::search::{block_for, place_in};
 use std::alloc::{AllocError, Global};
 use std::marker::Model;
 
@@ -19,70 +16,24 @@ use std::marker::Model;
 #[derive(Drop)]
 pub struct Index<K: Ord + Copy, V: Copy> {
     alloc: Global,
-    /// The entries, one block after the other. There is always a first block.
-    blocks: Vec<Block<K, V>>,
-    /// Empty blocks, for splits.
-    spare: Vec<Block<K, V>>,
-    /// How many entries stand in the blocks.
-    len: usize,
-    /// How many more entries go in without memory.
-    room: usize,
+    /// There once room was made.
+    body: Option<Body<K, V>>,
 }
 
 impl<K: Ord + Copy, V: Copy> Model for Index<K, V> {
-    ghost use Rattle.block_map.specs.Blocks.{entries_of};
-    ghost use Rattle.block_map.specs.Index.{Listing, IsIndex};
+    ghost use Rattle.block_map.specs.Index.{Listing, listing_of};
 
     ghost Value = { Listing K V };
 
-    ghost view = { λ i. record { entries = entries_of i.blocks.items; room = i.room } };
-
-    ghost invariant = { λ i. IsIndex K.cmp i.blocks i.spare i.len i.room };
-}
-
-/// Adds empty blocks until there are as many as wanted, used and spare together.
-fn add_spare<K: Copy, V: Copy>(
-    alloc: Global,
-    blocks: &mut Vec<Block<K, V>>,
-    spare: &mut Vec<Block<K, V>>,
-    wanted: usize,
-) -> Result<(), AllocError>
-    requires ready { AreReady spare.old.items }
-    requires fits { vec_len blocks.old + vec_len spare.old ≤ vec_capacity blocks.old }
-    requires fits_spare { vec_len blocks.old + vec_len spare.old ≤ vec_capacity spare.old }
-    ensures same { blocks.new.items ≡ blocks.old.items }
-    ensures ready { AreReady spare.new.items }
-    ensures fits { vec_len blocks.new + vec_len spare.new ≤ vec_capacity blocks.new }
-    ensures fits_spare { vec_len blocks.new + vec_len spare.new ≤ vec_capacity spare.new }
-    ensures more { vec_len spare.old ≤ vec_len spare.new }
-    ensures enough { OnOk result (wanted ≤ vec_len blocks.new + vec_len spare.new) }
-{
-    let present = blocks.len() + spare.len();
-    if wanted <= present {
-        return Ok(());
-    }
-    blocks.reserve(wanted - blocks.len())?;
-    spare.reserve(wanted - spare.len())?;
-    for _ in present..wanted {
-        spare.push_reserved(Vec::with_capacity(alloc, FULL)?);
-    }
-    Ok(())
+    ghost view = { λ i. listing_of i.body };
 }
 
 impl<K: Ord + Copy, V: Copy> Index<K, V> {
-    /// An index with no entry and no room. The one error is want of memory.
-    pub fn new(alloc: Global) -> Result<Self, AllocError>
-        ensures { IfOk result (λ i. i ≡ record { entries = []; room = 0 }) }
+    /// An index with no entry and no room. Takes no memory.
+    pub fn new(alloc: Global) -> Self
+        ensures { result ≡ record { entries = []; room = 0 } }
     {
-        let mut blocks = Vec::with_capacity(alloc, 1)?;
-        blocks.push_reserved(Vec::with_capacity(alloc, FULL)?);
-        Ok(Index {
-            alloc,
-            blocks,
-            spare: Vec::with_capacity(alloc, 1)?,
-            len: 0,
-            room: 0,
-        })
+        Index { alloc, body: None }
     }
 
     /// How many entries there are.
@@ -90,14 +41,20 @@ impl<K: Ord + Copy, V: Copy> Index<K, V> {
         ensures count { result ≡ length self.now.entries }
         ensures rising { IsRising K.cmp self.now.entries }
     {
-        self.len
+        match &self.body {
+            Some(body) => body.len(),
+            None => 0,
+        }
     }
 
     /// How many more entries go in without memory.
     pub fn room(&self) -> usize
         ensures { result ≡ self.now.room }
     {
-        self.room
+        match &self.body {
+            Some(body) => body.room(),
+            None => 0,
+        }
     }
 
     /// Makes the room at least `additional`. The one error is want of memory, and then all is as before.
@@ -106,20 +63,16 @@ impl<K: Ord + Copy, V: Copy> Index<K, V> {
         ensures err { OnErr result (self.new ≡ self.old) }
         ensures full { OnErr result (self.old.room < additional) }
     {
-        if additional <= self.room {
-            return Ok(());
+        match &mut self.body {
+            Some(body) => body.reserve(additional),
+            None if additional == 0 => Ok(()),
+            None => {
+                let mut body = Body::new(self.alloc)?;
+                body.reserve(additional)?;
+                self.body = Some(body);
+                Ok(())
+            }
         }
-        let Some(total) = self.len.checked_add(additional) else {
-            return Err(AllocError);
-        };
-        add_spare(
-            self.alloc,
-            &mut self.blocks,
-            &mut self.spare,
-            total / LEAST + 1,
-        )?;
-        self.room = additional;
-        Ok(())
     }
 
     /// Adds an entry where its key is new, and answers `None`. A key that is there already keeps its value, which is
@@ -132,16 +85,9 @@ impl<K: Ord + Copy, V: Copy> Index<K, V> {
         ensures left { self.old.room ≤ self.new.room + 1 }
         ensures rising { IsRising K.cmp self.new.entries }
     {
-        let b = open_block(&mut self.blocks, &mut self.spare, key);
-        let block = self.blocks[b].as_slice();
-        match place_in(block, key) {
-            Ok(at) => Some(block[at].1),
-            Err(at) => {
-                put(&mut self.blocks, b, at, key, value);
-                self.len += 1;
-                self.room -= 1;
-                None
-            }
+        match &mut self.body {
+            Some(body) => body.insert(key, value),
+            None => None,
         }
     }
 
@@ -149,11 +95,9 @@ impl<K: Ord + Copy, V: Copy> Index<K, V> {
     pub fn get(&self, key: K) -> Option<V>
         ensures { result ≡ lookup (is_at (K.cmp key)) self.now.entries }
     {
-        let b = block_for(self.blocks.as_slice(), key);
-        let block = self.blocks[b].as_slice();
-        match place_in(block, key) {
-            Ok(at) => Some(block[at].1),
-            Err(_) => None,
+        match &self.body {
+            Some(body) => body.get(key),
+            None => None,
         }
     }
 
@@ -164,15 +108,9 @@ impl<K: Ord + Copy, V: Copy> Index<K, V> {
         ensures absent { IfNone result (self.new ≡ self.old) }
         ensures rising { IsRising K.cmp self.new.entries }
     {
-        let b = block_for(self.blocks.as_slice(), key);
-        let block = self.blocks[b].as_slice();
-        match place_in(block, key) {
-            Ok(at) => {
-                let old = block[at].1;
-                set_value(&mut self.blocks, b, at, key, value);
-                Some(old)
-            }
-            Err(_) => None,
+        match &mut self.body {
+            Some(body) => body.replace(key, value),
+            None => None,
         }
     }
 
@@ -183,18 +121,9 @@ impl<K: Ord + Copy, V: Copy> Index<K, V> {
         ensures absent { IfNone result (self.new ≡ self.old) }
         ensures rising { IsRising K.cmp self.new.entries }
     {
-        let b = block_for(self.blocks.as_slice(), key);
-        let block = self.blocks[b].as_slice();
-        match place_in(block, key) {
-            Ok(at) => {
-                let old = block[at].1;
-                take_out(&mut self.blocks, b, at, key);
-                refill(&mut self.blocks, &mut self.spare, b);
-                self.len -= 1;
-                self.room += 1;
-                Some(old)
-            }
-            Err(_) => None,
+        match &mut self.body {
+            Some(body) => body.remove(key),
+            None => None,
         }
     }
 
@@ -203,7 +132,10 @@ impl<K: Ord + Copy, V: Copy> Index<K, V> {
         ensures entries { result ≡ self.now.entries }
         ensures rising { IsRising K.cmp result }
     {
-        Entries::new(&[], self.blocks.as_slice())
+        match &self.body {
+            Some(body) => body.iter(),
+            None => Entries::new(&[], &[]),
+        }
     }
 
     /// The entry of the least key.
@@ -219,12 +151,9 @@ impl<K: Ord + Copy, V: Copy> Index<K, V> {
         ensures entries { result ≡ entries_from (K.cmp key) self.now.entries }
         ensures rising { IsRising K.cmp result }
     {
-        let b = block_for(self.blocks.as_slice(), key);
-        let block = self.blocks[b].as_slice();
-        let (_, rest) = self.blocks.as_slice().split_at(b + 1);
-        match place_in(block, key) {
-            Ok(at) => Entries::new(block.split_at(at).1, rest),
-            Err(at) => Entries::new(block.split_at(at).1, rest),
+        match &self.body {
+            Some(body) => body.from_key(key),
+            None => Entries::new(&[], &[]),
         }
     }
 }

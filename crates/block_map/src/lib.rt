@@ -4,6 +4,7 @@
 // a look-up, an insert and a removal are the list functions that std's `BTreeMap` has for its entries.
 // Callers: the tables (key to place of a row), the late intervals, the partitions and the histogram.
 //
+// An index takes no memory before its first `reserve`; then it has a body.
 // The entries stand in blocks of at most `FULL` entries, each block but the first at least `LEAST`. A full block
 // is split, and its last `LEAST` go into a spare block. The one idea of the proof: where a block is full and each
 // but the first has `LEAST`, `blocks * LEAST <= len`; so `len + room < (blocks + spare) * LEAST` promises every
@@ -14,6 +15,7 @@
 #![tactic(auto)]
 
 pub mod blocks;
+mod body;
 pub mod entries;
 pub mod index;
 pub mod removal;

@@ -21,7 +21,7 @@ fn key_of(value: u64) -> u64 {
 
 /// The keys 1 to 600, with room for one more, and how many of them were new.
 fn six_hundred(alloc: Global) -> Result<(Index<u64, u64>, usize), AllocError> {
-    let mut index = Index::new(alloc)?;
+    let mut index = Index::new(alloc);
     let mut new: usize = 0;
     index.reserve(601)?;
     for value in 1..601 {
@@ -34,7 +34,7 @@ fn six_hundred(alloc: Global) -> Result<(Index<u64, u64>, usize), AllocError> {
 
 #[test]
 fn begins_empty(rt: HostRuntime) -> Result<(), Fail> {
-    let index: Index<u64, u64> = Index::new(rt.alloc())?;
+    let index: Index<u64, u64> = Index::new(rt.alloc());
     is_shared(&index);
     assert_eq!(rt; (index.len(), index.room(), index.first()), (0, 0, None));
     Ok(())

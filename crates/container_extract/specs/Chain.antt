@@ -8,6 +8,7 @@ use Rattle.mdb_model.specs.Lists.{last_of}
 use Rattle.container_extract.specs.declared.values.ParameterValue.{ParameterValue}
 use Rattle.container_extract.specs.Values.{fits, holds, value_of}
 
+-- the entries of a container, or none
 abbrev pub entries_of : Option Container → List Entry
 entries_of None = []
 entries_of (Some c) = c.entries
@@ -16,6 +17,7 @@ entries_of (Some c) = c.entries
 abbrev pub entries_at : Database → ℕ → List Entry
 entries_at db n = entries_of (slice_get db.containers n)
 
+-- the number is there, and is this one
 abbrev pub is_number : ℕ → Option ℕ → Bool
 is_number n None = false
 is_number n (Some m) = m == n
@@ -44,6 +46,7 @@ abbrev pub IsChain : Database → List ℕ → List ℕ → Type 0
 IsChain db packet [] = ⊥
 IsChain db packet (n ∷ chain) = (n ≡ 0) × GoesOn db packet [] (n ∷ chain)
 
+-- what comes of a number, or nothing where there is none
 abbrev pub if_some : {X : Type 0} → (ℕ → List X) → Option ℕ → List X
 if_some f None = []
 if_some f (Some n) = f n
@@ -58,6 +61,7 @@ chain_from db packet (suc most) above n =
 unfoldable pub chain_of : Database → List ℕ → List ℕ
 chain_of db packet = chain_from db packet (length db.containers) [] 0
 
+-- the container has the archive flag
 abbrev pub has_archive : Option Container → Bool
 has_archive None = false
 has_archive (Some c) = c.archive

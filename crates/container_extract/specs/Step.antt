@@ -12,6 +12,7 @@ pub record IsStep (db : Database) (packet : List ℕ) (values : List ParameterVa
   pub values_are : more ≡ values ++ map (value_of db packet) (take_while (fits db packet) (entries_at db n))
   pub next_is : next ≡ (if list_all (fits db packet) (entries_at db n) then first_child db.containers n more else None)
 
+-- the container is there, and its condition holds of values
 abbrev pub condition_holds : List ParameterValue → Option Container → Bool
 condition_holds values None = false
 condition_holds values (Some c) = holds values c.condition

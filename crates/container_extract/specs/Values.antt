@@ -24,6 +24,7 @@ abbrev pub coding_of : Option Parameter → Coding
 coding_of None = Uint
 coding_of (Some p) = p.coding
 
+-- the number of a parameter's calibration, where it has one
 abbrev pub calibration_of : Option Parameter → Option ℕ
 calibration_of None = None
 calibration_of (Some p) = p.calibration

@@ -15,20 +15,25 @@ use Rattle.field_codec.specs.Spelling.{head_octets}
 
 -- ---- the opening of a head
 
+-- no two names are the same
 abbrev pub is_distinct : List (List ℕ) → Bool
 is_distinct [] = true
 is_distinct (name ∷ names) = not (list_any (bytes_eq name) names) && is_distinct names
 
+-- the first table is `tm`
 abbrev pub begins_with_tm : List (List ℕ) → Bool
 begins_with_tm [] = false
 begins_with_tm (name ∷ names) = bytes_eq name tm
 
+-- the tables of a head: 1 to 16 different names, `tm` first
 unfoldable pub are_tables : List (List ℕ) → Bool
 are_tables tables = begins_with_tm tables && (nat_le (length tables) 16 && is_distinct tables)
 
+-- reads the name of a table
 unfoldable pub table_at : Reader (List ℕ)
 table_at = tested_at is_name name_at
 
+-- reads the names of the tables
 unfoldable pub tables_at : Reader (List (List ℕ))
 tables_at = tested_at are_tables (counted_at w8 table_at)
 
@@ -36,6 +41,7 @@ tables_at = tested_at are_tables (counted_at w8 table_at)
 unfoldable pub this_at : ℕ → Reader ℕ
 this_at n = tested_at (λ m. m == n) (number_at w8)
 
+-- reads the front of a head: the kind, the format, the tables
 unfoldable pub opening_at : Reader (List (List ℕ))
 opening_at = mapped_at (λ p. p.1.1) (both_at (this_at 1) (λ _. both_at (this_at 22) (λ _. tables_at)))
 
@@ -43,6 +49,7 @@ opening_at = mapped_at (λ p. p.1.1) (both_at (this_at 1) (λ _. both_at (this_a
 abbrev pub IsHead : List (List ℕ) × Database → Type 0
 IsHead head = AreTables head.0 × IsDatabase head.1
 
+-- the octets of a head that was read
 abbrev pub head_of : List (List ℕ) × Database → List ℕ
 head_of head = head_octets head.0 head.1
 
@@ -64,24 +71,31 @@ Fields = ℕ × (ℤ × (ℕ × (ℕ × List ℕ)))
 abbrev pub seen : StoredFields → List ℕ → Fields
 seen f packet = (f.table, (f.rectime, (f.link, (f.pname, packet))))
 
+-- reads the fields of a row: table, reception time, link, packet name, packet
 unfoldable pub fields_at : Reader Fields
 fields_at = both_at (number_at w8) (λ _. both_at (signed_at w64) (λ _. both_at (number_at w8) (λ _. both_at (number_at w16) (λ _. packet_at))))
 
+-- the moment is from 1970 to the end of 9999
 unfoldable pub is_clock_time : ℤ → Bool
 is_clock_time time = not (int_lt time (pos 0)) && int_lt time (pos 253402300800000)
 
+-- the fields may stand in an archive: a link from 1 on, a moment of a clock, and no idle packet
 abbrev pub is_stored : Fields → Bool
 is_stored f = nat_le 1 f.1.1.0 && (is_clock_time f.1.0 && not (is_idle f.1.1.1.1))
 
+-- the row of these fields, with the key of its packet
 abbrev pub row_of : Fields → Row
 row_of f = record { key = key_of f.1.1.1.1 f.1.0; rectime = f.1.0; packet = f.1.1.1.1; link = f.1.1.0; pname = f.1.1.1.0; table = f.0 }
 
+-- reads a row
 unfoldable pub row_at : Reader Row
 row_at = mapped_at row_of (tested_at is_stored fields_at)
 
+-- a record has 1 to 1,024 rows
 abbrev pub is_count : ℕ → Bool
 is_count n = nat_le 1 n && nat_le n 1024
 
+-- reads the rows of a record, after their count
 unfoldable pub rows_at : Reader (List Row)
 rows_at = mapped_at (λ p. p.1) (both_at (tested_at is_count (number_at w16)) (λ n. times_at row_at n))
 

@@ -12,9 +12,9 @@ use Rattle.std.proofs.lemmas.Bool.{eq-eqb, ne_eqb, eqb-true}
 use Rattle.std.proofs.lemmas.Int.{ints}
 use Rattle.block_map.specs.Rising.{IsRising, IsBelow}
 use Rattle.block_map.proofs.Rising.{below_all}
-use Rattle.histogram.specs.declared.tally.NamedTime.{NamedTime}
+use Rattle.histogram.specs.declared.histogram.NamedTime.{NamedTime}
 use Rattle.histogram.specs.Counts.{named_cmp, times_at, times_in, AreSorted, HasOneMore}
-use Rattle.histogram.specs.Tally.{total, AreTimes}
+use Rattle.histogram.specs.Histogram.{total, AreTimes}
 use Rattle.histogram.specs.Walk.{AreAhead, IsNext}
 use Rattle.histogram.proofs.Order.{named_cmp_total, IsBefore, ranked_as, same_from_equal}
 

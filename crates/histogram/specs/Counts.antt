@@ -1,9 +1,9 @@
 -- The times of packet names.
-use Rattle.std.specs.Prelude.{◌≡◌, ℕ, ◌+◌, ◌==◌, List, [], ◌∷◌, ◌++◌, replicate, ℤ, ◌≤ℤ◌, if◌then◌else◌}
+use Rattle.std.specs.Prelude.{◌≡◌, ℕ, ◌==◌, List, [], ◌∷◌, ◌++◌, replicate, ℤ, ◌≤ℤ◌, if◌then◌else◌}
 use Rattle.std.specs.List.{AllByRecursion}
 use Rattle.std.specs.Ordering.{nat_cmp, int_cmp, ordering_then}
 use Rattle.std.specs.declared.cmp.Ordering.{Ordering}
-use Rattle.histogram.specs.declared.tally.NamedTime.{NamedTime}
+use Rattle.histogram.specs.declared.histogram.NamedTime.{NamedTime}
 
 -- packet names by their numbers, and times of one name in their order
 abbrev pub named_cmp : NamedTime → NamedTime → Ordering

@@ -1,4 +1,4 @@
 pub mod Spans
 pub mod Counts
-pub mod Tally
+pub mod Histogram
 pub mod Walk

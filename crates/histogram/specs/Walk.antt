@@ -3,7 +3,7 @@ use Rattle.std.specs.Prelude.{◌≡◌, ℕ, ◌+◌, ◌<◌, ◌≤◌, List,
 use Rattle.std.specs.List.{AllByRecursion}
 use Rattle.block_map.specs.Rising.{IsRising}
 use Rattle.arch_types.specs.declared.spans.Span.{Span}
-use Rattle.histogram.specs.declared.tally.NamedTime.{NamedTime}
+use Rattle.histogram.specs.declared.histogram.NamedTime.{NamedTime}
 use Rattle.histogram.specs.Counts.{named_cmp, times_in}
 use Rattle.histogram.specs.Spans.{is_near, histogram_of}
 

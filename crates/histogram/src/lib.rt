@@ -12,5 +12,4 @@
 #![tactic(auto)]
 
 pub mod histogram;
-pub mod tally;
 mod walk;

@@ -5,7 +5,7 @@ ghost use Rattle.histogram.specs.Counts.{times_in};
 ghost use Rattle.histogram.specs.Spans.{is_near};
 ghost use Rattle.histogram.specs.Walk.{continued, rest_of, current_count, AreAhead, IsNext};
 
-use crate::tally::NamedTime;
+use crate::histogram::NamedTime;
 use arch_types::spans::{Span, Spans};
 use block_map::entries::Entries;
 use std::alloc::AllocError;

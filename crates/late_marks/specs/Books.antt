@@ -8,7 +8,7 @@ use Rattle.block_map.specs.Rising.{IsRising}
 use Rattle.arch_types.specs.declared.interval.Interval.{Interval}
 use Rattle.late_marks.specs.declared.mark.Mark.{Mark}
 use Rattle.late_marks.specs.Mark.{is_waiting}
-use Rattle.late_marks.specs.Marks.{Marks, mark_in, interval_cmp}
+use Rattle.late_marks.specs.Marks.{mark_in, interval_cmp}
 
 -- an interval among those that wait
 abbrev pub found_in : List (Interval × Unit {0}) → Interval → Option (Unit {0})
@@ -32,11 +32,6 @@ pub record AreBooks (marks : Listing Interval Mark) (waiting : Listing Interval 
   pub waiting_rising : IsRising interval_cmp waiting.entries
   pub waits : (i : Interval) → found_in waiting.entries i ≡ member (option_map_or is_waiting (mark_in marks.entries i) false)
   pub roomy : marks.room + resting marks.entries ≤ waiting.room
-
--- the marks of books, which are there once room was made
-abbrev pub marks_of : Option Marks → Marks
-marks_of None = record { marks = []; room = 0 }
-marks_of (Some marks) = marks
 
 -- an interval was among those that wait or not, and is now or not; nothing else changed, and the room made up for it
 pub record Followed (old new : Listing Interval (Unit {0})) (interval : Interval) (was is : Bool) : Type 0 where

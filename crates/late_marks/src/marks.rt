@@ -4,27 +4,30 @@ ghost use Rattle.std.specs.Prelude.{◌≡◌, ℕ, ◌+◌, ◌<◌, ◌≤◌,
 ghost use Rattle.late_marks.specs.Mark.{touched, StandAt, IsLateBy};
 ghost use Rattle.late_marks.specs.Marks.{mark_of, has_rows, last_of, base_of, is_late, is_late_free, Marked, IsLeast};
 
-use crate::books::Books;
+use crate::books::follow;
 use crate::mark::Mark;
 use arch_types::interval::Interval;
+use block_map::index::Index;
 use std::alloc::{AllocError, Global};
 use std::marker::Model;
 
 /// The marks of the intervals that have rows.
 #[derive(Drop)]
 pub struct LateMarks {
-    alloc: Global,
-    /// There once room was made.
-    books: Option<Books>,
+    marks: Index<Interval, Mark>,
+    /// The intervals that are late and that nobody has taken.
+    waiting: Index<Interval, ()>,
 }
 
 impl Model for LateMarks {
     ghost use Rattle.late_marks.specs.Marks.{Marks};
-    ghost use Rattle.late_marks.specs.Books.{marks_of};
+    ghost use Rattle.late_marks.specs.Books.{AreBooks};
 
     ghost Value = { Marks };
 
-    ghost view = { λ l. marks_of l.books };
+    ghost view = { λ b. record { marks = b.marks.entries; room = b.marks.room } };
+
+    ghost invariant = { λ b. AreBooks b.marks b.waiting };
 }
 
 impl LateMarks {
@@ -32,7 +35,10 @@ impl LateMarks {
     pub fn new(alloc: Global) -> Self
         ensures { result ≡ record { marks = []; room = 0 } }
     {
-        LateMarks { alloc, books: None }
+        LateMarks {
+            marks: Index::new(alloc),
+            waiting: Index::new(alloc),
+        }
     }
 
     /// Makes room for at least so many more intervals. The one error is want of memory, and then all is as before.
@@ -42,16 +48,14 @@ impl LateMarks {
         ensures full { OnErr result (self.old.room < intervals) }
     {
         let intervals = intervals as usize;
-        match &mut self.books {
-            Some(books) => books.reserve(intervals),
-            None if intervals == 0 => Ok(()),
-            None => {
-                let mut books = Books::new(self.alloc)?;
-                books.reserve(intervals)?;
-                self.books = Some(books);
-                Ok(())
-            }
+        if intervals <= self.marks.room() {
+            return Ok(());
         }
+        let Some(all) = self.marks.len().checked_add(intervals) else {
+            return Err(AllocError);
+        };
+        self.waiting.reserve(all)?;
+        self.marks.reserve(intervals)
     }
 
     /// Notes that a row of the interval stands at this position of the history. Takes no memory.
@@ -62,8 +66,10 @@ impl LateMarks {
         ensures known { has_rows self.old interval ≡ true → self.new.room ≡ self.old.room }
         ensures fresh { has_rows self.old interval ≡ false → self.new.room + 1 ≡ self.old.room }
     {
-        if let Some(books) = &mut self.books {
-            books.touch(interval, position);
+        let mark = self.marks.get(interval);
+        match mark {
+            Some(_) => self.change(interval, Mark::touched(mark, position)),
+            None => self.add(interval, Mark::touched(mark, position)),
         }
     }
 
@@ -73,16 +79,14 @@ impl LateMarks {
         ensures marked { IfSome (mark_of self.old interval) (λ m. Marked self.old self.new interval (record m { base = Some base })) }
         ensures room { self.new.room ≡ self.old.room }
     {
-        if let Some(books) = &mut self.books {
-            if let Some(mark) = books.mark(interval) {
-                books.change(
-                    interval,
-                    Mark {
-                        base: Some(base),
-                        ..mark
-                    },
-                );
-            }
+        if let Some(mark) = self.mark(interval) {
+            self.change(
+                interval,
+                Mark {
+                    base: Some(base),
+                    ..mark
+                },
+            );
         }
     }
 
@@ -115,10 +119,8 @@ impl LateMarks {
     pub fn least_late_free(&self) -> Option<Interval>
         ensures { IsLeast (λ i. is_late_free self.now i ≡ true) result }
     {
-        match &self.books {
-            Some(books) => books.first_waiting(),
-            None => None,
-        }
+        let (interval, ()) = self.waiting.first()?;
+        Some(interval)
     }
 
     /// Takes an interval that is late and that nobody has taken.
@@ -127,16 +129,14 @@ impl LateMarks {
         ensures marked { IfSome (mark_of self.old interval) (λ m. Marked self.old self.new interval (record m { taken = true })) }
         ensures room { self.new.room ≡ self.old.room }
     {
-        if let Some(books) = &mut self.books {
-            if let Some(mark) = books.mark(interval) {
-                books.change(
-                    interval,
-                    Mark {
-                        taken: true,
-                        ..mark
-                    },
-                );
-            }
+        if let Some(mark) = self.mark(interval) {
+            self.change(
+                interval,
+                Mark {
+                    taken: true,
+                    ..mark
+                },
+            );
         }
     }
 
@@ -146,16 +146,14 @@ impl LateMarks {
         ensures none { has_rows self.old interval ≡ false → self.new ≡ self.old }
         ensures room { self.new.room ≡ self.old.room }
     {
-        if let Some(books) = &mut self.books {
-            if let Some(mark) = books.mark(interval) {
-                books.change(
-                    interval,
-                    Mark {
-                        taken: false,
-                        ..mark
-                    },
-                );
-            }
+        if let Some(mark) = self.mark(interval) {
+            self.change(
+                interval,
+                Mark {
+                    taken: false,
+                    ..mark
+                },
+            );
         }
     }
 
@@ -163,19 +161,36 @@ impl LateMarks {
     pub fn next_touched(&self, from: Interval) -> Option<Interval>
         ensures { IsLeast (λ i. (from.0 ≤ℤ i.0) × (has_rows self.now i ≡ true)) result }
     {
-        match &self.books {
-            Some(books) => books.next_from(from),
-            None => None,
-        }
+        let (interval, _) = self.marks.from_key(from).next()?;
+        Some(*interval)
     }
 
     /// The mark of an interval that has rows.
     fn mark(&self, interval: Interval) -> Option<Mark>
         ensures { result ≡ mark_of self.now interval }
     {
-        match &self.books {
-            Some(books) => books.mark(interval),
-            None => None,
+        self.marks.get(interval)
+    }
+
+    /// Gives an interval that has rows another mark.
+    fn change(&mut self, interval: Interval, mark: Mark)
+        requires { has_rows self.old interval ≡ true }
+        ensures marked { Marked self.old self.new interval mark }
+        ensures room { self.new.room ≡ self.old.room }
+    {
+        if let Some(old) = self.marks.replace(interval, mark) {
+            follow(&mut self.waiting, interval, old.waits(), mark.waits());
         }
+    }
+
+    /// Gives an interval without rows its first mark.
+    fn add(&mut self, interval: Interval, mark: Mark)
+        requires fresh { has_rows self.old interval ≡ false }
+        requires room { 0 < self.old.room }
+        ensures marked { Marked self.old self.new interval mark }
+        ensures room { self.new.room + 1 ≡ self.old.room }
+    {
+        self.marks.insert(interval, mark);
+        follow(&mut self.waiting, interval, false, mark.waits());
     }
 }

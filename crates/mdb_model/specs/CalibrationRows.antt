@@ -19,6 +19,7 @@ pub record CalibrationRow : Type 0 where
   pub name : Text
   pub cells : Cells
 
+-- an exponent from 0 to 3
 abbrev pub is_exponent : Option ℕ → Bool
 is_exponent None = false
 is_exponent (Some e) = nat_le e 3
@@ -37,12 +38,14 @@ has_y (Coefficient e y) = is_decimal y
 has_y (Point x y) = is_decimal y
 has_y (Label x y) = is_label y
 
+-- the row's kind is none of poly, points and enum
 abbrev pub is_unread : Cells → Bool
 is_unread Unread = true
 is_unread (Coefficient e y) = false
 is_unread (Point x y) = false
 is_unread (Label x y) = false
 
+-- the row is one of points
 abbrev pub is_point : Cells → Bool
 is_point Unread = false
 is_point (Coefficient e y) = false
@@ -124,6 +127,7 @@ empty_table (Label x y) = Enum []
 abbrev pub with_name : List Calibration → Text → Cells → List Calibration
 with_name above name cells = if is_some (continued above name) then above else above ++ record { name = name; table = empty_table cells } ∷ []
 
+-- the calibration with one more row
 abbrev pub with_new_row : Cells → Calibration → Calibration
 with_new_row cells c = record { name = c.name; table = with_row c.table cells }
 
@@ -150,6 +154,7 @@ cells_of (Poly rows) = map (λ r. Coefficient (Some r.exponent) (Some r.milliont
 cells_of (Points rows) = map (λ r. Point (Some r.x) (Some r.millionths)) rows
 cells_of (Enum rows) = map (λ r. Label (Some r.x) r.label) rows
 
+-- the rows that spell a calibration, each with its name
 abbrev pub rows_of_calibration : Calibration → List CalibrationRow
 rows_of_calibration c = map (λ cells. record { fields = 4; name = c.name; cells = cells }) (cells_of c.table)
 
@@ -160,6 +165,7 @@ enum_numbers (Some (Poly rows)) = []
 enum_numbers (Some (Points rows)) = []
 enum_numbers (Some (Enum rows)) = map (λ r. r.x) rows
 
+-- the table of the last calibration, where there is one
 abbrev pub table_of_last : Option Calibration → Option Table
 table_of_last None = None
 table_of_last (Some c) = Some c.table

@@ -11,18 +11,23 @@ use Rattle.mdb_model.specs.Texts.{Text, is_name_octet, place_of, whole_number}
 abbrev pub front_len : (ℕ → Bool) → Text → ℕ
 front_len test text = length (take_while test text)
 
+-- the octets of a text up to the first that fails the test
 abbrev pub front : (ℕ → Bool) → Text → Text
 front test text = take (front_len test text) text
 
+-- the octets of a text from the first that fails the test on
 abbrev pub after : (ℕ → Bool) → Text → Text
 after test text = drop (front_len test text) text
 
+-- the octet is a blank
 abbrev pub is_space : ℕ → Bool
 is_space b = b == 32
 
+-- the octet is no blank
 abbrev pub is_no_space : ℕ → Bool
 is_no_space b = not (b == 32)
 
+-- the octet doesn't part two comparisons
 abbrev pub is_no_semicolon : ℕ → Bool
 is_no_semicolon b = not (b == 59)
 
@@ -30,6 +35,7 @@ is_no_semicolon b = not (b == 59)
 abbrev pub is_operator_octet : ℕ → Bool
 is_operator_octet b = (b == 33) || (b == 60) || (b == 61) || (b == 62)
 
+-- the operator that a text spells
 abbrev pub operator_of : Text → Option Operator
 operator_of text =
     if bytes_eq text (codes "==") then Some Equal

@@ -27,6 +27,7 @@ pub record ContainerRow : Type 0 where
   pub entry : Reference
   pub position : Position
 
+-- the field is empty
 abbrev pub is_nothing : Reference → Bool
 is_nothing Nothing = true
 is_nothing Unknown = false
@@ -88,10 +89,12 @@ abbrev pub head_checks : List Container → Head → Checks
 head_checks above (Begins b) = begun_checks above (line_up above b) b
 head_checks above (Continues says) = continued_checks above says
 
+-- the row has no name: it continues the container above it
 abbrev pub is_continuing : Head → Bool
 is_continuing (Begins b) = false
 is_continuing (Continues says) = true
 
+-- the field names something that is there
 abbrev pub is_known : Reference → Bool
 is_known Nothing = false
 is_known Unknown = false
@@ -146,6 +149,7 @@ with_head above (Begins b) = above ++ record {
   entries = [];
 } ∷ []
 
+-- the container with one more entry at its end
 abbrev pub with_new_entry : Entry → Container → Container
 with_new_entry e c = record { name = c.name; parent = c.parent; archive = c.archive; condition = c.condition; entries = c.entries ++ e ∷ [] }
 
@@ -172,6 +176,7 @@ row_fault parameters above row =
     or_else (first_broken ((2, not (row.fields == 6)) ∷ head_checks above row.head))
     (first_broken (entry_checks parameters (last_line (with_head above row.head)) (is_continuing row.head) row.entry row.position))
 
+-- the first rule that a row breaks, where there is a row
 abbrev pub container_fault : List Parameter → List Container → Option ContainerRow → Option ℕ
 container_fault parameters above None = None
 container_fault parameters above (Some row) = row_fault parameters above row

@@ -53,9 +53,11 @@ pub record Broken : Type 0 where
 abbrev pub broken_below : MdbSheet → ℕ × ℕ → Broken
 broken_below sheet fault = record { sheet = sheet; row = fault.0 + 2; rule = fault.1 }
 
+-- the first rule broken in the rows of the calibrations sheet
 abbrev pub calibrations_fault : List CalibrationRow → Option Broken
 calibrations_fault rows = option_map (broken_below sheet.Calibrations) (first_at (calibration_fault_at rows) (length rows))
 
+-- the first rule broken in the rows of the parameters sheet
 abbrev pub parameters_fault : List Calibration → List ParameterRow → Option Broken
 parameters_fault calibrations rows = option_map (broken_below sheet.Parameters) (first_at (parameter_fault_at calibrations rows) (length rows))
 
@@ -71,14 +73,17 @@ first_fault rows =
     (or_else (parameters_fault (calibrations_of rows.calibrations) rows.parameters)
     (containers_fault (parameters_of rows.parameters) rows.containers))
 
+-- how many rows a table has
 abbrev pub table_len : Table → ℕ
 table_len (Poly rows) = length rows
 table_len (Points rows) = length rows
 table_len (Enum rows) = length rows
 
+-- how many rows a calibration has
 abbrev pub row_count : Calibration → ℕ
 row_count c = table_len c.table
 
+-- how many entries a container has
 abbrev pub entry_count : Container → ℕ
 entry_count c = length c.entries
 

@@ -17,24 +17,28 @@ use Rattle.mdb_model.specs.Spans.{AreEarlier, IsInLine}
 use Rattle.mdb_model.specs.Steps.{IsInStep, Refuses}
 use Rattle.mdb_model.specs.Texts.{Text}
 
+-- the calibrations that the records of a sheet spell, header first, or the first rule that they break
 abbrev pub GivenCalibrations : List (List Text) → Result Calibrations MdbFault → Type 0
 GivenCalibrations records (Ok c) =
     let rows = map read_calibration (drop 1 records) in
     (sheet_fault sheet.Calibrations is_calibration_header records (calibrations_fault rows) ≡ None) × (calibrations_fault rows ≡ None) × (c.items.items ≡ calibrations_of rows) × IsInStep c
 GivenCalibrations records (Err fault) = Refuses (sheet_fault sheet.Calibrations is_calibration_header records (calibrations_fault (map read_calibration (drop 1 records)))) fault
 
+-- the parameters that the records of a sheet spell, header first, or the first rule that they break
 abbrev pub GivenParameters : List Calibration → List Text → List (List Text) → Result Parameters MdbFault → Type 0
 GivenParameters calibrations names records (Ok p) =
     let rows = map (read_parameter names) (drop 1 records) in
     (sheet_fault sheet.Parameters is_parameter_header records (parameters_fault calibrations rows) ≡ None) × (parameters_fault calibrations rows ≡ None) × (p.items.items ≡ parameters_of rows) × (p.names ≡ map (λ x. x.name) p.items.items)
 GivenParameters calibrations names records (Err fault) = Refuses (sheet_fault sheet.Parameters is_parameter_header records (parameters_fault calibrations (map (read_parameter names) (drop 1 records)))) fault
 
+-- the containers that the records of a sheet spell, header first, or the first rule that they break
 abbrev pub GivenContainers : List Parameter → List (List Text) → Result Containers MdbFault → Type 0
 GivenContainers parameters records (Ok c) =
     let rows = read_containers parameters [] (drop 1 records) in
     (sheet_fault sheet.Containers is_container_header records (containers_fault parameters rows) ≡ None) × (containers_fault parameters rows ≡ None) × (c.items.items ≡ containers_of rows) × IsInLine parameters c
 GivenContainers parameters records (Err fault) = Refuses (sheet_fault sheet.Containers is_container_header records (containers_fault parameters (read_containers parameters [] (drop 1 records)))) fault
 
+-- the database of three lists that were built
 abbrev pub database_from : Calibrations → Parameters → Containers → Database
 database_from calibrations parameters containers = record { parameters = parameters.items.items; calibrations = calibrations.items.items; containers = containers.items.items }
 

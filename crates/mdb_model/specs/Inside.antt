@@ -4,6 +4,7 @@ use Rattle.mdb_model.specs.declared.mdb.Mdb.TheInside.{Inside}
 use Rattle.mdb_model.specs.Children.{AreChildren}
 use Rattle.mdb_model.specs.Database.{Database, IsDatabase}
 
+-- the database of the fields
 abbrev pub database_inside : Inside → Database
 database_inside a = record { parameters = a.parameters.items; calibrations = a.calibrations.items; containers = a.containers.items }
 

@@ -24,6 +24,7 @@ abbrev pub line_at : List Line → Option ℕ → Line
 line_at lines None = no_line
 line_at lines (Some n) = unwrap_or (slice_get lines n) no_line
 
+-- the paths with that of one more container, which stands below its parent
 abbrev pub with_line : List Line → Container → List Line
 with_line lines c = lines ++ line_below (line_at lines c.parent) c ∷ []
 
@@ -40,6 +41,7 @@ last_number (c ∷ containers) = Some (length containers)
 abbrev pub stands_on : List Entry → ℕ → Bool
 stands_on entries n = list_any (λ e. e.parameter == n) entries
 
+-- the bits of a parameter, or none
 abbrev pub bits_of_parameter : Option Parameter → ℕ
 bits_of_parameter None = 0
 bits_of_parameter (Some p) = p.bits

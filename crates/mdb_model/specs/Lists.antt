@@ -11,6 +11,7 @@ at_last f [] = []
 at_last f (x ∷ []) = f x ∷ []
 at_last f (x ∷ y ∷ xs) = x ∷ at_last f (y ∷ xs)
 
+-- the list has no element
 abbrev pub is_empty : {X : Type 0} → List X → Bool
 is_empty [] = true
 is_empty (x ∷ xs) = false

@@ -11,6 +11,7 @@ has_number x xs = list_any (int_eq x) xs
 abbrev pub is_in_range : ℤ → Bool
 is_in_range x = not (int_lt x (negsuc 9223372036854775807)) && not (int_lt (pos 18446744073709551615) x)
 
+-- a whole number that is in range
 abbrev pub is_whole_number : Option ℤ → Bool
 is_whole_number None = false
 is_whole_number (Some x) = is_in_range x

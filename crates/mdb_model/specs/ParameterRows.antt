@@ -47,6 +47,7 @@ admits bits (Some (Poly rows)) = nat_le (bits * degree rows) 60 && nat_lt (sum_b
 admits bits (Some (Points rows)) = true
 admits bits (Some (Enum rows)) = true
 
+-- the table of a calibration, where there is one
 abbrev pub table_of : Option Calibration → Option Table
 table_of None = None
 table_of (Some c) = Some c.table
@@ -86,6 +87,7 @@ number_of (Known n) = Some n
 abbrev pub parameter_of : ParameterRow → Parameter
 parameter_of row = record { name = row.name; coding = unwrap_or row.coding Uint; bits = unwrap_or row.bits 0; calibration = number_of row.calibration }
 
+-- the parameters that rows spell
 abbrev pub parameters_of : List ParameterRow → List Parameter
 parameters_of rows = map parameter_of rows
 

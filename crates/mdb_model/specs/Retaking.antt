@@ -39,21 +39,27 @@ refusal OutOfMemory = errors.Memory
 
 -- ---- calibrations
 
+-- a row of a calibration of this name
 abbrev pub row_with : Text → Cells → CalibrationRow
 row_with name cells = record { fields = 4; name = name; cells = cells }
 
+-- the name of the first of rows
 abbrev pub first_name : List CalibrationRow → Option Text
 first_name rows = option_map (λ r. r.name) (slice_get rows 0)
 
+-- the first rule that a row breaks below calibrations and before these rows
 abbrev pub calibration_fault_before : List Calibration → CalibrationRow → List CalibrationRow → Option ℕ
 calibration_fault_before above row rows = first_broken (calibration_checks above row (first_name rows))
 
+-- no row breaks a rule of the calibrations sheet
 abbrev pub calibrations_sound : List Calibration → List CalibrationRow → Bool
 calibrations_sound above rows = are_sound calibration_fault_before with_calibration_row above rows
 
+-- a calibration isn't empty
 abbrev pub HasRows : Calibration → Type 0
 HasRows c = 0 < table_len c.table
 
+-- one row taken in: it breaks no rule and is added, or it breaks one
 abbrev pub RowRetaken : Calibrations → Calibrations → CalibrationRow → Option Text → Result (Unit {0}) DecodeError → Type 0
 RowRetaken old new row next (Ok _) = (first_broken (calibration_checks old.items.items row next) ≡ None) × (new.items.items ≡ with_calibration_row old.items.items row) × IsInStep new
 RowRetaken old new row next (Err e) = Refused e (is_none (first_broken (calibration_checks old.items.items row next)) ≡ false)
@@ -65,6 +71,7 @@ RowsRetaken old new c next (Ok _) =
     × (new.items.items ≡ fold with_calibration_row old.items.items (rows_of_calibration c)) × IsInStep new
 RowsRetaken old new c next (Err e) = Refused e ((more : List CalibrationRow) → first_name more ≡ next → calibrations_sound old.items.items (rows_of_calibration c ++ more) ≡ false)
 
+-- calibrations checked again: the rows that spell them are sound and give these, or aren't
 abbrev pub CalibrationsRetaken : List Calibration → Result Calibrations DecodeError → Type 0
 CalibrationsRetaken given (Ok c) =
     let rows = flat_map rows_of_calibration given in
@@ -73,20 +80,25 @@ CalibrationsRetaken given (Err e) = Refused e (calibrations_sound [] (flat_map r
 
 -- ---- parameters
 
+-- the first rule that a row breaks below calibrations and parameters
 abbrev pub parameter_fault_below : List Calibration → List Parameter → ParameterRow → List ParameterRow → Option ℕ
 parameter_fault_below calibrations above row rows = first_broken (parameter_checks calibrations above row)
 
+-- the parameters with that of one more row
 abbrev pub with_parameter_row : List Parameter → ParameterRow → List Parameter
 with_parameter_row above row = above ++ parameter_of row ∷ []
 
+-- no row breaks a rule of the parameters sheet
 abbrev pub parameters_sound : List Calibration → List Parameter → List ParameterRow → Bool
 parameters_sound calibrations above rows = are_sound (parameter_fault_below calibrations) with_parameter_row above rows
 
+-- one parameter taken in: it breaks no rule and is added, or it breaks one
 abbrev pub ParameterRetaken : List Calibration → Parameters → Parameters → Parameter → Result (Unit {0}) DecodeError → Type 0
 ParameterRetaken calibrations old new p (Ok _) =
     (first_broken (parameter_checks calibrations old.items.items (row_of_parameter p)) ≡ None) × (new.items.items ≡ old.items.items ++ p ∷ []) × (new.names ≡ map (λ x. x.name) new.items.items)
 ParameterRetaken calibrations old new p (Err e) = Refused e (is_none (first_broken (parameter_checks calibrations old.items.items (row_of_parameter p))) ≡ false)
 
+-- parameters checked again: the rows that spell them are sound and give these, or aren't
 abbrev pub ParametersRetaken : List Calibration → List Parameter → Result Parameters DecodeError → Type 0
 ParametersRetaken calibrations given (Ok p) =
     (parameters_sound calibrations [] (map row_of_parameter given) ≡ true) × (p.items.items ≡ given) × (p.names ≡ map (λ x. x.name) p.items.items)
@@ -94,9 +106,11 @@ ParametersRetaken calibrations given (Err e) = Refused e (parameters_sound calib
 
 -- ---- containers
 
+-- the first rule that a row breaks below parameters and containers
 abbrev pub container_fault_below : List Parameter → List Container → ContainerRow → List ContainerRow → Option ℕ
 container_fault_below parameters above row rows = row_fault parameters above row
 
+-- no row breaks a rule of the containers sheet
 abbrev pub containers_sound : List Parameter → List Container → List ContainerRow → Bool
 containers_sound parameters above rows = are_sound (container_fault_below parameters) with_container_row above rows
 
@@ -107,6 +121,7 @@ Retaken parameters old new rows (Ok _) =
     × (new.items.items ≡ fold with_container_row old.items.items rows) × IsInLine parameters new
 Retaken parameters old new rows (Err e) = Refused e ((more : List ContainerRow) → containers_sound parameters old.items.items (rows ++ more) ≡ false)
 
+-- containers checked again: the rows that spell them are sound and give these, or aren't
 abbrev pub ContainersRetaken : List Parameter → List Container → Result Containers DecodeError → Type 0
 ContainersRetaken parameters given (Ok c) =
     let rows = flat_map rows_of_container given in

@@ -41,6 +41,7 @@ read_cells kind x y =
 abbrev pub read_calibration : List Text → CalibrationRow
 read_calibration fields = record { fields = length fields; name = field fields 0; cells = read_cells (field fields 1) (field fields 2) (field fields 3) }
 
+-- the coding that a text spells
 abbrev pub read_coding : Text → Option Coding
 read_coding text =
     if bytes_eq text (codes "uint") then Some Uint
@@ -48,6 +49,7 @@ read_coding text =
     else (if bytes_eq text (codes "uintLE") then Some UintLe
     else (if bytes_eq text (codes "intLE") then Some IntLe else None)))
 
+-- what a name refers to: the number at which it was found, or nothing known
 abbrev pub reference_from : Option ℕ → Reference
 reference_from None = Unknown
 reference_from (Some n) = Known n
@@ -82,6 +84,7 @@ read_head parameters above (b ∷ name) parent text archive = Begins (record {
   archive = read_archive archive;
 })
 
+-- a position that was read, or one that has no meaning
 abbrev pub position_from : Option ℕ → Position
 position_from None = place.Unknown
 position_from (Some at) = At at
@@ -92,12 +95,15 @@ read_position end entry [] = if is_nothing entry then place.Nothing else At end
 read_position end entry (b ∷ text) =
     position_from (if b == 43 then option_map (λ n. end + n) (offset text) else digits_at_most 6 (b ∷ text))
 
+-- the name of a parameter
 abbrev pub name_of_parameter : Parameter → Text
 name_of_parameter p = p.name
 
+-- the name of a container
 abbrev pub name_of_container : Container → Text
 name_of_container c = c.name
 
+-- the columns of a record before its entry, below these parameters and containers
 abbrev pub head_of : List Parameter → List Container → List Text → Head
 head_of parameters above fields =
     read_head (map name_of_parameter parameters) (map name_of_container above) (field fields 0) (field fields 1) (field fields 2) (field fields 3)
@@ -120,12 +126,15 @@ read_containers parameters above (fields ∷ records) =
 abbrev pub are_texts : List Text → ℕ → Text → Text → Bool
 are_texts fields i first second = bytes_eq (field fields i) first && bytes_eq (field fields (i + 1)) second
 
+-- the header is name,kind,x,y
 abbrev pub is_calibration_header : List Text → Bool
 is_calibration_header fields = (length fields == 4) && (are_texts fields 0 (codes "name") (codes "kind") && are_texts fields 2 (codes "x") (codes "y"))
 
+-- the header is name,coding,bits,calibration
 abbrev pub is_parameter_header : List Text → Bool
 is_parameter_header fields = (length fields == 4) && (are_texts fields 0 (codes "name") (codes "coding") && are_texts fields 2 (codes "bits") (codes "calibration"))
 
+-- the header is container,parent,condition,archive,entry,position
 abbrev pub is_container_header : List Text → Bool
 is_container_header fields =
     (length fields == 6) && (are_texts fields 0 (codes "container") (codes "parent") && (are_texts fields 2 (codes "condition") (codes "archive") && are_texts fields 4 (codes "entry") (codes "position")))

@@ -6,9 +6,11 @@ use Rattle.mdb_model.specs.declared.container_rows.Span.{Span}
 use Rattle.mdb_model.specs.declared.parameter.Parameter.{Parameter}
 use Rattle.mdb_model.specs.Lines.{Line, line_end, lines_of}
 
+-- the counts of a path, and the bit after its last entry
 abbrev pub span_of : List Parameter → Line → Span
 span_of parameters line = record { containers = line.containers; entries = length line.entries; end = line_end parameters line }
 
+-- the parent of a container, where there is one
 abbrev pub parent_of : Option Container → Option ℕ
 parent_of None = None
 parent_of (Some c) = c.parent
@@ -27,6 +29,7 @@ pub record IsInLine (parameters : List Parameter) (c : Containers) : Type 0 wher
   pub spans : c.spans.items ≡ map (span_of parameters) (lines_of c.items.items)
   pub earlier : AreEarlier c.items.items
 
+-- so it is for some parameters
 abbrev pub IsInSomeLine : Containers → Type 0
 IsInSomeLine c = (parameters : List Parameter) × IsInLine parameters c
 
@@ -34,6 +37,7 @@ IsInSomeLine c = (parameters : List Parameter) × IsInLine parameters c
 abbrev pub StaysInLine : Containers → Containers → Type 0
 StaysInLine old new = (parameters : List Parameter) → IsInLine parameters old → IsInLine parameters new
 
+-- the counts above the root
 abbrev pub no_span : Span
 no_span = record { containers = 0; entries = 0; end = 0 }
 

@@ -27,46 +27,56 @@ abbrev pub link : Option ℕ → ℕ
 link None = 0
 link (Some n) = suc n
 
+-- each field of the parameter has room in its octets
 pub record FitsParameter (p : Parameter) : Type 0 where
   pub name : length p.name < 2 ^ 8
   pub bits : p.bits < 2 ^ 8
   pub calibration : link p.calibration < 2 ^ 16
 
+-- each field of the row of poly has room in its octets
 pub record FitsPoly (r : PolyRow) : Type 0 where
   pub exponent : r.exponent < 2 ^ 8
   pub millionths : FitsSigned w64 r.millionths
 
+-- each field of the row of points has room in its octets
 pub record FitsPoints (r : PointsRow) : Type 0 where
   pub x : FitsSigned w128 r.x
   pub millionths : FitsSigned w64 r.millionths
 
+-- each field of the row of enum has room in its octets
 pub record FitsEnum (r : EnumRow) : Type 0 where
   pub x : FitsSigned w128 r.x
   pub label : length r.label < 2 ^ 8
 
+-- a 32-bit count of rows, each of which has room in its octets
 abbrev pub FitsTable : Table → Type 0
 FitsTable (Poly rows) = (length rows < 2 ^ 32) × AllByRecursion FitsPoly rows
 FitsTable (Points rows) = (length rows < 2 ^ 32) × AllByRecursion FitsPoints rows
 FitsTable (Enum rows) = (length rows < 2 ^ 32) × AllByRecursion FitsEnum rows
 
+-- the name and the table of the calibration have room in their octets
 pub record FitsCalibration (c : Calibration) : Type 0 where
   pub name : length c.name < 2 ^ 8
   pub table : FitsTable c.table
 
+-- each field of the comparison has room in its octets
 pub record FitsComparison (c : Comparison) : Type 0 where
   pub parameter : c.parameter < 2 ^ 16
   pub number : FitsSigned w128 c.number
 
+-- each field of the entry has room in its octets
 pub record FitsEntry (e : Entry) : Type 0 where
   pub parameter : e.parameter < 2 ^ 16
   pub at : e.at < 2 ^ 32
 
+-- each field of the container has room in its octets
 pub record FitsContainer (c : Container) : Type 0 where
   pub name : length c.name < 2 ^ 8
   pub parent : link c.parent < 2 ^ 16
   pub condition : (length c.condition < 2 ^ 8) × AllByRecursion FitsComparison c.condition
   pub entries : (length c.entries < 2 ^ 16) × AllByRecursion FitsEntry c.entries
 
+-- a 16-bit count of each list, and each item has room in its octets
 pub record FitsDatabase (d : Database) : Type 0 where
   pub parameters : (length d.parameters < 2 ^ 16) × AllByRecursion FitsParameter d.parameters
   pub calibrations : (length d.calibrations < 2 ^ 16) × AllByRecursion FitsCalibration d.calibrations
@@ -74,6 +84,7 @@ pub record FitsDatabase (d : Database) : Type 0 where
 
 -- ---- the spelling
 
+-- the octet of a coding
 abbrev pub coding_code : Coding → ℕ
 coding_code Uint = 0
 coding_code Int = 1
@@ -96,6 +107,7 @@ points_octets r = signed w128 r.x ++ signed w64 r.millionths
 unfoldable pub enum_octets : EnumRow → List ℕ
 enum_octets r = signed w128 r.x ++ name r.label
 
+-- the octet of a table's kind
 abbrev pub kind_code : Table → ℕ
 kind_code (Poly rows) = 0
 kind_code (Points rows) = 1
@@ -111,6 +123,7 @@ rows_octets (Enum rows) = counted w32 enum_octets rows
 unfoldable pub calibration_octets : Calibration → List ℕ
 calibration_octets c = name c.name ++ (number w8 (kind_code c.table) ++ rows_octets c.table)
 
+-- the octet of an operator
 abbrev pub operator_code : Operator → ℕ
 operator_code Equal = 0
 operator_code NotEqual = 1
@@ -127,6 +140,7 @@ comparison_octets c = number w16 c.parameter ++ (number w8 (operator_code c.oper
 unfoldable pub entry_octets : Entry → List ℕ
 entry_octets e = number w16 e.parameter ++ number w32 e.at
 
+-- the octet of an archive flag
 abbrev pub archive_code : Bool → ℕ
 archive_code false = 0
 archive_code true = 1

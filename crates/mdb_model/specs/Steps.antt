@@ -26,14 +26,17 @@ Refuses fault (Bad sheet row rule) = fault ≡ Some (record { sheet = sheet; row
 Refuses fault (Limit which number) = ⊥
 Refuses fault OutOfMemory = Unit {0}
 
+-- the calibrations that rows spell, or the first rule that the rows break
 abbrev pub CalibrationsGive : List CalibrationRow → Result Calibrations MdbFault → Type 0
 CalibrationsGive rows (Ok c) = (calibrations_fault rows ≡ None) × (c.items.items ≡ calibrations_of rows) × IsInStep c
 CalibrationsGive rows (Err fault) = Refuses (calibrations_fault rows) fault
 
+-- the parameters that rows spell, or the first rule that the rows break
 abbrev pub ParametersGive : List Calibration → List ParameterRow → Result Parameters MdbFault → Type 0
 ParametersGive calibrations rows (Ok p) = (parameters_fault calibrations rows ≡ None) × (p.items.items ≡ parameters_of rows) × (p.names ≡ map (λ x. x.name) p.items.items)
 ParametersGive calibrations rows (Err fault) = Refuses (parameters_fault calibrations rows) fault
 
+-- the containers that rows spell, or the first rule that the rows break
 abbrev pub ContainersGive : List Parameter → List ContainerRow → Result Containers MdbFault → Type 0
 ContainersGive parameters rows (Ok c) = (containers_fault parameters rows ≡ None) × (c.items.items ≡ containers_of rows) × IsInLine parameters c
 ContainersGive parameters rows (Err fault) = Refuses (containers_fault parameters rows) fault

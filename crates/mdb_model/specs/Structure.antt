@@ -28,6 +28,7 @@ pub record IsContainer (d : Database) (n : ℕ) (c : Container) : Type 0 where
   pub containers_on_path : (line_at (lines_of d.containers) (Some n)).containers ≤ 32
   pub entries_on_path : length (line_at (lines_of d.containers) (Some n)).entries ≤ 256
 
+-- a database within its limits, with a root, whose parameters and containers are each sound
 pub record IsStructured (d : Database) : Type 0 where
   pub few_calibrations : length d.calibrations ≤ 4096
   pub few_rows : sum_by row_count d.calibrations ≤ 65536

@@ -31,6 +31,7 @@ is_printable b = nat_le 32 b && nat_le b 126
 abbrev pub is_label : Text → Bool
 is_label text = nat_le 1 (length text) && nat_le (length text) 64 && list_all is_printable text
 
+-- the octet is a decimal digit, 0 to 9 in ASCII
 abbrev pub is_digit : ℕ → Bool
 is_digit b = nat_le 48 b && nat_le b 57
 
@@ -47,6 +48,7 @@ abbrev pub is_minus : Text → Bool
 is_minus [] = false
 is_minus (b ∷ rest) = b == 45
 
+-- the number with its sign
 abbrev pub signed : Bool → ℕ → ℤ
 signed minus n = if minus then neg_ℤ (pos n) else pos n
 
@@ -54,6 +56,7 @@ signed minus n = if minus then neg_ℤ (pos n) else pos n
 abbrev pub is_whole : Bool → ℕ → Bool
 is_whole minus n = if minus then nat_le n 9223372036854775808 else nat_le n 18446744073709551615
 
+-- the whole number of a sign and digits, where it is in range
 abbrev pub whole_from : Bool → Option ℕ → Option ℤ
 whole_from minus None = None
 whole_from minus (Some n) = if is_whole minus n then Some (signed minus n) else None

@@ -11,9 +11,11 @@ pub record IsExactBefore {A : Type 0} (MayFollow : List ℕ → Type 0) (Fits : 
   pub takes : (octets : List ℕ) (x : A × List ℕ) → IsOctets octets → read octets ≡ Some x → (octets ≡ spell x.0 ++ x.1) × Fits x.0
   pub again : (a : A) (rest : List ℕ) → MayFollow rest → Fits a → read (spell a ++ rest) ≡ Some (a, rest)
 
+-- octets that may be any
 abbrev pub Anything : List ℕ → Type 0
 Anything rest = Unit {0}
 
+-- no octet is left
 abbrev pub NoMore : List ℕ → Type 0
 NoMore rest = rest ≡ []
 

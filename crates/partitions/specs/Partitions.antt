@@ -1,5 +1,5 @@
 -- What contracts see of the partitions that hold a row.
-use Rattle.std.specs.Prelude.{◌≡◌, ◌↔◌, ◌⊎◌, ℕ, ◌+◌, ◌≤◌, List, [], Option, Some, None, Contains}
+use Rattle.std.specs.Prelude.{◌≡◌, ◌↔◌, ◌⊎◌, ℕ, ◌+◌, ◌≤◌, List, Contains}
 use Rattle.std.specs.Map.{keys_of}
 use Rattle.std.specs.List.Sorted.{IsStrictlySortedBy}
 use Rattle.block_map.specs.Index.{Listing}
@@ -31,8 +31,3 @@ pub record AreTheSame (by_day : Listing Partition Unit) (by_name : Listing Named
   pub by_name_rises : IsRising named_cmp by_name.entries
   pub same : (p : Partition) → Contains (keys_of by_name.entries) (named_day p) ↔ Contains (keys_of by_day.entries) p
   pub fits : by_name.room ≤ by_day.room
-
--- what is held in two orders, which are there once room was made
-abbrev pub held_of : Option Holding → Holding
-held_of None = record { parts = []; room = 0 }
-held_of (Some held) = held

@@ -1,34 +1,41 @@
 //! The partitions that hold a row.
 
-ghost use Rattle.std.specs.Prelude.{◌≡◌, ◌+◌, ◌<◌, ◌≤◌, ◌↔◌, [], max, IfOk, OnOk, OnErr, Contains};
+ghost use Rattle.std.specs.Prelude.{◌≡◌, ◌+◌, ◌<◌, ◌≤◌, ◌≤ℤ◌, ◌↔◌, [], true, max, IfOk, OnOk, OnErr, Contains};
 ghost use Rattle.partitions.specs.Partition.{partition_of};
+ghost use Rattle.partitions.specs.NamedDay.{named_day};
 ghost use Rattle.partitions.specs.Bounds.{MayHold};
+ghost use Rattle.partitions.specs.Wanted.{is_on, is_wanted};
 ghost use Rattle.partitions.specs.Partitions.{AreRising, IsAdded};
 
 use crate::bounds::Bounds;
 use crate::days::Days;
 use crate::lists::PartList;
+use crate::named_day::NamedDay;
 use crate::names::SortedNames;
-use crate::orders::Orders;
+use crate::orders::{of_names, on_days};
 use crate::partition::{Partition, partition_of};
 use crate::wanted::Wanted;
+use block_map::index::Index;
 use std::alloc::{AllocError, Global};
 use std::marker::Model;
 
-/// The partitions that hold a row.
+/// The partitions that hold a row. Both indexes hold each of them.
 #[derive(Drop)]
 pub struct Partitions {
     alloc: Global,
-    /// There once room was made.
-    orders: Option<Orders>,
+    by_day: Index<Partition, ()>,
+    by_name: Index<NamedDay, ()>,
 }
 
 impl Model for Partitions {
-    ghost use Rattle.partitions.specs.Partitions.{Holding, held_of};
+    ghost use Rattle.std.specs.Map.{keys_of};
+    ghost use Rattle.partitions.specs.Partitions.{Holding, AreTheSame};
 
     ghost Value = { Holding };
 
-    ghost view = { λ p. held_of p.orders };
+    ghost view = { λ o. record { parts = keys_of o.by_day.entries; room = o.by_name.room } };
+
+    ghost invariant = { λ o. AreTheSame o.by_day o.by_name };
 }
 
 impl Partitions {
@@ -38,7 +45,8 @@ impl Partitions {
     {
         Partitions {
             alloc,
-            orders: None,
+            by_day: Index::new(alloc),
+            by_name: Index::new(alloc),
         }
     }
 
@@ -49,16 +57,8 @@ impl Partitions {
         ensures full { OnErr result (self.old.room < rows) }
     {
         let rows = rows as usize;
-        match &mut self.orders {
-            Some(orders) => orders.reserve(rows),
-            None if rows == 0 => Ok(()),
-            None => {
-                let mut orders = Orders::new(self.alloc)?;
-                orders.reserve(rows)?;
-                self.orders = Some(orders);
-                Ok(())
-            }
-        }
+        self.by_day.reserve(rows)?;
+        self.by_name.reserve(rows)
     }
 
     /// Notes that a row of this time, in milliseconds since 1970, and packet name is there. Takes no memory.
@@ -67,8 +67,9 @@ impl Partitions {
         ensures added { IsAdded self.old self.new (partition_of time pname) }
         ensures left { self.old.room ≤ self.new.room + 1 }
     {
-        if let Some(orders) = &mut self.orders {
-            orders.add(partition_of(time, pname));
+        let part = partition_of(time, pname);
+        if self.by_day.insert(part, ()).is_none() {
+            let _ = self.by_name.insert(NamedDay::of(part), ());
         }
     }
 
@@ -78,18 +79,35 @@ impl Partitions {
         ensures exactly { IfOk result (λ parts. (p : Partition) → Contains parts p ↔ (Contains self.now.parts p × MayHold bounds.now p)) }
         ensures rising { IfOk result (λ parts. AreRising parts) }
     {
-        match &self.orders {
-            Some(orders) if bounds.from < bounds.to => {
-                let days = Days::of(bounds);
-                match &bounds.names {
-                    Some(names) => {
-                        let names = SortedNames::of(self.alloc, names.as_slice())?;
-                        orders.of_names(self.alloc, &Wanted { days, names })
-                    }
-                    None => orders.on_days(self.alloc, &days),
-                }
-            }
-            _ => Ok(PartList::new(self.alloc)),
+        if bounds.to <= bounds.from {
+            return Ok(PartList::new(self.alloc));
         }
+        let days = Days::of(bounds);
+        match &bounds.names {
+            Some(names) => {
+                let names = SortedNames::of(self.alloc, names.as_slice())?;
+                self.of_names(&Wanted { days, names })
+            }
+            None => self.on_days(&days),
+        }
+    }
+
+    /// The partitions that hold a row on some days.
+    fn on_days(&self, days: &Days) -> Result<PartList, AllocError>
+        ensures exactly { IfOk result (λ parts. (p : Partition) → Contains parts p ↔ (Contains self.now.parts p × (is_on days.now p.day ≡ true))) }
+        ensures rising { IfOk result (λ parts. AreRising parts) }
+    {
+        on_days(self.alloc, &self.by_day, days)
+    }
+
+    /// The partitions that hold a row and are wanted.
+    fn of_names(&self, wanted: &Wanted) -> Result<PartList, AllocError>
+        requires { wanted.now.days.first ≤ℤ wanted.now.days.last }
+        ensures exactly { IfOk result (λ parts. (p : Partition) → Contains parts p ↔ (Contains self.now.parts p × (is_wanted wanted.now (named_day p) ≡ true))) }
+        ensures rising { IfOk result (λ parts. AreRising parts) }
+    {
+        let mut parts = of_names(self.alloc, &self.by_name, wanted)?;
+        parts.sort();
+        Ok(parts)
     }
 }

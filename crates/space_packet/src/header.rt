@@ -1,6 +1,6 @@
 //! The primary header of a packet (CCSDS 133.0-B-2, section 4.1.3).
 
-ghost use Rattle.std.specs.Prelude.{◌≡◌, ◌<◌, ◌≤◌, ◌↔◌, ◌==◌, length, IfOk, IsErr};
+ghost use Rattle.std.specs.Prelude.{◌≡◌, ◌<◌, ◌≤◌, ◌↔◌, ◌==◌, length, IfOk, IsErr, slice_index};
 ghost use Rattle.arch_types.specs.Packet.{IsPacket, packet_length, type_of, secondary_flag, apid_of, flags_of, count_of, is_idle};
 
 /// The packet version number isn't 000.
@@ -81,5 +81,3 @@ pub(crate) fn total_length(header: &[u8]) -> usize
 {
     7 + 256 * usize::from(header[4]) + usize::from(header[5])
 }
-
-ghost use Rattle.std.specs.Prelude.{slice_index};

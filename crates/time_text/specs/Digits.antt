@@ -1,6 +1,7 @@
 -- Decimal digits in ASCII, and texts of a fixed shape.
 use Rattle.std.specs.Prelude.{ℕ, ◌+◌, ◌-◌, ◌*◌, ◌/◌, ◌%◌, ◌++◌, ◌==◌, ◌&&◌, Bool, true, false, List, [], ◌∷◌, nat_le, fold, if◌then◌else◌}
 
+-- the octet is a decimal digit, 0 to 9 in ASCII
 abbrev pub is_digit : ℕ → Bool
 is_digit octet = nat_le 48 octet && nat_le octet 57
 
@@ -23,8 +24,10 @@ has_shape (place ∷ shape) (octet ∷ text) = fits place octet && has_shape sha
 abbrev pub two_digits_of : ℕ → List ℕ
 two_digits_of n = (48 + n / 10) ∷ (48 + n % 10) ∷ []
 
+-- a number below 1,000 in three digits
 abbrev pub three_digits_of : ℕ → List ℕ
 three_digits_of n = (48 + n / 100) ∷ two_digits_of (n % 100)
 
+-- a number below 10,000 in four digits
 abbrev pub four_digits_of : ℕ → List ℕ
 four_digits_of n = two_digits_of (n / 100) ++ two_digits_of (n % 100)

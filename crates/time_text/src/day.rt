@@ -1,7 +1,8 @@
 //! The day of a moment, and a day's name.
 
-ghost use Rattle.std.specs.Prelude.{◌≡◌, pos, ◌≤ℤ◌, IfOk, unsigned_abs};
+ghost use Rattle.std.specs.Prelude.{◌≡◌, pos, ◌≤ℤ◌, IfOk, unsigned_abs, ◌<◌};
 ghost use Rattle.time_text.specs.Day.{day_of, IsDayName};
+ghost use Rattle.time_text.specs.Spelling.{named};
 
 use crate::calendar::date_of;
 use crate::digits::{four_digits, three_digits};
@@ -28,9 +29,6 @@ pub fn day_name(alloc: Global, day: i64) -> Result<Vec<u8>, AllocError>
     let name = octets(date.year.unsigned_abs(), date.day_of_year());
     Vec::from_slice(alloc, &name)
 }
-
-ghost use Rattle.std.specs.Prelude.{◌<◌};
-ghost use Rattle.time_text.specs.Spelling.{named};
 
 /// The name of the day at a place in a year.
 fn octets(year: u16, place: u16) -> [u8; 8]

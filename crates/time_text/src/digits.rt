@@ -1,8 +1,8 @@
 //! Decimal digits, read and written, and texts of a fixed shape.
 
-ghost use Rattle.std.specs.Prelude.{◌≡◌, ◌<◌, ◌≤◌, ◌^◌, length, true, IfSome};
+ghost use Rattle.std.specs.Prelude.{◌≡◌, ◌<◌, ◌≤◌, ◌^◌, length, true, IfSome, ◌+◌, ◌/◌, ◌%◌, ◌∷◌, []};
 ghost use Rattle.std.specs.List.{list_all};
-ghost use Rattle.time_text.specs.Digits.{is_digit, worth, fits, has_shape};
+ghost use Rattle.time_text.specs.Digits.{is_digit, worth, fits, has_shape, two_digits_of, three_digits_of, four_digits_of};
 ghost use Rattle.time_text.specs.TimeText.{number_of};
 
 pub(crate) fn is_digit(octet: u8) -> bool
@@ -68,9 +68,6 @@ pub(crate) fn number(text: &[u8]) -> Option<u64>
         None
     }
 }
-
-ghost use Rattle.std.specs.Prelude.{◌+◌, ◌/◌, ◌%◌, ◌∷◌, []};
-ghost use Rattle.time_text.specs.Digits.{two_digits_of, three_digits_of, four_digits_of};
 
 pub(crate) fn two_digits(n: u8) -> [u8; 2]
     requires { n < 100 }

@@ -1,8 +1,9 @@
 //! Civil texts, written.
 
-ghost use Rattle.std.specs.Prelude.{◌≡◌, pos, ◌≤ℤ◌, IfOk, Some, true, codes};
+ghost use Rattle.std.specs.Prelude.{◌≡◌, pos, ◌≤ℤ◌, IfOk, Some, true, codes, ◌<◌};
 ghost use Rattle.time_text.specs.Digits.{has_shape};
 ghost use Rattle.time_text.specs.TimeText.{time_of};
+ghost use Rattle.time_text.specs.Spelling.{spelled};
 
 use crate::civil::Civil;
 use crate::digits::{four_digits, three_digits, two_digits};
@@ -19,9 +20,6 @@ pub fn write_time(alloc: Global, time: i64) -> Result<Vec<u8>, AllocError>
     let text = octets(&Civil::at(time as u64));
     Vec::from_slice(alloc, &text)
 }
-
-ghost use Rattle.std.specs.Prelude.{◌<◌};
-ghost use Rattle.time_text.specs.Spelling.{spelled};
 
 /// The text of a date and a time of day.
 fn octets(civil: &Civil) -> [u8; 23]

@@ -47,7 +47,7 @@ impl Table {
     {
         Ok(Table {
             stored: Vec::new(alloc),
-            index: Index::new(alloc)?,
+            index: Index::new(alloc),
         })
     }
 

@@ -7,15 +7,13 @@ use Rattle.partitions.proofs.partitions.Partitions.pruned.Goals as goal
 
 pub returns-in_ok-names-in-Some-names-clause-exactly : goal.returns-in_ok-names-in-Some-names-clause-exactly
 returns-in_ok-names-in-Some-names-clause-exactly c =
-    let held : c.in-Some.orders ≡ c.args.self.now = sym (ap held_of c.in-Some.is) ∙ c.self.view_is in
     let means = named_exactly c.args.bounds.now c.of-days.result c.of-days.ensures.exactly c.in-Some-names.names c.in_ok-names-in-Some-names.names c.in-Some-names.is (rw c.as_slice.ensures at c.in_ok-names-in-Some-names.ensures) in
-    rw (← held) (IfOk-weaker c.of_names.result _ _ (λ given is. exactly_by given c.in-Some.orders.parts means is) c.of_names.ensures.exactly)
+    (IfOk-weaker c.of_names.result _ _ (λ given is. exactly_by given c.args.self.now.parts means is) c.of_names.ensures.exactly)
 
 pub returns-in-None-clause-exactly : goal.returns-in-None-clause-exactly
 returns-in-None-clause-exactly c =
-    let held : c.in-Some.orders ≡ c.args.self.now = sym (ap held_of c.in-Some.is) ∙ c.self.view_is in
     let means = all_exactly c.args.bounds.now c.of-days.result c.of-days.ensures.exactly c.in-None.is in
-    rw (← held) (IfOk-weaker c.on_days.result _ _ (λ given is. exactly_by given c.in-Some.orders.parts means is) c.on_days.ensures.exactly)
+    (IfOk-weaker c.on_days.result _ _ (λ given is. exactly_by given c.args.self.now.parts means is) c.on_days.ensures.exactly)
 
 pub returns-in_default-clause-rising : goal.returns-in_default-clause-rising
 returns-in_default-clause-rising c = rw c.new.ensures none_rise
