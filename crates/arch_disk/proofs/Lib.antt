@@ -2,4 +2,4 @@ pub mod Crashes
 pub mod Moments
 pub mod Noted
 pub mod Places
-pub mod Settled
+pub mod SyncedFiles

@@ -1,7 +1,7 @@
 -- How a run of calls of a disk goes on.
 use Rattle.std.proofs.Common.{◌≡◌, ◌≤◌, inl, inr, ⊎_elim, arith, refl, ◌∙◌}
 use Rattle.arch_disk.specs.Image.{Image}
-use Rattle.arch_disk.specs.Disk.{Device, Elapses, LeavesOnly, AddsNoImage, Looked}
+use Rattle.arch_disk.specs.Disk.{Device, Elapses, LeavesOnly, AddsNoImage, OnlyReads}
 
 module _ {D : Type 0} (device : Device D) where
   -- before the first call
@@ -44,11 +44,11 @@ module _ {D : Type 0} (device : Device D) where
   at_end old new P run c now = run.each c (device.now_counts new (device.moment old) c run.later now)
 
   -- no call
-  pub looked_none : (old : D) → Looked device old old
+  pub looked_none : (old : D) → OnlyReads device old old
   looked_none old = record { reads_same = refl; moments = started old (device.images old) (λ c now. now); images = λ c now. now; later = omega arith; no_write = refl }
 
   -- one call more
-  pub looked_more : (old mid new : D) → Looked device old mid → device.reads new ≡ device.reads mid → AddsNoImage device mid new → Elapses device mid new → device.fault_count mid ≤ device.fault_count new → device.failed_writes new ≡ device.failed_writes mid → Looked device old new
+  pub looked_more : (old mid new : D) → OnlyReads device old mid → device.reads new ≡ device.reads mid → AddsNoImage device mid new → Elapses device mid new → device.fault_count mid ≤ device.fault_count new → device.failed_writes new ≡ device.failed_writes mid → OnlyReads device old new
   looked_more old mid new so_far same images time later no_write = record {
     reads_same = same ∙ so_far.reads_same;
     moments = goes_on old mid new (device.images old) so_far.moments time (λ c now. so_far.images c (images c now));
@@ -58,7 +58,7 @@ module _ {D : Type 0} (device : Device D) where
   }
 
   -- a whole run more
-  pub looked_on : (old mid new : D) → Looked device old mid → Looked device mid new → Looked device old new
+  pub looked_on : (old mid new : D) → OnlyReads device old mid → OnlyReads device mid new → OnlyReads device old new
   looked_on old mid new first second = record {
     reads_same = second.reads_same ∙ first.reads_same;
     moments = joins old mid new (device.images old) (device.images mid) first.moments second.moments (λ c now. first.images c now);

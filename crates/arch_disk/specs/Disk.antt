@@ -4,9 +4,9 @@ use Rattle.arch_disk.specs.Image.{Image}
 
 -- Everything that is known of the disks of a type: the meanings of their values, and the laws of these meanings.
 pub record Device (D : Type 0) : Type 1 where
-  -- whether these disks tell what they hold
-  pub tells : Bool
-  -- what the files read as, where that is told
+  -- whether these disks are transparent: what they hold is known; else they are opaque
+  pub is_transparent : Bool
+  -- what the files read as, where that is known
   pub reads : D → Image
   -- the images that a crash at this moment may leave
   pub images : D → Image → Type 0
@@ -23,9 +23,9 @@ pub record Device (D : Type 0) : Type 1 where
   -- and the only one since itself
   pub only_now : (disk : D) (c : Image) → images_since disk (moment disk) c → images disk c
   -- a disk as it reads is one of its images
-  pub reads_as_image : (disk : D) → IsTrue tells → images disk (reads disk)
+  pub reads_as_image : (disk : D) → IsTrue is_transparent → images disk (reads disk)
   -- no file is longer than a place can say
-  pub lengths_fit : (disk : D) (file : ℕ) → IsTrue tells → length (reads disk file) < 2 ^ 64
+  pub lengths_fit : (disk : D) (file : ℕ) → IsTrue is_transparent → length (reads disk file) < 2 ^ 64
 
 -- each image that a crash may leave now is an image of before, after the step
 abbrev pub Follows : {D : Type 0} → Device D → (Image → Image → Type 0) → D → D → Type 0
@@ -66,7 +66,7 @@ abbrev pub CountsFailure : {D T E : Type 0} → Device D → D → D → Result 
 CountsFailure device old new result = device.failed_writes new ≡ (if is_ok result then device.failed_writes old else raised (device.failed_writes old))
 
 -- A run of calls that only looked: the disk reads as before, no write failed, and a crash leaves what it could have left before.
-pub record Looked {D : Type 0} (device : Device D) (old new : D) : Type 0 where
+pub record OnlyReads {D : Type 0} (device : Device D) (old new : D) : Type 0 where
   pub reads_same : device.reads new ≡ device.reads old
   pub moments : LeavesOnly device old new (device.images old)
   pub images : AddsNoImage device old new

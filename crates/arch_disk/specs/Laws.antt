@@ -42,6 +42,6 @@ short (Synced file ∷ past) f = short past f
 pub lengths_fit : (calls : List Call) (f : ℕ) → length (reads_of calls f) < 2 ^ 64
 lengths_fit calls f = omega (arith, short calls f)
 
--- a disk that tells nothing
-pub untold : {P : Type 0} → IsTrue false → P
-untold told = cc
+-- an opaque disk
+pub from_opaque : {P : Type 0} → IsTrue false → P
+from_opaque transparent = cc

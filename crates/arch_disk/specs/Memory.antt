@@ -11,7 +11,7 @@ use Rattle.arch_disk.specs.Laws.{now_counts, only_now, reads_as_image, lengths_f
 -- it tells what it holds, by the calls that are kept
 abbrev pub memory_device : Device MemDisk
 memory_device = record {
-  tells = true;
+  is_transparent = true;
   reads = λ m. reads_of m.history;
   images = λ m. images_of m.history;
   moment = λ m. length m.history;
@@ -20,8 +20,8 @@ memory_device = record {
   failed_writes = λ m. m.counts.failed_writes;
   now_counts = λ m t c le now. now_counts m.history t c now;
   only_now = λ m c left. only_now m.history c left;
-  reads_as_image = λ m told. reads_as_image m.history;
-  lengths_fit = λ m f told. lengths_fit m.history f;
+  reads_as_image = λ m transparent. reads_as_image m.history;
+  lengths_fit = λ m f transparent. lengths_fit m.history f;
 }
 
 -- no call was made yet, and none has failed

@@ -131,7 +131,7 @@ impl History {
     }
 
     // Makes these octets all that a file holds, synced.
-    fn settle(&mut self, file: u32, octets: &[u8]) -> Result<(), AllocError>
+    fn write_synced(&mut self, file: u32, octets: &[u8]) -> Result<(), AllocError>
         ensures { OnOk result ((write : AWrite) × (write.file ≡ file) × (write.at ≡ 0) × (write.octets.items ≡ octets.now) × (self.new ≡ Synced file ∷ Wrote write ∷ self.old)) }
     {
         let write = Write::copy(*self.calls.allocator(), file, 0, octets)?;
@@ -147,7 +147,7 @@ impl History {
         let mut history = History::new(alloc);
         for i in 0..files.places() {
             let file = files.number(i);
-            history.settle(file, files.content(file))?;
+            history.write_synced(file, files.content(file))?;
         }
         Ok(history)
     }

@@ -7,7 +7,7 @@
 // between the old and the new, and all other octets stay. After a sync that answers Ok a crash leaves what a read gives.
 //
 // `MemDisk` meets this by the list of its calls, newest first: what it reads as and what a crash may leave are
-// defined by recursion over that list, so one call more is one equation. `Silent` is a disk that tells nothing.
+// defined by recursion over that list, so one call more is one equation. `OpaqueDisk` is an opaque disk.
 //
 // To touch together: the clauses of `Disk` (src/disk.rt), `Device` (specs/Disk.antt) and the meaning of a list of calls
 // (specs/History.antt). A crash of a kind (specs/Crash.antt) is one of the images of its moment, by proof.
@@ -19,7 +19,7 @@ mod faults;
 mod files;
 mod history;
 mod memory;
-mod silent;
+mod opaque_disk;
 
 pub use crash::{Crash, Length, Unsynced};
 pub use disk::{Disk, Failed};
@@ -27,4 +27,4 @@ pub use faults::FaultCounts;
 pub use files::Files;
 pub use history::{Call, Write};
 pub use memory::MemDisk;
-pub use silent::Silent;
+pub use opaque_disk::OpaqueDisk;

@@ -114,7 +114,7 @@ impl Disk for MemDisk {
     ghost device = { memory_device };
 
     fn len(&mut self, file: u32) -> Result<u64, Failed>
-        ensures length { IfOk result (λ n. IsTrue memory_device.tells → n ≡ length (memory_device.reads self.old file)) }
+        ensures length { IfOk result (λ n. IsTrue memory_device.is_transparent → n ≡ length (memory_device.reads self.old file)) }
         ensures reads { memory_device.reads self.new ≡ memory_device.reads self.old }
         ensures crash { AddsNoImage memory_device self.old self.new }
         ensures time { Elapses memory_device self.old self.new }
@@ -132,8 +132,8 @@ impl Disk for MemDisk {
     }
 
     fn read_at(&mut self, file: u32, at: u64, into: &mut [u8]) -> Result<(), Failed>
-        requires { IsTrue memory_device.tells → at + length into.old ≤ length (memory_device.reads self.old file) }
-        ensures octets { OnOk result (IsTrue memory_device.tells → into.new ≡ take (length into.old) (drop at (memory_device.reads self.old file))) }
+        requires { IsTrue memory_device.is_transparent → at + length into.old ≤ length (memory_device.reads self.old file) }
+        ensures octets { OnOk result (IsTrue memory_device.is_transparent → into.new ≡ take (length into.old) (drop at (memory_device.reads self.old file))) }
         ensures len { length into.new ≡ length into.old }
         ensures reads { memory_device.reads self.new ≡ memory_device.reads self.old }
         ensures crash { AddsNoImage memory_device self.old self.new }
@@ -155,9 +155,9 @@ impl Disk for MemDisk {
 
     // A write that fails leaves all octets, and is kept where its number was listed and memory lasts.
     fn write_at(&mut self, file: u32, at: u64, from: &[u8]) -> Result<(), Failed>
-        requires { IsTrue memory_device.tells → at ≤ length (memory_device.reads self.old file) }
-        ensures written { OnOk result (IsTrue memory_device.tells → InFile (Becomes (overwritten at from.now)) file (memory_device.reads self.old) (memory_device.reads self.new)) }
-        ensures torn { OnErr result (IsTrue memory_device.tells → InFile (Torn at (length from.now)) file (memory_device.reads self.old) (memory_device.reads self.new)) }
+        requires { IsTrue memory_device.is_transparent → at ≤ length (memory_device.reads self.old file) }
+        ensures written { OnOk result (IsTrue memory_device.is_transparent → InFile (Becomes (overwritten at from.now)) file (memory_device.reads self.old) (memory_device.reads self.new)) }
+        ensures torn { OnErr result (IsTrue memory_device.is_transparent → InFile (Torn at (length from.now)) file (memory_device.reads self.old) (memory_device.reads self.new)) }
         ensures crash { Follows memory_device (InFile (Torn at (length from.now)) file) self.old self.new }
         ensures time { Elapses memory_device self.old self.new }
         ensures cause { HasCause memory_device self.old self.new result }
@@ -182,8 +182,8 @@ impl Disk for MemDisk {
 
     // As for a write.
     fn cut(&mut self, file: u32, len: u64) -> Result<(), Failed>
-        ensures done { OnOk result (IsTrue memory_device.tells → InFile (Becomes (take len)) file (memory_device.reads self.old) (memory_device.reads self.new)) }
-        ensures torn { OnErr result (IsTrue memory_device.tells → InFile (Shortened len) file (memory_device.reads self.old) (memory_device.reads self.new)) }
+        ensures done { OnOk result (IsTrue memory_device.is_transparent → InFile (Becomes (take len)) file (memory_device.reads self.old) (memory_device.reads self.new)) }
+        ensures torn { OnErr result (IsTrue memory_device.is_transparent → InFile (Shortened len) file (memory_device.reads self.old) (memory_device.reads self.new)) }
         ensures crash { Follows memory_device (InFile (Shortened len) file) self.old self.new }
         ensures time { Elapses memory_device self.old self.new }
         ensures cause { HasCause memory_device self.old self.new result }

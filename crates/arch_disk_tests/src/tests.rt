@@ -1,7 +1,7 @@
 // What no clause says: what the images of a kind hold, and that each call succeeds while memory lasts.
 ghost use Rattle.std.specs.Prelude.{◌≡◌};
 
-use arch_disk::{Crash, Disk, Failed, MemDisk, Silent};
+use arch_disk::{Crash, Disk, Failed, MemDisk, OpaqueDisk};
 use std::marker::Send;
 use std::test::Fail;
 
@@ -138,7 +138,7 @@ fn a_long_write_succeeds(rt: HostRuntime) -> Result<(), Fail> {
 
 #[test]
 fn a_silent_disk_refuses_ranges_outside(rt: HostRuntime) -> Result<(), Fail> {
-    let mut disk = carried(Silent::new(MemDisk::new(rt.alloc())));
+    let mut disk = carried(OpaqueDisk::new(MemDisk::new(rt.alloc())));
     let mut into = [0; 2];
     assert_eq!(rt; disk.write_at(0, 0, b"hello"), Ok(()));
     assert_eq!(rt; disk.write_at(0, 6, b"hello"), Err(Failed));

@@ -47,13 +47,13 @@ each_key history [] = tt
 each_key history (row ∷ rows) =
     (stays (is_duplicate_of row) (with_row history row) rows (there_cases history row (list_any (is_duplicate_of row) history) refl), each_key (with_row history row) rows)
 
-or_left : (a b : Bool) → (a || b) ≡ false → a ≡ false
-or_left false b h = refl
-or_left true b h = absurd (true≢false h)
+left_of_or : (a b : Bool) → (a || b) ≡ false → a ≡ false
+left_of_or false b h = refl
+left_of_or true b h = absurd (true≢false h)
 
-or_right : (a b : Bool) → (a || b) ≡ false → b ≡ false
-or_right false b h = h
-or_right true b h = absurd (true≢false h)
+right_of_or : (a b : Bool) → (a || b) ≡ false → b ≡ false
+right_of_or false b h = h
+right_of_or true b h = absurd (true≢false h)
 
 later_push : (first : Row) (rows : List Row) (row : Row) → AllByRecursion (λ later. is_duplicate_of later first ≡ false) rows → is_duplicate_of row first ≡ false →
     AllByRecursion (λ later. is_duplicate_of later first ≡ false) (rows ++ row ∷ [])
@@ -63,8 +63,8 @@ later_push first (r ∷ rows) row all h = (all.0, later_push first rows row all.
 history_push : (history : List Row) (row : Row) → IsHistory history → list_any (is_duplicate_of row) history ≡ false → IsHistory (history ++ row ∷ [])
 history_push [] row is none = (tt, tt)
 history_push (first ∷ rows) row is none = (
-  later_push first rows row is.0 (or_left (is_duplicate_of row first) (list_any (is_duplicate_of row) rows) none),
-  history_push rows row is.1 (or_right (is_duplicate_of row first) (list_any (is_duplicate_of row) rows) none),
+  later_push first rows row is.0 (left_of_or (is_duplicate_of row first) (list_any (is_duplicate_of row) rows) none),
+  history_push rows row is.1 (right_of_or (is_duplicate_of row first) (list_any (is_duplicate_of row) rows) none),
 )
 
 with_cases : (history : List Row) (row : Row) (b : Bool) → list_any (is_duplicate_of row) history ≡ b → IsHistory history → IsHistory (if b then history else history ++ row ∷ [])

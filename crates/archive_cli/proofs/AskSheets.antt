@@ -12,7 +12,7 @@ use Rattle.mdb_sheets.specs.Asks.{AreAsks, IsAsksRefusal}
 use Rattle.mdb_sheets.specs.Sheets.{ReadsCounted}
 use Rattle.outer_traits.specs.Outside.{Files, Gives, HasRisen}
 use Rattle.archive_cli.specs.declared.ask_sheet.AskSheet.{AskSheet}
-use Rattle.archive_cli.specs.QueryEnding.{HasInput, IsAskSheet, IsWaiting, SheetGiven, waits}
+use Rattle.archive_cli.specs.QueryEnding.{HasInput, IsAskSheet, IsDeferred, IsAskSheetResult, is_deferred}
 use Rattle.archive_cli.specs.Reading.{IsReadRefusal}
 
 abbrev Left : Type 0
@@ -42,7 +42,7 @@ with_first : (A : Type 0) (left : Left) (P : List ℕ → Type 0) → A → IfSo
 with_first A None P a h = tt
 with_first A (Some octets) P a h = (a, h)
 
-refused_input : (files : Option Files) (name : List ℕ) (left : Left) (faults faults' : ℕ) (refusal : Refusal) → Gives files name left → waits refusal ≡ true →
+refused_input : (files : Option Files) (name : List ℕ) (left : Left) (faults faults' : ℕ) (refusal : Refusal) → Gives files name left → is_deferred refusal ≡ true →
     IsAsksRefusal left faults faults' refusal → HasInput files name (λ octets. IsAsksRefusal (Some octets) 0 0 refusal)
 refused_input files name left faults faults' (BadSheet sheet row rule) g w h =
     input_of files name left (λ octets. IsAsksRefusal (Some octets) 0 0 (BadSheet sheet row rule)) g (with_first _ left _ h.0 h.1)
@@ -51,24 +51,24 @@ refused_input files name left faults faults' (Limit Asks number) g w h =
 refused_input files name left faults faults' other g w h = absurd (cc (w))
 
 pub sheet_read : (files : Option Files) (name : List ℕ) (left : Left) (asks : Result (List Ask) Refusal) (faults faults' : ℕ) (sheet : Given) → Gives files name left →
-    IfOk asks (AreAsks left) → IfErr asks (IsAsksRefusal left faults faults') → SheetGiven asks sheet → IfOk sheet (IsAskSheet files name)
+    IfOk asks (AreAsks left) → IfErr asks (IsAsksRefusal left faults faults') → IsAskSheetResult asks sheet → IfOk sheet (IsAskSheet files name)
 sheet_read files name left (Ok asks) faults faults' sheet g are bad given =
     subst (λ (s : Given). IfOk s (IsAskSheet files name)) (sym given) (input_of files name left (λ octets. AreAsks (Some octets) asks) g are)
 sheet_read files name left (Err refusal) faults faults' sheet g are bad (inl w) =
     subst (λ (s : Given). IfOk s (IsAskSheet files name)) (sym w.1) (w.0, refused_input files name left faults faults' refusal g w.0 bad)
 sheet_read files name left (Err refusal) faults faults' sheet g are bad (inr w) = subst (λ (s : Given). IfOk s (IsAskSheet files name)) (sym w.1) tt
 
-pub sheet_waits : (asks : Result (List Ask) Refusal) (sheet : Given) → SheetGiven asks sheet → IfOk sheet IsWaiting
-sheet_waits (Ok asks) sheet given = subst (λ (s : Given). IfOk s IsWaiting) (sym given) tt
-sheet_waits (Err refusal) sheet (inl w) = subst (λ (s : Given). IfOk s IsWaiting) (sym w.1) w.0
-sheet_waits (Err refusal) sheet (inr w) = subst (λ (s : Given). IfOk s IsWaiting) (sym w.1) tt
+pub sheet_is_deferred : (asks : Result (List Ask) Refusal) (sheet : Given) → IsAskSheetResult asks sheet → IfOk sheet IsDeferred
+sheet_is_deferred (Ok asks) sheet given = subst (λ (s : Given). IfOk s IsDeferred) (sym given) tt
+sheet_is_deferred (Err refusal) sheet (inl w) = subst (λ (s : Given). IfOk s IsDeferred) (sym w.1) w.0
+sheet_is_deferred (Err refusal) sheet (inr w) = subst (λ (s : Given). IfOk s IsDeferred) (sym w.1) tt
 
 some_faults : (faults faults' : ℕ) → faults ≡ 0 → HasRisen faults faults' → 0 < faults'
 some_faults faults zero none h = let low : faults < 0 = h (omega arith) in absurd (omega (arith, low))
 some_faults faults (suc n) none h = omega arith
 
 unread_input : (files : Option Files) (name : List ℕ) (left : Left) (faults faults' held held' : ℕ) (refusal : Refusal) → Gives files name left → faults ≡ 0 →
-    (0 < faults' → HasRisen held held') → waits refusal ≡ false → IsAsksRefusal left faults faults' refusal → IsReadRefusal files name SheetOctets held held' refusal
+    (0 < faults' → HasRisen held held') → is_deferred refusal ≡ false → IsAsksRefusal left faults faults' refusal → IsReadRefusal files name SheetOctets held held' refusal
 unread_input files name left faults faults' held held' ReadFault g clean risen w h = (risen (some_faults faults faults' clean h), there_of files name left g)
 unread_input files name left faults faults' held held' (BadSheet sheet row rule) g clean risen w h = absurd (cc (w))
 unread_input files name left faults faults' held held' (Limit SheetOctets number) g clean risen w h =
@@ -78,7 +78,7 @@ unread_input files name left faults faults' held held' OutOfMemory g clean risen
 unread_input files name left faults faults' held held' other g clean risen w h = absurd h
 
 pub sheet_unread : (files : Option Files) (name : List ℕ) (left : Left) (asks : Result (List Ask) Refusal) (faults faults' held held' : ℕ) (sheet : Given) →
-    Gives files name left → faults ≡ 0 → (0 < faults' → HasRisen held held') → IfErr asks (IsAsksRefusal left faults faults') → SheetGiven asks sheet →
+    Gives files name left → faults ≡ 0 → (0 < faults' → HasRisen held held') → IfErr asks (IsAsksRefusal left faults faults') → IsAskSheetResult asks sheet →
     IfErr sheet (IsReadRefusal files name SheetOctets held held')
 sheet_unread files name left (Ok asks) faults faults' held held' sheet g clean risen bad given =
     subst (λ (s : Given). IfErr s (IsReadRefusal files name SheetOctets held held')) (sym given) tt
@@ -88,9 +88,9 @@ sheet_unread files name left (Err refusal) faults faults' held held' sheet g cle
     subst (λ (s : Given). IfErr s (IsReadRefusal files name SheetOctets held held')) (sym w.1)
     (unread_input files name left faults faults' held held' refusal g clean risen w.0 bad)
 
-calm_waiting : (refusal : Refusal) (faults faults' : ℕ) → waits refusal ≡ true → ReadsCounted (Some refusal) faults faults' → faults' ≡ faults
-calm_waiting ReadFault faults faults' w h = absurd (cc (w))
-calm_waiting other faults faults' w h = h
+no_failed_write_deferred : (refusal : Refusal) (faults faults' : ℕ) → is_deferred refusal ≡ true → ReadsCounted (Some refusal) faults faults' → faults' ≡ faults
+no_failed_write_deferred ReadFault faults faults' w h = absurd (cc (w))
+no_failed_write_deferred other faults faults' w h = h
 
 counted_cases : (refusal : Refusal) (faults faults' held held' : ℕ) → faults ≡ 0 → ReadsCounted (Some refusal) faults faults' → (faults' ≡ 0 → held' ≡ held) →
     (0 < faults' → HasRisen held held') → ReadsCounted (Some refusal) held held'
@@ -99,10 +99,10 @@ counted_cases other faults faults' held held' clean h kept risen = kept (h ∙ c
 
 -- the count of the inputs rises exactly where that of the source did
 pub sheet_counted : (asks : Result (List Ask) Refusal) (sheet : Given) (faults faults' held held' : ℕ) → faults ≡ 0 → ReadsCounted (result_err asks) faults faults' →
-    (faults' ≡ 0 → held' ≡ held) → (0 < faults' → HasRisen held held') → SheetGiven asks sheet → ReadsCounted (result_err sheet) held held'
+    (faults' ≡ 0 → held' ≡ held) → (0 < faults' → HasRisen held held') → IsAskSheetResult asks sheet → ReadsCounted (result_err sheet) held held'
 sheet_counted (Ok asks) sheet faults faults' held held' clean h kept risen given =
     subst (λ (s : Given). ReadsCounted (result_err s) held held') (sym given) (kept (h ∙ clean))
 sheet_counted (Err refusal) sheet faults faults' held held' clean h kept risen (inl w) =
-    subst (λ (s : Given). ReadsCounted (result_err s) held held') (sym w.1) (kept (calm_waiting refusal faults faults' w.0 h ∙ clean))
+    subst (λ (s : Given). ReadsCounted (result_err s) held held') (sym w.1) (kept (no_failed_write_deferred refusal faults faults' w.0 h ∙ clean))
 sheet_counted (Err refusal) sheet faults faults' held held' clean h kept risen (inr w) =
     subst (λ (s : Given). ReadsCounted (result_err s) held held') (sym w.1) (counted_cases refusal faults faults' held held' clean h kept risen)

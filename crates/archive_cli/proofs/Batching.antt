@@ -16,7 +16,7 @@ use Rattle.arch_types.specs.Limits.{limit_of}
 use Rattle.arch_types.specs.Packet.{IsPacket}
 use Rattle.archive_core.specs.declared.fills.Fill.{Fill}
 use Rattle.archive_core.specs.declared.fills.Fill.TheVariants.{Fault}
-use Rattle.archive_core.specs.Fills.{standing}
+use Rattle.archive_core.specs.Fills.{pending_fault_of}
 use Rattle.archive_core.specs.Items.{Item}
 use Rattle.archive_core.specs.Outcomes.{fresh_of}
 use Rattle.archive_core.proofs.Outcomes.{fresh_added, ingested-append}
@@ -30,16 +30,16 @@ use Rattle.archive_store.specs.declared.head.Head.{Head}
 use Rattle.archive_store.specs.Answers.{asks_reopen, IsIngestRefusal}
 use Rattle.archive_store.specs.Batches.{batch_rows}
 use Rattle.archive_store.specs.Limits.{IsLimit}
-use Rattle.archive_store.specs.Seen.{Seen, AddsFault}
-use Rattle.archive_cli.specs.declared.batches.Taken.{Taken}
-use Rattle.archive_cli.specs.Batches.{arrivals_with, arrived, batch_at, rows_of_link, IsTaken, HasIngested, IsIngested, IsStopped, IsRefusedFor}
+use Rattle.archive_store.specs.StoreView.{StoreView, AddsFault}
+use Rattle.archive_cli.specs.declared.batches.NextBatch.{NextBatch}
+use Rattle.archive_cli.specs.Batches.{arrivals_with, arrived, batch_at, rows_of_link, IsNextBatch, HasIngested, IsIngested, IsStopped, IsRefusedFor}
 use Rattle.archive_cli.proofs.Arrived.{batch_none, batch_more, rows-append, arrived-append, few_arrived}
 use Rattle.archive_cli.proofs.Taking.{run_none, run_more, completes}
 
 -- ---- one batch
 
 -- no packet was taken yet
-pub taken_none : (dump : List ℕ) (at : ℕ) (head : Head) (link : ℕ) (moment : ℤ) (taken : Taken) → taken.packets ≡ 0 → taken.batch.rectime ≡ moment → taken.batch.arrivals ≡ [] → IsClockTime moment → IsTaken dump at at head link moment taken
+pub taken_none : (dump : List ℕ) (at : ℕ) (head : Head) (link : ℕ) (moment : ℤ) (taken : NextBatch) → taken.packets ≡ 0 → taken.batch.rectime ≡ moment → taken.batch.arrivals ≡ [] → IsClockTime moment → IsNextBatch dump at at head link moment taken
 taken_none dump at head link moment taken count received none time = record {
   packets = [];
   run = run_none dump at;
@@ -49,9 +49,9 @@ taken_none dump at head link moment taken count received none time = record {
 }
 
 -- one packet more
-pub taken_more : (dump : List ℕ) (start mid end : ℕ) (head : Head) (link : ℕ) (moment : ℤ) (old new : Taken) → IsDatabase head.mdb → 1 ≤ link → link ≤ 255 → old.packets < 64
-    → IsTaken dump start mid head link moment old → IsPart dump mid end → new.packets ≡ old.packets + 1 → new.batch.rectime ≡ old.batch.rectime
-    → new.batch.arrivals ≡ arrivals_with head link old.batch.arrivals (slice_range dump mid end) → IsTaken dump start end head link moment new
+pub taken_more : (dump : List ℕ) (start mid end : ℕ) (head : Head) (link : ℕ) (moment : ℤ) (old new : NextBatch) → IsDatabase head.mdb → 1 ≤ link → link ≤ 255 → old.packets < 64
+    → IsNextBatch dump start mid head link moment old → IsPart dump mid end → new.packets ≡ old.packets + 1 → new.batch.rectime ≡ old.batch.rectime
+    → new.batch.arrivals ≡ arrivals_with head link old.batch.arrivals (slice_range dump mid end) → IsNextBatch dump start end head link moment new
 taken_more dump start mid end head link moment old new is low high left t part count received grown =
     let packet = slice_range dump mid end in
     let had = t.count in
@@ -66,7 +66,7 @@ taken_more dump start mid end head link moment old new is low high left t part c
 -- ---- all batches
 
 -- a record that was appended has a new row
-records_more : {D : Type 0} (mid new : Seen D) (rows : List Row) → new.history ≡ ingested mid.history rows → (fresh_of mid.history rows ≢ [] → new.records ≡ mid.records + 1)
+records_more : {D : Type 0} (mid new : StoreView D) (rows : List Row) → new.history ≡ ingested mid.history rows → (fresh_of mid.history rows ≢ [] → new.records ≡ mid.records + 1)
     → (fresh_of mid.history rows ≡ [] → new ≡ mid) → new.records + length mid.history ≤ mid.records + length new.history
 records_more {D = D} mid new rows history some none = go (fresh_of mid.history rows) refl
   where
@@ -76,13 +76,13 @@ records_more {D = D} mid new rows history some none = go (fresh_of mid.history r
     go : (fresh : List Row) → fresh_of mid.history rows ≡ fresh → new.records + length mid.history ≤ mid.records + length new.history
     go [] e =
         let same = none e in
-        omega (arith, ap (λ (x : Seen D). x.records) same, ap (λ (x : Seen D). length x.history) same)
+        omega (arith, ap (λ (x : StoreView D). x.records) same, ap (λ (x : StoreView D). length x.history) same)
     go (row ∷ more) e =
         let longer = ap length (history ∙ fresh_added mid.history rows) ∙ length-append mid.history (fresh_of mid.history rows) in
         omega (arith, some (not_none row more e), longer, ap length e)
 
 -- the packets of a dump before an octet were ingested
-pub record IsSoFar {D : Type 0} (old new : Seen D) (dump : List ℕ) (link : ℕ) (moment : ℤ) (at packets idle : ℕ) : Type 0 where
+pub record IsSoFar {D : Type 0} (old new : StoreView D) (dump : List ℕ) (link : ℕ) (moment : ℤ) (at packets idle : ℕ) : Type 0 where
   pub so_far : List (List ℕ)
   pub cut : IsCut dump so_far at
   pub few : length so_far ≤ at
@@ -91,21 +91,21 @@ pub record IsSoFar {D : Type 0} (old new : Seen D) (dump : List ℕ) (link : ℕ
   pub of_packets : packets ≡ length so_far
   pub of_idle : idle + arrived so_far ≡ length so_far
 
-module _ {D : Type 0} (old : Seen D) (dump : List ℕ) (link : ℕ) (moment : ℤ) where
+module _ {D : Type 0} (old : StoreView D) (dump : List ℕ) (link : ℕ) (moment : ℤ) where
   -- no batch yet
   pub so_far_none : old.fills ≡ [] → IsSoFar old old dump link moment 0 0 0
-  so_far_none calm = record {
+  so_far_none no_failed_write = record {
     so_far = [];
     cut = record { within = omega arith; joined = refl; each = All-nil IsPacket };
     few = omega arith;
     done = record { history = refl; head = refl; opened = refl; records = λ none. omega arith };
-    fills = calm;
+    fills = no_failed_write;
     of_packets = refl;
     of_idle = refl;
   }
 
   -- one batch more
-  pub so_far_more : (mid new : Seen D) (start end packets idle : ℕ) (taken : Taken) → IsSoFar old mid dump link moment start packets idle → IsTaken dump start end mid.head link moment taken
+  pub so_far_more : (mid new : StoreView D) (start end packets idle : ℕ) (taken : NextBatch) → IsSoFar old mid dump link moment start packets idle → IsNextBatch dump start end mid.head link moment taken
       → new.history ≡ ingested mid.history (batch_rows taken.batch) → new.fills ≡ mid.fills → new.head ≡ mid.head → new.opened ≡ mid.opened
       → (fresh_of mid.history (batch_rows taken.batch) ≢ [] → new.records ≡ mid.records + 1) → (fresh_of mid.history (batch_rows taken.batch) ≡ [] → new ≡ mid)
       → IsSoFar old new dump link moment end (packets + taken.packets) (idle + (taken.packets - length taken.batch.arrivals))
@@ -126,7 +126,7 @@ module _ {D : Type 0} (old : Seen D) (dump : List ℕ) (link : ℕ) (moment : �
               ∙ ap (ingested old.history) (sym (rows-append old.head link moment s.so_far t.packets));
           head = head ∙ s.done.head;
           opened = opened ∙ s.done.opened;
-          records = λ calm. omega (arith, s.done.records s.fills, records_more mid new (batch_rows taken.batch) history some none);
+          records = λ no_failed_write. omega (arith, s.done.records s.fills, records_more mid new (batch_rows taken.batch) history some none);
         };
         fills = fills ∙ s.fills;
         of_packets = omega (arith, of_packets, count, more);
@@ -134,7 +134,7 @@ module _ {D : Type 0} (old : Seen D) (dump : List ℕ) (link : ℕ) (moment : �
       }
 
   -- no packets follow
-  pub so_far_end : (new : Seen D) (start end packets idle : ℕ) (taken : Taken) (why : Why) → IsSoFar old new dump link moment start packets idle → IsTaken dump start end new.head link moment taken
+  pub so_far_end : (new : StoreView D) (start end packets idle : ℕ) (taken : NextBatch) (why : Why) → IsSoFar old new dump link moment start packets idle → IsNextBatch dump start end new.head link moment taken
       → taken.packets ≡ 0 → (taken.packets < 64 → BeginsWithNoPacket (drop end dump)) → why ≡ why_of (drop end dump)
       → IsIngested old new dump link moment (record { packets = packets; idle = idle; at = end; why = why })
   so_far_end new start end packets idle taken why s t none last why_is =
@@ -154,7 +154,7 @@ module _ {D : Type 0} (old : Seen D) (dump : List ℕ) (link : ℕ) (moment : �
       no_more (p ∷ ps) e cut = absurd (omega (arith, e))
 
   -- want of memory before a batch
-  pub so_far_memory : (new : Seen D) (at packets idle : ℕ) → IsSoFar old new dump link moment at packets idle → IsStopped old new dump link moment OutOfMemory
+  pub so_far_memory : (new : StoreView D) (at packets idle : ℕ) → IsSoFar old new dump link moment at packets idle → IsStopped old new dump link moment OutOfMemory
   so_far_memory new at packets idle s =
       let all = completes dump s.so_far at s.cut in
       let more = length-append s.so_far all.0 in record {
@@ -175,8 +175,8 @@ module _ {D : Type 0} (old : Seen D) (dump : List ℕ) (link : ℕ) (moment : �
       ap (take 64) (ap (drop (length first)) (append_assoc first batch more) ∙ drop-append_seam first (batch ++ more) ∙ ap (λ (l : List (List ℕ)). batch ++ l) none ∙ append-nil batch) ∙ take_all 64 batch few
 
   -- a batch was refused
-  stopped_at : (mid new : Seen D) (start end packets idle : ℕ) (taken : Taken) (refusal : Refusal) (more : List (List ℕ)) (rest : List ℕ) → (s : IsSoFar old mid dump link moment start packets idle)
-      → (t : IsTaken dump start end mid.head link moment taken) → IsDump dump ((s.so_far ++ t.packets) ++ more) rest → (length t.packets ≡ 64) ⊎ (more ≡ [])
+  stopped_at : (mid new : StoreView D) (start end packets idle : ℕ) (taken : NextBatch) (refusal : Refusal) (more : List (List ℕ)) (rest : List ℕ) → (s : IsSoFar old mid dump link moment start packets idle)
+      → (t : IsNextBatch dump start end mid.head link moment taken) → IsDump dump ((s.so_far ++ t.packets) ++ more) rest → (length t.packets ≡ 64) ⊎ (more ≡ [])
       → new.history ≡ mid.history → new.head ≡ mid.head → new.opened ≡ mid.opened → (new.fills ≡ [] → new.records ≡ mid.records) → IsRefusedFor new (batch_rows taken.batch) refusal
       → IsStopped old new dump link moment refusal
   stopped_at mid new start end packets idle taken refusal more rest s t parts full history head opened still cause =
@@ -195,13 +195,13 @@ module _ {D : Type 0} (old : Seen D) (dump : List ℕ) (link : ℕ) (moment : �
           history = history ∙ s.done.history ∙ ap (λ (l : List (List ℕ)). ingested old.history (rows_of_link old.head link moment l)) (sym first);
           head = head ∙ s.done.head;
           opened = opened ∙ s.done.opened;
-          records = λ calm. omega (arith, s.done.records s.fills, still calm, ap length history);
+          records = λ no_failed_write. omega (arith, s.done.records s.fills, still no_failed_write, ap length history);
         };
         cause = subst (λ (l : List Row). IsRefusedFor new l refusal) rows cause;
       }
 
-  pub so_far_refused : (mid new : Seen D) (start end packets idle : ℕ) (taken : Taken) (refusal : Refusal) → IsSoFar old mid dump link moment start packets idle
-      → IsTaken dump start end mid.head link moment taken → (taken.packets < 64 → BeginsWithNoPacket (drop end dump))
+  pub so_far_refused : (mid new : StoreView D) (start end packets idle : ℕ) (taken : NextBatch) (refusal : Refusal) → IsSoFar old mid dump link moment start packets idle
+      → IsNextBatch dump start end mid.head link moment taken → (taken.packets < 64 → BeginsWithNoPacket (drop end dump))
       → new.history ≡ mid.history → new.head ≡ mid.head → new.opened ≡ mid.opened → (new.fills ≡ [] → new.records ≡ mid.records) → IsRefusedFor new (batch_rows taken.batch) refusal
       → IsStopped old new dump link moment refusal
   so_far_refused mid new start end packets idle taken refusal s t last history head opened still cause = go (ltb taken.packets 64) refl
@@ -219,10 +219,10 @@ module _ {D : Type 0} (old : Seen D) (dump : List ℕ) (link : ℕ) (moment : �
           stopped_at mid new start end packets idle taken refusal all.0 all.1 s t all.2 (inl (omega (arith, least, count, few))) history head opened still cause
 
 -- why a store refused a batch
-module _ {D T : Type 0} (device : Device D) (mid new : Seen D) (rows : List Row) where
-  calm_still : (refusal : Refusal) → mid.fills ≡ [] → (refusal ≡ DiskFault → ⊥) → (◌≡◌ {A = Result T Refusal} (Err refusal) (Err DiskFault)) ⊎ (new ≡ mid) → new.fills ≡ []
-  calm_still refusal calm other (inl e) = absurd (other (cc (e)))
-  calm_still refusal calm other (inr e) = ap (λ (x : Seen D). x.fills) e ∙ calm
+module _ {D T : Type 0} (device : Device D) (mid new : StoreView D) (rows : List Row) where
+  no_failed_write_still : (refusal : Refusal) → mid.fills ≡ [] → (refusal ≡ DiskFault → ⊥) → (◌≡◌ {A = Result T Refusal} (Err refusal) (Err DiskFault)) ⊎ (new ≡ mid) → new.fills ≡ []
+  no_failed_write_still refusal no_failed_write other (inl e) = absurd (other (cc (e)))
+  no_failed_write_still refusal no_failed_write other (inr e) = ap (λ (x : StoreView D). x.fills) e ∙ no_failed_write
 
   -- and that it has no record more, where no fault is held
   pub records_still : (refusal : Refusal) → (◌≡◌ {A = Result T Refusal} (Err refusal) (Err DiskFault) → AddsFault device mid new (fresh_of mid.history rows))
@@ -230,25 +230,25 @@ module _ {D T : Type 0} (device : Device D) (mid new : Seen D) (rows : List Row)
   records_still refusal fault (inl e) none =
       let f = fault e in
       absurd (omega (arith, ap length none, ap length f.fills, length-append mid.fills (Fault f.count true (fresh_of mid.history rows) ∷ [])))
-  records_still refusal fault (inr e) none = ap (λ (x : Seen D). x.records) e
+  records_still refusal fault (inr e) none = ap (λ (x : StoreView D). x.records) e
 
   pub refused_for : (refusal : Refusal) → mid.fills ≡ [] → new.history ≡ mid.history → (◌≡◌ {A = Result T Refusal} (Err refusal) (Err DiskFault) → AddsFault device mid new (fresh_of mid.history rows))
       → (◌≡◌ {A = Result T Refusal} (Err refusal) (Err DiskFault)) ⊎ (new ≡ mid)
       → ((which : Which) (number : ℕ) → ◌≡◌ {A = Result T Refusal} (Err refusal) (Err (Limit which number)) → (number ≡ limit_of which) × IsLimit which mid.records (ingested mid.history rows))
-      → asks_reopen {T = T} (Err refusal) ≡ standing mid.fills → IsIngestRefusal refusal → IsRefusedFor new rows refusal
-  refused_for (Limit which number) calm same fault untouched limit reopens only =
+      → asks_reopen {T = T} (Err refusal) ≡ pending_fault_of mid.fills → IsIngestRefusal refusal → IsRefusedFor new rows refusal
+  refused_for (Limit which number) no_failed_write same fault untouched limit reopens only =
       let l = limit which number refl in
-      let still = calm_still (Limit which number) calm (λ e. cc) untouched in (
+      let still = no_failed_write_still (Limit which number) no_failed_write (λ e. cc) untouched in (
         still,
         l.0,
         subst (λ (n : ℕ). IsLimit which n (ingested new.history rows)) (sym (records_still (Limit which number) fault untouched still))
             (subst (λ (h : List Item). IsLimit which mid.records (ingested h rows)) (sym same) l.1),
       )
-  refused_for DiskFault calm same fault untouched limit reopens only =
+  refused_for DiskFault no_failed_write same fault untouched limit reopens only =
       let f = fault refl in (
         f.count,
-        f.fills ∙ ap (λ (l : List Fill). l ++ Fault f.count true (fresh_of mid.history rows) ∷ []) calm ∙ ap (λ (h : List Item). Fault f.count true (fresh_of h rows) ∷ []) (sym same),
+        f.fills ∙ ap (λ (l : List Fill). l ++ Fault f.count true (fresh_of mid.history rows) ∷ []) no_failed_write ∙ ap (λ (h : List Item). Fault f.count true (fresh_of h rows) ∷ []) (sym same),
       )
-  refused_for OutOfMemory calm same fault untouched limit reopens only = calm_still OutOfMemory calm (λ e. cc) untouched
-  refused_for (NeedsReopen faults) calm same fault untouched limit reopens only = absurd (let none = ap standing calm in cc)
-  refused_for other calm same fault untouched limit reopens only = absurd only
+  refused_for OutOfMemory no_failed_write same fault untouched limit reopens only = no_failed_write_still OutOfMemory no_failed_write (λ e. cc) untouched
+  refused_for (NeedsReopen faults) no_failed_write same fault untouched limit reopens only = absurd (let none = ap pending_fault_of no_failed_write in cc)
+  refused_for other no_failed_write same fault untouched limit reopens only = absurd only

@@ -18,7 +18,7 @@ use Rattle.archive_cli.specs.Job.{SheetWords}
 use Rattle.archive_cli.specs.Printing.{IsFinished}
 use Rattle.archive_cli.specs.QueryEnding.{AreAsksOf, AreRefusedAsks, IsAskSheet, IsReply, IsSheetReply}
 use Rattle.archive_cli.specs.Reading.{IsReadRefusal}
-use Rattle.archive_cli.specs.Report.{unopened, consulted}
+use Rattle.archive_cli.specs.Report.{unopened, read_only}
 use Rattle.archive_cli.proofs.Created.{IsSheetAnswer, refused_kind}
 use Rattle.archive_cli.proofs.Queried.{sheet_there}
 
@@ -59,7 +59,7 @@ made_cause call words (Some other) before now text h good = absurd h
 
 -- an archive was made
 pub create_made_cause : (call : Call) (words : SheetWords) (refusal : Option Refusal) (report : Report) (rows : ℕ) (before now : Option (List ℕ)) (text : List ℕ) →
-    report ≡ consulted refusal rows → IsFinished refusal before now text → HasGoodSheets call words → IsCreateCaused call words report.refusal
+    report ≡ read_only refusal rows → IsFinished refusal before now text → HasGoodSheets call words → IsCreateCaused call words report.refusal
 create_made_cause call words refusal report rows before now text is h good =
     subst (λ (r : Report). IsCreateCaused call words r.refusal) (sym is) (made_cause call words refusal before now text h good)
 
@@ -101,19 +101,19 @@ reply_cause call name db history asks (Some (BadRange from to)) before now fault
 reply_cause call name db history asks (Some OutOfMemory) before now faults faults' are h = tt
 reply_cause call name db history asks (Some other) before now faults faults' are h = absurd h
 
-waiting_cause : (call : Call) (name : List ℕ) (refusal : Refusal) → AreRefusedAsks call.files name refusal → IsQueryCaused call name (Some refusal)
-waiting_cause call name (BadSheet sheet row rule) h = h
-waiting_cause call name (Limit Asks number) h = h
-waiting_cause call name other h = absurd (let e = h.0 in cc)
+deferred_cause : (call : Call) (name : List ℕ) (refusal : Refusal) → AreRefusedAsks call.files name refusal → IsQueryCaused call name (Some refusal)
+deferred_cause call name (BadSheet sheet row rule) h = h
+deferred_cause call name (Limit Asks number) h = h
+deferred_cause call name other h = absurd (let e = h.0 in cc)
 
 sheet_cause : (call : Call) (name : List ℕ) (db : Database) (history : List Item) (sheet : AskSheet) (refusal : Option Refusal) (before now : Option (List ℕ)) (faults faults' : ℕ) →
     IsAskSheet call.files name sheet → IsSheetReply db history sheet refusal before now faults faults' → IsQueryCaused call name refusal
 sheet_cause call name db history (Read asks) refusal before now faults faults' asked h = reply_cause call name db history asks refusal before now faults faults' asked h
-sheet_cause call name db history (Refused refused) refusal before now faults faults' asked h = rw h.0 (waiting_cause call name refused asked)
+sheet_cause call name db history (Refused refused) refusal before now faults faults' asked h = rw h.0 (deferred_cause call name refused asked)
 
 -- the asks were answered, or refused
 pub query_replied_cause : (call : Call) (name : List ℕ) (db : Database) (history : List Item) (sheet : AskSheet) (refusal : Option Refusal) (report : Report) (rows : ℕ)
-    (before now : Option (List ℕ)) (faults faults' : ℕ) → report ≡ consulted refusal rows → IsAskSheet call.files name sheet →
+    (before now : Option (List ℕ)) (faults faults' : ℕ) → report ≡ read_only refusal rows → IsAskSheet call.files name sheet →
     IsSheetReply db history sheet refusal before now faults faults' → IsQueryCaused call name report.refusal
 query_replied_cause call name db history sheet refusal report rows before now faults faults' is asked h =
     subst (λ (r : Report). IsQueryCaused call name r.refusal) (sym is) (sheet_cause call name db history sheet refusal before now faults faults' asked h)
@@ -137,6 +137,6 @@ recovered_cases (Some WriteFault) before now text h = tt
 recovered_cases (Some other) before now text h = absurd h
 
 -- an archive was opened
-pub recovered_cause : (refusal : Option Refusal) (report : Report) (rows : ℕ) (before now : Option (List ℕ)) (text : List ℕ) → report ≡ consulted refusal rows →
+pub recovered_cause : (refusal : Option Refusal) (report : Report) (rows : ℕ) (before now : Option (List ℕ)) (text : List ℕ) → report ≡ read_only refusal rows →
     IsFinished refusal before now text → IsRecoverCaused report.refusal
 recovered_cause refusal report rows before now text is h = subst (λ (r : Report). IsRecoverCaused r.refusal) (sym is) (recovered_cases refusal before now text h)

@@ -9,9 +9,9 @@ use Rattle.arch_types.specs.Table.{sorted}
 use Rattle.mdb_model.specs.Database.{Database}
 use Rattle.container_extract.specs.Extraction.{cell_of}
 use Rattle.yarch_table.specs.Stored.{rows_of}
-use Rattle.archive_cli.specs.declared.rows.Loaded.{Loaded}
-use Rattle.archive_cli.specs.Loaded.{IsLoaded}
-use Rattle.archive_cli.specs.Received.{dump_limit}
+use Rattle.archive_cli.specs.declared.rows.DumpTable.{DumpTable}
+use Rattle.archive_cli.specs.DumpTable.{IsDumpTable}
+use Rattle.archive_cli.specs.ReadDump.{dump_limit}
 use Rattle.archive_cli.specs.ValuesPrinting.{count_if, count_of}
 
 count-cases : (o : Option Cell) (cells : List Cell) → length (cons_option o cells) ≡ count_if o + length cells
@@ -52,7 +52,7 @@ length-order done (row ∷ rows) =
     omega (arith, placed, more)
 
 -- the rows of a dump are few
-pub rows_few : (dump : List ℕ) (moment : ℤ) (loaded : Loaded) → IsLoaded dump moment loaded → length dump ≤ dump_limit → length (sorted (rows_of loaded.table.stored)) < 2 ^ 64
+pub rows_few : (dump : List ℕ) (moment : ℤ) (loaded : DumpTable) → IsDumpTable dump moment loaded → length dump ≤ dump_limit → length (sorted (rows_of loaded.table.stored)) < 2 ^ 64
 rows_few dump moment loaded l short =
     let counts = l.gathered.counted in
     let of_rows = counts.of_rows in

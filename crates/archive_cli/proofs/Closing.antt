@@ -5,22 +5,22 @@ use Rattle.arch_types.specs.declared.refusal.Refusal.{Refusal}
 use Rattle.arch_types.specs.declared.refusal.Refusal.TheVariants.{DiskFault, WriteFault}
 use Rattle.space_packet.specs.declared.dump.Why.{Why}
 use Rattle.space_packet.specs.declared.dump.Why.TheVariants as why
-use Rattle.archive_store.specs.Seen.{Seen}
+use Rattle.archive_store.specs.StoreView.{StoreView}
 use Rattle.archive_cli.specs.declared.report.Report.{Report}
-use Rattle.archive_cli.specs.Loading.{IsClosed, IsGivenUp, IsLetGo, IsReopened}
+use Rattle.archive_cli.specs.Loading.{IsClosed, IsStoreClosed, IsLetGo, IsReopened}
 use Rattle.archive_cli.specs.Printing.{IsFinished}
-use Rattle.archive_cli.specs.Received.{ending_of}
+use Rattle.archive_cli.specs.ReadDump.{ending_of}
 
-module _ {D : Type 0} (device : Device D) (store : Seen D) where
+module _ {D : Type 0} (device : Device D) (store : StoreView D) where
   printed_cases : (refusal : Option Refusal) (before now : Option (List ℕ)) (text : List ℕ) → IsFinished refusal before now text → IsClosed device refusal store store
   printed_cases None before now text finished = refl
   printed_cases (Some WriteFault) before now text finished = refl
   printed_cases (Some other) before now text finished = absurd finished
 
   -- its line was printed, or not to its end
-  pub printed_closed : (refusal : Option Refusal) (disk : D) (before now : Option (List ℕ)) (text : List ℕ) → IsFinished refusal before now text → IsGivenUp device store disk
+  pub printed_closed : (refusal : Option Refusal) (disk : D) (before now : Option (List ℕ)) (text : List ℕ) → IsFinished refusal before now text → IsStoreClosed device store disk
       → IsLetGo device store refusal disk
-  printed_closed refusal disk before now text finished given_up = record { last = store; closed = printed_cases refusal before now text finished; given_up = given_up }
+  printed_closed refusal disk before now text finished closed_store = record { last = store; closed = printed_cases refusal before now text finished; closed_store = closed_store }
 
   bad_cases : (reason : Why) (at : ℕ) → IsClosed device (ending_of reason at) store store
   bad_cases why.End at = refl
@@ -28,16 +28,16 @@ module _ {D : Type 0} (device : Device D) (store : Seen D) where
   bad_cases why.Truncated at = refl
 
   -- a rest is left of its dump
-  pub bad_closed : (reason : Why) (at : ℕ) (refusal : Refusal) (report : Report) (disk : D) → ending_of reason at ≡ Some refusal → report.refusal ≡ Some refusal → IsGivenUp device store disk
+  pub bad_closed : (reason : Why) (at : ℕ) (refusal : Refusal) (report : Report) (disk : D) → ending_of reason at ≡ Some refusal → report.refusal ≡ Some refusal → IsStoreClosed device store disk
       → IsLetGo device store report.refusal disk
-  bad_closed reason at refusal report disk ending is given_up = record {
+  bad_closed reason at refusal report disk ending is closed_store = record {
     last = store;
     closed = subst (λ (o : Option Refusal). IsClosed device o store store) (sym is) (subst (λ (o : Option Refusal). IsClosed device o store store) ending (bad_cases reason at));
-    given_up = given_up;
+    closed_store = closed_store;
   }
 
 -- a batch of it was refused
-pub refused_closed : {D : Type 0} (device : Device D) (store last : Seen D) (refusal : Refusal) → (refusal ≢ DiskFault → last ≡ store) → (refusal ≡ DiskFault → IsReopened device store last)
+pub refused_closed : {D : Type 0} (device : Device D) (store last : StoreView D) (refusal : Refusal) → (refusal ≢ DiskFault → last ≡ store) → (refusal ≡ DiskFault → IsReopened device store last)
     → IsClosed device (Some refusal) store last
 refused_closed device store last DiskFault same reopened = reopened refl
 refused_closed device store last other same reopened = same (λ e. cc)

@@ -17,7 +17,7 @@ use Rattle.archive_cli.specs.declared.print_fault.PrintFault.TheVariants as prin
 use Rattle.archive_cli.specs.Call.{WritesCounted}
 use Rattle.archive_cli.specs.Parameter.{IsNoParameter, first_refusal, number_named, parameter_refusal}
 use Rattle.archive_cli.specs.Reading.{IsReadRefusal, IsSheetsRefusal}
-use Rattle.archive_cli.specs.Received.{ending_of}
+use Rattle.archive_cli.specs.ReadDump.{ending_of}
 use Rattle.archive_cli.specs.ValuesPrinting.{PrintCounted, refusal_of_print}
 
 -- an ending that speaks of no call that failed
@@ -26,39 +26,39 @@ IsQuiet (Some ReadFault) = ⊥
 IsQuiet (Some WriteFault) = ⊥
 IsQuiet other = Unit {0}
 
-pub reads_quiet : (ending : Option Refusal) (before now : ℕ) → IsQuiet ending → Stays before now → ReadsCounted ending before now
-reads_quiet (Some ReadFault) before now quiet same = absurd quiet
-reads_quiet ending before now quiet same = same
+pub reads_no_fault : (ending : Option Refusal) (before now : ℕ) → IsQuiet ending → Stays before now → ReadsCounted ending before now
+reads_no_fault (Some ReadFault) before now no_fault same = absurd no_fault
+reads_no_fault ending before now no_fault same = same
 
-pub writes_quiet : (ending : Option Refusal) (before now : ℕ) → IsQuiet ending → Stays before now → WritesCounted ending before now
-writes_quiet (Some WriteFault) before now quiet same = absurd quiet
-writes_quiet ending before now quiet same = same
+pub writes_no_fault : (ending : Option Refusal) (before now : ℕ) → IsQuiet ending → Stays before now → WritesCounted ending before now
+writes_no_fault (Some WriteFault) before now no_fault same = absurd no_fault
+writes_no_fault ending before now no_fault same = same
 
 -- reads that came before and didn't fail
 pub reads_later : (ending : Option Refusal) (first before now : ℕ) → Stays first before → ReadsCounted ending before now → ReadsCounted ending first now
 reads_later ending first before now same counted = rw same at counted
 
 -- the ending by what a dump's rest is
-pub rest_quiet : (reason : Why) (at : ℕ) → IsQuiet (ending_of reason at)
-rest_quiet why.End at = tt
-rest_quiet why.Version at = tt
-rest_quiet why.Truncated at = tt
+pub rest_no_fault : (reason : Why) (at : ℕ) → IsQuiet (ending_of reason at)
+rest_no_fault why.End at = tt
+rest_no_fault why.Version at = tt
+rest_no_fault why.Truncated at = tt
 
 -- sheets and a name that give no parameter
-first_quiet : (broken : Option Broken) (passed : Option (MdbLimit × ℕ)) (number : Option ℕ) → IfSome (first_refusal broken passed number) (λ refusal. IsQuiet (Some refusal))
-first_quiet (Some b) passed number = tt
-first_quiet None (Some p) number = tt
-first_quiet None None None = tt
-first_quiet None None (Some n) = tt
+first_no_fault : (broken : Option Broken) (passed : Option (MdbLimit × ℕ)) (number : Option ℕ) → IfSome (first_refusal broken passed number) (λ refusal. IsQuiet (Some refusal))
+first_no_fault (Some b) passed number = tt
+first_no_fault None (Some p) number = tt
+first_no_fault None None None = tt
+first_no_fault None None (Some n) = tt
 
-some_quiet : (o : Option Refusal) (refusal : Refusal) → IfSome o (λ refusal. IsQuiet (Some refusal)) → o ≡ Some refusal → IsQuiet (Some refusal)
-some_quiet o refusal h e = rw e at h
+some_no_fault : (o : Option Refusal) (refusal : Refusal) → IfSome o (λ refusal. IsQuiet (Some refusal)) → o ≡ Some refusal → IsQuiet (Some refusal)
+some_no_fault o refusal h e = rw e at h
 
-pub parameter_quiet : (raw : RawMdb) (name : List ℕ) (refusal : Refusal) → IsNoParameter raw name refusal → IsQuiet (Some refusal)
+pub parameter_no_fault : (raw : RawMdb) (name : List ℕ) (refusal : Refusal) → IsNoParameter raw name refusal → IsQuiet (Some refusal)
 unfolding parameter_refusal
-parameter_quiet raw name refusal (inl cause) =
-    some_quiet (parameter_refusal raw name) refusal (first_quiet (sheets_fault raw) (limit_passed (sheets_database raw)) (number_named (sheets_database raw) name)) cause
-parameter_quiet raw name refusal (inr memory) = rw memory tt
+parameter_no_fault raw name refusal (inl cause) =
+    some_no_fault (parameter_refusal raw name) refusal (first_no_fault (sheets_fault raw) (limit_passed (sheets_database raw)) (number_named (sheets_database raw) name)) cause
+parameter_no_fault raw name refusal (inr memory) = rw memory tt
 
 -- an input that wasn't read has nothing to do with writes
 pub sheets_unwritten : (files : Option Files) (parameters calibrations containers : List ℕ) (faults faults' : ℕ) (refusal : Refusal) (writes : ℕ) →

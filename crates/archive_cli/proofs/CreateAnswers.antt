@@ -12,15 +12,15 @@ use Rattle.mdb_model.specs.Checks.{or_else}
 use Rattle.mdb_sheets.specs.Sheets.{AreSheets}
 use Rattle.outer_traits.specs.Outside.{Files}
 use Rattle.archive_cli.specs.declared.report.Report.{Report}
-use Rattle.archive_cli.specs.ArchiveExpected.{IsCreateExpected, NoDiskFault, create_refusal, told_raw}
+use Rattle.archive_cli.specs.ArchiveExpected.{IsCreateExpected, NoDiskFault, create_refusal, known_raw}
 use Rattle.archive_cli.specs.Call.{Call}
 use Rattle.archive_cli.specs.CreateEnding.{AreGood, AreRefused, HoldsOne, IsCreateEnding}
 use Rattle.archive_cli.specs.Expecting.{IsOrMemory, NoFault}
 use Rattle.archive_cli.specs.Job.{SheetWords}
 use Rattle.archive_cli.specs.Parameter.{sheets_refusal}
-use Rattle.archive_cli.specs.ValuesExpected.{refusal_of_input, told_sheet}
+use Rattle.archive_cli.specs.ValuesExpected.{refusal_of_input, known_sheet}
 use Rattle.archive_cli.proofs.Recovered.{not_raised}
-use Rattle.archive_cli.proofs.Told.{not_risen}
+use Rattle.archive_cli.proofs.Known.{not_risen}
 use Rattle.archive_cli.proofs.ValuesAnswers.{Is, clash, fine, has, is-first, is-later, lacks, lacks-sheet, later-of, missing-first, no-refusal, same-refusal, sheet-refused}
 
 abbrev of-parameters : Files → SheetWords → Option Refusal
@@ -33,7 +33,7 @@ abbrev of-containers : Files → SheetWords → Option Refusal
 of-containers all words = refusal_of_input SheetOctets words.containers (get all words.containers)
 
 abbrev after-containers : Files → SheetWords → Option Refusal
-after-containers all words = sheets_refusal (told_raw all words)
+after-containers all words = sheets_refusal (known_raw all words)
 
 abbrev after-calibrations : Files → SheetWords → Option Refusal
 after-calibrations all words = or_else (of-containers all words) (after-containers all words)
@@ -52,7 +52,7 @@ past files all words raw found e s h =
     let p = fine files all words.parameters raw.parameters e s.parameters_sheet in
     let c = fine files all words.calibrations raw.calibrations e s.calibrations_sheet in
     let k = fine files all words.containers raw.containers e s.containers_sheet in
-    let same : Path RawMdb raw (told_raw all words) = three raw (told_sheet all words.parameters) (told_sheet all words.calibrations) (told_sheet all words.containers) p.1 c.1 k.1 in
+    let same : Path RawMdb raw (known_raw all words) = three raw (known_sheet all words.parameters) (known_sheet all words.calibrations) (known_sheet all words.containers) p.1 c.1 k.1 in
     later-of (of-parameters all words) (after-parameters all words) found p.0
     (later-of (of-calibrations all words) (after-calibrations all words) found c.0
     (later-of (of-containers all words) (after-containers all words) found k.0 (ap (λ (r : RawMdb). sheets_refusal r) (sym same) ∙ h)))
@@ -62,16 +62,16 @@ good-none files all words raw e g = past files all words raw None e g.sheets g.a
 
 refused-first : (files : Option Files) (all : Files) (words : SheetWords) (faults faults' : ℕ) (refusal : Refusal) → files ≡ Some all → NoFault faults faults' →
     AreRefused files words faults faults' refusal → Is (create_refusal all words) refusal
-refused-first files all words faults faults' refusal e calm (inl (inl h)) =
-    is-first (of-parameters all words) (after-parameters all words) refusal (sheet-refused files all words.parameters faults faults' refusal e calm h)
-refused-first files all words faults faults' refusal e calm (inl (inr (inl h))) =
+refused-first files all words faults faults' refusal e no_failed_write (inl (inl h)) =
+    is-first (of-parameters all words) (after-parameters all words) refusal (sheet-refused files all words.parameters faults faults' refusal e no_failed_write h)
+refused-first files all words faults faults' refusal e no_failed_write (inl (inr (inl h))) =
     is-later (of-parameters all words) (after-parameters all words) refusal (has files all words.parameters e h.0)
-    (is-first (of-calibrations all words) (after-calibrations all words) refusal (sheet-refused files all words.calibrations faults faults' refusal e calm h.1))
-refused-first files all words faults faults' refusal e calm (inl (inr (inr h))) =
+    (is-first (of-calibrations all words) (after-calibrations all words) refusal (sheet-refused files all words.calibrations faults faults' refusal e no_failed_write h.1))
+refused-first files all words faults faults' refusal e no_failed_write (inl (inr (inr h))) =
     is-later (of-parameters all words) (after-parameters all words) refusal (has files all words.parameters e h.0)
     (is-later (of-calibrations all words) (after-calibrations all words) refusal (has files all words.calibrations e h.1)
-    (is-first (of-containers all words) (after-containers all words) refusal (sheet-refused files all words.containers faults faults' refusal e calm h.2)))
-refused-first files all words faults faults' refusal e calm (inr h) = inl (past files all words h.0 (Some refusal) e h.1 h.2)
+    (is-first (of-containers all words) (after-containers all words) refusal (sheet-refused files all words.containers faults faults' refusal e no_failed_write h.2)))
+refused-first files all words faults faults' refusal e no_failed_write (inr h) = inl (past files all words h.0 (Some refusal) e h.1 h.2)
 
 missing-cases : (files : Option Files) (all : Files) (words : SheetWords) (faults faults' : ℕ) (refusal : Refusal) → files ≡ Some all → IsNone (get all words.parameters) →
     AreRefused files words faults faults' refusal → IsOrMemory (Some refusal) (Some (Missing words.parameters))
@@ -101,41 +101,41 @@ module _ {D : Type 0} (device : Device D) (call : Call) (all : Files) (words : S
 
   pub refused-or : (ending : Option Refusal) (report : Report) → call.files ≡ Some all → IsCreateEnding device call words old new ending report → (refusal : Refusal) →
       NoFault call.read_faults call.read_faults' → create_refusal all words ≡ Some refusal → IsOrMemory ending (Some refusal)
-  refused-or None report e h refusal calm f = absurd (good-clash h.raw refusal e h.good f)
-  refused-or (Some WriteFault) report e h refusal calm f = absurd (good-clash h.1.raw refusal e h.1.good f)
-  refused-or (Some Exists) report e h refusal calm f = absurd (good-clash h.raw refusal e h.good f)
-  refused-or (Some DiskFault) report e h refusal calm f = absurd (good-clash h.1.raw refusal e h.1.good f)
-  refused-or (Some OutOfMemory) report e h refusal calm f = inr refl
-  refused-or (Some other) report e h refusal calm f =
-      same-refusal (create_refusal all words) other refusal (refused-first call.files all words call.read_faults call.read_faults' other e calm h.0) f
+  refused-or None report e h refusal no_failed_write f = absurd (good-clash h.raw refusal e h.good f)
+  refused-or (Some WriteFault) report e h refusal no_failed_write f = absurd (good-clash h.1.raw refusal e h.1.good f)
+  refused-or (Some Exists) report e h refusal no_failed_write f = absurd (good-clash h.raw refusal e h.good f)
+  refused-or (Some DiskFault) report e h refusal no_failed_write f = absurd (good-clash h.1.raw refusal e h.1.good f)
+  refused-or (Some OutOfMemory) report e h refusal no_failed_write f = inr refl
+  refused-or (Some other) report e h refusal no_failed_write f =
+      same-refusal (create_refusal all words) other refusal (refused-first call.files all words call.read_faults call.read_faults' other e no_failed_write h.0) f
 
   pub there-or : (ending : Option Refusal) (report : Report) → call.files ≡ Some all → IsCreateEnding device call words old new ending report →
       NoFault call.read_faults call.read_faults' → create_refusal all words ≡ None → NoDiskFault device old new → HoldsOne (device.reads old) → IsOrMemory ending (Some Exists)
-  there-or None report e h calm none whole one = absurd (one-not-none (device.reads old 0) one.0 one.1 h.made.none)
-  there-or (Some WriteFault) report e h calm none whole one = absurd (one-not-none (device.reads old 0) one.0 one.1 h.1.made.none)
-  there-or (Some Exists) report e h calm none whole one = inl refl
-  there-or (Some DiskFault) report e h calm none whole one = absurd (not_raised device old new whole h.0)
-  there-or (Some OutOfMemory) report e h calm none whole one = inr refl
-  there-or (Some other) report e h calm none whole one =
-      no-refusal (create_refusal all words) other (Some Exists) (refused-first call.files all words call.read_faults call.read_faults' other e calm h.0) none
+  there-or None report e h no_failed_write none whole one = absurd (one-not-none (device.reads old 0) one.0 one.1 h.made.none)
+  there-or (Some WriteFault) report e h no_failed_write none whole one = absurd (one-not-none (device.reads old 0) one.0 one.1 h.1.made.none)
+  there-or (Some Exists) report e h no_failed_write none whole one = inl refl
+  there-or (Some DiskFault) report e h no_failed_write none whole one = absurd (not_raised device old new whole h.0)
+  there-or (Some OutOfMemory) report e h no_failed_write none whole one = inr refl
+  there-or (Some other) report e h no_failed_write none whole one =
+      no-refusal (create_refusal all words) other (Some Exists) (refused-first call.files all words call.read_faults call.read_faults' other e no_failed_write h.0) none
 
   pub none-or : (ending : Option Refusal) (report : Report) → call.files ≡ Some all → IsCreateEnding device call words old new ending report →
       NoFault call.read_faults call.read_faults' → create_refusal all words ≡ None → NoDiskFault device old new → NoFault call.write_faults call.write_faults' →
       HoldsNone (device.reads old 0) → IsOrMemory ending None
-  none-or None report e h calm none whole quiet empty = inl refl
-  none-or (Some WriteFault) report e h calm none whole quiet empty = absurd (not_risen call.write_faults call.write_faults' quiet h.0)
-  none-or (Some Exists) report e h calm none whole quiet empty = absurd (one-not-none (device.reads old 0) h.there.0 h.there.1 empty)
-  none-or (Some DiskFault) report e h calm none whole quiet empty = absurd (not_raised device old new whole h.0)
-  none-or (Some OutOfMemory) report e h calm none whole quiet empty = inr refl
-  none-or (Some other) report e h calm none whole quiet empty =
-      no-refusal (create_refusal all words) other None (refused-first call.files all words call.read_faults call.read_faults' other e calm h.0) none
+  none-or None report e h no_failed_write none whole no_fault empty = inl refl
+  none-or (Some WriteFault) report e h no_failed_write none whole no_fault empty = absurd (not_risen call.write_faults call.write_faults' no_fault h.0)
+  none-or (Some Exists) report e h no_failed_write none whole no_fault empty = absurd (one-not-none (device.reads old 0) h.there.0 h.there.1 empty)
+  none-or (Some DiskFault) report e h no_failed_write none whole no_fault empty = absurd (not_raised device old new whole h.0)
+  none-or (Some OutOfMemory) report e h no_failed_write none whole no_fault empty = inr refl
+  none-or (Some other) report e h no_failed_write none whole no_fault empty =
+      no-refusal (create_refusal all words) other None (refused-first call.files all words call.read_faults call.read_faults' other e no_failed_write h.0) none
 
-create_told : {D : Type 0} (device : Device D) (call : Call) (files : Option Files) (words : SheetWords) (old new : D) (ending : Option Refusal) (report : Report) → call.files ≡ files →
+create_known : {D : Type 0} (device : Device D) (call : Call) (files : Option Files) (words : SheetWords) (old new : D) (ending : Option Refusal) (report : Report) → call.files ≡ files →
     IsCreateEnding device call words old new ending report → IfSome files (λ all. IsCreateExpected device call all words old new ending)
-create_told device call None words old new ending report e h = tt
-create_told device call (Some all) words old new ending report e h = record {
+create_known device call None words old new ending report e h = tt
+create_known device call (Some all) words old new ending report e h = record {
   missing = missing-or device call all words old new ending report e h;
-  refused = λ refusal calm f. refused-or device call all words old new ending report e h refusal calm f;
+  refused = λ refusal no_failed_write f. refused-or device call all words old new ending report e h refusal no_failed_write f;
   there = there-or device call all words old new ending report e h;
   none = none-or device call all words old new ending report e h;
 }
@@ -143,4 +143,4 @@ create_told device call (Some all) words old new ending report e h = record {
 -- the answer that has to come does
 pub create_expected : {D : Type 0} (device : Device D) (call : Call) (words : SheetWords) (old new : D) (ending : Option Refusal) (report : Report) →
     IsCreateEnding device call words old new ending report → IfSome call.files (λ all. IsCreateExpected device call all words old new ending)
-create_expected device call words old new ending report h = create_told device call call.files words old new ending report refl h
+create_expected device call words old new ending report h = create_known device call call.files words old new ending report refl h

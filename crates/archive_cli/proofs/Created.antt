@@ -16,24 +16,24 @@ use Rattle.mdb_model.specs.declared.fault.MdbLimit.{MdbLimit}
 use Rattle.mdb_model.specs.declared.sheet.RawMdb.{RawMdb}
 use Rattle.mdb_model.specs.Checks.{or_else}
 use Rattle.mdb_model.specs.Database.{Broken, Database, limit_passed}
-use Rattle.mdb_model.specs.Sheets.{SheetsGive, sheets_database, sheets_fault}
+use Rattle.mdb_model.specs.Sheets.{IsCheckResult, sheets_database, sheets_fault}
 use Rattle.mdb_sheets.specs.Sheets.{AreSheets, IsSheetRefusal, ReadsCounted}
 use Rattle.outer_traits.specs.Outside.{Files}
 use Rattle.archive_store.specs.declared.head.Head.{Head}
-use Rattle.archive_store.specs.Answers.{IsCreateAnswer, IsCreateRefusal, IsMaking}
+use Rattle.archive_store.specs.Answers.{IsCreateAnswer, IsCreateRefusal, IsCreateImage}
 use Rattle.archive_store.specs.Entries.{archive}
-use Rattle.archive_store.specs.Seen.{Seen, IsNow, KeepsImages, rows_in_hand}
+use Rattle.archive_store.specs.StoreView.{StoreView, IsNow, CrashInvariant, unacknowledged_rows}
 use Rattle.archive_store.specs.Stands.{StandsFor}
 use Rattle.archive_cli.specs.declared.report.Report.{Report}
-use Rattle.archive_cli.specs.Call.{Call, IsSilent, WritesCounted}
-use Rattle.archive_cli.specs.Consulted.{IsUntouched}
+use Rattle.archive_cli.specs.Call.{Call, WritesNothing, WritesCounted}
+use Rattle.archive_cli.specs.ReadOnly.{IsUntouched}
 use Rattle.archive_cli.specs.CreateEnding.{AreGood, AreRefused, create_line, HoldsOne, IsCreateEnding, IsMade, IsStillNone, new_head}
 use Rattle.archive_cli.specs.Job.{SheetWords}
 use Rattle.archive_cli.specs.Parameter.{broken_rule, passed_limit, refusal_of_sheets, sheets_refusal}
 use Rattle.archive_cli.specs.Printing.{IsFinished}
-use Rattle.archive_cli.specs.Settled.{FailedAtMostOnce}
-use Rattle.archive_cli.specs.Report.{unopened, consulted}
-use Rattle.archive_cli.proofs.Consulted.{untouched}
+use Rattle.archive_cli.specs.Durable.{FailedAtMostOnce}
+use Rattle.archive_cli.specs.Report.{unopened, read_only}
+use Rattle.archive_cli.proofs.ReadOnly.{untouched}
 
 -- ---- the sheets
 
@@ -44,12 +44,12 @@ abbrev by_passed : Option (MdbLimit × ℕ) → Option Refusal
 by_passed passed = or_else (option_map broken_rule None) (option_map passed_limit passed)
 
 -- the sheets break no rule and pass no limit
-pub sheets_good : (raw : RawMdb) (db : Database) → SheetsGive raw (Ok db) → (sheets_refusal raw ≡ None) × (db ≡ sheets_database raw)
+pub sheets_good : (raw : RawMdb) (db : Database) → IsCheckResult raw (Ok db) → (sheets_refusal raw ≡ None) × (db ≡ sheets_database raw)
 unfolding sheets_refusal
 sheets_good raw db h = (ap (by_broken raw) h.0 ∙ ap by_passed h.1, h.2)
 
 -- the first rule that they break, or else the first limit that they pass
-pub sheets_bad : (raw : RawMdb) (fault : MdbFault) → SheetsGive raw (Err fault) → (sheets_refusal raw ≡ Some (refusal_of_sheets fault)) ⊎ (refusal_of_sheets fault ≡ OutOfMemory)
+pub sheets_bad : (raw : RawMdb) (fault : MdbFault) → IsCheckResult raw (Err fault) → (sheets_refusal raw ≡ Some (refusal_of_sheets fault)) ⊎ (refusal_of_sheets fault ≡ OutOfMemory)
 unfolding sheets_refusal
 sheets_bad raw (faulted.Bad sheet row rule) h = inl (ap (by_broken raw) h)
 sheets_bad raw (faulted.Limit which number) h = inl (ap (by_broken raw) h.0 ∙ ap by_passed h.1)
@@ -60,7 +60,7 @@ no_memory files words faults faults' refusal is = subst (λ (r : Refusal). AreRe
 
 -- sheets that were read and give no database are refused
 pub refused_sheets : (files : Option Files) (words : SheetWords) (faults faults' : ℕ) (raw : RawMdb) (fault : MdbFault) →
-    AreSheets files words.parameters words.calibrations words.containers raw → SheetsGive raw (Err fault) → AreRefused files words faults faults' (refusal_of_sheets fault)
+    AreSheets files words.parameters words.calibrations words.containers raw → IsCheckResult raw (Err fault) → AreRefused files words faults faults' (refusal_of_sheets fault)
 refused_sheets files words faults faults' raw fault sheets h =
     elim (sheets_bad raw fault h) [ inl is ↦ inr (raw, sheets, is) | inr is ↦ no_memory files words faults faults' (refusal_of_sheets fault) is ]
 
@@ -114,7 +114,7 @@ sheet_disk refusal h e = let same : refusal ≡ DiskFault = cc in subst IsSheetA
 -- ---- the endings
 
 refused_cases : {D : Type 0} (device : Device D) (call : Call) (words : SheetWords) (old new : D) (refusal : Refusal) → IsSheetAnswer refusal →
-    AreRefused call.files words call.read_faults call.read_faults' refusal → IsSilent call → IsUntouched device old new →
+    AreRefused call.files words call.read_faults call.read_faults' refusal → WritesNothing call → IsUntouched device old new →
     IsCreateEnding device call words old new (Some refusal) (unopened (Some refusal))
 refused_cases device call words old new (Missing name) kind refused silent disk = (refused, record { silent = silent; disk = disk; report_is = refl })
 refused_cases device call words old new ReadFault kind refused silent disk = (refused, record { silent = silent; disk = disk; report_is = refl })
@@ -125,14 +125,14 @@ refused_cases device call words old new other kind refused silent disk = absurd 
 
 -- the sheets are refused
 pub create_refused : {D : Type 0} (device : Device D) (call : Call) (words : SheetWords) (old new : D) (refusal : Refusal) (report : Report) → report ≡ unopened (Some refusal) →
-    AreRefused call.files words call.read_faults call.read_faults' refusal → IsSilent call → IsUntouched device old new → IsCreateEnding device call words old new report.refusal report
+    AreRefused call.files words call.read_faults call.read_faults' refusal → WritesNothing call → IsUntouched device old new → IsCreateEnding device call words old new report.refusal report
 create_refused device call words old new refusal report is refused silent disk =
     subst (λ (r : Report). IsCreateEnding device call words old new r.refusal r) (sym is)
     (refused_cases device call words old new refusal (refused_kind call.files words call.read_faults call.read_faults' refusal refused) refused silent disk)
 
 -- there was no memory for the line
 pub create_unbegun : {D : Type 0} (device : Device D) (call : Call) (words : SheetWords) (old new : D) (report : Report) → report ≡ unopened (Some OutOfMemory) →
-    IsSilent call → IsUntouched device old new → IsCreateEnding device call words old new report.refusal report
+    WritesNothing call → IsUntouched device old new → IsCreateEnding device call words old new report.refusal report
 create_unbegun device call words old new report is silent disk =
     subst (λ (r : Report). IsCreateEnding device call words old new r.refusal r) (sym is) (record { silent = silent; disk = disk; report_is = refl })
 
@@ -146,9 +146,9 @@ fewer_than_two device old new one = few (device.fault_count old) (device.fault_c
     few : (before now : ℕ) → now ≤ before + 1 → now + 1 < 2 ^ 64 → now < raised (raised before)
     few before now most below = omega (arith, most, below)
 
-unmade_cases : {D : Type 0} (device : Device D) (call : Call) (words : SheetWords) (old new : D) (raw : RawMdb) (refusal : Refusal) → AreGood call.files words raw → IsSilent call →
+unmade_cases : {D : Type 0} (device : Device D) (call : Call) (words : SheetWords) (old new : D) (raw : RawMdb) (refusal : Refusal) → AreGood call.files words raw → WritesNothing call →
     IsCreateRefusal (device.reads old) (device.reads new) refusal → (refusal ≡ DiskFault → raised (device.fault_count old) ≤ device.fault_count new) → (refusal ≡ OutOfMemory → new ≡ old) →
-    (HoldsOne (device.reads old) → IsUntouched device old new) → (HoldsNone (device.reads old 0) → LeavesOnly device old new (IsMaking (device.images old) (new_head raw))) →
+    (HoldsOne (device.reads old) → IsUntouched device old new) → (HoldsNone (device.reads old 0) → LeavesOnly device old new (IsCreateImage (device.images old) (new_head raw))) →
     (refusal ≡ DiskFault → HoldsNone (device.reads old 0) → FailedAtMostOnce device old new → IsStillNone device old new) →
     IsCreateEnding device call words old new (Some refusal) (unopened (Some refusal))
 unmade_cases device call words old new raw Exists good silent h cause memory kept images closed =
@@ -161,16 +161,16 @@ unmade_cases device call words old new raw other good silent h cause memory kept
 
 -- no archive was made
 pub create_unmade : {D : Type 0} (device : Device D) (call : Call) (words : SheetWords) (old new : D) (raw : RawMdb) (refusal : Refusal) (report : Report) → report ≡ unopened (Some refusal) →
-    AreGood call.files words raw → IsSilent call → IsCreateRefusal (device.reads old) (device.reads new) refusal →
+    AreGood call.files words raw → WritesNothing call → IsCreateRefusal (device.reads old) (device.reads new) refusal →
     (refusal ≡ DiskFault → raised (device.fault_count old) ≤ device.fault_count new) → (refusal ≡ OutOfMemory → new ≡ old) → (HoldsOne (device.reads old) → IsUntouched device old new) →
-    (HoldsNone (device.reads old 0) → LeavesOnly device old new (IsMaking (device.images old) (new_head raw))) →
+    (HoldsNone (device.reads old 0) → LeavesOnly device old new (IsCreateImage (device.images old) (new_head raw))) →
     (refusal ≡ DiskFault → HoldsNone (device.reads old 0) → FailedAtMostOnce device old new → IsStillNone device old new) → IsCreateEnding device call words old new report.refusal report
 create_unmade device call words old new raw refusal report is good silent h cause memory kept images closed =
     subst (λ (r : Report). IsCreateEnding device call words old new r.refusal r) (sym is) (unmade_cases device call words old new raw refusal good silent h cause memory kept images closed)
 
 created_cases : {D : Type 0} (device : Device D) (call : Call) (words : SheetWords) (old new : D) (raw : RawMdb) (refusal : Option Refusal) → AreGood call.files words raw →
     IsMade device old new (new_head raw) → IsFinished refusal call.written call.written' (create_line (sheets_database raw)) →
-    WritesCounted refusal call.write_faults call.write_faults' → IsCreateEnding device call words old new refusal (consulted refusal 0)
+    WritesCounted refusal call.write_faults call.write_faults' → IsCreateEnding device call words old new refusal (read_only refusal 0)
 created_cases device call words old new raw None good made text count = record { raw = raw; good = good; made = made; printed = text; report_is = refl }
 created_cases device call words old new raw (Some WriteFault) good made text count =
     (count, record { raw = raw; good = good; made = made; printed = text; report_is = refl })
@@ -178,7 +178,7 @@ created_cases device call words old new raw (Some other) good made text count = 
 
 -- an archive was made
 pub created : {D : Type 0} (device : Device D) (call : Call) (words : SheetWords) (old new : D) (raw : RawMdb) (refusal : Option Refusal) (report : Report) →
-    report ≡ consulted refusal 0 → AreGood call.files words raw → IsMade device old new (new_head raw) →
+    report ≡ read_only refusal 0 → AreGood call.files words raw → IsMade device old new (new_head raw) →
     IsFinished refusal call.written call.written' (create_line (sheets_database raw)) → WritesCounted refusal call.write_faults call.write_faults' →
     IsCreateEnding device call words old new report.refusal report
 created device call words old new raw refusal report is good made text count =
@@ -194,17 +194,17 @@ no_front [] t e = refl
 no_front (x ∷ xs) t e = absurd (cc (e))
 
 -- a store that was made
-pub made_store : {D : Type 0} (device : Device D) (disk : D) (s : Seen D) (head : Head) → HoldsNone (device.reads disk 0) → s.history ≡ [] → s.fills ≡ [] → s.head ≡ head →
-    s.opened ≡ s.disk → LeavesOnly device disk s.disk (IsMaking (device.images disk) head) → KeepsImages device s → IsMade device disk s.disk head
+pub made_store : {D : Type 0} (device : Device D) (disk : D) (s : StoreView D) (head : Head) → HoldsNone (device.reads disk 0) → s.history ≡ [] → s.fills ≡ [] → s.head ≡ head →
+    s.opened ≡ s.disk → LeavesOnly device disk s.disk (IsCreateImage (device.images disk) head) → CrashInvariant device s → IsMade device disk s.disk head
 made_store {D = D} device disk s head none history fills is opened images keeps =
     let begins : IsPrefix keeps.before [] = subst (λ (h : List Item). IsPrefix keeps.before h) history keeps.begins in
     let before : keeps.before ≡ [] = no_front keeps.before begins.0 begins.1 in
     let first : StandsFor (device.reads s.opened) (archive s.head []) = subst (λ (h : List Item). StandsFor (device.reads s.opened) (archive s.head h)) before keeps.opening in
     let second : StandsFor (device.reads s.disk) (archive s.head []) = subst (λ (d : D). StandsFor (device.reads d) (archive s.head [])) opened first in
-    let calm : (c : Image) → device.images s.disk c → IsNow s.head s.history None c =
-    subst (λ (f : List Fill). (c : Image) → device.images s.disk c → IsNow s.head s.history (rows_in_hand f) c) fills keeps.now in
+    let no_failed_write : (c : Image) → device.images s.disk c → IsNow s.head s.history None c =
+    subst (λ (f : List Fill). (c : Image) → device.images s.disk c → IsNow s.head s.history (unacknowledged_rows f) c) fills keeps.now in
     let empty : (c : Image) → device.images s.disk c → StandsFor c (archive s.head []) =
-    subst (λ (h : List Item). (c : Image) → device.images s.disk c → StandsFor c (archive s.head h)) history calm in
+    subst (λ (h : List Item). (c : Image) → device.images s.disk c → StandsFor c (archive s.head h)) history no_failed_write in
     let now : (c : Image) → device.images s.disk c → StandsFor c (archive head []) =
     subst (λ (h : Head). (c : Image) → device.images s.disk c → StandsFor c (archive h [])) is empty in record {
       none = none;

@@ -9,7 +9,7 @@ use Rattle.arch_disk.proofs.Moments.{weakens}
 use Rattle.arch_types.specs.declared.row.Row.{Row}
 use Rattle.archive_core.specs.declared.fills.Fill.{Fill}
 use Rattle.archive_core.specs.declared.fills.Fill.TheVariants.{Fault}
-use Rattle.archive_core.specs.Fills.{held, above, Rising}
+use Rattle.archive_core.specs.Fills.{rows_of_faults, above, Rising}
 use Rattle.archive_core.specs.Items.{Item, items_of}
 use Rattle.archive_store.specs.declared.head.Head.{Head}
 use Rattle.disk_journal.specs.Format.{HasRecords}
@@ -17,17 +17,17 @@ use Rattle.disk_journal.proofs.Once.{records_once}
 use Rattle.field_codec.specs.declared.entry.Entry.{Entry}
 use Rattle.field_codec.specs.declared.entry.Entry.TheVariants as kinds
 use Rattle.field_codec.specs.Spelling.{entry_octets}
-use Rattle.archive_store.specs.Entries.{Archive, archive, Makes}
-use Rattle.archive_store.specs.Seen.{Seen, archive_of, IsNow, IsSince, KeepsFaults, KeepsImages, rows_in_hand}
+use Rattle.archive_store.specs.Entries.{Archive, archive, Replays}
+use Rattle.archive_store.specs.StoreView.{StoreView, archive_of, IsNow, IsSince, FaultInvariant, CrashInvariant, unacknowledged_rows}
 use Rattle.archive_store.specs.Stands.{StandsFor}
 use Rattle.archive_store.proofs.Exact.{stands_once}
 use Rattle.archive_cli.specs.Batches.{HasIngested}
-use Rattle.archive_cli.specs.Consulted.{IsOpenedThen}
+use Rattle.archive_cli.specs.ReadOnly.{IsOpenedThen}
 use Rattle.archive_cli.specs.LoadEnding.{IsDuring}
-use Rattle.archive_cli.specs.Settled.{FailedAtMostOnce, IsSettled}
+use Rattle.archive_cli.specs.Durable.{FailedAtMostOnce, IsDurableAs}
 
 -- a store that was opened on a disk
-pub record IsOpened {D : Type 0} (device : Device D) (disk : D) (store : Seen D) : Type 0 where
+pub record IsOpened {D : Type 0} (device : Device D) (disk : D) (store : StoreView D) : Type 0 where
   pub stands : StandsFor (device.reads disk) (archive_of store)
   pub reads : device.reads store.disk ≡ device.reads disk
   pub opening : device.reads store.opened ≡ device.reads disk
@@ -36,10 +36,10 @@ pub record IsOpened {D : Type 0} (device : Device D) (disk : D) (store : Seen D)
 
 -- ---- heads
 
-makes_head : (entries : List Entry) (first last : Archive) → Makes (Some first) entries (Some last) → last.head ≡ first.head
-makes_head [] first last m = cc
-makes_head (kinds.Head tables mdb ∷ entries) first last m = absurd m.1
-makes_head (kinds.Rows rows ∷ entries) first last m = makes_head entries m.0 last m.2 ∙ ap (λ (a : Archive). a.head) m.1.1
+replays_head : (entries : List Entry) (first last : Archive) → Replays (Some first) entries (Some last) → last.head ≡ first.head
+replays_head [] first last m = cc
+replays_head (kinds.Head tables mdb ∷ entries) first last m = absurd m.1
+replays_head (kinds.Rows rows ∷ entries) first last m = replays_head entries m.0 last m.2 ∙ ap (λ (a : Archive). a.head) m.1.1
 
 first_there : (tables : List (List ℕ)) {table : List ℕ} → slice_get tables 0 ≡ Some table → 0 < length tables
 first_there [] e = absurd cc
@@ -47,37 +47,37 @@ first_there (t ∷ tables) e = omega arith
 
 -- an archive has a table
 pub has_table : (image : Image) (a : Archive) → StandsFor image a → 0 < length a.head.tables
-has_table image a s = go s.entries s.makes
+has_table image a s = go s.entries s.replays
   where
-    go : (entries : List Entry) → Makes None entries (Some a) → 0 < length a.head.tables
+    go : (entries : List Entry) → Replays None entries (Some a) → 0 < length a.head.tables
     go [] m = absurd cc
     go (kinds.Rows rows ∷ entries) m = absurd m.1
     go (kinds.Head tables mdb ∷ entries) m =
-        let same : a.head.tables ≡ tables = ap (λ (h : Head). h.tables) (makes_head entries m.0 a m.2 ∙ ap (λ (x : Archive). x.head) m.1.1) in
+        let same : a.head.tables ≡ tables = ap (λ (h : Head). h.tables) (replays_head entries m.0 a m.2 ∙ ap (λ (x : Archive). x.head) m.1.1) in
         subst (λ (l : List (List ℕ)). 0 < length l) (sym same) (first_there tables m.1.0.0.first)
 
 -- each entry after the head has a row
-makes_few : (entries : List Entry) (first last : Archive) → Makes (Some first) entries (Some last) → length entries + length first.history ≤ length last.history
-makes_few [] first last m =
+replays_few : (entries : List Entry) (first last : Archive) → Replays (Some first) entries (Some last) → length entries + length first.history ≤ length last.history
+replays_few [] first last m =
     let same : last.history ≡ first.history = cc in
     omega (arith, ap length same)
-makes_few (kinds.Head tables mdb ∷ entries) first last m = absurd m.1
-makes_few (kinds.Rows rows ∷ entries) first last m =
+replays_few (kinds.Head tables mdb ∷ entries) first last m = absurd m.1
+replays_few (kinds.Rows rows ∷ entries) first last m =
     let some = m.1.0.spelled.some in
     let longer = ap (λ (a : Archive). length a.history) m.1.1 ∙ length-append first.history (items_of rows) in
-    omega (arith, some, longer, makes_few entries m.0 last m.2)
+    omega (arith, some, longer, replays_few entries m.0 last m.2)
 
-entries_few : (entries : List Entry) (a : Archive) → Makes None entries (Some a) → length entries ≤ 1 + length a.history
+entries_few : (entries : List Entry) (a : Archive) → Replays None entries (Some a) → length entries ≤ 1 + length a.history
 entries_few [] a m = absurd cc
 entries_few (kinds.Rows rows ∷ entries) a m = absurd m.1
-entries_few (kinds.Head tables mdb ∷ entries) a m = omega (arith, makes_few entries m.0 a m.2)
+entries_few (kinds.Head tables mdb ∷ entries) a m = omega (arith, replays_few entries m.0 a m.2)
 
 -- the journal of an archive has one record for the head, and each other one has a row
 pub records_few : (image : Image) (a : Archive) (bodies : List (List ℕ)) → StandsFor image a → HasRecords (image 0) bodies → length bodies ≤ 1 + length a.history
 records_few image a bodies s h =
-    omega (arith, ap length (records_once (image 0) bodies (map entry_octets s.entries) h s.has), length-map s.entries entry_octets, entries_few s.entries a s.makes)
+    omega (arith, ap length (records_once (image 0) bodies (map entry_octets s.entries) h s.has), length-map s.entries entry_octets, entries_few s.entries a s.replays)
 
-pub opened_store : {D : Type 0} (device : Device D) (disk : D) (s : Seen D) → StandsFor (device.reads disk) (archive_of s) → device.reads s.disk ≡ device.reads disk →
+pub opened_store : {D : Type 0} (device : Device D) (disk : D) (s : StoreView D) → StandsFor (device.reads disk) (archive_of s) → device.reads s.disk ≡ device.reads disk →
     device.reads s.opened ≡ device.reads disk → LeavesOnly device disk s.opened (device.images disk) → (bodies : List (List ℕ)) → HasRecords (device.reads disk 0) bodies →
     s.records ≡ length bodies → IsOpened device disk s
 opened_store device disk s stands same opening handed_in bodies has count = record {
@@ -90,8 +90,8 @@ opened_store device disk s stands same opening handed_in bodies has count = reco
 
 -- ---- images
 
-module _ {D : Type 0} (device : Device D) (disk : D) (old new : Seen D) (opened : IsOpened device disk old) (in_hand : List (List Item)) (holds : held new.fills ≡ in_hand) where
-  during : (before : List Item) → before ≡ old.history → new.head ≡ old.head → (c : Image) → IsSince new.head before new.history (held new.fills) c
+module _ {D : Type 0} (device : Device D) (disk : D) (old new : StoreView D) (opened : IsOpened device disk old) (in_hand : List (List Item)) (holds : rows_of_faults new.fills ≡ in_hand) where
+  during : (before : List Item) → before ≡ old.history → new.head ≡ old.head → (c : Image) → IsSince new.head before new.history (rows_of_faults new.fills) c
       → IsDuring (archive_of old) new.history in_hand c
   during before first head c i = record {
     front = i.front;
@@ -108,7 +108,7 @@ module _ {D : Type 0} (device : Device D) (disk : D) (old new : Seen D) (opened 
   }
 
   -- the images of a store's load
-  pub load_images : (link : ℕ) (moment : ℤ) (packets : List (List ℕ)) → HasIngested old new link moment packets → KeepsImages device new
+  pub load_images : (link : ℕ) (moment : ℤ) (packets : List (List ℕ)) → HasIngested old new link moment packets → CrashInvariant device new
       → IsOpenedThen device disk new.disk (IsDuring (archive_of old) new.history in_hand)
   load_images link moment packets done keeps =
       let first : device.reads new.opened ≡ device.reads disk = ap device.reads done.opened ∙ opened.opening in
@@ -119,36 +119,36 @@ module _ {D : Type 0} (device : Device D) (disk : D) (old new : Seen D) (opened 
         before = opened.before;
         since =
             subst (λ (d : D). LeavesOnly device d new.disk (IsDuring (archive_of old) new.history in_hand)) done.opened
-            (weakens device new.opened new.disk (IsSince new.head keeps.before new.history (held new.fills)) (IsDuring (archive_of old) new.history in_hand) keeps.since
+            (weakens device new.opened new.disk (IsSince new.head keeps.before new.history (rows_of_faults new.fills)) (IsDuring (archive_of old) new.history in_hand) keeps.since
             (during keeps.before before done.head));
       }
 
 -- a crash now leaves the history of a store without faults
-pub settled : {D : Type 0} (device : Device D) (store : Seen D) → IsTrue device.tells → KeepsImages device store → store.fills ≡ [] → IsSettled device store.disk store.head store.history
-settled device store tells keeps none =
+pub durable : {D : Type 0} (device : Device D) (store : StoreView D) → IsTrue device.is_transparent → CrashInvariant device store → store.fills ≡ [] → IsDurableAs device store.disk store.head store.history
+durable device store is_transparent keeps none =
     let now : (c : Image) → device.images store.disk c → StandsFor c (archive store.head store.history) =
-    subst (λ (fills : List Fill). (c : Image) → device.images store.disk c → IsNow store.head store.history (rows_in_hand fills) c) none keeps.now in
-    record { reads = now (device.reads store.disk) (device.reads_as_image store.disk tells); now = now }
+    subst (λ (fills : List Fill). (c : Image) → device.images store.disk c → IsNow store.head store.history (unacknowledged_rows fills) c) none keeps.now in
+    record { reads = now (device.reads store.disk) (device.reads_as_image store.disk is_transparent); now = now }
 
 -- and after a fault whose write stands it may also leave the rows that the fault holds
-pub left : {D : Type 0} (device : Device D) (store : Seen D) (count : ℕ) (wrote : Bool) (rows : List Row) → KeepsImages device store → store.fills ≡ Fault count wrote rows ∷ [] → (c : Image) → device.images store.disk c
+pub left : {D : Type 0} (device : Device D) (store : StoreView D) (count : ℕ) (wrote : Bool) (rows : List Row) → CrashInvariant device store → store.fills ≡ Fault count wrote rows ∷ [] → (c : Image) → device.images store.disk c
     → StandsFor c (archive store.head store.history) ⊎ StandsFor c (archive store.head (store.history ++ items_of rows))
-left device store count true rows keeps one c leaves = subst (λ (fills : List Fill). IsNow store.head store.history (rows_in_hand fills) c) one (keeps.now c leaves)
-left device store count false rows keeps one c leaves = inl (subst (λ (fills : List Fill). IsNow store.head store.history (rows_in_hand fills) c) one (keeps.now c leaves))
+left device store count true rows keeps one c leaves = subst (λ (fills : List Fill). IsNow store.head store.history (unacknowledged_rows fills) c) one (keeps.now c leaves)
+left device store count false rows keeps one c leaves = inl (subst (λ (fills : List Fill). IsNow store.head store.history (unacknowledged_rows fills) c) one (keeps.now c leaves))
 
 -- but not after one whose write was healed
-pub settled_again : {D : Type 0} (device : Device D) (store : Seen D) (count : ℕ) (rows : List Row) → IsTrue device.tells → KeepsImages device store → store.fills ≡ Fault count false rows ∷ []
-    → IsSettled device store.disk store.head store.history
-settled_again device store count rows tells keeps one =
+pub durable_again : {D : Type 0} (device : Device D) (store : StoreView D) (count : ℕ) (rows : List Row) → IsTrue device.is_transparent → CrashInvariant device store → store.fills ≡ Fault count false rows ∷ []
+    → IsDurableAs device store.disk store.head store.history
+durable_again device store count rows is_transparent keeps one =
     let now : (c : Image) → device.images store.disk c → StandsFor c (archive store.head store.history) =
-    subst (λ (fills : List Fill). (c : Image) → device.images store.disk c → IsNow store.head store.history (rows_in_hand fills) c) one keeps.now in
-    record { reads = now (device.reads store.disk) (device.reads_as_image store.disk tells); now = now }
+    subst (λ (fills : List Fill). (c : Image) → device.images store.disk c → IsNow store.head store.history (unacknowledged_rows fills) c) one keeps.now in
+    record { reads = now (device.reads store.disk) (device.reads_as_image store.disk is_transparent); now = now }
 
 -- ---- counts of faults
 
--- a store that was given up with a fault has more faults than at its opening
-pub more_faults : {D : Type 0} (device : Device D) (disk : D) (old new : Seen D) (count : ℕ) (wrote : Bool) (rows : List Row) → device.fault_count disk ≤ device.fault_count old.opened → new.opened ≡ old.opened
-    → KeepsFaults device new → new.fills ≡ Fault count wrote rows ∷ [] → raised (device.fault_count disk) ≤ device.fault_count new.disk
+-- a store that was closed with a fault has more faults than at its opening
+pub more_faults : {D : Type 0} (device : Device D) (disk : D) (old new : StoreView D) (count : ℕ) (wrote : Bool) (rows : List Row) → device.fault_count disk ≤ device.fault_count old.opened → new.opened ≡ old.opened
+    → FaultInvariant device new → new.fills ≡ Fault count wrote rows ∷ [] → raised (device.fault_count disk) ≤ device.fault_count new.disk
 more_faults device disk old new count wrote rows first same keeps one =
     let rising = subst (λ (fills : List Fill). Rising (above (device.fault_count new.opened)) (device.fault_count new.disk) fills) one keeps.rising in
     let later = keeps.later in

@@ -13,11 +13,11 @@ use Rattle.space_packet.specs.Cut.{IsPart}
 use Rattle.space_packet.proofs.Cuts.{cut_more}
 use Rattle.yarch_table.specs.declared.table.Stored.{Stored}
 use Rattle.yarch_table.specs.Stored.{rows_of}
-use Rattle.archive_cli.specs.declared.counts.Added.{Added}
-use Rattle.archive_cli.specs.declared.counts.Added.TheVariants.{Idle, New, Duplicate}
+use Rattle.archive_cli.specs.declared.counts.PacketOutcome.{PacketOutcome}
+use Rattle.archive_cli.specs.declared.counts.PacketOutcome.TheVariants.{Idle, New, Duplicate}
 use Rattle.archive_cli.specs.declared.counts.Counts.{Counts}
 use Rattle.archive_cli.specs.Text.{scanned_rows}
-use Rattle.archive_cli.specs.Loaded.{scanned_row, IsShown, IsAdded, counted, IsGathered, IsLoading}
+use Rattle.archive_cli.specs.DumpTable.{scanned_row, IsVisible, IsAdded, counted, IsGathered, IsDumpTableTo}
 
 abbrev rows_of_packet : ℤ → List ℕ → List Row
 rows_of_packet moment p = map (row_of 1 moment (λ p. 0) p) (0 ∷ [])
@@ -46,7 +46,7 @@ pub rows_of-push : (stored : List Stored) (s : Stored) → rows_of (stored ++ s 
 rows_of-push [] s = refl
 rows_of-push (x ∷ xs) s = ap (λ (rs : List Row). x.row ∷ rs) (rows_of-push xs s)
 
-shown-push : (stored : List Stored) (s : Stored) → AllByRecursion IsShown stored → IsShown s → AllByRecursion IsShown (stored ++ s ∷ [])
+shown-push : (stored : List Stored) (s : Stored) → AllByRecursion IsVisible stored → IsVisible s → AllByRecursion IsVisible (stored ++ s ∷ [])
 shown-push [] s all h = (h, tt)
 shown-push (x ∷ xs) s all h = (all.0, shown-push xs s all.1 h)
 
@@ -109,7 +109,7 @@ gathered_duplicate packets moment p old new counts g a =
       };
     }
 
-gathered_more : (packets : List (List ℕ)) (moment : ℤ) (p : List ℕ) (old new : List Stored) (counts : Counts) (added : Added) →
+gathered_more : (packets : List (List ℕ)) (moment : ℤ) (p : List ℕ) (old new : List Stored) (counts : Counts) (added : PacketOutcome) →
     IsGathered packets moment old counts → IsAdded old new moment p added → IsGathered (packets ++ p ∷ []) moment new (counted counts added)
 gathered_more packets moment p old new counts Idle g a = gathered_idle packets moment p old new counts g a
 gathered_more packets moment p old new counts New g a = gathered_new packets moment p old new counts g a
@@ -122,9 +122,9 @@ part_rises dump start end part =
     omega (arith, len, header)
 
 -- one packet more
-pub loading_more : (dump : List ℕ) (moment : ℤ) (start end : ℕ) (old new : List Stored) (counts : Counts) (added : Added) →
-    IsLoading dump moment start old counts → IsPart dump start end → IsAdded old new moment (slice_range dump start end) added →
-    IsLoading dump moment end new (counted counts added)
+pub loading_more : (dump : List ℕ) (moment : ℤ) (start end : ℕ) (old new : List Stored) (counts : Counts) (added : PacketOutcome) →
+    IsDumpTableTo dump moment start old counts → IsPart dump start end → IsAdded old new moment (slice_range dump start end) added →
+    IsDumpTableTo dump moment end new (counted counts added)
 loading_more dump moment start end old new counts added l part a =
     let few = l.few in
     let up = part_rises dump start end part in
@@ -136,7 +136,7 @@ loading_more dump moment start end old new counts added l part a =
     }
 
 -- no packet yet
-pub loading_none : (dump : List ℕ) (moment : ℤ) (counts : Counts) → counts ≡ record { packets = 0; rows = 0; duplicates = 0; idle = 0 } → IsLoading dump moment 0 [] counts
+pub loading_none : (dump : List ℕ) (moment : ℤ) (counts : Counts) → counts ≡ record { packets = 0; rows = 0; duplicates = 0; idle = 0 } → IsDumpTableTo dump moment 0 [] counts
 loading_none dump moment counts h = rw h (record {
   packets = [];
   cut = record { within = omega arith; joined = refl; each = All-nil IsPacket };
@@ -145,7 +145,7 @@ loading_none dump moment counts h = rw h (record {
 })
 
 -- a row of table 0 is a duplicate where its key is there
-pub duplicate-is : (moment : ℤ) (p : List ℕ) (stored : List Stored) → AllByRecursion IsShown stored →
+pub duplicate-is : (moment : ℤ) (p : List ℕ) (stored : List Stored) → AllByRecursion IsVisible stored →
     list_any (is_duplicate_of (scanned_row moment p)) (rows_of stored) ≡ list_any (has_key (scanned_row moment p).key) (rows_of stored)
 duplicate-is moment p [] all = refl
 duplicate-is moment p (s ∷ stored) all = rw (all.0.1, duplicate-is moment p stored all.1)

@@ -8,16 +8,16 @@ use Rattle.arch_types.specs.declared.refusal.Which.TheVariants.{SheetOctets}
 use Rattle.archive_core.specs.Items.{Item}
 use Rattle.mdb_model.specs.Database.{Database}
 use Rattle.archive_store.specs.Answers.{IsCreateAnswer, IsOpenAnswer}
-use Rattle.archive_store.specs.Seen.{Seen}
+use Rattle.archive_store.specs.StoreView.{StoreView}
 use Rattle.archive_cli.specs.declared.ask_sheet.AskSheet.{AskSheet}
 use Rattle.archive_cli.specs.declared.ask_sheet.AskSheet.TheVariants.{Read, Refused}
 use Rattle.archive_cli.specs.declared.report.Report.{Report}
 use Rattle.archive_cli.specs.HandedBack.{IsCreateBack, IsHandedBack, IsLoadBack, IsQueryBack}
 use Rattle.archive_cli.specs.Job.{Job, Scan, Values, Create, Load, Query, Recover}
-use Rattle.archive_cli.specs.Loading.{IsSession, IsUnread, WentSo}
+use Rattle.archive_cli.specs.Loading.{IsLoadRun, IsDumpRefusal, IsLoadOutcome}
 use Rattle.archive_cli.specs.Printing.{IsFinished}
-use Rattle.archive_cli.specs.QueryEnding.{IsSheetReply, IsWaiting}
-use Rattle.archive_cli.specs.Report.{unopened, consulted}
+use Rattle.archive_cli.specs.QueryEnding.{IsSheetReply, IsDeferred}
+use Rattle.archive_cli.specs.Report.{unopened, read_only}
 
 -- ---- the same disk
 
@@ -68,14 +68,14 @@ made_cases old new (Some WriteFault) before now text finished = tt
 made_cases old new (Some other) before now text finished = absurd finished
 
 -- an archive was made
-pub made_back : {D : Type 0} (old new : D) (refusal : Option Refusal) (report : Report) (before now : Option (List ℕ)) (text : List ℕ) → report ≡ consulted refusal 0
+pub made_back : {D : Type 0} (old new : D) (refusal : Option Refusal) (report : Report) (before now : Option (List ℕ)) (text : List ℕ) → report ≡ read_only refusal 0
     → IsFinished refusal before now text → IsCreateBack old new report.refusal
 made_back old new refusal report before now text is finished =
     subst (λ (r : Report). IsCreateBack old new r.refusal) (sym is) (made_cases old new refusal before now text finished)
 
 -- ---- load
 
-unread_cases : {D : Type 0} (old new : D) (left : Option (List ℕ)) (number : ℕ) (refusal : Refusal) (link : Option ℕ) → IsUnread left number refusal link
+unread_cases : {D : Type 0} (old new : D) (left : Option (List ℕ)) (number : ℕ) (refusal : Refusal) (link : Option ℕ) → IsDumpRefusal left number refusal link
     → IsLoadBack old new true (Some refusal)
 unread_cases old new left number (Missing name) link unread = absurd unread
 unread_cases old new left number ReadFault link unread = λ unopened. absurd (false≢true (sym unopened))
@@ -83,19 +83,19 @@ unread_cases old new left number other link unread = tt
 
 -- an archive was opened, and the dump wasn't read
 pub load_unread_back : {D : Type 0} (old new : D) (left : Option (List ℕ)) (number : ℕ) (refusal : Refusal) (link : Option ℕ) (rows : ℕ) (report : Report)
-    → report ≡ record (consulted (Some refusal) rows) { link = link } → IsUnread left number refusal link → IsLoadBack old new report.opened report.refusal
+    → report ≡ record (read_only (Some refusal) rows) { link = link } → IsDumpRefusal left number refusal link → IsLoadBack old new report.opened report.refusal
 load_unread_back old new left number refusal link rows report is unread =
     subst (λ (r : Report). IsLoadBack old new r.opened r.refusal) (sym is) (unread_cases old new left number refusal link unread)
 
-went_cases : {D : Type 0} (old new : Seen D) (dump : List ℕ) (link : ℕ) (moment : ℤ) (written written' : Option (List ℕ)) (first last : D) (opened : Bool) (refusal : Option Refusal)
-    (report : Report) → WentSo old new dump link moment written written' refusal report → IsLoadBack first last opened refusal
+went_cases : {D : Type 0} (old new : StoreView D) (dump : List ℕ) (link : ℕ) (moment : ℤ) (written written' : Option (List ℕ)) (first last : D) (opened : Bool) (refusal : Option Refusal)
+    (report : Report) → IsLoadOutcome old new dump link moment written written' refusal report → IsLoadBack first last opened refusal
 went_cases old new dump link moment written written' first last opened (Some (Missing name)) report went = absurd went.0.cause
 went_cases old new dump link moment written written' first last opened (Some ReadFault) report went = absurd went.0.cause
 went_cases old new dump link moment written written' first last opened other report went = tt
 
 -- the dump was read
-pub session_back : {D : Type 0} (device : Device D) (first : D) (old : Seen D) (dump : List ℕ) (link : ℕ) (moment : ℤ) (written written' : Option (List ℕ)) (disk : D) (report : Report)
-    → IsSession device old dump link moment written written' disk report → IsLoadBack first disk report.opened report.refusal
+pub session_back : {D : Type 0} (device : Device D) (first : D) (old : StoreView D) (dump : List ℕ) (link : ℕ) (moment : ℤ) (written written' : Option (List ℕ)) (disk : D) (report : Report)
+    → IsLoadRun device old dump link moment written written' disk report → IsLoadBack first disk report.opened report.refusal
 session_back device first old dump link moment written written' disk report s =
     went_cases old s.new dump link moment written written' first disk report.opened report.refusal report s.went
 
@@ -114,23 +114,23 @@ ask_unopened_back old new refusal report is answer =
     subst (λ (r : Report). IsQueryBack old new r.refusal) (sym is) (ask_unopened_cases old new refusal answer)
 
 reply_cases : {D : Type 0} (first last : D) (db : Database) (history : List Item) (sheet : AskSheet) (refusal : Option Refusal) (before now : Option (List ℕ)) (faults faults' : ℕ)
-    → IsWaiting sheet → IsSheetReply db history sheet refusal before now faults faults' → IsQueryBack first last refusal
-reply_cases first last db history (Read asks) (Some (Missing name)) before now faults faults' waiting reply = absurd reply
-reply_cases first last db history (Read asks) (Some ReadFault) before now faults faults' waiting reply = absurd reply
-reply_cases first last db history (Read asks) (Some (Limit SheetOctets number)) before now faults faults' waiting reply = absurd reply
-reply_cases first last db history (Read asks) other before now faults faults' waiting reply = tt
-reply_cases first last db history (Refused refused) refusal before now faults faults' waiting reply =
-    subst (λ (o : Option Refusal). IsQueryBack first last o) (sym reply.0) (waiting_cases refused waiting)
+    → IsDeferred sheet → IsSheetReply db history sheet refusal before now faults faults' → IsQueryBack first last refusal
+reply_cases first last db history (Read asks) (Some (Missing name)) before now faults faults' deferred reply = absurd reply
+reply_cases first last db history (Read asks) (Some ReadFault) before now faults faults' deferred reply = absurd reply
+reply_cases first last db history (Read asks) (Some (Limit SheetOctets number)) before now faults faults' deferred reply = absurd reply
+reply_cases first last db history (Read asks) other before now faults faults' deferred reply = tt
+reply_cases first last db history (Refused refused) refusal before now faults faults' deferred reply =
+    subst (λ (o : Option Refusal). IsQueryBack first last o) (sym reply.0) (deferred_cases refused deferred)
   where
-    waiting_cases : (refused : Refusal) → IsWaiting (Refused refused) → IsQueryBack first last (Some refused)
-    waiting_cases (Missing name) waits = absurd (false≢true waits)
-    waiting_cases ReadFault waits = absurd (false≢true waits)
-    waiting_cases (Limit SheetOctets number) waits = absurd (false≢true waits)
-    waiting_cases other waits = tt
+    deferred_cases : (refused : Refusal) → IsDeferred (Refused refused) → IsQueryBack first last (Some refused)
+    deferred_cases (Missing name) is_deferred = absurd (false≢true is_deferred)
+    deferred_cases ReadFault is_deferred = absurd (false≢true is_deferred)
+    deferred_cases (Limit SheetOctets number) is_deferred = absurd (false≢true is_deferred)
+    deferred_cases other is_deferred = tt
 
 -- the asks were answered, or refused
 pub replied_back : {D : Type 0} (first last : D) (db : Database) (history : List Item) (sheet : AskSheet) (refusal : Option Refusal) (report : Report) (rows : ℕ)
-    (before now : Option (List ℕ)) (faults faults' : ℕ) → report ≡ consulted refusal rows → IsWaiting sheet → IsSheetReply db history sheet refusal before now faults faults'
+    (before now : Option (List ℕ)) (faults faults' : ℕ) → report ≡ read_only refusal rows → IsDeferred sheet → IsSheetReply db history sheet refusal before now faults faults'
     → IsQueryBack first last report.refusal
-replied_back first last db history sheet refusal report rows before now faults faults' is waiting reply =
-    subst (λ (r : Report). IsQueryBack first last r.refusal) (sym is) (reply_cases first last db history sheet refusal before now faults faults' waiting reply)
+replied_back first last db history sheet refusal report rows before now faults faults' is deferred reply =
+    subst (λ (r : Report). IsQueryBack first last r.refusal) (sym is) (reply_cases first last db history sheet refusal before now faults faults' deferred reply)

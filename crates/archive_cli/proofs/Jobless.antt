@@ -5,32 +5,32 @@ use Rattle.arch_types.specs.declared.refusal.Refusal.{Refusal}
 use Rattle.arch_types.specs.declared.refusal.Refusal.TheVariants.{Usage, OutOfMemory}
 use Rattle.archive_cli.specs.declared.report.Report.{Report}
 use Rattle.outer_traits.specs.Outside.{Files}
-use Rattle.archive_cli.specs.Call.{Call, IsSilent}
+use Rattle.archive_cli.specs.Call.{Call, WritesNothing}
 use Rattle.archive_cli.specs.Ending.{IsCaused, IsEnding, IsJobEnding}
 use Rattle.archive_cli.specs.Job.{Job, Scan, Values, Create, Load, Query, Recover, job_of, IsNoJob}
 use Rattle.archive_cli.specs.Order.{IsInOrder, create_inputs, query_inputs, scan_inputs, values_inputs}
 use Rattle.archive_cli.specs.Report.{unopened, IsReport}
-use Rattle.archive_cli.proofs.Consulted.{untouched}
+use Rattle.archive_cli.proofs.ReadOnly.{untouched}
 use Rattle.archive_cli.proofs.Ordered.{memory_in_order}
 
-jobless_cases : {D : Type 0} (device : Device D) (call : Call) (disk : D) (job : Option Job) (refusal : Refusal) → IsNoJob job refusal → IsSilent call →
+jobless_cases : {D : Type 0} (device : Device D) (call : Call) (disk : D) (job : Option Job) (refusal : Refusal) → IsNoJob job refusal → WritesNothing call →
     IsJobEnding device call disk disk job (unopened (Some refusal))
 jobless_cases device call disk job Usage none silent = rw none (refl, silent)
 jobless_cases device call disk None OutOfMemory none silent = (refl, silent)
 jobless_cases device call disk (Some (Scan name)) OutOfMemory none silent = (refl, silent)
 jobless_cases device call disk (Some (Values words)) OutOfMemory none silent = (refl, inl silent)
 jobless_cases device call disk (Some (Create words)) OutOfMemory none silent =
-    λ tells. record { silent = silent; disk = untouched device disk; report_is = refl }
+    λ is_transparent. record { silent = silent; disk = untouched device disk; report_is = refl }
 jobless_cases device call disk (Some (Load words)) OutOfMemory none silent =
-    λ tells. inl (record { silent = silent; disk = untouched device disk; report_is = refl })
+    λ is_transparent. inl (record { silent = silent; disk = untouched device disk; report_is = refl })
 jobless_cases device call disk (Some (Query name)) OutOfMemory none silent =
-    λ tells. inl (record { silent = silent; disk = untouched device disk; report_is = refl })
+    λ is_transparent. inl (record { silent = silent; disk = untouched device disk; report_is = refl })
 jobless_cases device call disk (Some Recover) OutOfMemory none silent =
-    λ tells. record { cause = tt; silent = silent; disk = untouched device disk; report_is = refl }
+    λ is_transparent. record { cause = tt; silent = silent; disk = untouched device disk; report_is = refl }
 jobless_cases device call disk job other none silent = absurd none
 
 -- where there is no job, or no memory to find it, nothing was done
-pub jobless : {D : Type 0} (device : Device D) (call : Call) (old new : D) (refusal : Refusal) (report : Report) → IsNoJob (job_of call.words) refusal → IsSilent call → new ≡ old →
+pub jobless : {D : Type 0} (device : Device D) (call : Call) (old new : D) (refusal : Refusal) (report : Report) → IsNoJob (job_of call.words) refusal → WritesNothing call → new ≡ old →
     report ≡ unopened (Some refusal) → IsEnding device call old new report
 jobless device call old new refusal report none silent same is =
     rw (same, is) (jobless_cases device call old (job_of call.words) refusal none silent)

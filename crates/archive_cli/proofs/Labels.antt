@@ -10,9 +10,9 @@ use Rattle.mdb_model.specs.declared.calibration.Calibration.{Calibration}
 use Rattle.mdb_model.specs.declared.calibration.EnumRow.{EnumRow}
 use Rattle.mdb_model.specs.declared.calibration.Table.{Table}
 use Rattle.mdb_model.specs.declared.calibration.Table.TheVariants.{Poly, Points, Enum}
-use Rattle.mdb_model.specs.declared.rows.Cells.{Cells}
-use Rattle.mdb_model.specs.declared.rows.Cells.TheVariants.{Label}
-use Rattle.mdb_model.specs.CalibrationRows.{CalibrationRow, calibration_checks, calibration_fault, calibration_fault_at, calibrations_of, cells_of, has_y, rows_of_calibration}
+use Rattle.mdb_model.specs.declared.rows.RowValues.{RowValues}
+use Rattle.mdb_model.specs.declared.rows.RowValues.TheVariants.{Label}
+use Rattle.mdb_model.specs.CalibrationRows.{CalibrationRow, calibration_checks, calibration_fault, calibration_fault_at, calibrations_of, row_values_of, has_y, rows_of_calibration}
 use Rattle.mdb_model.specs.Checks.{first_broken}
 use Rattle.mdb_model.specs.Database.{Database, IsDatabase, rows_of}
 use Rattle.mdb_model.specs.Texts.{is_label, is_printable}
@@ -33,13 +33,13 @@ all_parts P f (x ∷ xs) all = let parts = all_split P (f x) (flat_map f xs) all
 
 -- the y that a row's kind asks for
 abbrev HasY : CalibrationRow → Type 0
-HasY row = has_y row.cells ≡ true
+HasY row = has_y row.row_values ≡ true
 
 sound_y : (above : List Calibration) (row : CalibrationRow) (o next : Option CalibrationRow) → o ≡ Some row → calibration_fault above o next ≡ None → HasY row
 sound_y above row o next is sound =
     let none : first_broken (calibration_checks above row (option_map (λ (r : CalibrationRow). r.name) next)) ≡ None = rw is at sound in
     let p = all_pass (calibration_checks above row (option_map (λ (r : CalibrationRow). r.name) next)) none in
-    is_true (has_y row.cells) p.1.1.1.1.1.1.1.0
+    is_true (has_y row.row_values) p.1.1.1.1.1.1.1.0
 
 rows_have_y : (db : Database) → IsDatabase db → AllByRecursion HasY (rows_of db).calibrations
 unfolding calibration_fault_at
@@ -62,12 +62,12 @@ label_short : (label : List ℕ) → is_label label ≡ true → length label �
 label_short label e = at_most (length label) 64 (and_middle (nat_le 1 (length label)) (nat_le (length label) 64) (list_all is_printable label) e)
 
 short_rows : (name : List ℕ) (rows : List EnumRow) →
-    AllByRecursion HasY (map (λ (cells : Cells). record { fields = 4; name = name; cells = cells }) (map (λ (r : EnumRow). Label (Some r.x) r.label) rows)) →
+    AllByRecursion HasY (map (λ (row_values : RowValues). record { fields = 4; name = name; row_values = row_values }) (map (λ (r : EnumRow). Label (Some r.x) r.label) rows)) →
     AllByRecursion (λ (row : EnumRow). length row.label ≤ 64) rows
 short_rows name [] all = tt
 short_rows name (row ∷ rows) all = (label_short row.label all.0, short_rows name rows all.1)
 
-short_table : (name : List ℕ) (t : Table) → AllByRecursion HasY (map (λ (cells : Cells). record { fields = 4; name = name; cells = cells }) (cells_of t)) →
+short_table : (name : List ℕ) (t : Table) → AllByRecursion HasY (map (λ (row_values : RowValues). record { fields = 4; name = name; row_values = row_values }) (row_values_of t)) →
     AllByRecursion (λ (row : EnumRow). length row.label ≤ 64) (rows_of_table t)
 short_table name (Poly rows) all = tt
 short_table name (Points rows) all = tt

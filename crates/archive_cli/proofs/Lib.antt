@@ -1,10 +1,10 @@
-pub mod Pieces
+pub mod LineBuffers
 pub mod Reading
 pub mod Counted
 pub mod Jobs
 pub mod Gathered
-pub mod Shown
-pub mod Told
+pub mod Visible
+pub mod Known
 pub mod Scanned
 pub mod PacketNames
 pub mod Labels
@@ -12,7 +12,7 @@ pub mod Parameters
 pub mod CellCounts
 pub mod Valued
 pub mod ValuesAnswers
-pub mod Consulted
+pub mod ReadOnly
 pub mod Recovered
 pub mod Created
 pub mod CreateAnswers
@@ -37,5 +37,5 @@ pub mod NotLoaded
 pub mod Caused
 pub mod LoadCauses
 pub mod HandedBack
-pub mod Settled
+pub mod Durable
 pub mod Ordered

@@ -8,7 +8,7 @@ use Rattle.arch_types.specs.declared.cell.Cell.{Cell}
 use Rattle.arch_types.specs.declared.row.Row.{Row}
 use Rattle.archive_store.specs.declared.plan.Part.{Part}
 use Rattle.archive_store.specs.Plans.{rows_of_parts}
-use Rattle.archive_cli.specs.AnswerText.{at_most, cell_list, is_full}
+use Rattle.archive_cli.specs.AnswerText.{truncated, cell_list, is_full}
 
 take_front : (n : ℕ) (xs ys : List Cell) → take n (take n xs ++ ys) ≡ take n (xs ++ ys)
 take_front zero xs ys = refl
@@ -16,13 +16,13 @@ take_front (suc n) [] ys = refl
 take_front (suc n) (x ∷ xs) ys = ap (λ (l : List Cell). x ∷ l) (take_front n xs ys)
 
 -- what lies beyond the limit of a front is beyond the limit of the whole
-pub at_most_front : (limit : Option ℕ) (xs ys : List Cell) → at_most limit (at_most limit xs ++ ys) ≡ at_most limit (xs ++ ys)
+pub at_most_front : (limit : Option ℕ) (xs ys : List Cell) → truncated limit (truncated limit xs ++ ys) ≡ truncated limit (xs ++ ys)
 at_most_front None xs ys = refl
 at_most_front (Some n) xs ys = take_front n xs ys
 
-pub at_most_twice : (limit : Option ℕ) (xs : List Cell) → at_most limit (at_most limit xs) ≡ at_most limit xs
+pub at_most_twice : (limit : Option ℕ) (xs : List Cell) → truncated limit (truncated limit xs) ≡ truncated limit xs
 at_most_twice limit xs =
-    ap (at_most limit) (sym (append-nil (at_most limit xs))) ∙ at_most_front limit xs [] ∙ ap (at_most limit) (append-nil xs)
+    ap (truncated limit) (sym (append-nil (truncated limit xs))) ∙ at_most_front limit xs [] ∙ ap (truncated limit) (append-nil xs)
 
 take_all : (n : ℕ) (xs : List Cell) → length xs ≤ n → take n xs ≡ xs
 take_all zero [] h = refl
@@ -37,7 +37,7 @@ room_is : (n : ℕ) (xs : List Cell) → is_full (Some n) xs ≡ false → lengt
 room_is n xs h = grind (arith, nat_tests)
 
 -- where there are as many as may be, no more are taken
-pub full : (limit : Option ℕ) (xs ys : List Cell) → is_full limit xs ≡ true → at_most limit xs ≡ xs → at_most limit (xs ++ ys) ≡ xs
+pub full : (limit : Option ℕ) (xs ys : List Cell) → is_full limit xs ≡ true → truncated limit xs ≡ xs → truncated limit (xs ++ ys) ≡ xs
 full None xs ys h within = absurd (cc (h))
 full (Some n) xs ys h within = let few = full_is n xs h in take-append-le n xs ys few ∙ within
 
@@ -46,7 +46,7 @@ length_list None = omega arith
 length_list (Some cell) = omega arith
 
 -- where there are fewer, there's room for one
-pub room : (limit : Option ℕ) (xs : List Cell) (o : Option Cell) → is_full limit xs ≡ false → at_most limit (xs ++ cell_list o) ≡ xs ++ cell_list o
+pub room : (limit : Option ℕ) (xs : List Cell) (o : Option Cell) → is_full limit xs ≡ false → truncated limit (xs ++ cell_list o) ≡ xs ++ cell_list o
 room None xs o h = refl
 room (Some n) xs o h = take_all n (xs ++ cell_list o) (omega (arith, room_is n xs h, length-append xs (cell_list o), length_list o))
 
@@ -68,14 +68,14 @@ join_cells f [] more = refl
 join_cells f (row ∷ rows) more = ap (cons_option (f row)) (join_cells f rows more) ∙ sym (join_option (f row) (filter_map f rows) (filter_map f more))
 
 -- the cells of the rows of one part, and then of the rest
-pub next_part : (f : Row → Option Cell) (limit : Option ℕ) (cells new : List Cell) (rows rest : List Row) (all : List Cell) → new ≡ at_most limit (cells ++ filter_map f rows) →
-    at_most limit (cells ++ filter_map f (rows ++ rest)) ≡ all → (at_most limit (new ++ filter_map f rest) ≡ all) × (at_most limit new ≡ new)
+pub next_part : (f : Row → Option Cell) (limit : Option ℕ) (cells new : List Cell) (rows rest : List Row) (all : List Cell) → new ≡ truncated limit (cells ++ filter_map f rows) →
+    truncated limit (cells ++ filter_map f (rows ++ rest)) ≡ all → (truncated limit (new ++ filter_map f rest) ≡ all) × (truncated limit new ≡ new)
 next_part f limit cells new rows rest all e h = (
-  ap (λ (l : List Cell). at_most limit (l ++ filter_map f rest)) e
+  ap (λ (l : List Cell). truncated limit (l ++ filter_map f rest)) e
       ∙ at_most_front limit (cells ++ filter_map f rows) (filter_map f rest)
-      ∙ ap (at_most limit) (append_assoc cells (filter_map f rows) (filter_map f rest) ∙ ap (λ (l : List Cell). cells ++ l) (sym (join_cells f rows rest)))
+      ∙ ap (truncated limit) (append_assoc cells (filter_map f rows) (filter_map f rest) ∙ ap (λ (l : List Cell). cells ++ l) (sym (join_cells f rows rest)))
       ∙ h,
-  ap (at_most limit) e ∙ at_most_twice limit (cells ++ filter_map f rows) ∙ sym e,
+  ap (truncated limit) e ∙ at_most_twice limit (cells ++ filter_map f rows) ∙ sym e,
 )
 
 -- ---- in the opposite order
@@ -98,35 +98,35 @@ last_first rest left x step = ap reverse step ∙ reverse-append left (x ∷ [])
 
 -- the cell of the last row, where there's room for it
 pub next_last : (f : Row → Option Cell) (limit : Option ℕ) (cells new : List Cell) (rest left : List Row) (row : Row) (all : List Cell) → is_full limit cells ≡ false →
-    new ≡ cells ++ cell_list (f row) → rest ≡ left ++ row ∷ [] → at_most limit (cells ++ filter_map f (reverse rest)) ≡ all →
-    (at_most limit (new ++ filter_map f (reverse left)) ≡ all) × (at_most limit new ≡ new)
+    new ≡ cells ++ cell_list (f row) → rest ≡ left ++ row ∷ [] → truncated limit (cells ++ filter_map f (reverse rest)) ≡ all →
+    (truncated limit (new ++ filter_map f (reverse left)) ≡ all) × (truncated limit new ≡ new)
 next_last f limit cells new rest left row all space added step h = (
-  ap (λ (l : List Cell). at_most limit (l ++ filter_map f (reverse left))) added
-      ∙ ap (at_most limit) (next_cell f cells row (reverse left) ∙ ap (λ (rows : List Row). cells ++ filter_map f rows) (sym (last_first rest left row step)))
+  ap (λ (l : List Cell). truncated limit (l ++ filter_map f (reverse left))) added
+      ∙ ap (truncated limit) (next_cell f cells row (reverse left) ∙ ap (λ (rows : List Row). cells ++ filter_map f rows) (sym (last_first rest left row step)))
       ∙ h,
-  ap (at_most limit) added ∙ room limit cells (f row) space ∙ sym added,
+  ap (truncated limit) added ∙ room limit cells (f row) space ∙ sym added,
 )
 
 -- the cells of the rows of the last part, the last first, and then of those before it
 pub next_last_part : (f : Row → Option Cell) (limit : Option ℕ) (cells new : List Cell) (rest left : List Part) (part : Part) (all : List Cell) →
-    new ≡ at_most limit (cells ++ filter_map f (reverse part.rows)) → rest ≡ left ++ part ∷ [] → at_most limit (cells ++ filter_map f (reverse (rows_of_parts rest))) ≡ all →
-    (at_most limit (new ++ filter_map f (reverse (rows_of_parts left))) ≡ all) × (at_most limit new ≡ new)
+    new ≡ truncated limit (cells ++ filter_map f (reverse part.rows)) → rest ≡ left ++ part ∷ [] → truncated limit (cells ++ filter_map f (reverse (rows_of_parts rest))) ≡ all →
+    (truncated limit (new ++ filter_map f (reverse (rows_of_parts left))) ≡ all) × (truncated limit new ≡ new)
 next_last_part f limit cells new rest left part all added step h =
     let rows : reverse (rows_of_parts rest) ≡ reverse part.rows ++ reverse (rows_of_parts left) =
     ap (λ (ps : List Part). reverse (rows_of_parts ps)) step
     ∙ ap reverse (flat_map-append (λ (p : Part). p.rows) left (part ∷ []) ∙ ap (λ (l : List Row). rows_of_parts left ++ l) (append-nil part.rows))
     ∙ reverse-append (rows_of_parts left) part.rows in
-    next_part f limit cells new (reverse part.rows) (reverse (rows_of_parts left)) all added (ap (λ (rs : List Row). at_most limit (cells ++ filter_map f rs)) (sym rows) ∙ h)
+    next_part f limit cells new (reverse part.rows) (reverse (rows_of_parts left)) all added (ap (λ (rs : List Row). truncated limit (cells ++ filter_map f rs)) (sym rows) ∙ h)
 
 -- all parts were gone through
-pub last_done : (f : Row → Option Cell) (limit : Option ℕ) (cells : List Cell) (rest : List Part) (rows : List Row) → length rest ≡ 0 → at_most limit cells ≡ cells →
-    at_most limit (cells ++ filter_map f (reverse (rows_of_parts rest))) ≡ at_most limit (filter_map f (reverse rows)) → cells ≡ at_most limit (reverse (filter_map f rows))
+pub last_done : (f : Row → Option Cell) (limit : Option ℕ) (cells : List Cell) (rest : List Part) (rows : List Row) → length rest ≡ 0 → truncated limit cells ≡ cells →
+    truncated limit (cells ++ filter_map f (reverse (rows_of_parts rest))) ≡ truncated limit (filter_map f (reverse rows)) → cells ≡ truncated limit (reverse (filter_map f rows))
 last_done f limit cells [] rows none within h =
-    sym within ∙ ap (at_most limit) (sym (append-nil cells)) ∙ h ∙ ap (at_most limit) (last_cells f rows)
+    sym within ∙ ap (truncated limit) (sym (append-nil cells)) ∙ h ∙ ap (truncated limit) (last_cells f rows)
 last_done f limit cells (part ∷ rest) rows none within h = absurd (omega (arith, none))
 
 -- all rows were
-pub rows_done : (f : Row → Option Cell) (limit : Option ℕ) (cells : List Cell) (rest : List Row) (all : List Cell) → length rest ≡ 0 → at_most limit cells ≡ cells →
-    at_most limit (cells ++ filter_map f (reverse rest)) ≡ all → cells ≡ all
-rows_done f limit cells [] all none within h = sym within ∙ ap (at_most limit) (sym (append-nil cells)) ∙ h
+pub rows_done : (f : Row → Option Cell) (limit : Option ℕ) (cells : List Cell) (rest : List Row) (all : List Cell) → length rest ≡ 0 → truncated limit cells ≡ cells →
+    truncated limit (cells ++ filter_map f (reverse rest)) ≡ all → cells ≡ all
+rows_done f limit cells [] all none within h = sym within ∙ ap (truncated limit) (sym (append-nil cells)) ∙ h
 rows_done f limit cells (row ∷ rest) all none within h = absurd (omega (arith, none))

@@ -38,11 +38,11 @@ use Rattle.archive_cli.specs.Job.{LoadWords}
 use Rattle.archive_cli.specs.LoadEnding.{link_rows, history_with, nothing_left, IsLimited, IsLoad, IsLoadEnding, IsNothingLoaded}
 use Rattle.archive_cli.specs.LoadExpected.{IsLoadExpected, HasRoomFor}
 use Rattle.archive_cli.specs.Order.{IsLoadFault}
-use Rattle.archive_cli.specs.Received.{dump_limit, Received}
+use Rattle.archive_cli.specs.ReadDump.{dump_limit, ReadDump}
 use Rattle.archive_cli.proofs.Arrived.{kept-append}
 use Rattle.archive_cli.proofs.Recovered.{not_raised}
-use Rattle.archive_cli.proofs.Settled.{not_opened}
-use Rattle.archive_cli.proofs.Told.{bad_ending, none_some, not_risen, same_rest, same_some, some_and, some_none, told_input, too_long}
+use Rattle.archive_cli.proofs.Durable.{not_opened}
+use Rattle.archive_cli.proofs.Known.{bad_ending, none_some, not_risen, same_rest, same_some, some_and, some_none, known_input, too_long}
 
 -- ---- the limits of a history
 
@@ -85,8 +85,8 @@ not_limited which records reached rows few w passed = passed_not_within which (i
 module _ {D : Type 0} (device : Device D) (call : Call) (all : Files) (words : LoadWords) (old new : D) (e : call.files ≡ Some all) where
   -- ---- there's none of the name
 
-  received_not : Received call words.dump → IsNone (get all words.dump) → ⊥
-  received_not r n = some_none (get all words.dump) r.dump (told_input call.files all words.dump r.dump e r.input) n
+  received_not : ReadDump call words.dump → IsNone (get all words.dump) → ⊥
+  received_not r n = some_none (get all words.dump) r.dump (known_input call.files all words.dump r.dump e r.input) n
 
   there_not : IsThere call.files words.dump → IsNone (get all words.dump) → ⊥
   there_not h n = none_some (get all words.dump) n (rw e at h)
@@ -185,7 +185,7 @@ module _ {D : Type 0} (device : Device D) (call : Call) (all : Files) (words : L
       no_link_or (Some OutOfMemory) report h fault far = inl (inr refl)
       no_link_or (Some other) report h fault far = absurd h
 
-  module _ (octets : List ℕ) (d : get all words.dump ≡ Some octets) (calm : NoFault call.read_faults call.read_faults') (whole : NoDiskFault device old new) where
+  module _ (octets : List ℕ) (d : get all words.dump ≡ Some octets) (no_failed_write : NoFault call.read_faults call.read_faults') (whole : NoDiskFault device old new) where
     found : IfSome call.files (λ all. IsNone (get all words.dump)) → ⊥
     found h = some_none (get all words.dump) octets d (rw e at h)
 
@@ -208,7 +208,7 @@ module _ {D : Type 0} (device : Device D) (call : Call) (all : Files) (words : L
         long_or (Some (Limit Links number)) report h long = absurd (omega (arith, near, h.1))
         long_or (Some (Limit which number)) report h long = absurd (too_long call all words.dump octets h.refused.stopped.run.received e d long)
         long_or (Some (Missing name)) report h long = absurd (found h.0.1)
-        long_or (Some ReadFault) report h long = absurd (not_risen call.read_faults call.read_faults' calm h.0)
+        long_or (Some ReadFault) report h long = absurd (not_risen call.read_faults call.read_faults' no_failed_write h.0)
         long_or (Some NoArchive) report h long = absurd (not_none h.cause)
         long_or (Some (Damaged file at)) report h long = absurd (not_damaged at h.cause.1)
         long_or (Some DiskFault) report h long = absurd (not_raised device old new whole h.0)
@@ -217,9 +217,9 @@ module _ {D : Type 0} (device : Device D) (call : Call) (all : Files) (words : L
 
         module _ (short : length octets ≤ dump_limit) (packets : List (List ℕ)) (rest : List ℕ) (parts : IsDump octets packets rest) where
           -- what was received has the dump's packets
-          same_packets : (r : Received call words.dump) → r.packets ≡ packets
+          same_packets : (r : ReadDump call words.dump) → r.packets ≡ packets
           same_packets r =
-              let same : r.dump ≡ octets = same_some (get all words.dump) r.dump octets (told_input call.files all words.dump r.dump e r.input) d in
+              let same : r.dump ≡ octets = same_some (get all words.dump) r.dump octets (known_input call.files all words.dump r.dump e r.input) d in
               let mine : IsDump octets r.packets r.rest = rw same at r.parts in
               (dump_is_one octets r.packets packets r.rest rest mine parts).0
 
@@ -243,44 +243,44 @@ module _ {D : Type 0} (device : Device D) (call : Call) (all : Files) (words : L
 
           pub ingested_or : (ending : Option Refusal) (report : Report) → IsLoadEnding device call words old new ending report →
               NoFault call.write_faults call.write_faults' → HasRoomFor archive call words packets → IsOrMemory ending (ending_of_rest octets rest)
-          ingested_or None report h quiet room =
+          ingested_or None report h no_fault room =
               let same = same_rest call all words.dump octets packets rest h.line.whole.run.received e d parts in
               let none : rest ≡ [] = sym same.1 ∙ h.line.rest in
               inl (rw none refl)
-          ingested_or (Some WriteFault) report h quiet room = absurd (not_risen call.write_faults call.write_faults' quiet h.0)
-          ingested_or (Some (BadPacket at kind)) report h quiet room =
+          ingested_or (Some WriteFault) report h no_fault room = absurd (not_risen call.write_faults call.write_faults' no_fault h.0)
+          ingested_or (Some (BadPacket at kind)) report h no_fault room =
               let same = same_rest call all words.dump octets packets rest h.0.whole.run.received e d parts in
               inl (bad_ending octets rest at kind (rw (same.0, same.1) at h.1))
-          ingested_or (Some (Limit DumpOctets number)) report h quiet room =
+          ingested_or (Some (Limit DumpOctets number)) report h no_fault room =
               let long : number < length octets = some_and (λ (l : List ℕ). number < length l) (get all words.dump) octets d (rw e at h.0.2) in
               let is : number ≡ dump_limit = h.0.1 in
               absurd (omega (arith, long, is, short))
-          ingested_or (Some (Limit Links number)) report h quiet room = absurd (omega (arith, near, h.1))
-          ingested_or (Some (Limit which number)) report h quiet room = absurd (limit_not which number report room h)
-          ingested_or (Some (Missing name)) report h quiet room = absurd (found h.0.1)
-          ingested_or (Some ReadFault) report h quiet room = absurd (not_risen call.read_faults call.read_faults' calm h.0)
-          ingested_or (Some NoArchive) report h quiet room = absurd (not_none h.cause)
-          ingested_or (Some (Damaged file at)) report h quiet room = absurd (not_damaged at h.cause.1)
-          ingested_or (Some DiskFault) report h quiet room = absurd (not_raised device old new whole h.0)
-          ingested_or (Some OutOfMemory) report h quiet room = inr refl
-          ingested_or (Some other) report h quiet room = absurd h
+          ingested_or (Some (Limit Links number)) report h no_fault room = absurd (omega (arith, near, h.1))
+          ingested_or (Some (Limit which number)) report h no_fault room = absurd (limit_not which number report room h)
+          ingested_or (Some (Missing name)) report h no_fault room = absurd (found h.0.1)
+          ingested_or (Some ReadFault) report h no_fault room = absurd (not_risen call.read_faults call.read_faults' no_failed_write h.0)
+          ingested_or (Some NoArchive) report h no_fault room = absurd (not_none h.cause)
+          ingested_or (Some (Damaged file at)) report h no_fault room = absurd (not_damaged at h.cause.1)
+          ingested_or (Some DiskFault) report h no_fault room = absurd (not_raised device old new whole h.0)
+          ingested_or (Some OutOfMemory) report h no_fault room = inr refl
+          ingested_or (Some other) report h no_fault room = absurd h
 
-load_told : {D : Type 0} (device : Device D) (call : Call) (files : Option Files) (words : LoadWords) (given given' : ℕ) (old new : D) (ending : Option Refusal) (report : Report) → call.files ≡ files →
+load_known : {D : Type 0} (device : Device D) (call : Call) (files : Option Files) (words : LoadWords) (given given' : ℕ) (old new : D) (ending : Option Refusal) (report : Report) → call.files ≡ files →
     IsLoadEnding device call words old new ending report → IsLoadFault given given' old new report ending →
     IfSome files (λ all. IsLoadExpected device call all words given given' old new ending)
-load_told device call None words given given' old new ending report e h fault = tt
-load_told device call (Some all) words given given' old new ending report e h fault = record {
+load_known device call None words given given' old new ending report e h fault = tt
+load_known device call (Some all) words given given' old new ending report e h fault = record {
   missing = missing_or device call all words old new e ending report h;
   none = λ octets d whole none. none_or device call all words old new e given given' octets d whole ending report h fault none;
   damaged = λ octets d whole at bad. damaged_or device call all words old new e given given' octets d whole ending report h fault at bad;
   no_link = λ octets d whole archive stands far. no_link_or device call all words old new e given given' octets d whole archive stands ending report h fault far;
-  long = λ octets d calm whole archive stands near long. long_or device call all words old new e octets d calm whole archive stands near ending report h long;
-  ingested = λ octets d calm whole quiet archive stands near short packets rest parts room.
-      ingested_or device call all words old new e octets d calm whole archive stands near short packets rest parts ending report h quiet room;
+  long = λ octets d no_failed_write whole archive stands near long. long_or device call all words old new e octets d no_failed_write whole archive stands near ending report h long;
+  ingested = λ octets d no_failed_write whole no_fault archive stands near short packets rest parts room.
+      ingested_or device call all words old new e octets d no_failed_write whole archive stands near short packets rest parts ending report h no_fault room;
 }
 
 -- the answer that has to come does
 pub load_expected : {D : Type 0} (device : Device D) (call : Call) (words : LoadWords) (given given' : ℕ) (old new : D) (ending : Option Refusal) (report : Report) →
     IsLoadEnding device call words old new ending report → IsLoadFault given given' old new report ending →
     IfSome call.files (λ all. IsLoadExpected device call all words given given' old new ending)
-load_expected device call words given given' old new ending report h fault = load_told device call call.files words given given' old new ending report refl h fault
+load_expected device call words given given' old new ending report h fault = load_known device call call.files words given given' old new ending report refl h fault

@@ -13,13 +13,13 @@ use Rattle.outer_traits.specs.Outside.{Files, Gives, OpeningCounted}
 use Rattle.outer_traits.specs.Whole.{IsInput, IsThere}
 use Rattle.archive_store.specs.Entries.{Archive}
 use Rattle.archive_cli.specs.declared.report.Report.{Report}
-use Rattle.archive_cli.specs.Call.{Call, IsSilent}
-use Rattle.archive_cli.specs.Consulted.{IsConsulted}
+use Rattle.archive_cli.specs.Call.{Call, WritesNothing}
+use Rattle.archive_cli.specs.ReadOnly.{IsReadOnly}
 use Rattle.archive_cli.specs.Job.{LoadWords}
 use Rattle.archive_cli.specs.LoadEnding.{IsLoadEnding, IsNotBegun, IsNothingLoaded}
-use Rattle.archive_cli.specs.Loading.{IsOpeningFault, IsUnread}
-use Rattle.archive_cli.specs.Report.{unopened, consulted}
-use Rattle.archive_cli.proofs.Consulted.{untouched}
+use Rattle.archive_cli.specs.Loading.{IsOpeningFault, IsDumpRefusal}
+use Rattle.archive_cli.specs.Report.{unopened, read_only}
+use Rattle.archive_cli.proofs.ReadOnly.{untouched}
 
 -- ---- inputs
 
@@ -73,7 +73,7 @@ still_there X (Some all) name h = go (get all name) h.1
 
 -- ---- endings
 
-module _ {D : Type 0} (device : Device D) (call : Call) (words : LoadWords) (silent : IsSilent call) where
+module _ {D : Type 0} (device : Device D) (call : Call) (words : LoadWords) (silent : WritesNothing call) where
   abbrev not_begun : (disk : D) (refusal : Refusal) → IsNotBegun device call disk disk (unopened (Some refusal))
   not_begun disk refusal = record { silent = silent; disk = untouched device disk; report_is = refl }
 
@@ -103,9 +103,9 @@ module _ {D : Type 0} (device : Device D) (call : Call) (words : LoadWords) (sil
       reported disk disk (Some refusal) report (unopened (Some refusal)) same refl (not_there_cases X disk fault refusal is missing counted)
 
   abbrev unread_report : Archive → Refusal → Option ℕ → Report
-  unread_report archive refusal link = record (consulted (Some refusal) (length archive.history)) { link = link }
+  unread_report archive refusal link = record (read_only (Some refusal) (length archive.history)) { link = link }
 
-  nothing : (old new : D) (archive : Archive) (refusal : Refusal) (link named : Option ℕ) → IsThere call.files words.dump → IsConsulted device old new archive → link ≡ named
+  nothing : (old new : D) (archive : Archive) (refusal : Refusal) (link named : Option ℕ) → IsThere call.files words.dump → IsReadOnly device old new archive → link ≡ named
       → IsNothingLoaded device call words old new named (unread_report archive refusal link)
   nothing old new archive refusal link named there disk is = record {
     input = there;
@@ -115,8 +115,8 @@ module _ {D : Type 0} (device : Device D) (call : Call) (words : LoadWords) (sil
     report_is = ap (unread_report archive refusal) is;
   }
 
-  unread_cases : (old new : D) (archive : Archive) (left : Option (List ℕ)) (refusal : Refusal) (link : Option ℕ) → Gives call.files words.dump left → IsUnread left words.link refusal link
-      → IsConsulted device old new archive → ReadsCounted (Some refusal) call.read_faults call.read_faults' → IsLoadEnding device call words old new (Some refusal) (unread_report archive refusal link)
+  unread_cases : (old new : D) (archive : Archive) (left : Option (List ℕ)) (refusal : Refusal) (link : Option ℕ) → Gives call.files words.dump left → IsDumpRefusal left words.link refusal link
+      → IsReadOnly device old new archive → ReadsCounted (Some refusal) call.read_faults call.read_faults' → IsLoadEnding device call words old new (Some refusal) (unread_report archive refusal link)
   unread_cases old new archive left (refused.Limit DumpOctets most) link gives u disk counted = (
     (u.0, u.1, gives_long call.files words.dump left most gives u.3),
     nothing old new archive (refused.Limit DumpOctets most) link (Some words.link) (gives_there call.files words.dump left gives) disk u.2,
@@ -137,7 +137,7 @@ module _ {D : Type 0} (device : Device D) (call : Call) (words : LoadWords) (sil
 
   -- an archive was opened, and the dump wasn't read to its end
   pub not_read : (old new : D) (archive : Archive) (left : Option (List ℕ)) (refusal : Refusal) (link : Option ℕ) (report : Report)
-      → report ≡ record (consulted (Some refusal) (length archive.history)) { link = link } → Gives call.files words.dump left → IsUnread left words.link refusal link
-      → IsConsulted device old new archive → ReadsCounted (Some refusal) call.read_faults call.read_faults' → IsLoadEnding device call words old new report.refusal report
+      → report ≡ record (read_only (Some refusal) (length archive.history)) { link = link } → Gives call.files words.dump left → IsDumpRefusal left words.link refusal link
+      → IsReadOnly device old new archive → ReadsCounted (Some refusal) call.read_faults call.read_faults' → IsLoadEnding device call words old new report.refusal report
   not_read old new archive left refusal link report same gives u disk counted =
       reported old new (Some refusal) report (unread_report archive refusal link) same refl (unread_cases old new archive left refusal link gives u disk counted)

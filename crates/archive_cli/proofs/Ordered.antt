@@ -15,14 +15,14 @@ use Rattle.outer_traits.specs.declared.whole.ReadFault.{ReadFault as AReadFault}
 use Rattle.outer_traits.specs.declared.whole.ReadFault.TheVariants as fault
 use Rattle.outer_traits.specs.Outside.{Files, IsOneMoreAtMost, one_more}
 use Rattle.outer_traits.specs.Whole.{IsInput, ReadingGiven}
-use Rattle.archive_store.specs.Seen.{Seen}
+use Rattle.archive_store.specs.StoreView.{StoreView}
 use Rattle.archive_cli.specs.declared.report.Report.{Report}
 use Rattle.archive_cli.specs.Expecting.{IsOrEarlier}
 use Rattle.archive_cli.specs.Order.{AreInOrder, Input, IsLoadFault, create_inputs, first_unread, unread_at, values_inputs}
 use Rattle.archive_cli.specs.Job.{SheetWords, ValuesWords}
 use Rattle.archive_cli.specs.Reading.{IsReadRefusal}
-use Rattle.archive_cli.specs.Loading.{IsSession, WentSo}
-use Rattle.archive_cli.specs.Report.{consulted, unopened}
+use Rattle.archive_cli.specs.Loading.{IsLoadRun, IsLoadOutcome}
+use Rattle.archive_cli.specs.Report.{read_only, unopened}
 use Rattle.archive_cli.specs.ValuesExpected.{refusal_of_input}
 use Rattle.archive_cli.proofs.ValuesAnswers.{absent, beyond, fine, has, within}
 
@@ -231,21 +231,21 @@ undumped_fault given given' old new report refusal same back is =
 
 -- it was, and an archive too, but it wasn't read
 pub unread_fault : {D : Type 0} (given given' : ℕ) (old new : D) (report : Report) (refusal : Refusal) (rows : ℕ) (link : Option ℕ) → given' ≡ one_more given
-    → report ≡ record (consulted (Some refusal) rows) { link = link } → IsLoadFault given given' old new report report.refusal
+    → report ≡ record (read_only (Some refusal) rows) { link = link } → IsLoadFault given given' old new report report.refusal
 unread_fault given given' old new report refusal rows link one is =
     subst (λ (r : Report). IsLoadFault given given' old new r r.refusal) (sym is) (cases refusal)
   where
-    cases : (refusal : Refusal) → IsLoadFault given given' old new (record (consulted (Some refusal) rows) { link = link }) (Some refusal)
+    cases : (refusal : Refusal) → IsLoadFault given given' old new (record (read_only (Some refusal) rows) { link = link }) (Some refusal)
     cases ReadFault = inr (one, refl)
     cases other = tt
 
-went_cases : {D : Type 0} (old new : Seen D) (dump : List ℕ) (link : ℕ) (moment : ℤ) (written written' : Option (List ℕ)) (given given' : ℕ) (first last : D) (refusal : Option Refusal)
-    (report : Report) → WentSo old new dump link moment written written' refusal report → IsLoadFault given given' first last report refusal
+went_cases : {D : Type 0} (old new : StoreView D) (dump : List ℕ) (link : ℕ) (moment : ℤ) (written written' : Option (List ℕ)) (given given' : ℕ) (first last : D) (refusal : Option Refusal)
+    (report : Report) → IsLoadOutcome old new dump link moment written written' refusal report → IsLoadFault given given' first last report refusal
 went_cases old new dump link moment written written' given given' first last (Some ReadFault) report went = absurd went.0.cause
 went_cases old new dump link moment written written' given given' first last other report went = tt
 
 -- and the dump was read
-pub session_fault : {D : Type 0} (device : Device D) (first : D) (old : Seen D) (dump : List ℕ) (link : ℕ) (moment : ℤ) (written written' : Option (List ℕ)) (disk : D) (report : Report)
-    (given given' : ℕ) → IsSession device old dump link moment written written' disk report → IsLoadFault given given' first disk report report.refusal
+pub session_fault : {D : Type 0} (device : Device D) (first : D) (old : StoreView D) (dump : List ℕ) (link : ℕ) (moment : ℤ) (written written' : Option (List ℕ)) (disk : D) (report : Report)
+    (given given' : ℕ) → IsLoadRun device old dump link moment written written' disk report → IsLoadFault given given' first disk report report.refusal
 session_fault device first old dump link moment written written' disk report given given' s =
     went_cases old s.new dump link moment written written' given given' first disk report.refusal report s.went

@@ -17,11 +17,11 @@ use Rattle.archive_store.specs.Entries.{Archive}
 use Rattle.archive_cli.specs.declared.ask_sheet.AskSheet.{AskSheet}
 use Rattle.archive_cli.specs.declared.ask_sheet.AskSheet.TheVariants.{Read, Refused}
 use Rattle.archive_cli.specs.declared.report.Report.{Report}
-use Rattle.archive_cli.specs.Call.{Call, IsSilent, WritesCounted}
-use Rattle.archive_cli.specs.Consulted.{IsConsulted, IsOpeningRefusal, IsUntouched}
-use Rattle.archive_cli.specs.QueryEnding.{AreRefusedAsks, IsAskSheet, IsQueryEnding, IsReply, IsSheetReply, IsWaiting, waits}
+use Rattle.archive_cli.specs.Call.{Call, WritesNothing, WritesCounted}
+use Rattle.archive_cli.specs.ReadOnly.{IsReadOnly, IsOpeningRefusal, IsUntouched}
+use Rattle.archive_cli.specs.QueryEnding.{AreRefusedAsks, IsAskSheet, IsQueryEnding, IsReply, IsSheetReply, IsDeferred, is_deferred}
 use Rattle.archive_cli.specs.Reading.{IsReadRefusal}
-use Rattle.archive_cli.specs.Report.{unopened, consulted}
+use Rattle.archive_cli.specs.Report.{unopened, read_only}
 
 -- ---- the sheet wasn't read
 
@@ -33,7 +33,7 @@ IsInputAnswer OutOfMemory = Unit {0}
 IsInputAnswer other = ⊥
 
 unread_cases : {D : Type 0} (device : Device D) (call : Call) (name : List ℕ) (old new : D) (refusal : Refusal) →
-    IsReadRefusal call.files name SheetOctets call.read_faults call.read_faults' refusal → IsSilent call → IsUntouched device old new →
+    IsReadRefusal call.files name SheetOctets call.read_faults call.read_faults' refusal → WritesNothing call → IsUntouched device old new →
     IsQueryEnding device call name old new (Some refusal) (unopened (Some refusal))
 unread_cases device call name old new (Missing lacking) h silent disk = (h, record { silent = silent; disk = disk; report_is = refl })
 unread_cases device call name old new ReadFault h silent disk = (h, record { silent = silent; disk = disk; report_is = refl })
@@ -43,7 +43,7 @@ unread_cases device call name old new OutOfMemory h silent disk = inl (record { 
 unread_cases device call name old new other h silent disk = absurd h
 
 pub query_unread : {D : Type 0} (device : Device D) (call : Call) (name : List ℕ) (old new : D) (refusal : Refusal) (report : Report) → report ≡ unopened (Some refusal) →
-    IsReadRefusal call.files name SheetOctets call.read_faults call.read_faults' refusal → IsSilent call → IsUntouched device old new →
+    IsReadRefusal call.files name SheetOctets call.read_faults call.read_faults' refusal → WritesNothing call → IsUntouched device old new →
     IsQueryEnding device call name old new report.refusal report
 query_unread device call name old new refusal report is h silent disk =
     subst (λ (r : Report). IsQueryEnding device call name old new r.refusal r) (sym is) (unread_cases device call name old new refusal h silent disk)
@@ -64,7 +64,7 @@ read_disk files name faults faults' refusal h e =
 -- ---- no archive was opened
 
 unopened_cases : {D : Type 0} (device : Device D) (call : Call) (name : List ℕ) (old new : D) (refusal : Refusal) → HasSheet call.files name →
-    IsOpeningRefusal device old new refusal → IsSilent call → IsUntouched device old new → IsQueryEnding device call name old new (Some refusal) (unopened (Some refusal))
+    IsOpeningRefusal device old new refusal → WritesNothing call → IsUntouched device old new → IsQueryEnding device call name old new (Some refusal) (unopened (Some refusal))
 unopened_cases device call name old new NoArchive input cause silent disk = record { input = input; cause = cause; silent = silent; disk = disk; report_is = refl }
 unopened_cases device call name old new (Damaged file at) input cause silent disk = record { input = input; cause = cause; silent = silent; disk = disk; report_is = refl }
 unopened_cases device call name old new DiskFault input cause silent disk = record { input = input; cause = cause; silent = silent; disk = disk; report_is = refl }
@@ -72,7 +72,7 @@ unopened_cases device call name old new OutOfMemory input cause silent disk = in
 unopened_cases device call name old new other input cause silent disk = absurd cause
 
 pub query_unopened : {D : Type 0} (device : Device D) (call : Call) (name : List ℕ) (old new : D) (refusal : Refusal) (report : Report) → report ≡ unopened (Some refusal) →
-    HasSheet call.files name → IsOpeningRefusal device old new refusal → IsSilent call → IsUntouched device old new →
+    HasSheet call.files name → IsOpeningRefusal device old new refusal → WritesNothing call → IsUntouched device old new →
     IsQueryEnding device call name old new report.refusal report
 query_unopened device call name old new refusal report is input cause silent disk =
     subst (λ (r : Report). IsQueryEnding device call name old new r.refusal r) (sym is) (unopened_cases device call name old new refusal input cause silent disk)
@@ -80,9 +80,9 @@ query_unopened device call name old new refusal report is input cause silent dis
 -- ---- the asks were answered, or refused
 
 replied_cases : {D : Type 0} (device : Device D) (call : Call) (name : List ℕ) (old new : D) (archive : Archive) (sheet : AskSheet) (refusal : Option Refusal) →
-    IsAskSheet call.files name sheet → IsConsulted device old new archive →
+    IsAskSheet call.files name sheet → IsReadOnly device old new archive →
     IsSheetReply archive.head.mdb archive.history sheet refusal call.written call.written' call.write_faults call.write_faults' →
-    IsQueryEnding device call name old new refusal (consulted refusal (length archive.history))
+    IsQueryEnding device call name old new refusal (read_only refusal (length archive.history))
 replied_cases device call name old new archive (Read asks) None is disk h =
     record { archive = archive; asks = asks; disk = disk; asks_are = is; known = h.0; printed = h.1; report_is = refl }
 replied_cases device call name old new archive (Read asks) (Some WriteFault) is disk h =
@@ -96,13 +96,13 @@ replied_cases device call name old new archive (Read asks) (Some (BadRange from 
 replied_cases device call name old new archive (Read asks) (Some other) is disk h = absurd h
 replied_cases device call name old new archive (Refused refused) refusal is disk h = rw h.0 (refused_there refused is h.1)
   where
-    refused_there : (r : Refusal) → AreRefusedAsks call.files name r → IsSilent call → IsQueryEnding device call name old new (Some r) (consulted (Some r) (length archive.history))
+    refused_there : (r : Refusal) → AreRefusedAsks call.files name r → WritesNothing call → IsQueryEnding device call name old new (Some r) (read_only (Some r) (length archive.history))
     refused_there (BadSheet sheet row rule) bad silent = record { archive = archive; disk = disk; cause = inl bad; silent = silent; report_is = refl }
     refused_there (Limit Asks number) bad silent = record { archive = archive; disk = disk; cause = inl bad; silent = silent; report_is = refl }
     refused_there other bad silent = absurd (let e = bad.0 in cc)
 
 pub query_replied : {D : Type 0} (device : Device D) (call : Call) (name : List ℕ) (old new : D) (archive : Archive) (sheet : AskSheet) (refusal : Option Refusal) (report : Report) →
-    report ≡ consulted refusal (length archive.history) → IsAskSheet call.files name sheet → IsConsulted device old new archive →
+    report ≡ read_only refusal (length archive.history) → IsAskSheet call.files name sheet → IsReadOnly device old new archive →
     IsSheetReply archive.head.mdb archive.history sheet refusal call.written call.written' call.write_faults call.write_faults' →
     IsQueryEnding device call name old new report.refusal report
 query_replied device call name old new archive sheet refusal report e is disk h =
@@ -120,14 +120,14 @@ IsReplyAnswer (Some (BadSheet sheet row rule)) = Unit {0}
 IsReplyAnswer (Some (Limit which number)) = Unit {0}
 IsReplyAnswer (Some other) = ⊥
 
-waiting_answer : (refusal : Refusal) → waits refusal ≡ true → IsReplyAnswer (Some refusal)
-waiting_answer (BadSheet sheet row rule) e = tt
-waiting_answer (Limit which number) e = tt
-waiting_answer WriteFault e = tt
-waiting_answer OutOfMemory e = tt
-waiting_answer UnknownParameter e = tt
-waiting_answer (BadRange from to) e = tt
-waiting_answer other e = absurd (cc (e))
+deferred_answer : (refusal : Refusal) → is_deferred refusal ≡ true → IsReplyAnswer (Some refusal)
+deferred_answer (BadSheet sheet row rule) e = tt
+deferred_answer (Limit which number) e = tt
+deferred_answer WriteFault e = tt
+deferred_answer OutOfMemory e = tt
+deferred_answer UnknownParameter e = tt
+deferred_answer (BadRange from to) e = tt
+deferred_answer other e = absurd (cc (e))
 
 reply_counts : (db : Database) (history : List Item) (asks : List Ask) (refusal : Option Refusal) (before now : Option (List ℕ)) (faults faults' : ℕ) →
     IsReply db history asks refusal before now faults faults' → IsReplyAnswer refusal × WritesCounted refusal faults faults'
@@ -138,14 +138,14 @@ reply_counts db history asks (Some UnknownParameter) before now faults faults' h
 reply_counts db history asks (Some (BadRange from to)) before now faults faults' h = (tt, h.2)
 reply_counts db history asks (Some other) before now faults faults' h = absurd h
 
-waiting_counts : (refusal : Refusal) (faults faults' : ℕ) → waits refusal ≡ true → faults' ≡ faults → WritesCounted (Some refusal) faults faults'
-waiting_counts WriteFault faults faults' e same = absurd (cc (e))
-waiting_counts other faults faults' e same = same
+deferred_counts : (refusal : Refusal) (faults faults' : ℕ) → is_deferred refusal ≡ true → faults' ≡ faults → WritesCounted (Some refusal) faults faults'
+deferred_counts WriteFault faults faults' e same = absurd (cc (e))
+deferred_counts other faults faults' e same = same
 
-pub sheet_counts : (db : Database) (history : List Item) (sheet : AskSheet) (refusal : Option Refusal) (before now : Option (List ℕ)) (faults faults' : ℕ) → IsWaiting sheet →
+pub sheet_counts : (db : Database) (history : List Item) (sheet : AskSheet) (refusal : Option Refusal) (before now : Option (List ℕ)) (faults faults' : ℕ) → IsDeferred sheet →
     IsSheetReply db history sheet refusal before now faults faults' → IsReplyAnswer refusal × WritesCounted refusal faults faults'
 sheet_counts db history (Read asks) refusal before now faults faults' w h = reply_counts db history asks refusal before now faults faults' h
-sheet_counts db history (Refused refused) refusal before now faults faults' w h = rw h.0 (waiting_answer refused w, waiting_counts refused faults faults' w h.2)
+sheet_counts db history (Refused refused) refusal before now faults faults' w h = rw h.0 (deferred_answer refused w, deferred_counts refused faults faults' w h.2)
 
 pub reply_reads : (refusal : Option Refusal) → IsReplyAnswer refusal → (faults : ℕ) → ReadsCounted refusal faults faults
 reply_reads None h faults = refl
@@ -161,7 +161,7 @@ there_read : (o : Option (List ℕ)) (P : List ℕ → Type 0) → ((octets : Li
 there_read None P f h = h
 there_read (Some octets) P f h = f octets h
 
-short_refused : (refusal : Refusal) (octets : List ℕ) → waits refusal ≡ true → IsAsksRefusal (Some octets) 0 0 refusal → length octets ≤ limit_of SheetOctets
+short_refused : (refusal : Refusal) (octets : List ℕ) → is_deferred refusal ≡ true → IsAsksRefusal (Some octets) 0 0 refusal → length octets ≤ limit_of SheetOctets
 short_refused (BadSheet sheet row rule) octets w h = h.1.0
 short_refused (Limit Asks number) octets w h = h.1.0
 short_refused other octets w h = absurd (cc (w))

@@ -42,7 +42,7 @@ sheets_unread files parameters calibrations containers faults faults' given give
 
 -- ---- an input that wasn't opened
 
--- `Missing` comes exactly where there's none of the name, where the inputs are told
+-- `Missing` comes exactly where there's none of the name, where the inputs are known
 abbrev OnlyMissing : Type 0 → Option Files → List ℕ → OpenFault → Type 0
 OnlyMissing X files name fault = IfSome files (λ all. IsErrOf {T = X} (Err fault) unopened.Missing ↔ IsNone (get all name))
 

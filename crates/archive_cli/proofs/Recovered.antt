@@ -10,15 +10,15 @@ use Rattle.archive_store.specs.Stands.{StandsFor, IsDamagedAt}
 use Rattle.archive_store.proofs.Exact.{stands_not_damaged, damaged_once, none_not_damaged, none_not_stands}
 use Rattle.archive_cli.specs.declared.report.Report.{Report}
 use Rattle.archive_cli.specs.ArchiveExpected.{IsRecoverExpected, NoDiskFault}
-use Rattle.archive_cli.specs.Call.{Call, IsSilent, WritesCounted}
-use Rattle.archive_cli.specs.Consulted.{DiskFailed, IsConsulted, IsOpeningRefusal, IsUntouched}
+use Rattle.archive_cli.specs.Call.{Call, WritesNothing, WritesCounted}
+use Rattle.archive_cli.specs.ReadOnly.{DiskFailed, IsReadOnly, IsOpeningRefusal, IsUntouched}
 use Rattle.archive_cli.specs.Expecting.{IsOrMemory, NoFault}
 use Rattle.archive_cli.specs.Printing.{IsFinished}
 use Rattle.archive_cli.specs.RecoverEnding.{IsRecoverEnding, recover_line}
-use Rattle.archive_cli.specs.Report.{unopened, consulted, IsConsulting}
-use Rattle.archive_cli.proofs.Told.{not_risen}
+use Rattle.archive_cli.specs.Report.{unopened, read_only, IsReadOnlyReport}
+use Rattle.archive_cli.proofs.Known.{not_risen}
 
-not_recovered_cases : {D : Type 0} (device : Device D) (call : Call) (old new : D) (refusal : Refusal) → IsOpeningRefusal device old new refusal → IsSilent call →
+not_recovered_cases : {D : Type 0} (device : Device D) (call : Call) (old new : D) (refusal : Refusal) → IsOpeningRefusal device old new refusal → WritesNothing call →
     IsUntouched device old new → IsRecoverEnding device call old new (Some refusal) (unopened (Some refusal))
 not_recovered_cases device call old new NoArchive cause silent disk = record { cause = cause; silent = silent; disk = disk; report_is = refl }
 not_recovered_cases device call old new (Damaged file at) cause silent disk = record { cause = cause; silent = silent; disk = disk; report_is = refl }
@@ -28,34 +28,34 @@ not_recovered_cases device call old new other cause silent disk = absurd cause
 
 -- no archive was opened
 pub not_recovered : {D : Type 0} (device : Device D) (call : Call) (old new : D) (refusal : Refusal) (report : Report) → report ≡ unopened (Some refusal) →
-    IsOpeningRefusal device old new refusal → IsSilent call → IsUntouched device old new → IsRecoverEnding device call old new report.refusal report
+    IsOpeningRefusal device old new refusal → WritesNothing call → IsUntouched device old new → IsRecoverEnding device call old new report.refusal report
 not_recovered device call old new refusal report is cause silent disk =
     subst (λ (r : Report). IsRecoverEnding device call old new r.refusal r) (sym is) (not_recovered_cases device call old new refusal cause silent disk)
 
-recovered_cases : {D : Type 0} (device : Device D) (call : Call) (old new : D) (refusal : Option Refusal) (archive : Archive) → IsConsulted device old new archive →
+recovered_cases : {D : Type 0} (device : Device D) (call : Call) (old new : D) (refusal : Option Refusal) (archive : Archive) → IsReadOnly device old new archive →
     IsFinished refusal call.written call.written' (recover_line (length archive.history)) → WritesCounted refusal call.write_faults call.write_faults' →
-    IsRecoverEnding device call old new refusal (consulted refusal (length archive.history))
+    IsRecoverEnding device call old new refusal (read_only refusal (length archive.history))
 recovered_cases device call old new None archive disk text count = record { archive = archive; disk = disk; printed = text; report_is = refl }
 recovered_cases device call old new (Some WriteFault) archive disk text count = (count, record { archive = archive; disk = disk; printed = text; report_is = refl })
 recovered_cases device call old new (Some other) archive disk text count = absurd text
 
 -- an archive was opened
 pub recovered : {D : Type 0} (device : Device D) (call : Call) (old new : D) (refusal : Option Refusal) (archive : Archive) (report : Report) →
-    report ≡ consulted refusal (length archive.history) → IsConsulted device old new archive →
+    report ≡ read_only refusal (length archive.history) → IsReadOnly device old new archive →
     IsFinished refusal call.written call.written' (recover_line (length archive.history)) → WritesCounted refusal call.write_faults call.write_faults' →
     IsRecoverEnding device call old new report.refusal report
 recovered device call old new refusal archive report is disk text count =
     subst (λ (r : Report). IsRecoverEnding device call old new r.refusal r) (sym is) (recovered_cases device call old new refusal archive disk text count)
 
-consulting_cases : (refusal : Option Refusal) (rows : ℕ) → IsConsulting refusal (consulted refusal rows)
-consulting_cases None rows = (rows, refl)
-consulting_cases (Some refusal) rows = inr (rows, refl)
+read_only_cases : (refusal : Option Refusal) (rows : ℕ) → IsReadOnlyReport refusal (read_only refusal rows)
+read_only_cases None rows = (rows, refl)
+read_only_cases (Some refusal) rows = inr (rows, refl)
 
-pub consulting : (refusal : Option Refusal) (rows : ℕ) (report : Report) → report ≡ consulted refusal rows → IsConsulting report.refusal report
-consulting refusal rows report is = subst (λ (r : Report). IsConsulting r.refusal r) (sym is) (consulting_cases refusal rows)
+pub read_only_report : (refusal : Option Refusal) (rows : ℕ) (report : Report) → report ≡ read_only refusal rows → IsReadOnlyReport report.refusal report
+read_only_report refusal rows report is = subst (λ (r : Report). IsReadOnlyReport r.refusal r) (sym is) (read_only_cases refusal rows)
 
-pub not_consulting : (refusal : Refusal) (report : Report) → report ≡ unopened (Some refusal) → IsConsulting report.refusal report
-not_consulting refusal report is = subst (λ (r : Report). IsConsulting r.refusal r) (sym is) (inl refl)
+pub not_read_only : (refusal : Refusal) (report : Report) → report ≡ unopened (Some refusal) → IsReadOnlyReport report.refusal report
+not_read_only refusal report is = subst (λ (r : Report). IsReadOnlyReport r.refusal r) (sym is) (inl refl)
 
 -- a text that was printed, or not, is of no input
 pub finished_reads : (refusal : Option Refusal) (before now : Option (List ℕ)) (text : List ℕ) → IsFinished refusal before now text → (faults : ℕ) → ReadsCounted refusal faults faults
@@ -71,39 +71,39 @@ finished_disk (Some other) before now text h is = absurd h
 
 -- a call of the disk that failed
 pub not_raised : {D : Type 0} (device : Device D) (old new : D) → NoDiskFault device old new → DiskFailed device old new → ⊥
-not_raised device old new calm failed =
-    let up : raised (device.fault_count old) ≤ device.fault_count new = failed in omega (arith, up, calm.0, calm.1)
+not_raised device old new no_failed_write failed =
+    let up : raised (device.fault_count old) ≤ device.fault_count new = failed in omega (arith, up, no_failed_write.0, no_failed_write.1)
 
 none_or : {D : Type 0} (device : Device D) (call : Call) (old new : D) (ending : Option Refusal) (report : Report) → IsRecoverEnding device call old new ending report →
     NoDiskFault device old new → HoldsNone (device.reads old 0) → IsOrMemory ending (Some NoArchive)
-none_or device call old new None report h calm none = absurd (none_not_stands (device.reads old) h.archive none h.disk.stands)
-none_or device call old new (Some WriteFault) report h calm none = absurd (none_not_stands (device.reads old) h.1.archive none h.1.disk.stands)
-none_or device call old new (Some NoArchive) report h calm none = inl refl
-none_or device call old new (Some (Damaged file at)) report h calm none = absurd (none_not_damaged (device.reads old) at none h.cause.1)
-none_or device call old new (Some DiskFault) report h calm none = absurd (not_raised device old new calm h.cause)
-none_or device call old new (Some OutOfMemory) report h calm none = inr refl
-none_or device call old new (Some other) report h calm none = absurd h.cause
+none_or device call old new None report h no_failed_write none = absurd (none_not_stands (device.reads old) h.archive none h.disk.stands)
+none_or device call old new (Some WriteFault) report h no_failed_write none = absurd (none_not_stands (device.reads old) h.1.archive none h.1.disk.stands)
+none_or device call old new (Some NoArchive) report h no_failed_write none = inl refl
+none_or device call old new (Some (Damaged file at)) report h no_failed_write none = absurd (none_not_damaged (device.reads old) at none h.cause.1)
+none_or device call old new (Some DiskFault) report h no_failed_write none = absurd (not_raised device old new no_failed_write h.cause)
+none_or device call old new (Some OutOfMemory) report h no_failed_write none = inr refl
+none_or device call old new (Some other) report h no_failed_write none = absurd h.cause
 
 damaged_or : {D : Type 0} (device : Device D) (call : Call) (old new : D) (ending : Option Refusal) (report : Report) → IsRecoverEnding device call old new ending report →
     (at : ℕ) → NoDiskFault device old new → IsDamagedAt (device.reads old) at → IsOrMemory ending (Some (Damaged 0 at))
-damaged_or device call old new None report h at calm bad = absurd (stands_not_damaged (device.reads old) h.archive at h.disk.stands bad)
-damaged_or device call old new (Some WriteFault) report h at calm bad = absurd (stands_not_damaged (device.reads old) h.1.archive at h.1.disk.stands bad)
-damaged_or device call old new (Some NoArchive) report h at calm bad = absurd (none_not_damaged (device.reads old) at h.cause bad)
-damaged_or device call old new (Some (Damaged file there)) report h at calm bad =
+damaged_or device call old new None report h at no_failed_write bad = absurd (stands_not_damaged (device.reads old) h.archive at h.disk.stands bad)
+damaged_or device call old new (Some WriteFault) report h at no_failed_write bad = absurd (stands_not_damaged (device.reads old) h.1.archive at h.1.disk.stands bad)
+damaged_or device call old new (Some NoArchive) report h at no_failed_write bad = absurd (none_not_damaged (device.reads old) at h.cause bad)
+damaged_or device call old new (Some (Damaged file there)) report h at no_failed_write bad =
     let zero = h.cause.0 in let same = damaged_once (device.reads old) there at h.cause.1 bad in inl cc
-damaged_or device call old new (Some DiskFault) report h at calm bad = absurd (not_raised device old new calm h.cause)
-damaged_or device call old new (Some OutOfMemory) report h at calm bad = inr refl
-damaged_or device call old new (Some other) report h at calm bad = absurd h.cause
+damaged_or device call old new (Some DiskFault) report h at no_failed_write bad = absurd (not_raised device old new no_failed_write h.cause)
+damaged_or device call old new (Some OutOfMemory) report h at no_failed_write bad = inr refl
+damaged_or device call old new (Some other) report h at no_failed_write bad = absurd h.cause
 
 stands_or : {D : Type 0} (device : Device D) (call : Call) (old new : D) (ending : Option Refusal) (report : Report) → IsRecoverEnding device call old new ending report →
     (archive : Archive) → NoDiskFault device old new → NoFault call.write_faults call.write_faults' → StandsFor (device.reads old) archive → IsOrMemory ending None
-stands_or device call old new None report h archive calm quiet stands = inl refl
-stands_or device call old new (Some WriteFault) report h archive calm quiet stands = absurd (not_risen call.write_faults call.write_faults' quiet h.0)
-stands_or device call old new (Some NoArchive) report h archive calm quiet stands = absurd (none_not_stands (device.reads old) archive h.cause stands)
-stands_or device call old new (Some (Damaged file at)) report h archive calm quiet stands = absurd (stands_not_damaged (device.reads old) archive at stands h.cause.1)
-stands_or device call old new (Some DiskFault) report h archive calm quiet stands = absurd (not_raised device old new calm h.cause)
-stands_or device call old new (Some OutOfMemory) report h archive calm quiet stands = inr refl
-stands_or device call old new (Some other) report h archive calm quiet stands = absurd h.cause
+stands_or device call old new None report h archive no_failed_write no_fault stands = inl refl
+stands_or device call old new (Some WriteFault) report h archive no_failed_write no_fault stands = absurd (not_risen call.write_faults call.write_faults' no_fault h.0)
+stands_or device call old new (Some NoArchive) report h archive no_failed_write no_fault stands = absurd (none_not_stands (device.reads old) archive h.cause stands)
+stands_or device call old new (Some (Damaged file at)) report h archive no_failed_write no_fault stands = absurd (stands_not_damaged (device.reads old) archive at stands h.cause.1)
+stands_or device call old new (Some DiskFault) report h archive no_failed_write no_fault stands = absurd (not_raised device old new no_failed_write h.cause)
+stands_or device call old new (Some OutOfMemory) report h archive no_failed_write no_fault stands = inr refl
+stands_or device call old new (Some other) report h archive no_failed_write no_fault stands = absurd h.cause
 
 -- the answer that has to come does
 pub recover_expected : {D : Type 0} (device : Device D) (call : Call) (old new : D) (ending : Option Refusal) (report : Report) → IsRecoverEnding device call old new ending report →

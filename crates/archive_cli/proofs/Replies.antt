@@ -13,9 +13,9 @@ use Rattle.outer_traits.specs.Outside.{WritesSome}
 use Rattle.archive_cli.specs.AnswerText.{ask_refusal, ask_text, asks_refusal, asks_text, request_refusal}
 use Rattle.archive_cli.specs.Call.{WritesCounted}
 use Rattle.archive_cli.specs.Parameter.{number_named}
-use Rattle.archive_cli.specs.Printing.{HasMoved, IsFinished}
+use Rattle.archive_cli.specs.Printing.{IsBuffered, IsFinished}
 use Rattle.archive_cli.specs.QueryEnding.{IsReply}
-use Rattle.archive_cli.proofs.Pieces.{moved_all, wrote_then}
+use Rattle.archive_cli.proofs.LineBuffers.{buffered_all, wrote_then}
 
 or_none : (o p : Option Refusal) → or_else o p ≡ None → (o ≡ None) × (p ≡ None)
 or_none None p e = (refl, e)
@@ -26,32 +26,32 @@ pub first_known : (db : Database) (asks : List Ask) (ask : Ask) (rest : List Ask
     (ask_refusal db ask ≡ None) × (asks_refusal db rest ≡ None)
 first_known db asks ask rest e known = or_none (ask_refusal db ask) (asks_refusal db rest) (ap (asks_refusal db) (sym e) ∙ known)
 
--- the text of the first ask, beside what is held
+-- the text of the first ask, beside what is buffered
 pub next_text : (db : Database) (history : List Item) (k : ℕ) (first now : Option (List ℕ)) (all held : List ℕ) (asks : List Ask) (ask : Ask) (rest : List Ask) → asks ≡ ask ∷ rest →
-    HasMoved first now all (held ++ asks_text db history k asks) → HasMoved first now all ((held ++ ask_text db history k ask) ++ asks_text db history (k + 1) rest)
+    IsBuffered first now all (held ++ asks_text db history k asks) → IsBuffered first now all ((held ++ ask_text db history k ask) ++ asks_text db history (k + 1) rest)
 next_text db history k first now all held asks ask rest e h =
     let more : suc k ≡ k + 1 = omega arith in
     let text : held ++ asks_text db history k asks ≡ (held ++ ask_text db history k ask) ++ asks_text db history (k + 1) rest =
     ap (λ (l : List Ask). held ++ asks_text db history k l) e
     ∙ sym (append_assoc held (ask_text db history k ask) (asks_text db history (suc k) rest))
     ∙ ap (λ (n : ℕ). (held ++ ask_text db history k ask) ++ asks_text db history n rest) more in
-    subst (λ (t : List ℕ). HasMoved first now all t) text h
+    subst (λ (t : List ℕ). IsBuffered first now all t) text h
 
 -- the texts of all asks were printed, or a front of them
 reply_cases : (db : Database) (history : List Item) (asks : List Ask) (refusal : Option Refusal) (before mid now : Option (List ℕ)) (left : List ℕ) (faults faults' : ℕ) →
-    asks_refusal db asks ≡ None → HasMoved before mid (asks_text db history 1 asks) left → IsFinished refusal mid now left → WritesCounted refusal faults faults' →
+    asks_refusal db asks ≡ None → IsBuffered before mid (asks_text db history 1 asks) left → IsFinished refusal mid now left → WritesCounted refusal faults faults' →
     IsReply db history asks refusal before now faults faults'
-reply_cases db history asks None before mid now left faults faults' known moved all count =
-    (known, moved_all before mid now (asks_text db history 1 asks) left moved all, count)
-reply_cases db history asks (Some WriteFault) before mid now left faults faults' known moved some count =
-    (known, subst (WritesSome before now) (sym moved.1) (wrote_then before mid now moved.0 left moved.2 some), count)
-reply_cases db history asks (Some other) before mid now left faults faults' known moved none count = absurd none
+reply_cases db history asks None before mid now left faults faults' known buffered all count =
+    (known, buffered_all before mid now (asks_text db history 1 asks) left buffered all, count)
+reply_cases db history asks (Some WriteFault) before mid now left faults faults' known buffered some count =
+    (known, subst (WritesSome before now) (sym buffered.1) (wrote_then before mid now buffered.0 left buffered.2 some), count)
+reply_cases db history asks (Some other) before mid now left faults faults' known buffered none count = absurd none
 
 pub finished_reply : (db : Database) (history : List Item) (asks : List Ask) (refusal : Option Refusal) (before mid now : Option (List ℕ)) (left : List ℕ) (faults between faults' : ℕ) →
-    asks_refusal db asks ≡ None → HasMoved before mid (asks_text db history 1 asks) left → IsFinished refusal mid now left → between ≡ faults →
+    asks_refusal db asks ≡ None → IsBuffered before mid (asks_text db history 1 asks) left → IsFinished refusal mid now left → between ≡ faults →
     WritesCounted refusal between faults' → IsReply db history asks refusal before now faults faults'
-finished_reply db history asks refusal before mid now left faults between faults' known moved finished same count =
-    reply_cases db history asks refusal before mid now left faults faults' known moved finished (subst (λ (n : ℕ). WritesCounted refusal n faults') same count)
+finished_reply db history asks refusal before mid now left faults between faults' known buffered finished same count =
+    reply_cases db history asks refusal before mid now left faults faults' known buffered finished (subst (λ (n : ℕ). WritesCounted refusal n faults') same count)
 
 -- ---- the refusals of asks
 

@@ -20,8 +20,8 @@ use Rattle.container_extract.specs.Extraction.{cell_of}
 use Rattle.archive_store.specs.declared.head.Head.{Head}
 use Rattle.archive_store.specs.declared.plan.Plan.{Plan}
 use Rattle.archive_store.specs.Plans.{IsPlan, IsPlanRefusal, LacksParameter, rows_of_parts}
-use Rattle.archive_cli.specs.declared.answer.Found.{Found}
-use Rattle.archive_cli.specs.AnswerText.{IsFound, answer_lines, answered, ask_text, at_most, request_refusal, turned}
+use Rattle.archive_cli.specs.declared.answer.ParameterAnswer.{ParameterAnswer}
+use Rattle.archive_cli.specs.AnswerText.{IsParameterAnswer, answer_lines, answered, ask_text, truncated, request_refusal, in_asked_order}
 use Rattle.archive_cli.specs.Parameter.{number_named}
 
 -- the number of a parameter is one of the database's
@@ -64,16 +64,16 @@ plan_number head request db known same none = named head request known (ap (λ (
 
 -- the cells over a plan's rows are the answer over the history
 plan_cells : (head : Head) (history : List Item) (request : Request) (plan : Plan) (number : ℕ) (cells : List Cell) → IsPlan head history request.from request.to plan →
-    cells ≡ at_most request.limit (turned request.descending (filter_map (cell_of (arc_value plan.mdb) number) (rows_of_parts plan.parts))) →
+    cells ≡ truncated request.limit (in_asked_order request.descending (filter_map (cell_of (arc_value plan.mdb) number) (rows_of_parts plan.parts))) →
     cells ≡ answered head.mdb number request (rows_in history)
 plan_cells head history request plan number cells p e =
-    e ∙ ap (λ (d : Database). at_most request.limit (turned request.descending (filter_map (cell_of d number) (rows_of_parts plan.parts)))) p.mdb
-    ∙ ap (λ (rows : List Row). at_most request.limit (turned request.descending (filter_map (cell_of head.mdb number) rows))) p.rows
+    e ∙ ap (λ (d : Database). truncated request.limit (in_asked_order request.descending (filter_map (cell_of d number) (rows_of_parts plan.parts)))) p.mdb
+    ∙ ap (λ (rows : List Row). truncated request.limit (in_asked_order request.descending (filter_map (cell_of head.mdb number) rows))) p.rows
 
-pub plan_found : (head : Head) (history : List Item) (request : Request) (plan : Plan) (number : ℕ) (found : Found) → IsPlan head history request.from request.to plan →
+pub plan_found : (head : Head) (history : List Item) (request : Request) (plan : Plan) (number : ℕ) (found : ParameterAnswer) → IsPlan head history request.from request.to plan →
     found.mdb ≡ plan.mdb → found.number ≡ number → found.answer.front ≡ plan.front → number_named (arc_value plan.mdb) request.parameter ≡ Some number →
-    found.answer.cells ≡ at_most request.limit (turned request.descending (filter_map (cell_of (arc_value plan.mdb) number) (rows_of_parts plan.parts))) →
-    IsFound head.mdb history request found
+    found.answer.cells ≡ truncated request.limit (in_asked_order request.descending (filter_map (cell_of (arc_value plan.mdb) number) (rows_of_parts plan.parts))) →
+    IsParameterAnswer head.mdb history request found
 plan_found head history request plan number found p mdb is front known cells = record {
   mdb = ap (λ m. arc_value m) mdb ∙ p.mdb;
   number = ap (λ (d : Database). number_named d request.parameter) (sym p.mdb) ∙ known ∙ ap (λ (n : ℕ). Some n) (sym is);
@@ -82,7 +82,7 @@ plan_found head history request plan number found p mdb is front known cells = r
 }
 
 -- the lines of what was found are the text of the ask
-pub found_text : (db : Database) (history : List Item) (k : ℕ) (request : Request) (found : Found) → IsFound db history request found →
+pub found_text : (db : Database) (history : List Item) (k : ℕ) (request : Request) (found : ParameterAnswer) → IsParameterAnswer db history request found →
     answer_lines k found.answer.front (arc_value found.mdb) found.number found.answer.cells ≡ ask_text db history k (Values request)
 found_text db history k request found f =
     ap (λ (front : ℕ). answer_lines k front (arc_value found.mdb) found.number found.answer.cells) f.front
@@ -90,7 +90,7 @@ found_text db history k request found f =
     ∙ ap (λ (cells : List Cell). answer_lines k (length history) db found.number cells) f.cells
     ∙ ap (λ (o : Option ℕ). answer_lines k (length history) db (unwrap_or o 0) (answered db (unwrap_or o 0) request (rows_in history))) (sym f.number)
 
-pub found_within : (db : Database) (history : List Item) (request : Request) (found : Found) → IsFound db history request found → found.number < length (arc_value found.mdb).parameters
+pub found_within : (db : Database) (history : List Item) (request : Request) (found : ParameterAnswer) → IsParameterAnswer db history request found → found.number < length (arc_value found.mdb).parameters
 found_within db history request found f =
     let within = named_within db request.parameter found.number f.number in
     let same = ap (λ (d : Database). length d.parameters) f.mdb in omega (arith, within, same)

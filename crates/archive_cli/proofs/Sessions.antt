@@ -10,7 +10,7 @@ use Rattle.arch_types.specs.declared.row.Row.{Row}
 use Rattle.arch_types.specs.Dump.{IsDump}
 use Rattle.arch_types.specs.History.{ingested}
 use Rattle.archive_core.specs.declared.fills.Fill.TheVariants.{Fault}
-use Rattle.archive_core.specs.Fills.{held, reopened}
+use Rattle.archive_core.specs.Fills.{rows_of_faults, reopened}
 use Rattle.archive_core.specs.Items.{Item, items_of}
 use Rattle.archive_core.specs.Outcomes.{fresh_of}
 use Rattle.archive_core.proofs.Outcomes.{fresh_added}
@@ -18,7 +18,7 @@ use Rattle.outer_traits.specs.Whole.{IsInput}
 use Rattle.archive_store.specs.declared.head.Head.{Head}
 use Rattle.archive_store.specs.Entries.{archive}
 use Rattle.archive_store.specs.Limits.{IsLimit}
-use Rattle.archive_store.specs.Seen.{Seen, archive_of, KeepsFaults, KeepsImages}
+use Rattle.archive_store.specs.StoreView.{StoreView, archive_of, FaultInvariant, CrashInvariant}
 use Rattle.archive_store.specs.Stands.{StandsFor}
 use Rattle.archive_cli.specs.declared.report.Report.{Report}
 use Rattle.archive_cli.specs.Batches.{batch_at, rows_of_link, HasIngested, IsStopped}
@@ -26,15 +26,15 @@ use Rattle.archive_cli.specs.Call.{Call, IsMomentOf, WritesCounted}
 use Rattle.archive_cli.specs.Job.{LoadWords}
 use Rattle.archive_cli.specs.LoadEnding as ending
 use Rattle.archive_cli.specs.LoadEnding.{link_rows, new_rows_at, nothing_left, batch_left, IsLoad, IsLoadEnding, IsWhole}
-use Rattle.archive_cli.specs.Loading.{IsClosed, IsDone, IsReopened, IsSession, WentSo}
-use Rattle.archive_cli.specs.Received.{dump_limit, Received}
+use Rattle.archive_cli.specs.Loading.{IsClosed, IsDone, IsReopened, IsLoadRun, IsLoadOutcome}
+use Rattle.archive_cli.specs.ReadDump.{dump_limit, ReadDump}
 use Rattle.archive_cli.specs.Report.{loaded, IsLoadReport}
-use Rattle.archive_cli.specs.Settled.{FailedAtMostOnce, IsSettled}
+use Rattle.archive_cli.specs.Durable.{FailedAtMostOnce, IsDurableAs}
 use Rattle.archive_cli.proofs.Arrived.{rows_are}
-use Rattle.archive_cli.proofs.During.{failed_again, has_table, load_images, settled, settled_again, left, more_faults, IsOpened}
+use Rattle.archive_cli.proofs.During.{failed_again, has_table, load_images, durable, durable_again, left, more_faults, IsOpened}
 
 -- a store that was opened for the words, and the dump that was read for it
-pub record IsReady {D : Type 0} (device : Device D) (call : Call) (words : LoadWords) (disk : D) (store : Seen D) (dump : List ℕ) (moment : ℤ) : Type 0 where
+pub record IsReady {D : Type 0} (device : Device D) (call : Call) (words : LoadWords) (disk : D) (store : StoreView D) (dump : List ℕ) (moment : ℤ) : Type 0 where
   pub opened : IsOpened device disk store
   pub later : device.fault_count disk ≤ device.fault_count store.opened
   pub link : words.link ≤ 255
@@ -51,15 +51,15 @@ record Failing (dump : List ℕ) : Type 0 where
   pub parts : IsDump dump packets rest
   pub within : place ≤ length packets
 
-module _ {D : Type 0} (device : Device D) (tells : IsTrue device.tells) (call : Call) (words : LoadWords) (disk : D) (old new : Seen D) (dump : List ℕ) (moment : ℤ) (ready : IsReady device call words disk old dump moment) (keeps : KeepsImages device new)
-    (faults : KeepsFaults device new) where
+module _ {D : Type 0} (device : Device D) (is_transparent : IsTrue device.is_transparent) (call : Call) (words : LoadWords) (disk : D) (old new : StoreView D) (dump : List ℕ) (moment : ℤ) (ready : IsReady device call words disk old dump moment) (keeps : CrashInvariant device new)
+    (faults : FaultInvariant device new) where
   some : 0 < length old.head.tables
   some = has_table (device.reads disk) (archive_of old) ready.opened.stands
 
   rows_same : (packets : List (List ℕ)) → rows_of_link old.head words.link moment packets ≡ link_rows old.head.mdb words.link moment packets
   rows_same packets = rows_are old.head words.link moment packets some
 
-  abbrev received_of : (packets : List (List ℕ)) (rest : List ℕ) → IsDump dump packets rest → Received call words.dump
+  abbrev received_of : (packets : List (List ℕ)) (rest : List ℕ) → IsDump dump packets rest → ReadDump call words.dump
   received_of packets rest parts = record {
     dump = dump;
     moment = moment;
@@ -72,7 +72,7 @@ module _ {D : Type 0} (device : Device D) (tells : IsTrue device.tells) (call : 
   }
 
   abbrev run_of : (in_hand : List Row → List (List Item)) (packets : List (List ℕ)) (rest : List ℕ) (place : ℕ) → IsDump dump packets rest → place ≤ length packets
-      → HasIngested old new words.link moment (take place packets) → held new.fills ≡ in_hand (new_rows_at (archive_of old) words.link moment packets place)
+      → HasIngested old new words.link moment (take place packets) → rows_of_faults new.fills ≡ in_hand (new_rows_at (archive_of old) words.link moment packets place)
       → IsLoad device call words in_hand disk new.disk
   run_of in_hand packets rest place parts within done holds = record {
     before = archive_of old;
@@ -86,8 +86,8 @@ module _ {D : Type 0} (device : Device D) (tells : IsTrue device.tells) (call : 
     images = load_images device disk old new ready.opened (in_hand (new_rows_at (archive_of old) words.link moment packets place)) holds words.link moment (take place packets) done keeps;
   }
 
-  calm_now : new.fills ≡ [] → new.head ≡ old.head → IsSettled device new.disk old.head new.history
-  calm_now none head = subst (λ (h : Head). IsSettled device new.disk h new.history) head (settled device new tells keeps none)
+  no_failed_write_now : new.fills ≡ [] → new.head ≡ old.head → IsDurableAs device new.disk old.head new.history
+  no_failed_write_now none head = subst (λ (h : Head). IsDurableAs device new.disk h new.history) head (durable device new is_transparent keeps none)
 
   -- its journal has one record for the head, and each other one has a row
   few_now : new.records + length old.history ≤ old.records + length new.history → new.records ≤ 1 + length new.history
@@ -99,19 +99,19 @@ module _ {D : Type 0} (device : Device D) (tells : IsTrue device.tells) (call : 
   abbrev whole_of : (done : IsDone old new dump words.link moment) → IsWhole device call words disk new.disk
   whole_of done =
       let i = done.ingested in record {
-        run = run_of nothing_left i.packets (drop done.whole.at dump) (length i.packets) i.parts (omega arith) (all_done i.packets i.done) (ap held i.fills);
+        run = run_of nothing_left i.packets (drop done.whole.at dump) (length i.packets) i.parts (omega arith) (all_done i.packets i.done) (ap rows_of_faults i.fills);
         all = refl;
-        settled = calm_now i.fills i.done.head;
+        durable = no_failed_write_now i.fills i.done.head;
       }
 
-  abbrev calm_run : (refusal : Refusal) (s : IsStopped old new dump words.link moment refusal) → new.fills ≡ [] → IsLoad device call words nothing_left disk new.disk
-  calm_run refusal s none = run_of nothing_left s.packets s.rest s.place s.parts s.within s.done (ap held none)
+  abbrev no_failed_write_run : (refusal : Refusal) (s : IsStopped old new dump words.link moment refusal) → new.fills ≡ [] → IsLoad device call words nothing_left disk new.disk
+  no_failed_write_run refusal s none = run_of nothing_left s.packets s.rest s.place s.parts s.within s.done (ap rows_of_faults none)
 
-  abbrev refused_calm : (refusal : Refusal) (report : Report) (s : IsStopped old new dump words.link moment refusal) (none : new.fills ≡ []) → call.written' ≡ call.written
+  abbrev refused_no_failed_write : (refusal : Refusal) (report : Report) (s : IsStopped old new dump words.link moment refusal) (none : new.fills ≡ []) → call.written' ≡ call.written
       → report ≡ loaded (Some refusal) None (length old.history) (length new.history) 0 0 0 → ending.IsRefused device call words disk new.disk refusal report
-  refused_calm refusal report s none silent is = record {
-    stopped = record { run = calm_run refusal s none; silent = silent; report_is = is };
-    settled = calm_now none s.done.head;
+  refused_no_failed_write refusal report s none silent is = record {
+    stopped = record { run = no_failed_write_run refusal s none; silent = silent; report_is = is };
+    durable = no_failed_write_now none s.done.head;
   }
 
   -- the disk failed in a batch, after these packets
@@ -127,7 +127,7 @@ module _ {D : Type 0} (device : Device D) (tells : IsTrue device.tells) (call : 
       (done.history ∙ ap (ingested old.history) (rows_same (take s.place s.packets))) in
       record {
         stopped = record {
-          run = run_of batch_left s.packets s.rest s.place s.parts s.within done (ap held fills ∙ ap batch_left same);
+          run = run_of batch_left s.packets s.rest s.place s.parts s.within done (ap rows_of_faults fills ∙ ap batch_left same);
           silent = silent;
           report_is = is;
         };
@@ -135,34 +135,34 @@ module _ {D : Type 0} (device : Device D) (tells : IsTrue device.tells) (call : 
           | inl stands ↦ inl (subst (λ (h : Head). StandsFor c (archive h new.history)) done.head stands)
           | inr more ↦ inr (subst (λ (l : List Row). StandsFor c (archive old.head (new.history ++ items_of l))) same (subst (λ (h : Head). StandsFor c (archive h (new.history ++ items_of rows))) done.head more))
         ];
-        settled = λ one.
-            subst (λ (h : Head). IsSettled device new.disk h new.history) done.head
-            (settled_again device new s.count rows tells keeps (subst (λ (b : Bool). new.fills ≡ Fault s.count b rows ∷ []) (once one) fills));
+        durable = λ one.
+            subst (λ (h : Head). IsDurableAs device new.disk h new.history) done.head
+            (durable_again device new s.count rows is_transparent keeps (subst (λ (b : Bool). new.fills ≡ Fault s.count b rows ∷ []) (once one) fills));
       }
 
   -- no call of the disk failed in a batch
-  session_cases : (refusal : Option Refusal) (report : Report) → (refusal ≡ Some DiskFault → ⊥) → WentSo old new dump words.link moment call.written call.written' refusal report
+  session_cases : (refusal : Option Refusal) (report : Report) → (refusal ≡ Some DiskFault → ⊥) → IsLoadOutcome old new dump words.link moment call.written call.written' refusal report
       → WritesCounted refusal call.write_faults call.write_faults' → IsLoadEnding device call words disk new.disk refusal report
-  session_cases None report calm w writes = record { line = record { whole = whole_of w.0; rest = w.1; printed = w.2 }; report_is = w.3 }
-  session_cases (Some WriteFault) report calm w writes = (writes, record { line = record { whole = whole_of w.0; rest = w.1; printed = w.2 }; report_is = w.3 })
-  session_cases (Some (BadPacket at kind)) report calm w writes = (record { whole = whole_of w.0; silent = w.2; report_is = w.3 }, w.1)
-  session_cases (Some (Limit DumpOctets number)) report calm w writes = absurd w.0.cause.2
-  session_cases (Some (Limit Links number)) report calm w writes = absurd w.0.cause.2
-  session_cases (Some (Limit which number)) report calm w writes = record {
-    refused = refused_calm (Limit which number) report w.0 w.0.cause.0 w.1 w.2;
+  session_cases None report no_failed_write w writes = record { line = record { whole = whole_of w.0; rest = w.1; printed = w.2 }; report_is = w.3 }
+  session_cases (Some WriteFault) report no_failed_write w writes = (writes, record { line = record { whole = whole_of w.0; rest = w.1; printed = w.2 }; report_is = w.3 })
+  session_cases (Some (BadPacket at kind)) report no_failed_write w writes = (record { whole = whole_of w.0; silent = w.2; report_is = w.3 }, w.1)
+  session_cases (Some (Limit DumpOctets number)) report no_failed_write w writes = absurd w.0.cause.2
+  session_cases (Some (Limit Links number)) report no_failed_write w writes = absurd w.0.cause.2
+  session_cases (Some (Limit which number)) report no_failed_write w writes = record {
+    refused = refused_no_failed_write (Limit which number) report w.0 w.0.cause.0 w.1 w.2;
     records = new.records;
     few = few_now (w.0.done.records w.0.cause.0);
     number_is = w.0.cause.1;
     passed = subst (λ (l : List Row). IsLimit which new.records (ingested new.history l)) (rows_same (batch_at w.0.place w.0.packets)) w.0.cause.2;
   }
-  session_cases (Some DiskFault) report calm w writes = absurd (calm refl)
-  session_cases (Some OutOfMemory) report calm w writes = inr (inr (refused_calm OutOfMemory report w.0 w.0.cause w.1 w.2))
-  session_cases (Some other) report calm w writes = absurd w.0.cause
+  session_cases (Some DiskFault) report no_failed_write w writes = absurd (no_failed_write refl)
+  session_cases (Some OutOfMemory) report no_failed_write w writes = inr (inr (refused_no_failed_write OutOfMemory report w.0 w.0.cause w.1 w.2))
+  session_cases (Some other) report no_failed_write w writes = absurd w.0.cause
 
 -- ---- a store that was opened again
 
 -- the packets of an earlier store went into the one that was opened again too
-ingested_again : {D : Type 0} (device : Device D) (old new last : Seen D) (link : ℕ) (moment : ℤ) (packets : List (List ℕ)) → HasIngested old new link moment packets → IsReopened device new last
+ingested_again : {D : Type 0} (device : Device D) (old new last : StoreView D) (link : ℕ) (moment : ℤ) (packets : List (List ℕ)) → HasIngested old new link moment packets → IsReopened device new last
     → (last.fills ≡ [] → ⊥) → HasIngested old last link moment packets
 ingested_again device old new last link moment packets done again some = record {
   history = again.history ∙ done.history;
@@ -171,8 +171,8 @@ ingested_again device old new last link moment packets done again some = record 
   records = λ none. absurd (some none);
 }
 
-module _ {D : Type 0} (device : Device D) (tells : IsTrue device.tells) (call : Call) (words : LoadWords) (disk : D) (old new last : Seen D) (dump : List ℕ) (moment : ℤ)
-    (ready : IsReady device call words disk old dump moment) (keeps : KeepsImages device last) (faults : KeepsFaults device last) where
+module _ {D : Type 0} (device : Device D) (is_transparent : IsTrue device.is_transparent) (call : Call) (words : LoadWords) (disk : D) (old new last : StoreView D) (dump : List ℕ) (moment : ℤ)
+    (ready : IsReady device call words disk old dump moment) (keeps : CrashInvariant device last) (faults : FaultInvariant device last) where
   -- with this fault
   failed_with : (report : Report) (s : IsStopped old new dump words.link moment DiskFault) (again : IsReopened device new last) (wrote : Bool)
       → last.fills ≡ Fault s.cause.0 wrote (fresh_of new.history (rows_of_link old.head words.link moment (batch_at s.place s.packets))) ∷ []
@@ -192,11 +192,11 @@ module _ {D : Type 0} (device : Device D) (tells : IsTrue device.tells) (call : 
         within = s.within;
       } in (
         more_faults device disk old last s.cause.0 wrote (rows last.history) ready.later done.opened faults now,
-        inr (failed_now device tells call words disk old last dump moment ready keeps faults report wrote failing done now once silent
+        inr (failed_now device is_transparent call words disk old last dump moment ready keeps faults report wrote failing done now once silent
             (is ∙ ap (λ (h : List Item). loaded (Some DiskFault) None (length old.history) (length h) 0 0 0) (sym again.history))),
       )
 
-  failed_again_so : (report : Report) → WentSo old new dump words.link moment call.written call.written' (Some DiskFault) report → IsReopened device new last
+  failed_again_so : (report : Report) → IsLoadOutcome old new dump words.link moment call.written call.written' (Some DiskFault) report → IsReopened device new last
       → IsLoadEnding device call words disk last.disk (Some DiskFault) report
   failed_again_so report w again =
       let s = w.0 in
@@ -208,34 +208,34 @@ module _ {D : Type 0} (device : Device D) (tells : IsTrue device.tells) (call : 
       ]
 
   -- by the refusal
-  closed_cases : (refusal : Option Refusal) (report : Report) → IsClosed device refusal new last → WentSo old new dump words.link moment call.written call.written' refusal report
+  closed_cases : (refusal : Option Refusal) (report : Report) → IsClosed device refusal new last → IsLoadOutcome old new dump words.link moment call.written call.written' refusal report
       → WritesCounted refusal call.write_faults call.write_faults' → IsLoadEnding device call words disk last.disk refusal report
   closed_cases (Some DiskFault) report closed w writes = failed_again_so report w closed
   closed_cases refusal report closed w writes =
-      subst (λ (x : Seen D). IsLoadEnding device call words disk x.disk refusal report) (sym closed)
-      (session_cases device tells call words disk old new dump moment ready (subst (λ (x : Seen D). KeepsImages device x) closed keeps) (subst (λ (x : Seen D). KeepsFaults device x) closed faults)
+      subst (λ (x : StoreView D). IsLoadEnding device call words disk x.disk refusal report) (sym closed)
+      (session_cases device is_transparent call words disk old new dump moment ready (subst (λ (x : StoreView D). CrashInvariant device x) closed keeps) (subst (λ (x : StoreView D). FaultInvariant device x) closed faults)
       refusal report (λ e. cc) w writes)
 
 -- the ending of a load whose dump was read
-pub session_ending : {D : Type 0} (device : Device D) → IsTrue device.tells → (call : Call) (words : LoadWords) (disk new : D) (old : Seen D) (dump : List ℕ) (moment : ℤ) (report : Report) → IsReady device call words disk old dump moment
-    → IsSession device old dump words.link moment call.written call.written' new report → WritesCounted report.refusal call.write_faults call.write_faults' → IsLoadEnding device call words disk new report.refusal report
-session_ending device tells call words disk new old dump moment report ready s writes =
-    let given_up = s.let_go.given_up in
-    subst (λ d. IsLoadEnding device call words disk d report.refusal report) (sym given_up.disk_is)
-    (closed_cases device tells call words disk old s.new s.let_go.last dump moment ready (given_up.images tells) given_up.faults report.refusal report s.let_go.closed s.went writes)
+pub session_ending : {D : Type 0} (device : Device D) → IsTrue device.is_transparent → (call : Call) (words : LoadWords) (disk new : D) (old : StoreView D) (dump : List ℕ) (moment : ℤ) (report : Report) → IsReady device call words disk old dump moment
+    → IsLoadRun device old dump words.link moment call.written call.written' new report → WritesCounted report.refusal call.write_faults call.write_faults' → IsLoadEnding device call words disk new report.refusal report
+session_ending device is_transparent call words disk new old dump moment report ready s writes =
+    let closed_store = s.let_go.closed_store in
+    subst (λ d. IsLoadEnding device call words disk d report.refusal report) (sym closed_store.disk_is)
+    (closed_cases device is_transparent call words disk old s.new s.let_go.last dump moment ready (closed_store.images is_transparent) closed_store.faults report.refusal report s.let_go.closed s.went writes)
 
 -- the history is no shorter
-grown : {D : Type 0} (old new : Seen D) (link : ℕ) (moment : ℤ) (packets : List (List ℕ)) → HasIngested old new link moment packets → length old.history ≤ length new.history
+grown : {D : Type 0} (old new : StoreView D) (link : ℕ) (moment : ℤ) (packets : List (List ℕ)) → HasIngested old new link moment packets → length old.history ≤ length new.history
 grown old new link moment packets done =
     let rows = rows_of_link old.head link moment packets in
     omega (arith, ap length (done.history ∙ fresh_added old.history rows), length-append old.history (fresh_of old.history rows))
 
 -- and its report
-pub session_report : {D : Type 0} (device : Device D) (words : LoadWords) (old : Seen D) (dump : List ℕ) (moment : ℤ) (written written' : Option (List ℕ)) (new : D) (report : Report)
-    → IsSession device old dump words.link moment written written' new report → IsLoadReport words report.refusal report
+pub session_report : {D : Type 0} (device : Device D) (words : LoadWords) (old : StoreView D) (dump : List ℕ) (moment : ℤ) (written written' : Option (List ℕ)) (new : D) (report : Report)
+    → IsLoadRun device old dump words.link moment written written' new report → IsLoadReport words report.refusal report
 session_report device words old dump moment written written' new report s = go report.refusal s.went
   where
-    go : (refusal : Option Refusal) → WentSo old s.new dump words.link moment written written' refusal report → IsLoadReport words refusal report
+    go : (refusal : Option Refusal) → IsLoadOutcome old s.new dump words.link moment written written' refusal report → IsLoadReport words refusal report
     go None w = (length old.history, length s.new.history, _, _, _, grown old s.new words.link moment w.0.ingested.packets w.0.ingested.done, w.3)
     go (Some WriteFault) w = inr (length old.history, length s.new.history, grown old s.new words.link moment w.0.ingested.packets w.0.ingested.done, w.3)
     go (Some (BadPacket at kind)) w = (length old.history, length s.new.history, grown old s.new words.link moment w.0.ingested.packets w.0.ingested.done, w.3)

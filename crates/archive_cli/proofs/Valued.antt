@@ -24,19 +24,19 @@ use Rattle.yarch_table.specs.Stored.{rows_of}
 use Rattle.archive_cli.specs.declared.counts.Counts.{Counts}
 use Rattle.archive_cli.specs.declared.print_fault.PrintFault.{PrintFault}
 use Rattle.archive_cli.specs.declared.print_fault.PrintFault.TheVariants as printing
-use Rattle.archive_cli.specs.declared.rows.Loaded.{Loaded}
-use Rattle.archive_cli.specs.Call.{Call, IsSilent, Prints, PrintsSome, WritesFailed}
+use Rattle.archive_cli.specs.declared.rows.DumpTable.{DumpTable}
+use Rattle.archive_cli.specs.Call.{Call, WritesNothing, Prints, PrintsSome, WritesFailed}
 use Rattle.archive_cli.specs.CellText.{cell_line}
 use Rattle.archive_cli.specs.Job.{ValuesWords}
-use Rattle.archive_cli.specs.Loaded.{IsGathered}
+use Rattle.archive_cli.specs.DumpTable.{IsGathered}
 use Rattle.archive_cli.specs.Parameter.{IsNoParameter, IsParameter, first_refusal, number_named, parameter_refusal}
-use Rattle.archive_cli.specs.Received.{dump_limit, IsReceived, ending_of}
-use Rattle.archive_cli.specs.ValuesEnding.{AreSheetsOf, Asked, HasDump, IsInputRefused, IsParameterRefused, IsValuesEnding, text_of_asked}
+use Rattle.archive_cli.specs.ReadDump.{dump_limit, IsDumpRead, ending_of}
+use Rattle.archive_cli.specs.ValuesEnding.{AreSheetsOf, ParameterOverDump, HasDump, IsInputRefused, IsParameterRefused, IsValuesEnding, text_of_asked}
 use Rattle.archive_cli.specs.ValuesPrinting.{cells_of_stored, end_of_cells, line_if, line_of, lines_of_cells, refusal_of_print, text_of_cells}
 use Rattle.archive_cli.specs.ValuesText.{calibration_numbered, cell_lines, cells_of, values_line, values_text}
 use Rattle.archive_cli.proofs.PacketNames.{cells_are}
 use Rattle.archive_cli.proofs.Scanned.{bad_rest, rest_is_none, received_of, end_is}
-use Rattle.archive_cli.proofs.Shown.{table-all}
+use Rattle.archive_cli.proofs.Visible.{table-all}
 
 -- ---- the text
 
@@ -80,8 +80,8 @@ text-is db number packets (octet ∷ rest) moment stored reason cells e =
 -- ---- the ending
 
 -- what was asked
-abbrev pub asked_of : (call : Call) (words : ValuesWords) (raw : RawMdb) (db : Database) (number : ℕ) (loaded : Loaded) → AreSheetsOf call words raw →
-    IsParameter raw words.name db number → IsReceived call.files call.moment words.dump loaded → Asked call words
+abbrev pub asked_of : (call : Call) (words : ValuesWords) (raw : RawMdb) (db : Database) (number : ℕ) (loaded : DumpTable) → AreSheetsOf call words raw →
+    IsParameter raw words.name db number → IsDumpRead call.files call.moment words.dump loaded → ParameterOverDump call words
 asked_of call words raw db number loaded s p r = record {
   raw = raw;
   db = db;
@@ -91,15 +91,15 @@ asked_of call words raw db number loaded s p r = record {
   received = received_of call words.dump loaded r;
 }
 
-text-of : (call : Call) (words : ValuesWords) (raw : RawMdb) (db : Database) (number : ℕ) (loaded : Loaded) (s : AreSheetsOf call words raw)
-    (p : IsParameter raw words.name db number) (r : IsReceived call.files call.moment words.dump loaded) →
+text-of : (call : Call) (words : ValuesWords) (raw : RawMdb) (db : Database) (number : ℕ) (loaded : DumpTable) (s : AreSheetsOf call words raw)
+    (p : IsParameter raw words.name db number) (r : IsDumpRead call.files call.moment words.dump loaded) →
     text_of_cells db number loaded.table.stored loaded.why ≡ text_of_asked (asked_of call words raw db number loaded s p r)
 text-of call words raw db number loaded s p r =
     text-is db number r.rows.packets (drop loaded.at r.dump) r.moment loaded.table.stored loaded.why
     (cells-stored db number r.rows.packets r.moment loaded.table.stored loaded.counts r.rows.gathered) r.rows.why
 
-ended-cases : (call : Call) (words : ValuesWords) (raw : RawMdb) (db : Database) (number : ℕ) (loaded : Loaded) (reason : Why) (s : AreSheetsOf call words raw)
-    (p : IsParameter raw words.name db number) (r : IsReceived call.files call.moment words.dump loaded) → loaded.why ≡ reason →
+ended-cases : (call : Call) (words : ValuesWords) (raw : RawMdb) (db : Database) (number : ℕ) (loaded : DumpTable) (reason : Why) (s : AreSheetsOf call words raw)
+    (p : IsParameter raw words.name db number) (r : IsDumpRead call.files call.moment words.dump loaded) → loaded.why ≡ reason →
     Prints call (text_of_asked (asked_of call words raw db number loaded s p r)) → IsValuesEnding call words (ending_of reason loaded.at)
 ended-cases call words raw db number loaded why.End s p r e text =
     (asked_of call words raw db number loaded s p r, rest_is_none (drop loaded.at r.dump) (sym e ∙ r.rows.why), text)
@@ -109,26 +109,26 @@ ended-cases call words raw db number loaded why.Truncated s p r e text =
     (asked_of call words raw db number loaded s p r, bad_rest r.dump (drop loaded.at r.dump) loaded.at bad.Truncated (end_is r.dump loaded.at r.rows.within) (sym e ∙ r.rows.why), text)
 
 -- the cells were printed
-pub values_ended : (call : Call) (words : ValuesWords) (raw : RawMdb) (db : Database) (number : ℕ) (loaded : Loaded) → AreSheetsOf call words raw → IsParameter raw words.name db number →
-    IsReceived call.files call.moment words.dump loaded → Prints call (text_of_cells db number loaded.table.stored loaded.why) → IsValuesEnding call words (ending_of loaded.why loaded.at)
+pub values_ended : (call : Call) (words : ValuesWords) (raw : RawMdb) (db : Database) (number : ℕ) (loaded : DumpTable) → AreSheetsOf call words raw → IsParameter raw words.name db number →
+    IsDumpRead call.files call.moment words.dump loaded → Prints call (text_of_cells db number loaded.table.stored loaded.why) → IsValuesEnding call words (ending_of loaded.why loaded.at)
 values_ended call words raw db number loaded s p r text =
     ended-cases call words raw db number loaded loaded.why s p r refl (rw (text-of call words raw db number loaded s p r) at text)
 
 -- a write failed
-values_some : (call : Call) (words : ValuesWords) (raw : RawMdb) (db : Database) (number : ℕ) (loaded : Loaded) → AreSheetsOf call words raw → IsParameter raw words.name db number →
-    IsReceived call.files call.moment words.dump loaded → WritesFailed call → PrintsSome call (text_of_cells db number loaded.table.stored loaded.why) → IsValuesEnding call words (Some WriteFault)
+values_some : (call : Call) (words : ValuesWords) (raw : RawMdb) (db : Database) (number : ℕ) (loaded : DumpTable) → AreSheetsOf call words raw → IsParameter raw words.name db number →
+    IsDumpRead call.files call.moment words.dump loaded → WritesFailed call → PrintsSome call (text_of_cells db number loaded.table.stored loaded.why) → IsValuesEnding call words (Some WriteFault)
 values_some call words raw db number loaded s p r failed some =
     (asked_of call words raw db number loaded s p r, failed, rw (text-of call words raw db number loaded s p r) at some)
 
 -- memory was wanting while the cells were printed
-values_memory : (call : Call) (words : ValuesWords) (raw : RawMdb) (db : Database) (number : ℕ) (loaded : Loaded) → AreSheetsOf call words raw → IsParameter raw words.name db number →
-    IsReceived call.files call.moment words.dump loaded → PrintsSome call (text_of_cells db number loaded.table.stored loaded.why) → IsValuesEnding call words (Some OutOfMemory)
+values_memory : (call : Call) (words : ValuesWords) (raw : RawMdb) (db : Database) (number : ℕ) (loaded : DumpTable) → AreSheetsOf call words raw → IsParameter raw words.name db number →
+    IsDumpRead call.files call.moment words.dump loaded → PrintsSome call (text_of_cells db number loaded.table.stored loaded.why) → IsValuesEnding call words (Some OutOfMemory)
 values_memory call words raw db number loaded s p r some =
     inr (asked_of call words raw db number loaded s p r, rw (text-of call words raw db number loaded s p r) at some)
 
 -- the text wasn't printed to its end
-pub values_unprinted : (call : Call) (words : ValuesWords) (raw : RawMdb) (db : Database) (number : ℕ) (loaded : Loaded) (fault : PrintFault) → AreSheetsOf call words raw →
-    IsParameter raw words.name db number → IsReceived call.files call.moment words.dump loaded → (fault ≡ printing.Write → WritesFailed call) →
+pub values_unprinted : (call : Call) (words : ValuesWords) (raw : RawMdb) (db : Database) (number : ℕ) (loaded : DumpTable) (fault : PrintFault) → AreSheetsOf call words raw →
+    IsParameter raw words.name db number → IsDumpRead call.files call.moment words.dump loaded → (fault ≡ printing.Write → WritesFailed call) →
     PrintsSome call (text_of_cells db number loaded.table.stored loaded.why) → IsValuesEnding call words (Some (refusal_of_print fault))
 values_unprinted call words raw db number loaded printing.Write s p r failed some = values_some call words raw db number loaded s p r (failed refl) some
 values_unprinted call words raw db number loaded printing.OutOfMemory s p r failed some = values_memory call words raw db number loaded s p r some
@@ -142,7 +142,7 @@ no-input a c e f (inl (inr (inr x))) = e x.2
 no-input a c e f (inr x) = f x.1
 
 -- an input wasn't read
-pub values_input : (call : Call) (words : ValuesWords) (refusal : Refusal) → IsInputRefused call words refusal → IsSilent call → IsValuesEnding call words (Some refusal)
+pub values_input : (call : Call) (words : ValuesWords) (refusal : Refusal) → IsInputRefused call words refusal → WritesNothing call → IsValuesEnding call words (Some refusal)
 values_input call words (BadPacket at kind) h s = absurd (no-input (λ x. x) (λ x. x) (λ x. x) (λ x. x) h)
 values_input call words WriteFault h s = absurd (no-input (λ x. x) (λ x. x) (λ x. x) (λ x. x) h)
 values_input call words OutOfMemory h s = inl s
@@ -167,7 +167,7 @@ unfolding parameter_refusal
 other-parameter raw name refusal e =
     other-some (parameter_refusal raw name) refusal (other-refusal (sheets_fault raw) (limit_passed (sheets_database raw)) (number_named (sheets_database raw) name)) e
 
-parameter-cases : (call : Call) (words : ValuesWords) (refusal : Refusal) → IsOther refusal → IsParameterRefused call words refusal → IsSilent call → IsValuesEnding call words (Some refusal)
+parameter-cases : (call : Call) (words : ValuesWords) (refusal : Refusal) → IsOther refusal → IsParameterRefused call words refusal → WritesNothing call → IsValuesEnding call words (Some refusal)
 parameter-cases call words (BadPacket at kind) o h s = absurd o
 parameter-cases call words WriteFault o h s = absurd o
 parameter-cases call words OutOfMemory o h s = inl s
@@ -178,8 +178,8 @@ has-dump None name dump i short = tt
 has-dump (Some all) name dump i short = rw i short
 
 -- there's no parameter
-pub values_unknown : (call : Call) (words : ValuesWords) (raw : RawMdb) (loaded : Loaded) (refusal : Refusal) → AreSheetsOf call words raw →
-    IsReceived call.files call.moment words.dump loaded → IsNoParameter raw words.name refusal → IsSilent call → IsValuesEnding call words (Some refusal)
+pub values_unknown : (call : Call) (words : ValuesWords) (raw : RawMdb) (loaded : DumpTable) (refusal : Refusal) → AreSheetsOf call words raw →
+    IsDumpRead call.files call.moment words.dump loaded → IsNoParameter raw words.name refusal → WritesNothing call → IsValuesEnding call words (Some refusal)
 values_unknown call words raw loaded refusal s r (inl cause) silent =
     parameter-cases call words refusal (other-parameter raw words.name refusal cause) (record {
       raw = raw;

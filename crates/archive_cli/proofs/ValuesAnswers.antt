@@ -18,10 +18,10 @@ use Rattle.archive_cli.specs.Expecting.{IsOrMemory, NoFault, ending_of_rest}
 use Rattle.archive_cli.specs.Job.{ValuesWords}
 use Rattle.archive_cli.specs.Parameter.{parameter_refusal}
 use Rattle.archive_cli.specs.Reading.{IsReadRefusal}
-use Rattle.archive_cli.specs.Received.{Received}
-use Rattle.archive_cli.specs.ValuesEnding.{AreSheetsOf, Asked, HasDump, IsInputRefused, IsParameterRefused, IsValuesEnding}
-use Rattle.archive_cli.specs.ValuesExpected.{refusal_of_input, told_sheet, told_sheets, values_refusal}
-use Rattle.archive_cli.proofs.Told.{bad_ending, none_some, none_some_and, not_risen, same_rest, told_input}
+use Rattle.archive_cli.specs.ReadDump.{ReadDump}
+use Rattle.archive_cli.specs.ValuesEnding.{AreSheetsOf, ParameterOverDump, HasDump, IsInputRefused, IsParameterRefused, IsValuesEnding}
+use Rattle.archive_cli.specs.ValuesExpected.{refusal_of_input, known_sheet, known_sheets, values_refusal}
+use Rattle.archive_cli.proofs.Known.{bad_ending, none_some, none_some_and, not_risen, same_rest, known_input}
 
 -- ---- one input
 
@@ -55,22 +55,22 @@ Is found refusal = (found ≡ Some refusal) ⊎ (refusal ≡ OutOfMemory)
 
 pub sheet-refused : (files : Option Files) (all : Files) (name : List ℕ) (faults faults' : ℕ) (refusal : Refusal) → files ≡ Some all → NoFault faults faults' →
     IsSheetRefusal files name faults faults' refusal → Is (refusal_of_input SheetOctets name (get all name)) refusal
-sheet-refused files all name faults faults' (Missing lacking) e calm h = inl (absent SheetOctets name lacking (get all name) h.0 (rw e at h.1))
-sheet-refused files all name faults faults' ReadFault e calm h = absurd (not_risen faults faults' calm h.0)
-sheet-refused files all name faults faults' (Limit which number) e calm h =
+sheet-refused files all name faults faults' (Missing lacking) e no_failed_write h = inl (absent SheetOctets name lacking (get all name) h.0 (rw e at h.1))
+sheet-refused files all name faults faults' ReadFault e no_failed_write h = absurd (not_risen faults faults' no_failed_write h.0)
+sheet-refused files all name faults faults' (Limit which number) e no_failed_write h =
     inl (beyond SheetOctets name (get all name) (rw e at h.2) ∙ limit-is SheetOctets which number h.0 h.1)
-sheet-refused files all name faults faults' OutOfMemory e calm h = inr refl
-sheet-refused files all name faults faults' other e calm h = absurd h
+sheet-refused files all name faults faults' OutOfMemory e no_failed_write h = inr refl
+sheet-refused files all name faults faults' other e no_failed_write h = absurd h
 
 dump-refused : (files : Option Files) (all : Files) (name : List ℕ) (faults faults' : ℕ) (refusal : Refusal) → files ≡ Some all → NoFault faults faults' →
     IsReadRefusal files name DumpOctets faults faults' refusal → Is (refusal_of_input DumpOctets name (get all name)) refusal
-dump-refused files all name faults faults' (Missing lacking) e calm h = inl (absent DumpOctets name lacking (get all name) h.0 (rw e at h.1))
-dump-refused files all name faults faults' ReadFault e calm h = absurd (not_risen faults faults' calm h.0)
-dump-refused files all name faults faults' (Limit which number) e calm h =
+dump-refused files all name faults faults' (Missing lacking) e no_failed_write h = inl (absent DumpOctets name lacking (get all name) h.0 (rw e at h.1))
+dump-refused files all name faults faults' ReadFault e no_failed_write h = absurd (not_risen faults faults' no_failed_write h.0)
+dump-refused files all name faults faults' (Limit which number) e no_failed_write h =
     let is : number ≡ limit_of DumpOctets = h.1 in
     inl (beyond DumpOctets name (get all name) (rw (e, is) at h.2) ∙ limit-is DumpOctets which number h.0 h.1)
-dump-refused files all name faults faults' OutOfMemory e calm h = inr refl
-dump-refused files all name faults faults' other e calm h = absurd h
+dump-refused files all name faults faults' OutOfMemory e no_failed_write h = inr refl
+dump-refused files all name faults faults' other e no_failed_write h = absurd h
 
 fine-cases : (name : List ℕ) (o : Option (List ℕ)) (sheet : List (List (List ℕ))) → IsSomeAnd o (λ octets. (length octets ≤ limit_of SheetOctets) × (sheet ≡ sheet_of octets)) →
     (refusal_of_input SheetOctets name o ≡ None) × (sheet ≡ sheet_of (unwrap_or o []))
@@ -79,7 +79,7 @@ fine-cases name (Some octets) sheet h = (within SheetOctets name (Some octets) h
 
 -- a sheet that was read
 pub fine : (files : Option Files) (all : Files) (name : List ℕ) (sheet : List (List (List ℕ))) → files ≡ Some all → IsSheet files name sheet →
-    (refusal_of_input SheetOctets name (get all name) ≡ None) × (sheet ≡ told_sheet all name)
+    (refusal_of_input SheetOctets name (get all name) ≡ None) × (sheet ≡ known_sheet all name)
 fine files all name sheet e h = fine-cases name (get all name) sheet (rw e at h)
 
 pub has : (files : Option Files) (all : Files) (name : List ℕ) → files ≡ Some all → HasSheet files name → refusal_of_input SheetOctets name (get all name) ≡ None
@@ -88,9 +88,9 @@ has files all name e h = within SheetOctets name (get all name) (rw e at h)
 has-dump : (files : Option Files) (all : Files) (name : List ℕ) → files ≡ Some all → HasDump files name → refusal_of_input DumpOctets name (get all name) ≡ None
 has-dump files all name e h = within DumpOctets name (get all name) (rw e at h)
 
-received-dump : (call : Call) (all : Files) (name : List ℕ) (r : Received call name) → call.files ≡ Some all → refusal_of_input DumpOctets name (get all name) ≡ None
+received-dump : (call : Call) (all : Files) (name : List ℕ) (r : ReadDump call name) → call.files ≡ Some all → refusal_of_input DumpOctets name (get all name) ≡ None
 received-dump call all name r e =
-    let is = told_input call.files all name r.dump e r.input in
+    let is = known_input call.files all name r.dump e r.input in
     rw is (rw (not-longer (limit_of DumpOctets) (length r.dump) r.short) refl)
 
 -- ---- the first refusal
@@ -109,7 +109,7 @@ pub is-later : (o rest : Option Refusal) (refusal : Refusal) → o ≡ None → 
 is-later o rest refusal none (inl e) = inl (later-of o rest (Some refusal) none e)
 is-later o rest refusal none (inr e) = inr e
 
--- the refusals of the inputs of told files
+-- the refusals of the inputs of known files
 abbrev of-parameters : Files → ValuesWords → Option Refusal
 of-parameters all words = refusal_of_input SheetOctets words.parameters (get all words.parameters)
 
@@ -123,7 +123,7 @@ abbrev of-dump : Files → ValuesWords → Option Refusal
 of-dump all words = refusal_of_input DumpOctets words.dump (get all words.dump)
 
 abbrev of-parameter : Files → ValuesWords → Option Refusal
-of-parameter all words = parameter_refusal (told_sheets all words) words.name
+of-parameter all words = parameter_refusal (known_sheets all words) words.name
 
 abbrev after-containers : Files → ValuesWords → Option Refusal
 after-containers all words = or_else (of-dump all words) (of-parameter all words)
@@ -145,22 +145,22 @@ past-sheets call all words raw found e s h =
     (later-of (of-calibrations all words) (after-calibrations all words) found c.0
     (later-of (of-containers all words) (after-containers all words) found k.0 h))
 
-sheets-are : (call : Call) (all : Files) (words : ValuesWords) (raw : RawMdb) → call.files ≡ Some all → AreSheetsOf call words raw → raw ≡ told_sheets all words
+sheets-are : (call : Call) (all : Files) (words : ValuesWords) (raw : RawMdb) → call.files ≡ Some all → AreSheetsOf call words raw → raw ≡ known_sheets all words
 sheets-are call all words raw e s =
     let p = fine call.files all words.parameters raw.parameters e s.parameters_sheet in
     let c = fine call.files all words.calibrations raw.calibrations e s.calibrations_sheet in
     let k = fine call.files all words.containers raw.containers e s.containers_sheet in
-    let first : Path RawMdb raw (record { parameters = told_sheet all words.parameters; calibrations = raw.calibrations; containers = raw.containers }) =
+    let first : Path RawMdb raw (record { parameters = known_sheet all words.parameters; calibrations = raw.calibrations; containers = raw.containers }) =
     ap (λ (x : List (List (List ℕ))). let r : RawMdb = record { parameters = x; calibrations = raw.calibrations; containers = raw.containers } in r) p.1 in
-    let second : Path RawMdb (record { parameters = told_sheet all words.parameters; calibrations = raw.calibrations; containers = raw.containers })
-    (record { parameters = told_sheet all words.parameters; calibrations = told_sheet all words.calibrations; containers = raw.containers }) =
-    ap (λ (x : List (List (List ℕ))). let r : RawMdb = record { parameters = told_sheet all words.parameters; calibrations = x; containers = raw.containers } in r) c.1 in
-    let third : Path RawMdb (record { parameters = told_sheet all words.parameters; calibrations = told_sheet all words.calibrations; containers = raw.containers }) (told_sheets all words) =
-    ap (λ (x : List (List (List ℕ))). let r : RawMdb = record { parameters = told_sheet all words.parameters; calibrations = told_sheet all words.calibrations; containers = x } in r) k.1 in
+    let second : Path RawMdb (record { parameters = known_sheet all words.parameters; calibrations = raw.calibrations; containers = raw.containers })
+    (record { parameters = known_sheet all words.parameters; calibrations = known_sheet all words.calibrations; containers = raw.containers }) =
+    ap (λ (x : List (List (List ℕ))). let r : RawMdb = record { parameters = known_sheet all words.parameters; calibrations = x; containers = raw.containers } in r) c.1 in
+    let third : Path RawMdb (record { parameters = known_sheet all words.parameters; calibrations = known_sheet all words.calibrations; containers = raw.containers }) (known_sheets all words) =
+    ap (λ (x : List (List (List ℕ))). let r : RawMdb = record { parameters = known_sheet all words.parameters; calibrations = known_sheet all words.calibrations; containers = x } in r) k.1 in
     first ∙ second ∙ third
 
 -- what was asked was refused nowhere
-asked-none : (call : Call) (all : Files) (words : ValuesWords) → call.files ≡ Some all → Asked call words → values_refusal all words ≡ None
+asked-none : (call : Call) (all : Files) (words : ValuesWords) → call.files ≡ Some all → ParameterOverDump call words → values_refusal all words ≡ None
 asked-none call all words e a =
     past-sheets call all words a.raw None e a.sheets
     (later-of (of-dump all words) (of-parameter all words) None (received-dump call all words.dump a.received e)
@@ -168,23 +168,23 @@ asked-none call all words e a =
 
 input-refused : (call : Call) (all : Files) (words : ValuesWords) (refusal : Refusal) → call.files ≡ Some all → NoFault call.read_faults call.read_faults' →
     IsInputRefused call words refusal → Is (values_refusal all words) refusal
-input-refused call all words refusal e calm (inl (inl h)) =
-    is-first (of-parameters all words) (after-parameters all words) refusal (sheet-refused call.files all words.parameters call.read_faults call.read_faults' refusal e calm h)
-input-refused call all words refusal e calm (inl (inr (inl h))) =
+input-refused call all words refusal e no_failed_write (inl (inl h)) =
+    is-first (of-parameters all words) (after-parameters all words) refusal (sheet-refused call.files all words.parameters call.read_faults call.read_faults' refusal e no_failed_write h)
+input-refused call all words refusal e no_failed_write (inl (inr (inl h))) =
     is-later (of-parameters all words) (after-parameters all words) refusal (has call.files all words.parameters e h.0)
-    (is-first (of-calibrations all words) (after-calibrations all words) refusal (sheet-refused call.files all words.calibrations call.read_faults call.read_faults' refusal e calm h.1))
-input-refused call all words refusal e calm (inl (inr (inr h))) =
+    (is-first (of-calibrations all words) (after-calibrations all words) refusal (sheet-refused call.files all words.calibrations call.read_faults call.read_faults' refusal e no_failed_write h.1))
+input-refused call all words refusal e no_failed_write (inl (inr (inr h))) =
     is-later (of-parameters all words) (after-parameters all words) refusal (has call.files all words.parameters e h.0)
     (is-later (of-calibrations all words) (after-calibrations all words) refusal (has call.files all words.calibrations e h.1)
-    (is-first (of-containers all words) (after-containers all words) refusal (sheet-refused call.files all words.containers call.read_faults call.read_faults' refusal e calm h.2)))
-input-refused call all words refusal e calm (inr h) =
+    (is-first (of-containers all words) (after-containers all words) refusal (sheet-refused call.files all words.containers call.read_faults call.read_faults' refusal e no_failed_write h.2)))
+input-refused call all words refusal e no_failed_write (inr h) =
     let p = fine call.files all words.parameters h.0.0.parameters e h.0.1.parameters_sheet in
     let c = fine call.files all words.calibrations h.0.0.calibrations e h.0.1.calibrations_sheet in
     let k = fine call.files all words.containers h.0.0.containers e h.0.1.containers_sheet in
     is-later (of-parameters all words) (after-parameters all words) refusal p.0
     (is-later (of-calibrations all words) (after-calibrations all words) refusal c.0
     (is-later (of-containers all words) (after-containers all words) refusal k.0
-    (is-first (of-dump all words) (of-parameter all words) refusal (dump-refused call.files all words.dump call.read_faults call.read_faults' refusal e calm h.1))))
+    (is-first (of-dump all words) (of-parameter all words) refusal (dump-refused call.files all words.dump call.read_faults call.read_faults' refusal e no_failed_write h.1))))
 
 parameter-refused : (call : Call) (all : Files) (words : ValuesWords) (refusal : Refusal) → call.files ≡ Some all → IsParameterRefused call words refusal →
     Is (values_refusal all words) refusal
@@ -196,8 +196,8 @@ parameter-refused call all words refusal e h =
 -- a refusal before the cells are printed is the first one
 refused-first : (call : Call) (all : Files) (words : ValuesWords) (refusal : Refusal) → call.files ≡ Some all → NoFault call.read_faults call.read_faults' →
     IsInputRefused call words refusal ⊎ IsParameterRefused call words refusal → Is (values_refusal all words) refusal
-refused-first call all words refusal e calm (inl h) = input-refused call all words refusal e calm h
-refused-first call all words refusal e calm (inr h) = parameter-refused call all words refusal e h
+refused-first call all words refusal e no_failed_write (inl h) = input-refused call all words refusal e no_failed_write h
+refused-first call all words refusal e no_failed_write (inr h) = parameter-refused call all words refusal e h
 
 -- ---- which answer has to come
 
@@ -210,11 +210,11 @@ same-refusal o refusal expected (inr e) f = inr (ap (λ (r : Refusal). Some r) e
 
 pub values_refused : (call : Call) (all : Files) (words : ValuesWords) (ending : Option Refusal) → call.files ≡ Some all → IsValuesEnding call words ending → (refusal : Refusal) →
     NoFault call.read_faults call.read_faults' → values_refusal all words ≡ Some refusal → IsOrMemory ending (Some refusal)
-values_refused call all words None e h refusal calm f = absurd (clash (values_refusal all words) refusal (asked-none call all words e h.0) f)
-values_refused call all words (Some (BadPacket at kind)) e h refusal calm f = absurd (clash (values_refusal all words) refusal (asked-none call all words e h.0) f)
-values_refused call all words (Some WriteFault) e h refusal calm f = absurd (clash (values_refusal all words) refusal (asked-none call all words e h.0) f)
-values_refused call all words (Some OutOfMemory) e h refusal calm f = inr refl
-values_refused call all words (Some other) e h refusal calm f = same-refusal (values_refusal all words) other refusal (refused-first call all words other e calm h.0) f
+values_refused call all words None e h refusal no_failed_write f = absurd (clash (values_refusal all words) refusal (asked-none call all words e h.0) f)
+values_refused call all words (Some (BadPacket at kind)) e h refusal no_failed_write f = absurd (clash (values_refusal all words) refusal (asked-none call all words e h.0) f)
+values_refused call all words (Some WriteFault) e h refusal no_failed_write f = absurd (clash (values_refusal all words) refusal (asked-none call all words e h.0) f)
+values_refused call all words (Some OutOfMemory) e h refusal no_failed_write f = inr refl
+values_refused call all words (Some other) e h refusal no_failed_write f = same-refusal (values_refusal all words) other refusal (refused-first call all words other e no_failed_write h.0) f
 
 pub no-refusal : (o : Option Refusal) (refusal : Refusal) (expected : Option Refusal) → Is o refusal → o ≡ None → IsOrMemory (Some refusal) expected
 no-refusal o refusal expected (inl e) n = absurd (clash o refusal n e)
@@ -223,17 +223,17 @@ no-refusal o refusal expected (inr e) n = inr (ap (λ (r : Refusal). Some r) e)
 pub values_split : (call : Call) (all : Files) (words : ValuesWords) (ending : Option Refusal) → call.files ≡ Some all → IsValuesEnding call words ending →
     (dump : List ℕ) (packets : List (List ℕ)) (rest : List ℕ) → get all words.dump ≡ Some dump → NoFault call.read_faults call.read_faults' → values_refusal all words ≡ None →
     NoFault call.write_faults call.write_faults' → IsDump dump packets rest → IsOrMemory ending (ending_of_rest dump rest)
-values_split call all words None e h dump packets rest d calm none now parts =
+values_split call all words None e h dump packets rest d no_failed_write none now parts =
     let same = same_rest call all words.dump dump packets rest h.0.received e d parts in
     let empty : rest ≡ [] = sym same.1 ∙ h.1 in
     inl (rw empty refl)
-values_split call all words (Some (BadPacket at kind)) e h dump packets rest d calm none now parts =
+values_split call all words (Some (BadPacket at kind)) e h dump packets rest d no_failed_write none now parts =
     let same = same_rest call all words.dump dump packets rest h.0.received e d parts in
     inl (bad_ending dump rest at kind (rw (same.0, same.1) at h.1))
-values_split call all words (Some WriteFault) e h dump packets rest d calm none now parts = absurd (not_risen call.write_faults call.write_faults' now h.1)
-values_split call all words (Some OutOfMemory) e h dump packets rest d calm none now parts = inr refl
-values_split call all words (Some other) e h dump packets rest d calm none now parts =
-    no-refusal (values_refusal all words) other (ending_of_rest dump rest) (refused-first call all words other e calm h.0) none
+values_split call all words (Some WriteFault) e h dump packets rest d no_failed_write none now parts = absurd (not_risen call.write_faults call.write_faults' now h.1)
+values_split call all words (Some OutOfMemory) e h dump packets rest d no_failed_write none now parts = inr refl
+values_split call all words (Some other) e h dump packets rest d no_failed_write none now parts =
+    no-refusal (values_refusal all words) other (ending_of_rest dump rest) (refused-first call all words other e no_failed_write h.0) none
 
 -- ---- the first sheet lacks
 

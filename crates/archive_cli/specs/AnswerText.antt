@@ -12,19 +12,19 @@ use Rattle.archive_core.specs.Items.{Item, rows_in}
 use Rattle.mdb_model.specs.Checks.{or_else}
 use Rattle.mdb_model.specs.Database.{Database}
 use Rattle.container_extract.specs.Extraction.{values_of}
-use Rattle.archive_cli.specs.declared.answer.Found.{Found}
+use Rattle.archive_cli.specs.declared.answer.ParameterAnswer.{ParameterAnswer}
 use Rattle.archive_cli.specs.Parameter.{number_named}
 use Rattle.archive_cli.specs.ValuesText.{cell_lines}
 
 -- the last first, where that is asked
-abbrev pub turned : Bool → List Cell → List Cell
-turned false cells = cells
-turned true cells = reverse cells
+abbrev pub in_asked_order : Bool → List Cell → List Cell
+in_asked_order false cells = cells
+in_asked_order true cells = reverse cells
 
 -- so many at most, where that is asked
-abbrev pub at_most : Option ℕ → List Cell → List Cell
-at_most None cells = cells
-at_most (Some limit) cells = take limit cells
+abbrev pub truncated : Option ℕ → List Cell → List Cell
+truncated None cells = cells
+truncated (Some limit) cells = take limit cells
 
 -- whether there are as many as may be
 abbrev pub is_full : Option ℕ → List Cell → Bool
@@ -38,10 +38,10 @@ cell_list (Some cell) = cell ∷ []
 -- the cells that a request asks of a history: those of its parameter in its range in key order, the last first where it is descending, and of
 -- these the first `limit`
 abbrev pub answered : Database → ℕ → Request → List Row → List Cell
-answered db number request rows = at_most request.limit (turned request.descending (values_of rows db number request.from request.to))
+answered db number request rows = truncated request.limit (in_asked_order request.descending (values_of rows db number request.from request.to))
 
 -- the answer to a request over a database and a history
-pub record IsFound (db : Database) (history : List Item) (request : Request) (found : Found) : Type 0 where
+pub record IsParameterAnswer (db : Database) (history : List Item) (request : Request) (found : ParameterAnswer) : Type 0 where
   pub mdb : arc_value found.mdb ≡ db
   pub number : number_named db request.parameter ≡ Some found.number
   pub front : found.answer.front ≡ length history

@@ -1,4 +1,4 @@
--- Which ending the commands on an archive have to have, by what the disk and the inputs tell.
+-- Which ending the commands on an archive have to have, by what is known of the disk and the inputs.
 use Rattle.std.specs.Prelude.{◌≡◌, ◌<◌, ◌≤◌, ℕ, List, Option, Some, None, IsNone, length, drop, map, option_map, nat_lt, if◌then◌else◌}
 use Rattle.std.specs.FinMap.{get}
 use Rattle.arch_disk.specs.Disk.{Device}
@@ -23,7 +23,7 @@ use Rattle.archive_cli.specs.CreateEnding.{HoldsOne}
 use Rattle.archive_cli.specs.Expecting.{IsOrMemory, NoFault}
 use Rattle.archive_cli.specs.Job.{SheetWords}
 use Rattle.archive_cli.specs.Parameter.{sheets_refusal}
-use Rattle.archive_cli.specs.ValuesExpected.{refusal_of_input, told_sheet}
+use Rattle.archive_cli.specs.ValuesExpected.{refusal_of_input, known_sheet}
 
 -- no call of the disk failed
 abbrev pub NoDiskFault : {D : Type 0} → Device D → D → D → Type 0
@@ -37,12 +37,12 @@ pub record IsRecoverExpected {D : Type 0} (device : Device D) (call : Call) (old
   pub stands : (archive : Archive) → NoDiskFault device old new → NoFault call.write_faults call.write_faults' → StandsFor (device.reads old) archive →
       IsOrMemory ending None
 
--- the records of the three told sheets
-abbrev pub told_raw : Files → SheetWords → RawMdb
-told_raw all words = record {
-  parameters = told_sheet all words.parameters;
-  calibrations = told_sheet all words.calibrations;
-  containers = told_sheet all words.containers;
+-- the records of the three known sheets
+abbrev pub known_raw : Files → SheetWords → RawMdb
+known_raw all words = record {
+  parameters = known_sheet all words.parameters;
+  calibrations = known_sheet all words.calibrations;
+  containers = known_sheet all words.containers;
 }
 
 -- the first refusal of the sheets, where no read fails: of a sheet, and of what they say
@@ -51,9 +51,9 @@ create_refusal all words =
     or_else (refusal_of_input SheetOctets words.parameters (get all words.parameters))
     (or_else (refusal_of_input SheetOctets words.calibrations (get all words.calibrations))
     (or_else (refusal_of_input SheetOctets words.containers (get all words.containers))
-    (sheets_refusal (told_raw all words))))
+    (sheets_refusal (known_raw all words))))
 
--- `create` of told inputs: Missing where there's none of the first sheet's name; where no read failed the first refusal of the sheets, if there is
+-- `create` of known inputs: Missing where there's none of the first sheet's name; where no read failed the first refusal of the sheets, if there is
 -- one; else, where no call of the disk failed, Exists where it holds an archive; and where no write failed either none where it holds none
 pub record IsCreateExpected {D : Type 0} (device : Device D) (call : Call) (all : Files) (words : SheetWords) (old new : D) (ending : Option Refusal) : Type 0 where
   pub missing : IsNone (get all words.parameters) → IsOrMemory ending (Some (Missing words.parameters))
@@ -73,7 +73,7 @@ sheet_refusal records =
 abbrev pub query_refusal : Database → List Fields → Option Refusal
 query_refusal db records = or_else (sheet_refusal records) (asks_refusal db (map ask_of (drop 1 records)))
 
--- `query --ask` of a told sheet: Missing where there's none of the name; where no read failed Limit where it is longer than a sheet may be; else, where no
+-- `query --ask` of a known sheet: Missing where there's none of the name; where no read failed Limit where it is longer than a sheet may be; else, where no
 -- call of the disk failed, NoArchive where it holds none and Damaged where it is damaged; where it stands for an archive the first refusal of the
 -- asks, if there is one; and where no write failed either none
 pub record IsQueryExpected {D : Type 0} (device : Device D) (call : Call) (all : Files) (name : List ℕ) (old new : D) (ending : Option Refusal) : Type 0 where

@@ -18,9 +18,9 @@ use Rattle.archive_store.specs.declared.batch.Batch.{Batch}
 use Rattle.archive_store.specs.declared.head.Head.{Head}
 use Rattle.archive_store.specs.Batches.{batch_rows, IsBatch}
 use Rattle.archive_store.specs.Limits.{IsLimit}
-use Rattle.archive_store.specs.Seen.{Seen}
-use Rattle.archive_cli.specs.declared.batches.Taken.{Taken}
-use Rattle.archive_cli.specs.declared.batches.Whole.{Whole}
+use Rattle.archive_store.specs.StoreView.{StoreView}
+use Rattle.archive_cli.specs.declared.batches.NextBatch.{NextBatch}
+use Rattle.archive_cli.specs.declared.batches.DumpSummary.{DumpSummary}
 
 -- the table that packets go into: the first, `tm`, which each archive has
 abbrev pub first_table : List (List ℕ) → List ℕ
@@ -62,7 +62,7 @@ pub record IsBatchOf (head : Head) (link : ℕ) (moment : ℤ) (packets : List (
   pub count : length batch.arrivals ≡ arrived packets
 
 -- packets that were taken from a dump for a batch
-pub record IsTaken (dump : List ℕ) (start end : ℕ) (head : Head) (link : ℕ) (moment : ℤ) (taken : Taken) : Type 0 where
+pub record IsNextBatch (dump : List ℕ) (start end : ℕ) (head : Head) (link : ℕ) (moment : ℤ) (taken : NextBatch) : Type 0 where
   pub packets : List (List ℕ)
   pub run : IsRun dump start packets end
   pub count : taken.packets ≡ length packets
@@ -72,14 +72,14 @@ pub record IsTaken (dump : List ℕ) (start end : ℕ) (head : Head) (link : ℕ
 -- ---- all batches
 
 -- packets of a link were ingested; where no fault is held each record that was appended has a new row
-pub record HasIngested {D : Type 0} (old new : Seen D) (link : ℕ) (moment : ℤ) (packets : List (List ℕ)) : Type 0 where
+pub record HasIngested {D : Type 0} (old new : StoreView D) (link : ℕ) (moment : ℤ) (packets : List (List ℕ)) : Type 0 where
   pub history : new.history ≡ ingested old.history (rows_of_link old.head link moment packets)
   pub head : new.head ≡ old.head
   pub opened : new.opened ≡ old.opened
   pub records : new.fills ≡ [] → new.records + length old.history ≤ old.records + length new.history
 
 -- all packets of a dump were
-pub record IsIngested {D : Type 0} (old new : Seen D) (dump : List ℕ) (link : ℕ) (moment : ℤ) (whole : Whole) : Type 0 where
+pub record IsIngested {D : Type 0} (old new : StoreView D) (dump : List ℕ) (link : ℕ) (moment : ℤ) (whole : DumpSummary) : Type 0 where
   pub packets : List (List ℕ)
   pub within : whole.at ≤ length dump
   pub parts : IsDump dump packets (drop whole.at dump)
@@ -90,14 +90,14 @@ pub record IsIngested {D : Type 0} (old new : Seen D) (dump : List ℕ) (link : 
   pub of_idle : whole.idle + arrived packets ≡ length packets
 
 -- why the rows of a batch were refused: they pass a limit, the disk failed, which then holds the new ones in a fault, or there was no memory
-abbrev pub IsRefusedFor : {D : Type 0} → Seen D → List Row → Refusal → Type 0
+abbrev pub IsRefusedFor : {D : Type 0} → StoreView D → List Row → Refusal → Type 0
 IsRefusedFor store rows (Limit which number) = (store.fills ≡ []) × (number ≡ limit_of which) × IsLimit which store.records (ingested store.history rows)
 IsRefusedFor store rows DiskFault = (count : ℕ) × (store.fills ≡ Fault count true (fresh_of store.history rows) ∷ [])
 IsRefusedFor store rows OutOfMemory = store.fills ≡ []
 IsRefusedFor store rows other = ⊥
 
 -- the packets of a dump before a place were ingested, and the batch from there on was refused
-pub record IsStopped {D : Type 0} (old new : Seen D) (dump : List ℕ) (link : ℕ) (moment : ℤ) (refusal : Refusal) : Type 0 where
+pub record IsStopped {D : Type 0} (old new : StoreView D) (dump : List ℕ) (link : ℕ) (moment : ℤ) (refusal : Refusal) : Type 0 where
   pub packets : List (List ℕ)
   pub rest : List ℕ
   pub place : ℕ

@@ -31,14 +31,14 @@ call_of words files moment reads reads' written written' writes writes' = record
   write_faults' = writes';
 }
 
--- the text was appended, where what was written is told
+-- the text was appended, where what was written is known
 abbrev pub Appends : Option (List ℕ) → Option (List ℕ) → List ℕ → Type 0
 Appends None new text = new ≡ None
 Appends (Some before) new text = new ≡ Some (before ++ text)
 
 -- nothing was written
-abbrev pub IsSilent : Call → Type 0
-IsSilent call = call.written' ≡ call.written
+abbrev pub WritesNothing : Call → Type 0
+WritesNothing call = call.written' ≡ call.written
 
 -- exactly this text was written
 abbrev pub Prints : Call → List ℕ → Type 0
@@ -64,4 +64,4 @@ WritesCounted other before now = Stays before now
 -- the moment that the clock tells, or some moment
 abbrev pub IsMomentOf : Option ℤ → ℤ → Type 0
 IsMomentOf None moment = IsMoment moment
-IsMomentOf (Some told) moment = moment ≡ told
+IsMomentOf (Some known) moment = moment ≡ known

@@ -1,4 +1,4 @@
--- Why a command on an archive ended as it did, by what the words and the inputs tell: also where the disk tells nothing.
+-- Why a command on an archive ended as it did, by what is known of the words and the inputs: also where the disk is opaque.
 use Rattle.std.specs.Prelude.{ℕ, List, Option, Some, None}
 use Rattle.arch_types.specs.declared.ask.Ask.{Ask}
 use Rattle.arch_types.specs.declared.refusal.Refusal.{Refusal}

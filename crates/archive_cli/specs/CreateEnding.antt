@@ -11,17 +11,17 @@ use Rattle.mdb_sheets.specs.Sheets.{AreSheets}
 use Rattle.outer_traits.specs.Outside.{Files}
 use Rattle.disk_journal.specs.Format.{HoldsNone}
 use Rattle.archive_store.specs.declared.head.Head.{Head}
-use Rattle.archive_store.specs.Answers.{IsMaking}
+use Rattle.archive_store.specs.Answers.{IsCreateImage}
 use Rattle.archive_store.specs.Entries.{archive}
 use Rattle.archive_store.specs.Stands.{StandsFor}
 use Rattle.archive_cli.specs.declared.report.Report.{Report}
-use Rattle.archive_cli.specs.Call.{Call, IsSilent, Prints, PrintsSome, WritesFailed}
-use Rattle.archive_cli.specs.Consulted.{IsUntouched, DiskFailed}
+use Rattle.archive_cli.specs.Call.{Call, WritesNothing, Prints, PrintsSome, WritesFailed}
+use Rattle.archive_cli.specs.ReadOnly.{IsUntouched, DiskFailed}
 use Rattle.archive_cli.specs.Job.{SheetWords}
 use Rattle.archive_cli.specs.Parameter.{sheets_refusal}
 use Rattle.archive_cli.specs.Reading.{IsSheetsRefusal}
-use Rattle.archive_cli.specs.Report.{unopened, consulted}
-use Rattle.archive_cli.specs.Settled.{FailedAtMostOnce}
+use Rattle.archive_cli.specs.Report.{unopened, read_only}
+use Rattle.archive_cli.specs.Durable.{FailedAtMostOnce}
 
 -- the head of a new archive: table `tm`, and the database of the sheets
 abbrev pub new_head : RawMdb → Head
@@ -57,7 +57,7 @@ pub record IsMade {D : Type 0} (device : Device D) (old new : D) (head : Head) :
   pub none : HoldsNone (device.reads old 0)
   pub stands : StandsFor (device.reads new) (archive head [])
   pub now : (c : Image) → device.images new c → StandsFor c (archive head [])
-  pub images : LeavesOnly device old new (IsMaking (device.images old) head)
+  pub images : LeavesOnly device old new (IsCreateImage (device.images old) head)
 
 -- each image that a crash now leaves holds no archive, or could have been left before
 abbrev pub IsStillNone : {D : Type 0} → Device D → D → D → Type 0
@@ -65,7 +65,7 @@ IsStillNone device old new = (c : Image) → device.images new c → device.imag
 
 -- nothing was written to the disk, for a cause that the words and the inputs give, or for want of memory
 pub record IsNotBegun {D : Type 0} (device : Device D) (call : Call) (old new : D) (report : Report) : Type 0 where
-  pub silent : IsSilent call
+  pub silent : WritesNothing call
   pub disk : IsUntouched device old new
   pub report_is : report ≡ unopened report.refusal
 
@@ -75,7 +75,7 @@ pub record IsThere {D : Type 0} (device : Device D) (call : Call) (words : Sheet
   pub good : AreGood call.files words raw
   pub there : HoldsOne (device.reads old)
   pub disk : IsUntouched device old new
-  pub silent : IsSilent call
+  pub silent : WritesNothing call
   pub report_is : report ≡ unopened (Some Exists)
 
 -- The making failed: a disk that holds an archive is left as it was, and on one that holds none a crash leaves what a making leaves. Where it failed once
@@ -83,9 +83,9 @@ pub record IsThere {D : Type 0} (device : Device D) (call : Call) (words : Sheet
 pub record IsNotMade {D : Type 0} (device : Device D) (call : Call) (words : SheetWords) (old new : D) (report : Report) : Type 0 where
   pub raw : RawMdb
   pub good : AreGood call.files words raw
-  pub silent : IsSilent call
+  pub silent : WritesNothing call
   pub kept : HoldsOne (device.reads old) → IsUntouched device old new
-  pub images : HoldsNone (device.reads old 0) → LeavesOnly device old new (IsMaking (device.images old) (new_head raw))
+  pub images : HoldsNone (device.reads old 0) → LeavesOnly device old new (IsCreateImage (device.images old) (new_head raw))
   pub closed : HoldsNone (device.reads old 0) → FailedAtMostOnce device old new → IsStillNone device old new
   pub report_is : report ≡ unopened report.refusal
 
@@ -95,9 +95,9 @@ pub record IsCreated {D : Type 0} (device : Device D) (call : Call) (words : She
   pub good : AreGood call.files words raw
   pub made : IsMade device old new (new_head raw)
   pub printed : P (create_line (sheets_database raw))
-  pub report_is : report ≡ consulted report.refusal 0
+  pub report_is : report ≡ read_only report.refusal 0
 
--- the ending of `create`, where the disk tells what it holds
+-- the ending of `create`, where the disk is transparent
 abbrev pub IsCreateEnding : {D : Type 0} → Device D → Call → SheetWords → D → D → Option Refusal → Report → Type 0
 IsCreateEnding device call words old new None report = IsCreated device call words old new report (Prints call)
 IsCreateEnding device call words old new (Some WriteFault) report = WritesFailed call × IsCreated device call words old new report (PrintsSome call)

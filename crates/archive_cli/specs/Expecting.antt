@@ -2,7 +2,7 @@
 use Rattle.std.specs.Prelude.{◌≡◌, ℕ, ◌+◌, ◌^◌, ◌<◌, ◌≤◌, ◌-◌, List, [], ◌∷◌, length, Option, Some, None, ◌⊎◌}
 use Rattle.arch_types.specs.declared.refusal.Refusal.{Refusal}
 use Rattle.arch_types.specs.declared.refusal.Refusal.TheVariants.{BadPacket, ReadFault, OutOfMemory}
-use Rattle.archive_cli.specs.Received.{kind_of}
+use Rattle.archive_cli.specs.ReadDump.{kind_of}
 
 -- this ending, or want of memory
 abbrev pub IsOrMemory : Option Refusal → Option Refusal → Type 0

@@ -1,4 +1,4 @@
--- Why `load` ended as it did, by what the words and the inputs tell: also where the disk tells nothing.
+-- Why `load` ended as it did, by what is known of the words and the inputs: also where the disk is opaque.
 use Rattle.std.specs.Prelude.{◌≡◌, ◌<◌, [], Option, Some, None}
 use Rattle.arch_types.specs.declared.refusal.Refusal.{Refusal}
 use Rattle.arch_types.specs.declared.refusal.Refusal.TheVariants.{Missing, ReadFault, WriteFault, BadPacket, NoArchive, Damaged, DiskFault, Limit, OutOfMemory}
@@ -8,13 +8,13 @@ use Rattle.outer_traits.specs.Whole.{IsThere}
 use Rattle.archive_cli.specs.Call.{Call, ReadsFailed}
 use Rattle.archive_cli.specs.Job.{LoadWords}
 use Rattle.archive_cli.specs.LoadEnding.{IsLongDump, IsMissing}
-use Rattle.archive_cli.specs.Received.{Received, IsBadRest}
+use Rattle.archive_cli.specs.ReadDump.{ReadDump, IsBadRest}
 
 -- `load`: the dump was read, and has this rest; or this is what is wrong with it, or with the link
 abbrev pub IsLoadCaused : Call → LoadWords → Option Refusal → Type 0
-IsLoadCaused call words None = (received : Received call words.dump) × (received.rest ≡ [])
-IsLoadCaused call words (Some WriteFault) = (received : Received call words.dump) × (received.rest ≡ [])
-IsLoadCaused call words (Some (BadPacket at kind)) = (received : Received call words.dump) × IsBadRest received.dump received.rest at kind
+IsLoadCaused call words None = (received : ReadDump call words.dump) × (received.rest ≡ [])
+IsLoadCaused call words (Some WriteFault) = (received : ReadDump call words.dump) × (received.rest ≡ [])
+IsLoadCaused call words (Some (BadPacket at kind)) = (received : ReadDump call words.dump) × IsBadRest received.dump received.rest at kind
 IsLoadCaused call words (Some (Limit DumpOctets number)) = IsLongDump call words number
 IsLoadCaused call words (Some (Limit Links number)) = (number ≡ limit_of Links) × (limit_of Links < words.link)
 IsLoadCaused call words (Some (Limit Rows number)) = number ≡ limit_of Rows

@@ -22,12 +22,12 @@ use Rattle.archive_store.specs.Limits.{IsLimit}
 use Rattle.archive_store.specs.Stands.{StandsFor}
 use Rattle.archive_cli.specs.declared.report.Report.{Report}
 use Rattle.archive_cli.specs.Batches.{arrived, batch_at}
-use Rattle.archive_cli.specs.Call.{Call, IsSilent, Prints, PrintsSome, ReadsFailed, WritesFailed}
-use Rattle.archive_cli.specs.Consulted.{IsUntouched, IsConsulted, IsOpenedThen, IsOpeningRefusal, DiskFailed}
+use Rattle.archive_cli.specs.Call.{Call, WritesNothing, Prints, PrintsSome, ReadsFailed, WritesFailed}
+use Rattle.archive_cli.specs.ReadOnly.{IsUntouched, IsReadOnly, IsOpenedThen, IsOpeningRefusal, DiskFailed}
 use Rattle.archive_cli.specs.Job.{LoadWords}
-use Rattle.archive_cli.specs.Received.{dump_limit, Received, IsBadRest}
-use Rattle.archive_cli.specs.Report.{unopened, consulted, loaded}
-pub use Rattle.archive_cli.specs.Settled.{FailedAtMostOnce, IsSettled}
+use Rattle.archive_cli.specs.ReadDump.{dump_limit, ReadDump, IsBadRest}
+use Rattle.archive_cli.specs.Report.{unopened, read_only, loaded}
+pub use Rattle.archive_cli.specs.Durable.{FailedAtMostOnce, IsDurableAs}
 
 -- the rows of packets of a link, all in table `tm`, with the packet names that a database gives them
 abbrev pub link_rows : Database → ℕ → ℤ → List (List ℕ) → List Row
@@ -64,7 +64,7 @@ batch_left rows = items_of rows ∷ []
 -- A load over an archive: the packets of the dump before a place were ingested, in batches.
 pub record IsLoad {D : Type 0} (device : Device D) (call : Call) (words : LoadWords) (in_hand : List Row → List (List Item)) (old new : D) : Type 0 where
   pub before : Archive
-  pub received : Received call words.dump
+  pub received : ReadDump call words.dump
   pub place : ℕ
   pub reached : List Item
   pub stands : StandsFor (device.reads old) before
@@ -99,7 +99,7 @@ whole_report before reached packets =
 pub record IsWhole {D : Type 0} (device : Device D) (call : Call) (words : LoadWords) (old new : D) : Type 0 where
   pub run : IsLoad device call words nothing_left old new
   pub all : run.place ≡ length run.received.packets
-  pub settled : IsSettled device new run.before.head run.reached
+  pub durable : IsDurableAs device new run.before.head run.reached
 
 -- and nothing is left of the dump, and the line was printed as P says
 pub record IsPrinted {D : Type 0} (device : Device D) (call : Call) (words : LoadWords) (old new : D) (P : List ℕ → Type 0) : Type 0 where
@@ -120,27 +120,27 @@ pub record IsUnprinted {D : Type 0} (device : Device D) (call : Call) (words : L
 -- the packets before a rest that begins with none were ingested
 pub record IsCutOff {D : Type 0} (device : Device D) (call : Call) (words : LoadWords) (old new : D) (refusal : Refusal) (report : Report) : Type 0 where
   pub whole : IsWhole device call words old new
-  pub silent : IsSilent call
+  pub silent : WritesNothing call
   pub report_is : report ≡ loaded (Some refusal) (Some words.link) (length whole.run.before.history) (length whole.run.reached) 0 0 0
 
 -- the store refused a batch, and the packets before it were ingested
 pub record IsStopped {D : Type 0} (device : Device D) (call : Call) (words : LoadWords) (in_hand : List Row → List (List Item)) (old new : D) (refusal : Refusal)
     (report : Report) : Type 0 where
   pub run : IsLoad device call words in_hand old new
-  pub silent : IsSilent call
+  pub silent : WritesNothing call
   pub report_is : report ≡ loaded (Some refusal) None (length run.before.history) (length run.reached) 0 0 0
 
 -- the store refused a batch before it asked anything of the disk
 pub record IsRefused {D : Type 0} (device : Device D) (call : Call) (words : LoadWords) (old new : D) (refusal : Refusal) (report : Report) : Type 0 where
   pub stopped : IsStopped device call words nothing_left old new refusal report
-  pub settled : IsSettled device new stopped.run.before.head stopped.run.reached
+  pub durable : IsDurableAs device new stopped.run.before.head stopped.run.reached
 
 -- The disk failed in the writing of a batch, and a crash now leaves the history reached, or that one with the batch's new rows. Where it failed once
 -- the disk was healed: every image that a crash now leaves stands for the history reached, and so does the disk as it reads.
 pub record IsFailed {D : Type 0} (device : Device D) (call : Call) (words : LoadWords) (old new : D) (report : Report) : Type 0 where
   pub stopped : IsStopped device call words batch_left old new DiskFault report
   pub now : (c : Image) → device.images new c → IsReached stopped.run c
-  pub settled : FailedAtMostOnce device old new → IsSettled device new stopped.run.before.head stopped.run.reached
+  pub durable : FailedAtMostOnce device old new → IsDurableAs device new stopped.run.before.head stopped.run.reached
 
 -- The batch that is refused passes a limit. The journal has one record for the head, and each further one has a row.
 pub record IsLimited {D : Type 0} (device : Device D) (call : Call) (words : LoadWords) (old new : D) (which : Which) (number : ℕ) (report : Report) : Type 0 where
@@ -153,7 +153,7 @@ pub record IsLimited {D : Type 0} (device : Device D) (call : Call) (words : Loa
 
 -- nothing was asked of an archive
 pub record IsNotBegun {D : Type 0} (device : Device D) (call : Call) (old new : D) (report : Report) : Type 0 where
-  pub silent : IsSilent call
+  pub silent : WritesNothing call
   pub disk : IsUntouched device old new
   pub report_is : report ≡ unopened report.refusal
 
@@ -161,7 +161,7 @@ pub record IsNotBegun {D : Type 0} (device : Device D) (call : Call) (old new : 
 pub record IsNotOpened {D : Type 0} (device : Device D) (call : Call) (words : LoadWords) (old new : D) (refusal : Refusal) (report : Report) : Type 0 where
   pub input : IsThere call.files words.dump
   pub cause : IsOpeningRefusal device old new refusal
-  pub silent : IsSilent call
+  pub silent : WritesNothing call
   pub disk : IsUntouched device old new
   pub report_is : report ≡ unopened (Some refusal)
 
@@ -169,9 +169,9 @@ pub record IsNotOpened {D : Type 0} (device : Device D) (call : Call) (words : L
 pub record IsNothingLoaded {D : Type 0} (device : Device D) (call : Call) (words : LoadWords) (old new : D) (link : Option ℕ) (report : Report) : Type 0 where
   pub input : IsThere call.files words.dump
   pub before : Archive
-  pub disk : IsConsulted device old new before
-  pub silent : IsSilent call
-  pub report_is : report ≡ record (consulted report.refusal (length before.history)) { link = link }
+  pub disk : IsReadOnly device old new before
+  pub silent : WritesNothing call
+  pub report_is : report ≡ record (read_only report.refusal (length before.history)) { link = link }
 
 -- the dump is longer than a dump may be
 abbrev pub IsLongDump : Call → LoadWords → ℕ → Type 0
@@ -182,7 +182,7 @@ IsLongDump call words number =
 abbrev pub IsMissing : Call → LoadWords → List ℕ → Type 0
 IsMissing call words name = (name ≡ words.dump) × IfSome call.files (λ all. IsNone (get all words.dump))
 
--- the ending of `load`, where the disk tells what it holds
+-- the ending of `load`, where the disk is transparent
 abbrev pub IsLoadEnding : {D : Type 0} → Device D → Call → LoadWords → D → D → Option Refusal → Report → Type 0
 IsLoadEnding device call words old new None report = IsLoaded device call words old new report
 IsLoadEnding device call words old new (Some WriteFault) report = WritesFailed call × IsUnprinted device call words old new WriteFault report

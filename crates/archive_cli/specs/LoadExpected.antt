@@ -1,4 +1,4 @@
--- Which ending `load` has to have, by what the disk and the inputs tell.
+-- Which ending `load` has to have, by what is known of the disk and the inputs.
 use Rattle.std.specs.Prelude.{◌≡◌, ◌<◌, ◌≤◌, ℕ, ℤ, List, Option, Some, IsNone, length}
 use Rattle.std.specs.FinMap.{get}
 use Rattle.arch_disk.specs.Disk.{Device}
@@ -17,13 +17,13 @@ use Rattle.archive_cli.specs.Call.{Call, IsMomentOf}
 use Rattle.archive_cli.specs.Expecting.{IsOrEarlier, IsOrMemory, NoFault, ending_of_rest}
 use Rattle.archive_cli.specs.Job.{LoadWords}
 use Rattle.archive_cli.specs.LoadEnding.{history_with}
-use Rattle.archive_cli.specs.Received.{dump_limit}
+use Rattle.archive_cli.specs.ReadDump.{dump_limit}
 
 -- whenever the dump's packets are received, the history with them passes no limit
 abbrev pub HasRoomFor : Archive → Call → LoadWords → List (List ℕ) → Type 0
 HasRoomFor archive call words packets = (moment : ℤ) → IsMomentOf call.moment moment → IsWithin (history_with archive words.link moment packets)
 
--- `load` of a told dump: Missing where there's none of the name. Where no call of the disk failed, and but for an opening of the dump that failed: NoArchive
+-- `load` of a known dump: Missing where there's none of the name. Where no call of the disk failed, and but for an opening of the dump that failed: NoArchive
 -- where it holds none, Damaged where it is damaged, and where it stands for an archive Limit where there's no link of the number. Where no read failed
 -- either: Limit where the dump is longer than one may be; and where nothing passes a limit and no write failed either, the ending by the dump's rest.
 pub record IsLoadExpected {D : Type 0} (device : Device D) (call : Call) (all : Files) (words : LoadWords) (given given' : ℕ) (old new : D) (ending : Option Refusal) : Type 0 where

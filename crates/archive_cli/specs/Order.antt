@@ -37,7 +37,7 @@ unread_at k None = None
 unread_at k (Some (Missing name)) = Some (Missing name, k)
 unread_at k (Some other) = Some (other, suc k)
 
--- the same of the first of told inputs that can't be read whole
+-- the same of the first of known inputs that can't be read whole
 abbrev pub first_unread : Files → ℕ → List Input → Option (Refusal × ℕ)
 first_unread all k [] = None
 first_unread all k (input ∷ inputs) = or_else (unread_at k (refusal_of_input input.1 input.0 (get all input.0))) (first_unread all (suc k) inputs)

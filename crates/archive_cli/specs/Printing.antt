@@ -11,11 +11,11 @@ use Rattle.outer_traits.specs.Outside.{WritesSome}
 use Rattle.archive_cli.specs.Call.{Appends}
 use Rattle.archive_cli.specs.Text.{row_line, counts_line}
 use Rattle.archive_cli.specs.declared.counts.Counts.{Counts}
-use Rattle.archive_cli.specs.declared.rows.Loaded.{Loaded}
+use Rattle.archive_cli.specs.declared.rows.DumpTable.{DumpTable}
 
 -- a front of a text was appended, and the rest of it is left
-abbrev pub HasMoved : Option (List ℕ) → Option (List ℕ) → List ℕ → List ℕ → Type 0
-HasMoved before now text left = (sent : List ℕ) × (text ≡ sent ++ left) × Appends before now sent
+abbrev pub IsBuffered : Option (List ℕ) → Option (List ℕ) → List ℕ → List ℕ → Type 0
+IsBuffered before now text left = (sent : List ℕ) × (text ≡ sent ++ left) × Appends before now sent
 
 -- how a command ends that has printed a text: no refusal and all of it, or WriteFault and a prefix
 abbrev pub IsFinished : Option Refusal → Option (List ℕ) → Option (List ℕ) → List ℕ → Type 0
@@ -34,5 +34,5 @@ end_of Version counts = []
 end_of Truncated counts = []
 
 -- what is printed of a dump
-abbrev pub text_of_loaded : Loaded → List ℕ
+abbrev pub text_of_loaded : DumpTable → List ℕ
 text_of_loaded loaded = lines_of loaded.table.stored ++ end_of loaded.why loaded.counts

@@ -16,18 +16,18 @@ use Rattle.archive_cli.specs.declared.ask_sheet.AskSheet.{AskSheet}
 use Rattle.archive_cli.specs.declared.ask_sheet.AskSheet.TheVariants.{Read, Refused}
 use Rattle.archive_cli.specs.declared.report.Report.{Report}
 use Rattle.archive_cli.specs.AnswerText.{asks_text, asks_refusal}
-use Rattle.archive_cli.specs.Call.{Appends, Call, IsSilent, Prints, PrintsSome, WritesFailed}
-use Rattle.archive_cli.specs.Consulted.{IsUntouched, IsConsulted, IsOpeningRefusal}
+use Rattle.archive_cli.specs.Call.{Appends, Call, WritesNothing, Prints, PrintsSome, WritesFailed}
+use Rattle.archive_cli.specs.ReadOnly.{IsUntouched, IsReadOnly, IsOpeningRefusal}
 use Rattle.archive_cli.specs.Reading.{IsReadRefusal}
-use Rattle.archive_cli.specs.Report.{unopened, consulted}
+use Rattle.archive_cli.specs.Report.{unopened, read_only}
 
 -- whether a refusal of a sheet of asks is answered only once an archive is open: a broken rule, or too many asks
-abbrev pub waits : Refusal → Bool
-waits (BadSheet sheet row rule) = true
-waits (Limit Asks number) = true
-waits other = false
+abbrev pub is_deferred : Refusal → Bool
+is_deferred (BadSheet sheet row rule) = true
+is_deferred (Limit Asks number) = true
+is_deferred other = false
 
--- there is an input of the name with such octets, where the inputs are told
+-- there is an input of the name with such octets, where the inputs are known
 abbrev pub HasInput : Option Files → List ℕ → (List ℕ → Type 0) → Type 0
 HasInput files name P = IfSome files (λ all. IsSomeAnd (get all name) P)
 
@@ -37,22 +37,22 @@ AreAsksOf files name asks = HasInput files name (λ octets. AreAsks (Some octets
 
 -- the sheet of the name breaks a rule, or has more asks than their limit; no count of faults tells of either
 abbrev pub AreRefusedAsks : Option Files → List ℕ → Refusal → Type 0
-AreRefusedAsks files name refusal = (waits refusal ≡ true) × HasInput files name (λ octets. IsAsksRefusal (Some octets) 0 0 refusal)
+AreRefusedAsks files name refusal = (is_deferred refusal ≡ true) × HasInput files name (λ octets. IsAsksRefusal (Some octets) 0 0 refusal)
 
 -- what a sheet was read as
 abbrev pub IsAskSheet : Option Files → List ℕ → AskSheet → Type 0
 IsAskSheet files name (Read asks) = AreAsksOf files name asks
 IsAskSheet files name (Refused refusal) = AreRefusedAsks files name refusal
 
--- a refusal that is kept until an archive is open is one that waits
-abbrev pub IsWaiting : AskSheet → Type 0
-IsWaiting (Read asks) = Unit {0}
-IsWaiting (Refused refusal) = waits refusal ≡ true
+-- a refusal that is kept until an archive is open is one that is deferred
+abbrev pub IsDeferred : AskSheet → Type 0
+IsDeferred (Read asks) = Unit {0}
+IsDeferred (Refused refusal) = is_deferred refusal ≡ true
 
--- the asks that were read, or a refusal that waits, or one that doesn't
-abbrev pub SheetGiven : Result (List Ask) Refusal → Result AskSheet Refusal → Type 0
-SheetGiven (Ok asks) sheet = sheet ≡ Ok (Read asks)
-SheetGiven (Err refusal) sheet = ((waits refusal ≡ true) × (sheet ≡ Ok (Refused refusal))) ⊎ ((waits refusal ≡ false) × (sheet ≡ Err refusal))
+-- the asks that were read, or a refusal that is deferred, or one that isn't
+abbrev pub IsAskSheetResult : Result (List Ask) Refusal → Result AskSheet Refusal → Type 0
+IsAskSheetResult (Ok asks) sheet = sheet ≡ Ok (Read asks)
+IsAskSheetResult (Err refusal) sheet = ((is_deferred refusal ≡ true) × (sheet ≡ Ok (Refused refusal))) ⊎ ((is_deferred refusal ≡ false) × (sheet ≡ Err refusal))
 
 -- how asks are answered over a database and a history: all of their text was printed, or a prefix of it, or one is refused and nothing was written
 abbrev pub IsReply : Database → List Item → List Ask → Option Refusal → Option (List ℕ) → Option (List ℕ) → ℕ → ℕ → Type 0
@@ -75,7 +75,7 @@ IsSheetReply db history (Refused refused) refusal before now faults faults' = (r
 
 -- nothing was asked of the disk
 pub record IsNotAsked {D : Type 0} (device : Device D) (call : Call) (old new : D) (report : Report) : Type 0 where
-  pub silent : IsSilent call
+  pub silent : WritesNothing call
   pub disk : IsUntouched device old new
   pub report_is : report ≡ unopened report.refusal
 
@@ -83,29 +83,29 @@ pub record IsNotAsked {D : Type 0} (device : Device D) (call : Call) (old new : 
 pub record IsNotOpened {D : Type 0} (device : Device D) (call : Call) (name : List ℕ) (old new : D) (refusal : Refusal) (report : Report) : Type 0 where
   pub input : HasSheet call.files name
   pub cause : IsOpeningRefusal device old new refusal
-  pub silent : IsSilent call
+  pub silent : WritesNothing call
   pub disk : IsUntouched device old new
   pub report_is : report ≡ unopened (Some refusal)
 
 -- an archive was opened, and the asks are refused: their sheet, or the first that names no parameter or gives no range
 pub record IsRefusedAsk {D : Type 0} (device : Device D) (call : Call) (name : List ℕ) (old new : D) (refusal : Refusal) (report : Report) : Type 0 where
   pub archive : Archive
-  pub disk : IsConsulted device old new archive
+  pub disk : IsReadOnly device old new archive
   pub cause : AreRefusedAsks call.files name refusal ⊎ ((asks : List Ask) × AreAsksOf call.files name asks × (asks_refusal archive.head.mdb asks ≡ Some refusal))
-  pub silent : IsSilent call
-  pub report_is : report ≡ consulted (Some refusal) (length archive.history)
+  pub silent : WritesNothing call
+  pub report_is : report ≡ read_only (Some refusal) (length archive.history)
 
 -- an archive was opened, its asks name what exists, and their answers over its whole history were printed as P says
 pub record IsAnswered {D : Type 0} (device : Device D) (call : Call) (name : List ℕ) (old new : D) (report : Report) (P : List ℕ → Type 0) : Type 0 where
   pub archive : Archive
   pub asks : List Ask
-  pub disk : IsConsulted device old new archive
+  pub disk : IsReadOnly device old new archive
   pub asks_are : AreAsksOf call.files name asks
   pub known : asks_refusal archive.head.mdb asks ≡ None
   pub printed : P (asks_text archive.head.mdb archive.history 1 asks)
-  pub report_is : report ≡ consulted report.refusal (length archive.history)
+  pub report_is : report ≡ read_only report.refusal (length archive.history)
 
--- the ending of `query --ask`, where the disk tells what it holds
+-- the ending of `query --ask`, where the disk is transparent
 abbrev pub IsQueryEnding : {D : Type 0} → Device D → Call → List ℕ → D → D → Option Refusal → Report → Type 0
 IsQueryEnding device call name old new None report = IsAnswered device call name old new report (Prints call)
 IsQueryEnding device call name old new (Some WriteFault) report = WritesFailed call × IsAnswered device call name old new report (PrintsSome call)

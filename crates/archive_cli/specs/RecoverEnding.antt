@@ -5,9 +5,9 @@ use Rattle.arch_types.specs.declared.refusal.Refusal.{Refusal}
 use Rattle.arch_types.specs.declared.refusal.Refusal.TheVariants.{WriteFault}
 use Rattle.archive_store.specs.Entries.{Archive}
 use Rattle.archive_cli.specs.declared.report.Report.{Report}
-use Rattle.archive_cli.specs.Call.{Call, IsSilent, Prints, PrintsSome, WritesFailed}
-use Rattle.archive_cli.specs.Consulted.{IsUntouched, IsConsulted, IsOpeningRefusal}
-use Rattle.archive_cli.specs.Report.{unopened, consulted}
+use Rattle.archive_cli.specs.Call.{Call, WritesNothing, Prints, PrintsSome, WritesFailed}
+use Rattle.archive_cli.specs.ReadOnly.{IsUntouched, IsReadOnly, IsOpeningRefusal}
+use Rattle.archive_cli.specs.Report.{unopened, read_only}
 
 -- the one line of `recover`; nothing is filled, as no fill is kept yet
 abbrev pub recover_line : ℕ → List ℕ
@@ -16,18 +16,18 @@ recover_line rows = codes "recovered rows " ++ decimal rows ++ codes " filled 0\
 -- no archive was opened, for this cause
 pub record IsNotRecovered {D : Type 0} (device : Device D) (call : Call) (old new : D) (refusal : Refusal) (report : Report) : Type 0 where
   pub cause : IsOpeningRefusal device old new refusal
-  pub silent : IsSilent call
+  pub silent : WritesNothing call
   pub disk : IsUntouched device old new
   pub report_is : report ≡ unopened (Some refusal)
 
 -- an archive was opened, and a text on it was printed as P says
 pub record IsRecovered {D : Type 0} (device : Device D) (call : Call) (old new : D) (report : Report) (P : List ℕ → Type 0) : Type 0 where
   pub archive : Archive
-  pub disk : IsConsulted device old new archive
+  pub disk : IsReadOnly device old new archive
   pub printed : P (recover_line (length archive.history))
-  pub report_is : report ≡ consulted report.refusal (length archive.history)
+  pub report_is : report ≡ read_only report.refusal (length archive.history)
 
--- the ending of `recover`, where the disk tells what it holds
+-- the ending of `recover`, where the disk is transparent
 abbrev pub IsRecoverEnding : {D : Type 0} → Device D → Call → D → D → Option Refusal → Report → Type 0
 IsRecoverEnding device call old new None report = IsRecovered device call old new report (Prints call)
 IsRecoverEnding device call old new (Some WriteFault) report = WritesFailed call × IsRecovered device call old new report (PrintsSome call)

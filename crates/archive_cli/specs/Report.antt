@@ -17,8 +17,8 @@ abbrev pub unopened : Option Refusal → Report
 unopened refusal = record { refusal = refusal; opened = false; link = None; before = 0; after = 0; packets = 0; new = 0; duplicates = 0; idle = 0 }
 
 -- the report of a call that opened an archive with a history of this length, and left it so, or made one with none
-abbrev pub consulted : Option Refusal → ℕ → Report
-consulted refusal rows = record { refusal = refusal; opened = true; link = None; before = rows; after = rows; packets = 0; new = 0; duplicates = 0; idle = 0 }
+abbrev pub read_only : Option Refusal → ℕ → Report
+read_only refusal rows = record { refusal = refusal; opened = true; link = None; before = rows; after = rows; packets = 0; new = 0; duplicates = 0; idle = 0 }
 
 -- the report of a load, by the lengths of the history before and after
 abbrev pub loaded : Option Refusal → Option ℕ → ℕ → ℕ → ℕ → ℕ → ℕ → Report
@@ -26,9 +26,9 @@ loaded refusal link before after packets duplicates idle =
     record { refusal = refusal; opened = true; link = link; before = before; after = after; packets = packets; new = after - before; duplicates = duplicates; idle = idle }
 
 -- the report of a call that asks an archive, or makes one: it was opened or made where there's no refusal, and maybe where there's one
-abbrev pub IsConsulting : Option Refusal → Report → Type 0
-IsConsulting None report = (rows : ℕ) × (report ≡ consulted None rows)
-IsConsulting (Some refusal) report = (report ≡ unopened (Some refusal)) ⊎ ((rows : ℕ) × (report ≡ consulted (Some refusal) rows))
+abbrev pub IsReadOnlyReport : Option Refusal → Report → Type 0
+IsReadOnlyReport None report = (rows : ℕ) × (report ≡ read_only None rows)
+IsReadOnlyReport (Some refusal) report = (report ≡ unopened (Some refusal)) ⊎ ((rows : ℕ) × (report ≡ read_only (Some refusal) rows))
 
 -- The report of a load: where there's no refusal how many packets there were; the link of a dump that is no list of packets, after which the history
 -- may be longer, or that is too long, after which it isn't; else it opened no archive, or one whose history may be longer.
@@ -47,7 +47,7 @@ abbrev pub IsReport : Option Job → Report → Type 0
 IsReport None report = report ≡ unopened report.refusal
 IsReport (Some (Scan name)) report = report ≡ unopened report.refusal
 IsReport (Some (Values words)) report = report ≡ unopened report.refusal
-IsReport (Some (Create words)) report = IsConsulting report.refusal report
+IsReport (Some (Create words)) report = IsReadOnlyReport report.refusal report
 IsReport (Some (Load words)) report = IsLoadReport words report.refusal report
-IsReport (Some (Query name)) report = IsConsulting report.refusal report
-IsReport (Some Recover) report = IsConsulting report.refusal report
+IsReport (Some (Query name)) report = IsReadOnlyReport report.refusal report
+IsReport (Some Recover) report = IsReadOnlyReport report.refusal report

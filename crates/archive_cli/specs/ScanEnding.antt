@@ -5,21 +5,21 @@ use Rattle.arch_types.specs.declared.refusal.Refusal.{Refusal}
 use Rattle.arch_types.specs.declared.refusal.Refusal.TheVariants.{Missing, ReadFault, WriteFault, BadPacket, Limit, OutOfMemory}
 use Rattle.arch_types.specs.declared.refusal.Which.TheVariants.{DumpOctets}
 use Rattle.archive_cli.specs.Text.{scan_text}
-use Rattle.archive_cli.specs.Call.{Call, IsSilent, Prints, PrintsSome, ReadsFailed, WritesFailed}
-use Rattle.archive_cli.specs.Received.{dump_limit, Received, IsBadRest}
+use Rattle.archive_cli.specs.Call.{Call, WritesNothing, Prints, PrintsSome, ReadsFailed, WritesFailed}
+use Rattle.archive_cli.specs.ReadDump.{dump_limit, ReadDump, IsBadRest}
 
 -- what a scan of a dump prints
-abbrev pub text_of : {call : Call} {name : List ℕ} → Received call name → List ℕ
+abbrev pub text_of : {call : Call} {name : List ℕ} → ReadDump call name → List ℕ
 text_of r = scan_text r.packets r.rest r.moment
 
 -- the ending of `scan`
 abbrev pub IsScanEnding : Call → List ℕ → Option Refusal → Type 0
-IsScanEnding call name None = (r : Received call name) × (r.rest ≡ []) × Prints call (text_of r)
-IsScanEnding call name (Some (Missing lacking)) = (lacking ≡ name) × IfSome call.files (λ all. IsNone (get all name)) × IsSilent call
-IsScanEnding call name (Some ReadFault) = ReadsFailed call × IfSome call.files (λ all. IsSome (get all name)) × IsSilent call
+IsScanEnding call name None = (r : ReadDump call name) × (r.rest ≡ []) × Prints call (text_of r)
+IsScanEnding call name (Some (Missing lacking)) = (lacking ≡ name) × IfSome call.files (λ all. IsNone (get all name)) × WritesNothing call
+IsScanEnding call name (Some ReadFault) = ReadsFailed call × IfSome call.files (λ all. IsSome (get all name)) × WritesNothing call
 IsScanEnding call name (Some (Limit which number)) =
-    (which ≡ DumpOctets) × (number ≡ dump_limit) × IfSome call.files (λ all. IsSomeAnd (get all name) (λ dump. number < length dump)) × IsSilent call
-IsScanEnding call name (Some (BadPacket at kind)) = (r : Received call name) × IsBadRest r.dump r.rest at kind × Prints call (text_of r)
-IsScanEnding call name (Some WriteFault) = (r : Received call name) × WritesFailed call × PrintsSome call (text_of r)
-IsScanEnding call name (Some OutOfMemory) = IsSilent call
+    (which ≡ DumpOctets) × (number ≡ dump_limit) × IfSome call.files (λ all. IsSomeAnd (get all name) (λ dump. number < length dump)) × WritesNothing call
+IsScanEnding call name (Some (BadPacket at kind)) = (r : ReadDump call name) × IsBadRest r.dump r.rest at kind × Prints call (text_of r)
+IsScanEnding call name (Some WriteFault) = (r : ReadDump call name) × WritesFailed call × PrintsSome call (text_of r)
+IsScanEnding call name (Some OutOfMemory) = WritesNothing call
 IsScanEnding call name (Some other) = ⊥

@@ -8,32 +8,32 @@ use Rattle.mdb_model.specs.declared.sheet.RawMdb.{RawMdb}
 use Rattle.mdb_model.specs.Database.{Database}
 use Rattle.mdb_sheets.specs.Sheets.{AreSheets}
 use Rattle.outer_traits.specs.Outside.{Files}
-use Rattle.archive_cli.specs.Call.{Call, IsSilent, Prints, PrintsSome, WritesFailed}
+use Rattle.archive_cli.specs.Call.{Call, WritesNothing, Prints, PrintsSome, WritesFailed}
 use Rattle.archive_cli.specs.Job.{ValuesWords}
 use Rattle.archive_cli.specs.Parameter.{IsParameter, parameter_refusal}
 use Rattle.archive_cli.specs.Reading.{IsReadRefusal, IsSheetsRefusal}
-use Rattle.archive_cli.specs.Received.{dump_limit, Received, IsBadRest}
+use Rattle.archive_cli.specs.ReadDump.{dump_limit, ReadDump, IsBadRest}
 use Rattle.archive_cli.specs.ValuesText.{values_text}
 
 -- the three sheets were read
 abbrev pub AreSheetsOf : Call → ValuesWords → RawMdb → Type 0
 AreSheetsOf call words raw = AreSheets call.files words.parameters words.calibrations words.containers raw
 
--- there is a dump of the name that isn't longer than a dump may be, where the inputs are told
+-- there is a dump of the name that isn't longer than a dump may be, where the inputs are known
 abbrev pub HasDump : Option Files → List ℕ → Type 0
 HasDump files name = IfSome files (λ all. IsSomeAnd (get all name) (λ octets. length octets ≤ dump_limit))
 
 -- a parameter of the sheets' database, and the dump over which it is asked
-pub record Asked (call : Call) (words : ValuesWords) : Type 0 where
+pub record ParameterOverDump (call : Call) (words : ValuesWords) : Type 0 where
   pub raw : RawMdb
   pub db : Database
   pub number : ℕ
   pub sheets : AreSheetsOf call words raw
   pub parameter : IsParameter raw words.name db number
-  pub received : Received call words.dump
+  pub received : ReadDump call words.dump
 
 -- what is printed of them
-abbrev pub text_of_asked : {call : Call} {words : ValuesWords} → Asked call words → List ℕ
+abbrev pub text_of_asked : {call : Call} {words : ValuesWords} → ParameterOverDump call words → List ℕ
 text_of_asked a = values_text a.db a.number a.received.packets a.received.rest a.received.moment
 
 -- the sheets and the dump were read, and the sheets or the name are refused
@@ -51,8 +51,8 @@ IsInputRefused call words refusal =
 
 -- the ending of `values`
 abbrev pub IsValuesEnding : Call → ValuesWords → Option Refusal → Type 0
-IsValuesEnding call words None = (a : Asked call words) × (a.received.rest ≡ []) × Prints call (text_of_asked a)
-IsValuesEnding call words (Some (BadPacket at kind)) = (a : Asked call words) × IsBadRest a.received.dump a.received.rest at kind × Prints call (text_of_asked a)
-IsValuesEnding call words (Some WriteFault) = (a : Asked call words) × WritesFailed call × PrintsSome call (text_of_asked a)
-IsValuesEnding call words (Some OutOfMemory) = IsSilent call ⊎ ((a : Asked call words) × PrintsSome call (text_of_asked a))
-IsValuesEnding call words (Some refusal) = (IsInputRefused call words refusal ⊎ IsParameterRefused call words refusal) × IsSilent call
+IsValuesEnding call words None = (a : ParameterOverDump call words) × (a.received.rest ≡ []) × Prints call (text_of_asked a)
+IsValuesEnding call words (Some (BadPacket at kind)) = (a : ParameterOverDump call words) × IsBadRest a.received.dump a.received.rest at kind × Prints call (text_of_asked a)
+IsValuesEnding call words (Some WriteFault) = (a : ParameterOverDump call words) × WritesFailed call × PrintsSome call (text_of_asked a)
+IsValuesEnding call words (Some OutOfMemory) = WritesNothing call ⊎ ((a : ParameterOverDump call words) × PrintsSome call (text_of_asked a))
+IsValuesEnding call words (Some refusal) = (IsInputRefused call words refusal ⊎ IsParameterRefused call words refusal) × WritesNothing call

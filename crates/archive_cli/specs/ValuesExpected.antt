@@ -1,4 +1,4 @@
--- Which ending `values` has to have, by what is told of the inputs.
+-- Which ending `values` has to have, by what is known of the inputs.
 use Rattle.std.specs.Prelude.{◌≡◌, ℕ, List, [], length, Option, Some, None, IsNone, unwrap_or, nat_lt, if◌then◌else◌}
 use Rattle.std.specs.FinMap.{get}
 use Rattle.arch_types.specs.declared.refusal.Refusal.{Refusal}
@@ -16,20 +16,20 @@ use Rattle.archive_cli.specs.Expecting.{IsOrMemory, NoFault, ending_of_rest}
 use Rattle.archive_cli.specs.Job.{ValuesWords}
 use Rattle.archive_cli.specs.Parameter.{parameter_refusal}
 
--- the refusal of a told input: there's none of the name, or it is longer than its limit
+-- the refusal of a known input: there's none of the name, or it is longer than its limit
 abbrev pub refusal_of_input : Which → List ℕ → Option (List ℕ) → Option Refusal
 refusal_of_input which name None = Some (Missing name)
 refusal_of_input which name (Some octets) = if nat_lt (limit_of which) (length octets) then Some (Limit which (limit_of which)) else None
 
--- the records of a told sheet
-abbrev pub told_sheet : Files → List ℕ → List (List (List ℕ))
-told_sheet all name = sheet_of (unwrap_or (get all name) [])
+-- the records of a known sheet
+abbrev pub known_sheet : Files → List ℕ → List (List (List ℕ))
+known_sheet all name = sheet_of (unwrap_or (get all name) [])
 
-abbrev pub told_sheets : Files → ValuesWords → RawMdb
-told_sheets all words = record {
-  parameters = told_sheet all words.parameters;
-  calibrations = told_sheet all words.calibrations;
-  containers = told_sheet all words.containers;
+abbrev pub known_sheets : Files → ValuesWords → RawMdb
+known_sheets all words = record {
+  parameters = known_sheet all words.parameters;
+  calibrations = known_sheet all words.calibrations;
+  containers = known_sheet all words.containers;
 }
 
 -- the first refusal, where no read fails, before the dump is split: of a sheet, of the dump, and of what the sheets say
@@ -39,9 +39,9 @@ values_refusal all words =
     (or_else (refusal_of_input SheetOctets words.calibrations (get all words.calibrations))
     (or_else (refusal_of_input SheetOctets words.containers (get all words.containers))
     (or_else (refusal_of_input DumpOctets words.dump (get all words.dump))
-    (parameter_refusal (told_sheets all words) words.name))))
+    (parameter_refusal (known_sheets all words) words.name))))
 
--- `values` of told inputs: Missing where there's none of the first sheet's name; where no read failed the first refusal, if there is one; and where
+-- `values` of known inputs: Missing where there's none of the first sheet's name; where no read failed the first refusal, if there is one; and where
 -- no write failed either BadPacket where the dump's rest isn't empty, and else none
 pub record IsValuesExpected (call : Call) (all : Files) (words : ValuesWords) (ending : Option Refusal) : Type 0 where
   pub missing : IsNone (get all words.parameters) → IsOrMemory ending (Some (Missing words.parameters))

@@ -5,7 +5,7 @@ ghost use Rattle.std.specs.Arc.{arc_value};
 ghost use Rattle.std.specs.List.{filter_map};
 ghost use Rattle.archive_store.specs.Plans.{rows_of_parts};
 ghost use Rattle.container_extract.specs.Extraction.{cell_of};
-ghost use Rattle.archive_cli.specs.AnswerText.{IsFound, at_most, cell_list, is_full, request_refusal, turned};
+ghost use Rattle.archive_cli.specs.AnswerText.{IsParameterAnswer, truncated, cell_list, is_full, request_refusal, in_asked_order};
 ghost use Rattle.archive_cli.specs.Parameter.{number_named};
 
 use crate::cells::cell_of;
@@ -22,7 +22,7 @@ use std::sync::Arc;
 
 /// The answer to a request, with the database and the parameter that it is over.
 #[derive(Drop)]
-pub struct Found {
+pub struct ParameterAnswer {
     pub mdb: Arc<Mdb, Global>,
     /// The parameter's number in the database.
     pub number: u16,
@@ -34,9 +34,9 @@ pub fn answer_request<D: Disk>(
     alloc: Global,
     store: &mut Store<D>,
     request: &Request,
-) -> Result<Found, AllocError>
+) -> Result<ParameterAnswer, AllocError>
     requires { request_refusal (number_named store.old.head.mdb request.now.parameter) request.now ≡ None }
-    ensures found { IfOk result (IsFound store.old.head.mdb store.old.history request.now) }
+    ensures found { IfOk result (IsParameterAnswer store.old.head.mdb store.old.history request.now) }
     ensures same { store.new ≡ store.old }
 {
     let plan = match store.plan(alloc, request) {
@@ -53,7 +53,7 @@ pub fn answer_request<D: Disk>(
         mdb,
         parts: _,
     } = plan;
-    Ok(Found {
+    Ok(ParameterAnswer {
         mdb,
         number,
         answer: Answer { front, cells },
@@ -78,7 +78,7 @@ fn plan_cells(
     number: u16,
     request: &Request,
 ) -> Result<Cells, AllocError>
-    ensures { IfOk result (λ cells. cells ≡ at_most request.now.limit (turned request.now.descending (filter_map (cell_of (arc_value plan.now.mdb) number) (rows_of_parts plan.now.parts)))) }
+    ensures { IfOk result (λ cells. cells ≡ truncated request.now.limit (in_asked_order request.now.descending (filter_map (cell_of (arc_value plan.now.mdb) number) (rows_of_parts plan.now.parts)))) }
 {
     let parts = plan.parts.as_slice();
     if request.descending {
@@ -97,7 +97,7 @@ fn first_cells(
     parts: &[Part],
     limit: Option<u64>,
 ) -> Result<Vec<Cell>, AllocError>
-    ensures { IfOk result (λ cells. cells.items ≡ at_most limit (filter_map (cell_of mdb.now number) (rows_of_parts parts.now))) }
+    ensures { IfOk result (λ cells. cells.items ≡ truncated limit (filter_map (cell_of mdb.now number) (rows_of_parts parts.now))) }
 {
     let mut cells = Vec::new(alloc);
     for part in parts {
@@ -114,7 +114,7 @@ fn last_cells(
     parts: &[Part],
     limit: Option<u64>,
 ) -> Result<Vec<Cell>, AllocError>
-    ensures { IfOk result (λ cells. cells.items ≡ at_most limit (turned true (filter_map (cell_of mdb.now number) (rows_of_parts parts.now)))) }
+    ensures { IfOk result (λ cells. cells.items ≡ truncated limit (in_asked_order true (filter_map (cell_of mdb.now number) (rows_of_parts parts.now)))) }
 {
     let mut cells = Vec::new(alloc);
     for part in parts.iter().rev() {
@@ -132,8 +132,8 @@ fn add_cells(
     limit: Option<u64>,
     cells: &mut Vec<Cell>,
 ) -> Result<(), AllocError>
-    requires { at_most limit cells.old.items ≡ cells.old.items }
-    ensures { OnOk result (cells.new.items ≡ at_most limit (cells.old.items ++ filter_map (cell_of mdb.now number) rows.now)) }
+    requires { truncated limit cells.old.items ≡ cells.old.items }
+    ensures { OnOk result (cells.new.items ≡ truncated limit (cells.old.items ++ filter_map (cell_of mdb.now number) rows.now)) }
 {
     for row in rows {
         if is_full(cells.as_slice(), limit) {
@@ -153,8 +153,8 @@ fn add_last_cells(
     limit: Option<u64>,
     cells: &mut Vec<Cell>,
 ) -> Result<(), AllocError>
-    requires { at_most limit cells.old.items ≡ cells.old.items }
-    ensures { OnOk result (cells.new.items ≡ at_most limit (cells.old.items ++ filter_map (cell_of mdb.now number) (reverse rows.now))) }
+    requires { truncated limit cells.old.items ≡ cells.old.items }
+    ensures { OnOk result (cells.new.items ≡ truncated limit (cells.old.items ++ filter_map (cell_of mdb.now number) (reverse rows.now))) }
 {
     for row in rows.iter().rev() {
         if is_full(cells.as_slice(), limit) {

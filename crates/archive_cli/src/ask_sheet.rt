@@ -4,7 +4,7 @@ ghost use Rattle.std.specs.Prelude.{◌≡◌, ◌≤◌, ◌<◌, ◌+◌, ◌^
 ghost use Rattle.std.specs.Result.{result_err};
 ghost use Rattle.mdb_sheets.specs.Sheets.{ReadsCounted};
 ghost use Rattle.outer_traits.specs.Outside.{Stays};
-ghost use Rattle.archive_cli.specs.QueryEnding.{IsAskSheet, IsWaiting, SheetGiven, waits};
+ghost use Rattle.archive_cli.specs.QueryEnding.{IsAskSheet, IsDeferred, IsAskSheetResult, is_deferred};
 ghost use Rattle.archive_cli.specs.Reading.{IsReadRefusal};
 
 use crate::read::refusal_of_opening;
@@ -25,14 +25,14 @@ pub enum AskSheet {
 /// Reads the sheet of a name. The source is closed whatever comes, and the count of faults rises exactly where the answer is `ReadFault`.
 pub fn read_sheet<I: Inputs>(alloc: Global, name: &str, inputs: &mut I) -> Result<AskSheet, Refusal>
     ensures sheet { IfOk result (IsAskSheet (I.files inputs.old) name.now) }
-    ensures waiting { IfOk result IsWaiting }
+    ensures deferred { IfOk result IsDeferred }
     ensures refused { IfErr result (IsReadRefusal (I.files inputs.old) name.now Which.SheetOctets (I.faults inputs.old) (I.faults inputs.new)) }
     ensures same { I.files inputs.new ≡ I.files inputs.old }
     ensures closed { I.open_sources inputs.old + 1 < 2 ^ 64 → I.open_sources inputs.new ≡ I.open_sources inputs.old }
     ensures gave { I.given inputs.new ≤ I.given inputs.old + 1 }
     ensures later { I.faults inputs.old ≤ I.faults inputs.new }
     ensures counted { ReadsCounted (result_err result) (I.faults inputs.old) (I.faults inputs.new) }
-    ensures steady { I.never_fails inputs.old → Stays (I.faults inputs.old) (I.faults inputs.new) }
+    ensures reliable { I.never_fails inputs.old → Stays (I.faults inputs.old) (I.faults inputs.new) }
 {
     match inputs.open(alloc, name) {
         Ok(opened) => {
@@ -45,14 +45,14 @@ pub fn read_sheet<I: Inputs>(alloc: Global, name: &str, inputs: &mut I) -> Resul
     }
 }
 
-/// The asks that were read, or a refusal that waits, or one that doesn't.
+/// The asks that were read, or a refusal that is deferred, or one that isn't.
 fn sheet_of(asks: Result<Asks, Refusal>) -> Result<AskSheet, Refusal>
-    ensures { SheetGiven asks result }
+    ensures { IsAskSheetResult asks result }
 {
     match asks {
         Ok(asks) => Ok(AskSheet::Read(asks)),
         Err(refusal) => {
-            if waits(&refusal) {
+            if is_deferred(&refusal) {
                 Ok(AskSheet::Refused(refusal))
             } else {
                 Err(refusal)
@@ -62,8 +62,8 @@ fn sheet_of(asks: Result<Asks, Refusal>) -> Result<AskSheet, Refusal>
 }
 
 /// Whether a refusal of a sheet is answered only once an archive is open.
-fn waits(refusal: &Refusal) -> bool
-    ensures { result ≡ waits refusal.now }
+fn is_deferred(refusal: &Refusal) -> bool
+    ensures { result ≡ is_deferred refusal.now }
 {
     matches!(
         refusal,

@@ -4,7 +4,7 @@ ghost use Rattle.std.specs.Prelude.{◌≡◌, ◌+◌, ◌<◌, ◌≤◌, [], 
 ghost use Rattle.arch_types.specs.Dump.{BeginsWithNoPacket};
 ghost use Rattle.arch_types.specs.Packet.{IsPacket};
 ghost use Rattle.field_codec.specs.Entries.{IsClockTime};
-ghost use Rattle.archive_cli.specs.Batches.{arrival_from, arrivals_with, first_table, IsIngested, IsStopped, IsTaken};
+ghost use Rattle.archive_cli.specs.Batches.{arrival_from, arrivals_with, first_table, IsIngested, IsStopped, IsNextBatch};
 
 use arch_disk::Disk;
 use arch_types::octets::Octets;
@@ -21,14 +21,14 @@ const BATCH: u64 = 64;
 
 /// Packets that were taken from a dump for a batch, from which idle ones are left out.
 #[derive(Drop)]
-pub struct Taken {
+pub struct NextBatch {
     pub batch: Batch,
     pub packets: u64,
 }
 
 /// What a dump had whose packets were all ingested.
 #[derive(Clone, Copy, Debug)]
-pub struct Whole {
+pub struct DumpSummary {
     /// All packets, idle ones counted too.
     pub packets: u64,
     pub idle: u64,
@@ -46,11 +46,11 @@ pub fn ingest_dump<D: Disk>(
     dump: &Octets,
     link: u16,
     moment: i64,
-) -> Result<Whole, Refusal>
+) -> Result<DumpSummary, Refusal>
     requires short { length dump.now ≤ 268435456 }
     requires link { (1 ≤ link) × (link ≤ 255) }
     requires moment { IsClockTime moment }
-    requires calm { store.old.fills ≡ [] }
+    requires no_failed_write { store.old.fills ≡ [] }
     ensures whole { IfOk result (IsIngested store.old store.new dump.now link moment) }
     ensures stopped { IfErr result (IsStopped store.old store.new dump.now link moment) }
 {
@@ -60,7 +60,7 @@ pub fn ingest_dump<D: Disk>(
     'batches: loop {
         let taken = next_batch(alloc, store.head(), dump, &mut places, link, moment)?;
         if taken.packets == 0 {
-            return Ok(Whole {
+            return Ok(DumpSummary {
                 packets,
                 idle,
                 at: places.at(),
@@ -81,17 +81,17 @@ fn next_batch(
     places: &mut DumpPackets<'_>,
     link: u16,
     moment: i64,
-) -> Result<Taken, AllocError>
+) -> Result<NextBatch, AllocError>
     requires dump { places.old.dump ≡ dump.now }
     requires link { (1 ≤ link) × (link ≤ 255) }
     requires moment { IsClockTime moment }
     ensures dump { places.new.dump ≡ places.old.dump }
-    ensures taken { IfOk result (IsTaken dump.now places.old.at places.new.at head.now link moment) }
+    ensures taken { IfOk result (IsNextBatch dump.now places.old.at places.new.at head.now link moment) }
     ensures last { IfOk result (λ taken. taken.packets < 64 → BeginsWithNoPacket (drop places.new.at dump.now)) }
 {
     // This tells the proof that the database keeps the rules.
     head.mdb.is_sound();
-    let mut taken = Taken {
+    let mut taken = NextBatch {
         batch: Batch {
             rectime: moment,
             arrivals: Arrivals::new(alloc),
@@ -108,7 +108,7 @@ fn next_batch(
     Ok(taken)
 }
 
-impl Taken {
+impl NextBatch {
     /// Adds a packet of a link.
     fn add(
         &mut self,

@@ -5,12 +5,12 @@ ghost use Rattle.std.specs.List.{AllByRecursion};
 ghost use Rattle.archive_cli.specs.CellText.{cell_line, eng_text, fixed_text, label_text, labels_of, sign_text, six_digits, HasShortLabels};
 ghost use Rattle.archive_cli.specs.ValuesText.{values_line};
 
-use crate::piece::Piece;
+use crate::line_buffer::LineBuffer;
 use arch_types::cell::{Cell, Eng};
 use itoa::Buffer;
 use mdb_model::{Calibration, EnumRow, Table};
 
-impl Piece {
+impl LineBuffer {
     /// Adds the line of a cell of a parameter with this calibration.
     pub fn put_cell(&mut self, cell: Cell, calibration: Option<&Calibration>)
         requires room { length self.old < 65536 }

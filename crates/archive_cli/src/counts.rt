@@ -1,11 +1,11 @@
 //! Counts of packets.
 
 ghost use Rattle.std.specs.Prelude.{◌≡◌, ◌+◌, ◌<◌, ◌^◌};
-ghost use Rattle.archive_cli.specs.Loaded.{counted};
+ghost use Rattle.archive_cli.specs.DumpTable.{counted};
 
 /// What became of a packet.
 #[derive(Clone, Copy, Debug, PartialEq, Eq)]
-pub enum Added {
+pub enum PacketOutcome {
     Idle,
     New,
     Duplicate,
@@ -23,7 +23,7 @@ pub struct Counts {
 
 impl Counts {
     /// Counts one more packet.
-    pub fn add(&mut self, added: Added)
+    pub fn add(&mut self, added: PacketOutcome)
         requires rows { self.old.rows + 1 < 2 ^ 64 }
         requires packets { self.old.packets + 1 < 2 ^ 64 }
         requires duplicates { self.old.duplicates + 1 < 2 ^ 64 }
@@ -32,9 +32,9 @@ impl Counts {
     {
         self.packets += 1;
         match added {
-            Added::Idle => self.idle += 1,
-            Added::New => self.rows += 1,
-            Added::Duplicate => self.duplicates += 1,
+            PacketOutcome::Idle => self.idle += 1,
+            PacketOutcome::New => self.rows += 1,
+            PacketOutcome::Duplicate => self.duplicates += 1,
         }
     }
 }

@@ -9,18 +9,18 @@ ghost use Rattle.field_codec.specs.Entries.{IsEntry};
 ghost use Rattle.mdb_model.specs.declared.sheet.RawMdb.{RawMdb};
 ghost use Rattle.mdb_sheets.specs.Sheets.{ReadsCounted};
 ghost use Rattle.outer_traits.specs.Outside.{Stays};
-ghost use Rattle.archive_cli.specs.Asked.{sheet_words_of};
+ghost use Rattle.archive_cli.specs.JobView.{sheet_words_of};
 ghost use Rattle.archive_cli.specs.Call.{Call, WritesCounted};
 ghost use Rattle.archive_cli.specs.Caused.{IsCreateCaused};
 ghost use Rattle.archive_cli.specs.CreateEnding.{AreGood, AreRefused, IsCreateEnding, IsHead, create_line, new_head};
 ghost use Rattle.archive_cli.specs.HandedBack.{IsCreateBack};
 ghost use Rattle.archive_cli.specs.Job.{SheetWords as GivenWords};
 ghost use Rattle.archive_cli.specs.Order.{AreInOrder, create_inputs};
-ghost use Rattle.archive_cli.specs.Report.{status_at, IsConsulting};
+ghost use Rattle.archive_cli.specs.Report.{status_at, IsReadOnlyReport};
 
 use crate::job::SheetWords;
+use crate::line_buffer::LineBuffer;
 use crate::parameter::refusal_of_sheets;
-use crate::piece::Piece;
 use crate::report::{Ended, Report};
 use arch_disk::Disk;
 use arch_types::name::{Name, Names};
@@ -44,7 +44,7 @@ pub fn create<D: Disk, I: Inputs, K: Sink>(
     inputs: &mut I,
     sink: &mut K,
 ) -> Ended<D>
-    ensures ended { IsTrue D.device.tells → (given : _) (moment : _) → IsCreateEnding D.device (record {
+    ensures ended { IsTrue D.device.is_transparent → (given : _) (moment : _) → IsCreateEnding D.device (record {
       words = given;
       files = I.files inputs.old;
       moment = moment;
@@ -67,7 +67,7 @@ pub fn create<D: Disk, I: Inputs, K: Sink>(
       write_faults' = K.faults sink.new;
     }) (sheet_words_of words.entry) result.report.refusal }
     ensures status { result.status ≡ status_at result.report.refusal }
-    ensures report { IsConsulting result.report.refusal result.report }
+    ensures report { IsReadOnlyReport result.report.refusal result.report }
     ensures same { I.files inputs.new ≡ I.files inputs.old }
     ensures closed { I.open_sources inputs.old + 1 < 2 ^ 64 → I.open_sources inputs.new ≡ I.open_sources inputs.old }
     ensures order { AreInOrder (I.files inputs.old) (create_inputs (sheet_words_of words.entry))
@@ -76,7 +76,7 @@ pub fn create<D: Disk, I: Inputs, K: Sink>(
     ensures writes_later { K.faults sink.old ≤ K.faults sink.new }
     ensures reads_counted { ReadsCounted result.report.refusal (I.faults inputs.old) (I.faults inputs.new) }
     ensures writes_counted { WritesCounted result.report.refusal (K.faults sink.old) (K.faults sink.new) }
-    ensures steady { I.never_fails inputs.old → Stays (I.faults inputs.old) (I.faults inputs.new) }
+    ensures reliable { I.never_fails inputs.old → Stays (I.faults inputs.old) (I.faults inputs.new) }
     ensures disk_later { D.device.fault_count disk ≤ D.device.fault_count result.disk }
     ensures disk_fault { result.report.refusal ≡ Some DiskFault → raised (D.device.fault_count disk) ≤ D.device.fault_count result.disk }
 
@@ -104,7 +104,7 @@ fn read_head<I: Inputs>(
         (I.given inputs.old) (I.given inputs.new) (Some refusal)) }
     ensures later { I.faults inputs.old ≤ I.faults inputs.new }
     ensures counted { ReadsCounted (result_err result) (I.faults inputs.old) (I.faults inputs.new) }
-    ensures steady { I.never_fails inputs.old → Stays (I.faults inputs.old) (I.faults inputs.new) }
+    ensures reliable { I.never_fails inputs.old → Stays (I.faults inputs.old) (I.faults inputs.new) }
 {
     let sheets = read_mdb(
         alloc,
@@ -143,7 +143,7 @@ fn tables(alloc: Global) -> Result<Names, AllocError>
 /// Makes the archive, and prints what it has. Room for the line is taken before, so that no archive is made for which there's none.
 fn make<D: Disk, K: Sink>(alloc: Global, disk: D, head: Head, sink: &mut K) -> Ended<D>
     requires { IsEntry (entries.Head head.tables head.mdb) }
-    ensures ended { IsTrue D.device.tells → (given : _) (files : _) (moment : _) (read_faults : _) (read_faults' : _) (words : GivenWords) (raw : RawMdb) →
+    ensures ended { IsTrue D.device.is_transparent → (given : _) (files : _) (moment : _) (read_faults : _) (read_faults' : _) (words : GivenWords) (raw : RawMdb) →
         AreGood files words raw → head ≡ new_head raw → IsCreateEnding D.device (record {
           words = given;
           files = files;
@@ -157,7 +157,7 @@ fn make<D: Disk, K: Sink>(alloc: Global, disk: D, head: Head, sink: &mut K) -> E
         }) words disk result.disk result.report.refusal result.report }
     ensures caused { (call : Call) (words : GivenWords) (raw : RawMdb) → AreGood call.files words raw → IsCreateCaused call words result.report.refusal }
     ensures status { result.status ≡ status_at result.report.refusal }
-    ensures report { IsConsulting result.report.refusal result.report }
+    ensures report { IsReadOnlyReport result.report.refusal result.report }
     ensures reads_counted { (faults : ℕ) → ReadsCounted result.report.refusal faults faults }
     ensures writes_counted { WritesCounted result.report.refusal (K.faults sink.old) (K.faults sink.new) }
     ensures writes_later { K.faults sink.old ≤ K.faults sink.new }
@@ -167,24 +167,24 @@ fn make<D: Disk, K: Sink>(alloc: Global, disk: D, head: Head, sink: &mut K) -> E
     // Refused before the disk was asked, it hands the very disk back.
     ensures handed_back { IsCreateBack disk result.disk result.report.refusal }
 {
-    let Ok(mut piece) = Piece::new(alloc) else {
+    let Ok(mut line_buffer) = LineBuffer::new(alloc) else {
         return Ended::unopened(disk, Some(Refusal::OutOfMemory));
     };
-    put_line(&mut piece, &head.mdb);
+    put_line(&mut line_buffer, &head.mdb);
     let store = match Store::create(alloc, disk, head) {
         Ok(store) => store,
         Err((disk, refusal)) => return Ended::unopened(disk, Some(refusal)),
     };
-    let refusal = piece.finish(sink);
-    Ended::of(store.into_disk(), Report::consulted(refusal, 0))
+    let refusal = line_buffer.finish(sink);
+    Ended::of(store.into_disk(), Report::read_only(refusal, 0))
 }
 
 /// Adds the one line.
-fn put_line(piece: &mut Piece, mdb: &Mdb)
-    requires { piece.old ≡ [] }
-    ensures { piece.new ≡ create_line mdb.now }
+fn put_line(line_buffer: &mut LineBuffer, mdb: &Mdb)
+    requires { line_buffer.old ≡ [] }
+    ensures { line_buffer.new ≡ create_line mdb.now }
 {
-    piece.put_number(b"created tables 1 parameters ", mdb.parameters());
-    piece.put_number(b" containers ", mdb.containers());
-    piece.put(b"\n");
+    line_buffer.put_number(b"created tables 1 parameters ", mdb.parameters());
+    line_buffer.put_number(b" containers ", mdb.containers());
+    line_buffer.put(b"\n");
 }

@@ -4,7 +4,7 @@ ghost use Rattle.std.specs.Prelude.{◌≡◌, map, string_bytes, Some, IfOk, If
 ghost use Rattle.mdb_model.specs.Texts.{digits_at_most, is_digit};
 ghost use Rattle.archive_cli.specs.Job as spec;
 ghost use Rattle.archive_cli.specs.Job.{job_of, scan_app, scan_of, values_app, values_of, create_app, create_of, load_app, load_of, link_of, query_app, query_of, recover_app, recover_of, IsNoJob};
-ghost use Rattle.archive_cli.specs.Asked.{asked};
+ghost use Rattle.archive_cli.specs.JobView.{job_view};
 ghost use Rattle.archive_cli.specs.Words.{rows_of_words};
 
 use crate::words::{found_option, found_words, found_words_and_option, given_word, word_of};
@@ -55,7 +55,7 @@ pub enum Job<'a> {
 
 /// The job of the words behind the program's name, or Usage where they are none.
 pub fn job_of<'a>(alloc: Global, words: &'a [String]) -> Result<Job<'a>, Refusal>
-    ensures job { IfOk result (λ job. job_of (map (λ w. string_bytes w) words.entry.now) ≡ Some (asked job)) }
+    ensures job { IfOk result (λ job. job_of (map (λ w. string_bytes w) words.entry.now) ≡ Some (job_view job)) }
     ensures none { IfErr result (IsNoJob (job_of (map (λ w. string_bytes w) words.entry.now))) }
 {
     let Some((command, rest)) = words.split_first() else {
@@ -84,7 +84,7 @@ pub fn job_of<'a>(alloc: Global, words: &'a [String]) -> Result<Job<'a>, Refusal
 
 /// The job of the words behind `scan`.
 fn scan_job<'a>(alloc: Global, words: &'a [String]) -> Result<Job<'a>, Refusal>
-    ensures job { IfOk result (λ job. option_and_then scan_of (rows_of_words scan_app (map (λ w. string_bytes w) words.entry.now)) ≡ Some (asked job)) }
+    ensures job { IfOk result (λ job. option_and_then scan_of (rows_of_words scan_app (map (λ w. string_bytes w) words.entry.now)) ≡ Some (job_view job)) }
     ensures none { IfErr result (IsNoJob (option_and_then scan_of (rows_of_words scan_app (map (λ w. string_bytes w) words.entry.now)))) }
 {
     let found = found_words(alloc, "scan", &["dump"], words)?;
@@ -94,7 +94,7 @@ fn scan_job<'a>(alloc: Global, words: &'a [String]) -> Result<Job<'a>, Refusal>
 
 /// The job of the words behind `values`.
 fn values_job<'a>(alloc: Global, words: &'a [String]) -> Result<Job<'a>, Refusal>
-    ensures job { IfOk result (λ job. option_and_then values_of (rows_of_words values_app (map (λ w. string_bytes w) words.entry.now)) ≡ Some (asked job)) }
+    ensures job { IfOk result (λ job. option_and_then values_of (rows_of_words values_app (map (λ w. string_bytes w) words.entry.now)) ≡ Some (job_view job)) }
     ensures none { IfErr result (IsNoJob (option_and_then values_of (rows_of_words values_app (map (λ w. string_bytes w) words.entry.now)))) }
 {
     let found = found_words(
@@ -119,7 +119,7 @@ fn values_job<'a>(alloc: Global, words: &'a [String]) -> Result<Job<'a>, Refusal
 
 /// The job of the words behind `create`.
 fn create_job<'a>(alloc: Global, words: &'a [String]) -> Result<Job<'a>, Refusal>
-    ensures job { IfOk result (λ job. option_and_then create_of (rows_of_words create_app (map (λ w. string_bytes w) words.entry.now)) ≡ Some (asked job)) }
+    ensures job { IfOk result (λ job. option_and_then create_of (rows_of_words create_app (map (λ w. string_bytes w) words.entry.now)) ≡ Some (job_view job)) }
     ensures none { IfErr result (IsNoJob (option_and_then create_of (rows_of_words create_app (map (λ w. string_bytes w) words.entry.now)))) }
 {
     let found = found_words(
@@ -140,7 +140,7 @@ fn create_job<'a>(alloc: Global, words: &'a [String]) -> Result<Job<'a>, Refusal
 
 /// The job of the words behind `load`.
 fn load_job<'a>(alloc: Global, words: &'a [String]) -> Result<Job<'a>, Refusal>
-    ensures job { IfOk result (λ job. option_and_then load_of (rows_of_words load_app (map (λ w. string_bytes w) words.entry.now)) ≡ Some (asked job)) }
+    ensures job { IfOk result (λ job. option_and_then load_of (rows_of_words load_app (map (λ w. string_bytes w) words.entry.now)) ≡ Some (job_view job)) }
     ensures none { IfErr result (IsNoJob (option_and_then load_of (rows_of_words load_app (map (λ w. string_bytes w) words.entry.now)))) }
 {
     let found = found_words_and_option(alloc, "load", &["dump"], "link", words)?;
@@ -153,7 +153,7 @@ fn load_job<'a>(alloc: Global, words: &'a [String]) -> Result<Job<'a>, Refusal>
 
 /// The job of the words behind `query`.
 fn query_job<'a>(alloc: Global, words: &'a [String]) -> Result<Job<'a>, Refusal>
-    ensures job { IfOk result (λ job. option_and_then query_of (rows_of_words query_app (map (λ w. string_bytes w) words.entry.now)) ≡ Some (asked job)) }
+    ensures job { IfOk result (λ job. option_and_then query_of (rows_of_words query_app (map (λ w. string_bytes w) words.entry.now)) ≡ Some (job_view job)) }
     ensures none { IfErr result (IsNoJob (option_and_then query_of (rows_of_words query_app (map (λ w. string_bytes w) words.entry.now)))) }
 {
     let found = found_option(alloc, "query", "ask", words)?;
@@ -163,7 +163,7 @@ fn query_job<'a>(alloc: Global, words: &'a [String]) -> Result<Job<'a>, Refusal>
 
 /// The job of no words behind `recover`.
 fn recover_job<'a>(alloc: Global, words: &'a [String]) -> Result<Job<'a>, Refusal>
-    ensures job { IfOk result (λ job. option_and_then recover_of (rows_of_words recover_app (map (λ w. string_bytes w) words.entry.now)) ≡ Some (asked job)) }
+    ensures job { IfOk result (λ job. option_and_then recover_of (rows_of_words recover_app (map (λ w. string_bytes w) words.entry.now)) ≡ Some (job_view job)) }
     ensures none { IfErr result (IsNoJob (option_and_then recover_of (rows_of_words recover_app (map (λ w. string_bytes w) words.entry.now)))) }
 {
     let _found = found_words(alloc, "recover", &[], words)?;
@@ -188,14 +188,14 @@ fn number_of(text: &[u8]) -> Option<u64>
     if text.is_empty() || text.len() > 19 {
         return None;
     }
-    let mut worth: u64 = 0;
+    let mut value: u64 = 0;
     for octet in text {
         if !is_digit(*octet) {
             return None;
         }
-        worth = 10 * worth + u64::from(*octet - b'0');
+        value = 10 * value + u64::from(*octet - b'0');
     }
-    Some(worth)
+    Some(value)
 }
 
 fn is_digit(octet: u8) -> bool

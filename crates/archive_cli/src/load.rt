@@ -4,23 +4,23 @@ ghost use Rattle.std.specs.Prelude.{◌≡◌, ◌≢◌, ◌<◌, ◌≤◌, �
 ghost use Rattle.arch_disk.specs.Disk.{raised};
 ghost use Rattle.outer_traits.specs.Outside.{IsMoment, Stays};
 ghost use Rattle.mdb_sheets.specs.Sheets.{ReadsCounted};
-ghost use Rattle.archive_cli.specs.Asked.{load_words_of};
+ghost use Rattle.archive_cli.specs.JobView.{load_words_of};
 ghost use Rattle.archive_cli.specs.Call.{WritesCounted};
 ghost use Rattle.archive_cli.specs.HandedBack.{IsLoadBack};
 ghost use Rattle.archive_cli.specs.LoadCaused.{IsLoadCaused};
 ghost use Rattle.archive_cli.specs.LoadEnding.{load_line, IsLoadEnding};
-ghost use Rattle.archive_cli.specs.Loading.{printed_report, IsGivenUp, IsLetGo, IsReopened, IsSession, IsUnread, IsUnreadFor};
+ghost use Rattle.archive_cli.specs.Loading.{printed_report, IsStoreClosed, IsLetGo, IsReopened, IsLoadRun, IsDumpRefusal, IsDumpRefusalFor};
 ghost use Rattle.archive_cli.specs.Order.{IsLoadFault};
 ghost use Rattle.archive_cli.specs.Printing.{IsFinished};
-ghost use Rattle.archive_cli.specs.Received.{dump_limit, ending_of};
-ghost use Rattle.archive_cli.specs.Report.{consulted, loaded, status_at, IsLoadReport};
+ghost use Rattle.archive_cli.specs.ReadDump.{dump_limit, ending_of};
+ghost use Rattle.archive_cli.specs.Report.{read_only, loaded, status_at, IsLoadReport};
 
-use crate::batches::{Whole, ingest_dump};
+use crate::batches::{DumpSummary, ingest_dump};
 use crate::job::LoadWords;
-use crate::piece::Piece;
+use crate::line_buffer::LineBuffer;
 use crate::read::refusal_of_opening;
-use crate::receive::bad_packet;
 use crate::report::{Ended, LoadCounts, Report};
+use crate::scan_input::bad_packet;
 use arch_disk::Disk;
 use arch_types::octets::Octets;
 use arch_types::refusal::{BadKind, Refusal, Which};
@@ -50,7 +50,7 @@ pub fn load<D: Disk, I: Inputs, K: Sink, C: Clock>(
     clock: &mut C,
 ) -> Ended<D>
     requires link { 1 ≤ words.link }
-    ensures ended { IsTrue D.device.tells → (given : _) → IsLoadEnding D.device (record {
+    ensures ended { IsTrue D.device.is_transparent → (given : _) → IsLoadEnding D.device (record {
       words = given;
       files = I.files inputs.old;
       moment = C.next clock.old;
@@ -82,14 +82,14 @@ pub fn load<D: Disk, I: Inputs, K: Sink, C: Clock>(
     ensures writes_later { K.faults sink.old ≤ K.faults sink.new }
     ensures reads_counted { ReadsCounted result.report.refusal (I.faults inputs.old) (I.faults inputs.new) }
     ensures writes_counted { WritesCounted result.report.refusal (K.faults sink.old) (K.faults sink.new) }
-    ensures steady { I.never_fails inputs.old → Stays (I.faults inputs.old) (I.faults inputs.new) }
+    ensures reliable { I.never_fails inputs.old → Stays (I.faults inputs.old) (I.faults inputs.new) }
     ensures disk_later { D.device.fault_count disk ≤ D.device.fault_count result.disk }
     ensures disk_fault { result.report.refusal ≡ Some Refusal.DiskFault → raised (D.device.fault_count disk) ≤ D.device.fault_count result.disk }
 
     // Refused before the disk was asked, it hands the very disk back.
     ensures handed_back { IsLoadBack disk result.disk result.report.opened result.report.refusal }
 {
-    let Ok(piece) = Piece::new(alloc) else {
+    let Ok(line_buffer) = LineBuffer::new(alloc) else {
         return Ended::unopened(disk, Some(Refusal::OutOfMemory));
     };
     let mut source = match inputs.open(alloc, words.dump) {
@@ -110,7 +110,7 @@ pub fn load<D: Disk, I: Inputs, K: Sink, C: Clock>(
     match received {
         Ok(received) => {
             let moment = clock.now();
-            load_dump(alloc, store, &received, moment, piece, sink)
+            load_dump(alloc, store, &received, moment, line_buffer, sink)
         }
         Err(unread) => nothing_loaded(store, unread),
     }
@@ -118,46 +118,46 @@ pub fn load<D: Disk, I: Inputs, K: Sink, C: Clock>(
 
 /// A dump that was read to its end, and the link that it came by.
 #[derive(Drop)]
-struct Received {
+struct LinkedDump {
     link: u16,
     dump: Octets,
 }
 
 /// Why a dump wasn't read to its end.
 #[derive(Drop)]
-struct Unread {
+struct DumpRefusal {
     refusal: Refusal,
     /// The link of a dump that is too long.
     link: Option<u16>,
 }
 
 /// Reads a dump to its end, where there's a link of its number.
-fn read_dump<S: Source>(alloc: Global, source: &mut S, link: u64) -> Result<Received, Unread>
+fn read_dump<S: Source>(alloc: Global, source: &mut S, link: u64) -> Result<LinkedDump, DumpRefusal>
     ensures whole { IfOk result (λ received. IfSome (S.left source.old) (λ left. left ≡ received.dump)) }
     ensures short { IfOk result (λ received. length received.dump ≤ dump_limit) }
     ensures link { IfOk result (λ received. (received.link ≡ link) × (received.link ≤ 255)) }
-    ensures unread { IfErr result (λ unread. IsUnread (S.left source.old) link unread.refusal unread.link) }
+    ensures unread { IfErr result (λ unread. IsDumpRefusal (S.left source.old) link unread.refusal unread.link) }
     ensures counted { MatchResult result (λ _. Stays (S.faults source.old) (S.faults source.new)) (λ unread. ReadsCounted (Some unread.refusal) (S.faults source.old) (S.faults source.new)) }
     ensures later { S.faults source.old ≤ S.faults source.new }
-    ensures steady { S.never_fails source.old → Stays (S.faults source.old) (S.faults source.new) }
+    ensures reliable { S.never_fails source.old → Stays (S.faults source.old) (S.faults source.new) }
 {
     let link = link_numbered(link)?;
     match read_whole(alloc, source, Which::DumpOctets.limit() as usize) {
         Ok(octets) => match Octets::from_vec(alloc, octets) {
-            Ok(dump) => Ok(Received { link, dump }),
-            Err(_) => Err(Unread::of(Refusal::OutOfMemory)),
+            Ok(dump) => Ok(LinkedDump { link, dump }),
+            Err(_) => Err(DumpRefusal::of(Refusal::OutOfMemory)),
         },
         Err(fault) => Err(unread_for(fault, link)),
     }
 }
 
 /// The link with a number.
-fn link_numbered(link: u64) -> Result<u16, Unread>
+fn link_numbered(link: u64) -> Result<u16, DumpRefusal>
     ensures link { IfOk result (λ number. (number ≡ link) × (number ≤ 255)) }
     ensures none { IfErr result (λ unread. (unread.refusal ≡ Refusal.Limit Which.Links 255) × (unread.link ≡ None) × (255 < link)) }
 {
     if link > Which::Links.limit() {
-        return Err(Unread::of(Refusal::Limit {
+        return Err(DumpRefusal::of(Refusal::Limit {
             which: Which::Links,
             number: Which::Links.limit(),
         }));
@@ -165,13 +165,13 @@ fn link_numbered(link: u64) -> Result<u16, Unread>
     Ok(link as u16)
 }
 
-impl Unread {
+impl DumpRefusal {
     /// A dump that wasn't read, but not because of its length.
-    fn of(refusal: Refusal) -> Unread
+    fn of(refusal: Refusal) -> DumpRefusal
         ensures refusal { result.refusal ≡ refusal }
         ensures link { result.link ≡ None }
     {
-        Unread {
+        DumpRefusal {
             refusal,
             link: None,
         }
@@ -179,30 +179,30 @@ impl Unread {
 }
 
 /// A dump of a link that wasn't read because of a fault.
-fn unread_for(fault: ReadFault, link: u16) -> Unread
-    ensures { IsUnreadFor fault link result.refusal result.link }
+fn unread_for(fault: ReadFault, link: u16) -> DumpRefusal
+    ensures { IsDumpRefusalFor fault link result.refusal result.link }
 {
     match fault {
-        ReadFault::Failed => Unread::of(Refusal::ReadFault),
-        ReadFault::TooLong => Unread {
+        ReadFault::Failed => DumpRefusal::of(Refusal::ReadFault),
+        ReadFault::TooLong => DumpRefusal {
             refusal: Refusal::Limit {
                 which: Which::DumpOctets,
                 number: Which::DumpOctets.limit(),
             },
             link: Some(link),
         },
-        ReadFault::OutOfMemory | ReadFault::Missing => Unread::of(Refusal::OutOfMemory),
+        ReadFault::OutOfMemory | ReadFault::Missing => DumpRefusal::of(Refusal::OutOfMemory),
     }
 }
 
 /// The ending of a load that ingested nothing, since its dump wasn't read.
-fn nothing_loaded<D: Disk>(store: Store<D>, unread: Unread) -> Ended<D>
-    ensures given_up { IsGivenUp D.device store result.disk }
-    ensures report { result.report ≡ record (consulted (Some unread.refusal) (length store.history)) { link = unread.link } }
+fn nothing_loaded<D: Disk>(store: Store<D>, unread: DumpRefusal) -> Ended<D>
+    ensures closed_store { IsStoreClosed D.device store result.disk }
+    ensures report { result.report ≡ record (read_only (Some unread.refusal) (length store.history)) { link = unread.link } }
     ensures status { result.status ≡ status_at (Some unread.refusal) }
 {
     let rows = store.front();
-    let mut report = Report::consulted(Some(unread.refusal), rows);
+    let mut report = Report::read_only(Some(unread.refusal), rows);
     report.link = unread.link;
     Ended::of(store.into_disk(), report)
 }
@@ -211,17 +211,17 @@ fn nothing_loaded<D: Disk>(store: Store<D>, unread: Unread) -> Ended<D>
 fn load_dump<D: Disk, K: Sink>(
     alloc: Global,
     store: Store<D>,
-    received: &Received,
+    received: &LinkedDump,
     moment: i64,
-    piece: Piece,
+    line_buffer: LineBuffer,
     sink: &mut K,
 ) -> Ended<D>
     requires short { length received.now.dump ≤ dump_limit }
     requires link { (1 ≤ received.now.link) × (received.now.link ≤ 255) }
     requires moment { IsMoment moment }
-    requires empty { piece ≡ [] }
-    requires calm { store.fills ≡ [] }
-    ensures session { IsSession D.device store received.now.dump received.now.link moment (K.written sink.old) (K.written sink.new) result.disk result.report }
+    requires empty { line_buffer ≡ [] }
+    requires no_failed_write { store.fills ≡ [] }
+    ensures session { IsLoadRun D.device store received.now.dump received.now.link moment (K.written sink.old) (K.written sink.new) result.disk result.report }
     ensures status { result.status ≡ status_at result.report.refusal }
     ensures reads_counted { (faults : ℕ) → ReadsCounted result.report.refusal faults faults }
     ensures writes_counted { WritesCounted result.report.refusal (K.faults sink.old) (K.faults sink.new) }
@@ -231,7 +231,7 @@ fn load_dump<D: Disk, K: Sink>(
     let before = store.front();
     match ingest_dump(alloc, &mut store, &received.dump, received.link, moment) {
         Ok(whole) => match refusal_of_rest(&whole) {
-            None => print(store, before, whole, piece, sink),
+            None => print(store, before, whole, line_buffer, sink),
             Some(refusal) => stopped(store, before, Some(received.link), refusal),
         },
         Err(refusal) => refused(store, before, refusal),
@@ -239,7 +239,7 @@ fn load_dump<D: Disk, K: Sink>(
 }
 
 /// The refusal of a dump whose rest isn't empty.
-fn refusal_of_rest(whole: &Whole) -> Option<Refusal>
+fn refusal_of_rest(whole: &DumpSummary) -> Option<Refusal>
     ensures { result ≡ ending_of whole.now.why whole.now.at }
 {
     match whole.why {
@@ -252,7 +252,7 @@ fn refusal_of_rest(whole: &Whole) -> Option<Refusal>
 /// The ending of a load that was refused after some packets were ingested.
 fn stopped<D: Disk>(store: Store<D>, before: u64, link: Option<u16>, refusal: Refusal) -> Ended<D>
     requires { before ≤ length store.history }
-    ensures given_up { IsGivenUp D.device store result.disk }
+    ensures closed_store { IsStoreClosed D.device store result.disk }
     ensures report { result.report ≡ loaded (Some refusal) link before (length store.history) 0 0 0 }
     ensures status { result.status ≡ status_at (Some refusal) }
 {
@@ -290,14 +290,14 @@ fn heal<D: Disk>(store: &mut Store<D>, refusal: &Refusal)
 fn print<D: Disk, K: Sink>(
     store: Store<D>,
     before: u64,
-    whole: Whole,
-    piece: Piece,
+    whole: DumpSummary,
+    line_buffer: LineBuffer,
     sink: &mut K,
 ) -> Ended<D>
-    requires empty { piece ≡ [] }
+    requires empty { line_buffer ≡ [] }
     requires grown { before ≤ length store.history }
     requires counts { whole.idle + length store.history ≤ whole.packets + before }
-    ensures given_up { IsGivenUp D.device store result.disk }
+    ensures closed_store { IsStoreClosed D.device store result.disk }
     ensures finished { IsFinished result.report.refusal (K.written sink.old) (K.written sink.new)
         (load_line whole.packets (length store.history - before) (whole.packets - whole.idle - (length store.history - before)) whole.idle (length store.history)) }
     ensures report { result.report ≡ printed_report result.report.refusal before (length store.history) whole.packets whole.idle }
@@ -305,15 +305,15 @@ fn print<D: Disk, K: Sink>(
     ensures writes_counted { WritesCounted result.report.refusal (K.faults sink.old) (K.faults sink.new) }
     ensures writes_later { K.faults sink.old ≤ K.faults sink.new }
 {
-    let mut piece = piece;
+    let mut line_buffer = line_buffer;
     let after = store.front();
     let counts = LoadCounts {
         packets: whole.packets,
         duplicates: whole.packets - whole.idle - (after - before),
         idle: whole.idle,
     };
-    put_line(&mut piece, counts, after - before, after);
-    match piece.finish(sink) {
+    put_line(&mut line_buffer, counts, after - before, after);
+    match line_buffer.finish(sink) {
         None => Ended::of(
             store.into_disk(),
             Report::loaded(None, None, before, after, counts),
@@ -323,14 +323,14 @@ fn print<D: Disk, K: Sink>(
 }
 
 /// Adds the last line.
-fn put_line(piece: &mut Piece, counts: LoadCounts, new: u64, rows: u64)
-    requires { piece.old ≡ [] }
-    ensures { piece.new ≡ load_line counts.packets new counts.duplicates counts.idle rows }
+fn put_line(line_buffer: &mut LineBuffer, counts: LoadCounts, new: u64, rows: u64)
+    requires { line_buffer.old ≡ [] }
+    ensures { line_buffer.new ≡ load_line counts.packets new counts.duplicates counts.idle rows }
 {
-    piece.put_number(b"load packets ", counts.packets);
-    piece.put_number(b" new ", new);
-    piece.put_number(b" duplicates ", counts.duplicates);
-    piece.put_number(b" idle ", counts.idle);
-    piece.put_number(b" rows ", rows);
-    piece.put(b"\n");
+    line_buffer.put_number(b"load packets ", counts.packets);
+    line_buffer.put_number(b" new ", new);
+    line_buffer.put_number(b" duplicates ", counts.duplicates);
+    line_buffer.put_number(b" idle ", counts.idle);
+    line_buffer.put_number(b" rows ", rows);
+    line_buffer.put(b"\n");
 }

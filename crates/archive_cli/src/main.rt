@@ -4,11 +4,11 @@
 // (specs/Ending.antt), and which answer has to come, where inputs and disk tell what they hold (specs/Expected.antt). specs/Job.antt says which words
 // are a job, by what clap finds in them, and specs/*Text.antt what is printed. A later command adds its case to each of these.
 //
-// The way of a dump: for `scan` and `values` `receive` takes it in, and `rows` cuts it into packets and keeps the rows of a table that share its octets;
+// The way of a dump: for `scan` and `values` `read_scan_input` takes it in, and `rows` cuts it into packets and keeps the rows of a table that share its octets;
 // for `load` `batches` hands them to the archive's store. The way of an ask: `ask_sheet` reads it, `answer` extracts the cells of the store's plan, and
-// `answer_text` prints them. `piece` gathers lines and writes them in pieces of 64 KiB.
+// `answer_text` prints them. `line_buffer` gathers lines and writes them in pieces of 64 KiB.
 //
-// The one idea of the proofs: what was sent and what is still held, joined, is the text so far (`HasMoved`), and an archive that was opened is the
+// The one idea of the proofs: what was sent and what is still buffered, joined, is the text so far (`IsBuffered`), and an archive that was opened is the
 // one that the disk stands for. That the right answer comes follows from the causes of all answers (proofs/Answers.antt).
 //
 // `main` holds the standard streams and makes the objects of the edge to the system (`outer_real`), which tell no contents. The disk is the
@@ -26,18 +26,18 @@ mod cells;
 mod counts;
 mod create;
 mod job;
+mod line_buffer;
 mod load;
 mod parameter;
-mod piece;
 mod print_fault;
 mod query;
 mod read;
-mod receive;
 mod recover;
 mod report;
 mod rows;
 mod run;
 mod scan;
+mod scan_input;
 #[cfg(test)]
 mod tests;
 mod text;

@@ -11,15 +11,15 @@ ghost use Rattle.archive_cli.specs.Call.{Call, WritesCounted};
 ghost use Rattle.archive_cli.specs.Caused.{IsQueryCaused};
 ghost use Rattle.archive_cli.specs.HandedBack.{IsQueryBack};
 ghost use Rattle.archive_cli.specs.Order.{AreInOrder, query_inputs};
-ghost use Rattle.archive_cli.specs.Printing.{HasMoved};
+ghost use Rattle.archive_cli.specs.Printing.{IsBuffered};
 ghost use Rattle.archive_cli.specs.QueryEnding.{IsAskSheet, IsQueryEnding, IsReply, IsSheetReply};
-ghost use Rattle.archive_cli.specs.Report.{status_at, IsConsulting};
+ghost use Rattle.archive_cli.specs.Report.{status_at, IsReadOnlyReport};
 ghost use Rattle.archive_cli.specs.ValuesPrinting.{PrintCounted, refusal_of_print};
 
 use crate::answer::{answer_request, number_of};
 use crate::answer_text::print_found;
 use crate::ask_sheet::{AskSheet, read_sheet};
-use crate::piece::Piece;
+use crate::line_buffer::LineBuffer;
 use crate::print_fault::PrintFault;
 use crate::report::{Ended, Report};
 use arch_disk::Disk;
@@ -42,7 +42,7 @@ pub fn query<D: Disk, I: Inputs, K: Sink>(
     inputs: &mut I,
     sink: &mut K,
 ) -> Ended<D>
-    ensures ended { IsTrue D.device.tells → (given : _) (moment : _) → IsQueryEnding D.device (record {
+    ensures ended { IsTrue D.device.is_transparent → (given : _) (moment : _) → IsQueryEnding D.device (record {
       words = given;
       files = I.files inputs.old;
       moment = moment;
@@ -65,7 +65,7 @@ pub fn query<D: Disk, I: Inputs, K: Sink>(
       write_faults' = K.faults sink.new;
     }) name.now result.report.refusal }
     ensures status { result.status ≡ status_at result.report.refusal }
-    ensures report { IsConsulting result.report.refusal result.report }
+    ensures report { IsReadOnlyReport result.report.refusal result.report }
     ensures same { I.files inputs.new ≡ I.files inputs.old }
     ensures closed { I.open_sources inputs.old + 1 < 2 ^ 64 → I.open_sources inputs.new ≡ I.open_sources inputs.old }
     ensures order { AreInOrder (I.files inputs.old) (query_inputs name.now)
@@ -74,7 +74,7 @@ pub fn query<D: Disk, I: Inputs, K: Sink>(
     ensures writes_later { K.faults sink.old ≤ K.faults sink.new }
     ensures reads_counted { ReadsCounted result.report.refusal (I.faults inputs.old) (I.faults inputs.new) }
     ensures writes_counted { WritesCounted result.report.refusal (K.faults sink.old) (K.faults sink.new) }
-    ensures steady { I.never_fails inputs.old → Stays (I.faults inputs.old) (I.faults inputs.new) }
+    ensures reliable { I.never_fails inputs.old → Stays (I.faults inputs.old) (I.faults inputs.new) }
     ensures disk_later { D.device.fault_count disk ≤ D.device.fault_count result.disk }
     ensures disk_fault { result.report.refusal ≡ Some DiskFault → raised (D.device.fault_count disk) ≤ D.device.fault_count result.disk }
 
@@ -89,8 +89,8 @@ pub fn query<D: Disk, I: Inputs, K: Sink>(
 
 /// Opens the archive of a disk, and answers the asks of a sheet.
 fn ask_archive<D: Disk, K: Sink>(alloc: Global, sheet: AskSheet, disk: D, sink: &mut K) -> Ended<D>
-    requires { IsWaiting sheet }
-    ensures ended { IsTrue D.device.tells → (given : _) (files : _) (moment : _) (read_faults : _) (read_faults' : _) (name : _) →
+    requires { IsDeferred sheet }
+    ensures ended { IsTrue D.device.is_transparent → (given : _) (files : _) (moment : _) (read_faults : _) (read_faults' : _) (name : _) →
         IsAskSheet files name sheet → IsQueryEnding D.device (record {
           words = given;
           files = files;
@@ -104,7 +104,7 @@ fn ask_archive<D: Disk, K: Sink>(alloc: Global, sheet: AskSheet, disk: D, sink: 
         }) name disk result.disk result.report.refusal result.report }
     ensures caused { (call : Call) (name : List ℕ) → IsAskSheet call.files name sheet → IsQueryCaused call name result.report.refusal }
     ensures status { result.status ≡ status_at result.report.refusal }
-    ensures report { IsConsulting result.report.refusal result.report }
+    ensures report { IsReadOnlyReport result.report.refusal result.report }
     ensures reads_counted { (faults : ℕ) → ReadsCounted result.report.refusal faults faults }
     ensures writes_counted { WritesCounted result.report.refusal (K.faults sink.old) (K.faults sink.new) }
     ensures writes_later { K.faults sink.old ≤ K.faults sink.new }
@@ -114,7 +114,7 @@ fn ask_archive<D: Disk, K: Sink>(alloc: Global, sheet: AskSheet, disk: D, sink: 
     // Refused before the disk was asked, it hands the very disk back.
     ensures handed_back { IsQueryBack disk result.disk result.report.refusal }
 {
-    let Ok(piece) = Piece::new(alloc) else {
+    let Ok(line_buffer) = LineBuffer::new(alloc) else {
         return Ended::unopened(disk, Some(Refusal::OutOfMemory));
     };
     let mut store = match Store::open(alloc, disk) {
@@ -122,8 +122,8 @@ fn ask_archive<D: Disk, K: Sink>(alloc: Global, sheet: AskSheet, disk: D, sink: 
         Err((disk, refusal)) => return Ended::unopened(disk, Some(refusal)),
     };
     let rows = store.front();
-    let refusal = answer_sheet(alloc, sheet, &mut store, piece, sink);
-    Ended::of(store.into_disk(), Report::consulted(refusal, rows))
+    let refusal = answer_sheet(alloc, sheet, &mut store, line_buffer, sink);
+    Ended::of(store.into_disk(), Report::read_only(refusal, rows))
 }
 
 /// Prints the answers to a sheet, or says why it is refused.
@@ -131,10 +131,10 @@ fn answer_sheet<D: Disk, K: Sink>(
     alloc: Global,
     sheet: AskSheet,
     store: &mut Store<D>,
-    piece: Piece,
+    line_buffer: LineBuffer,
     sink: &mut K,
 ) -> Option<Refusal>
-    requires { piece ≡ [] }
+    requires { line_buffer ≡ [] }
     ensures reply { IsSheetReply store.old.head.mdb store.old.history sheet result (K.written sink.old) (K.written sink.new) (K.faults sink.old) (K.faults sink.new) }
     ensures writes_later { K.faults sink.old ≤ K.faults sink.new }
     ensures same { store.new ≡ store.old }
@@ -145,7 +145,7 @@ fn answer_sheet<D: Disk, K: Sink>(
             let asks = asks.as_slice();
             match asks_refusal(&store.head().mdb, asks) {
                 Some(refusal) => Some(refusal),
-                None => answer_asks(alloc, asks, store, piece, sink),
+                None => answer_asks(alloc, asks, store, line_buffer, sink),
             }
         }
     }
@@ -199,95 +199,95 @@ fn range_refusal(request: &Request) -> Option<Refusal>
 
 ghost use Rattle.archive_cli.specs.AnswerText.{range_refusal, request_refusal};
 ghost use Rattle.archive_cli.specs.Parameter.{number_named};
-ghost use Rattle.archive_cli.specs.QueryEnding.{IsWaiting};
+ghost use Rattle.archive_cli.specs.QueryEnding.{IsDeferred};
 
 /// Prints the answers to asks, of which none is refused.
 fn answer_asks<D: Disk, K: Sink>(
     alloc: Global,
     asks: &[Ask],
     store: &mut Store<D>,
-    piece: Piece,
+    line_buffer: LineBuffer,
     sink: &mut K,
 ) -> Option<Refusal>
     requires known { asks_refusal store.old.head.mdb asks.now ≡ None }
-    requires empty { piece ≡ [] }
+    requires empty { line_buffer ≡ [] }
     ensures reply { IsReply store.old.head.mdb store.old.history asks.now result (K.written sink.old) (K.written sink.new) (K.faults sink.old) (K.faults sink.new) }
     ensures writes_later { K.faults sink.old ≤ K.faults sink.new }
     ensures same { store.new ≡ store.old }
 {
-    let mut piece = piece;
-    match print_asks(alloc, asks, store, &mut piece, sink) {
-        Ok(()) => piece.finish(sink),
+    let mut line_buffer = line_buffer;
+    match print_asks(alloc, asks, store, &mut line_buffer, sink) {
+        Ok(()) => line_buffer.finish(sink),
         Err(PrintFault::Write) => Some(Refusal::WriteFault),
         Err(PrintFault::OutOfMemory) => Some(Refusal::OutOfMemory),
     }
 }
 
-/// Prints the answers to asks, numbered from 1, of which the last may still be held.
+/// Prints the answers to asks, numbered from 1, of which the last may still be buffered.
 fn print_asks<D: Disk, K: Sink>(
     alloc: Global,
     asks: &[Ask],
     store: &mut Store<D>,
-    piece: &mut Piece,
+    line_buffer: &mut LineBuffer,
     sink: &mut K,
 ) -> Result<(), PrintFault>
     requires known { asks_refusal store.old.head.mdb asks.now ≡ None }
-    requires empty { piece.old ≡ [] }
-    ensures moved { OnOk result (HasMoved (K.written sink.old) (K.written sink.new) (asks_text store.old.head.mdb store.old.history 1 asks.now) piece.new) }
+    requires empty { line_buffer.old ≡ [] }
+    ensures buffered { OnOk result (IsBuffered (K.written sink.old) (K.written sink.new) (asks_text store.old.head.mdb store.old.history 1 asks.now) line_buffer.new) }
     ensures some { OnErr result (WritesSome (K.written sink.old) (K.written sink.new) (asks_text store.old.head.mdb store.old.history 1 asks.now)) }
     ensures later { K.faults sink.old ≤ K.faults sink.new }
     ensures counted { PrintCounted (result_err result) (K.faults sink.old) (K.faults sink.new) }
     ensures same { store.new ≡ store.old }
 {
     for (i, ask) in asks.iter().enumerate() {
-        print_ask(alloc, i as u64 + 1, ask, store, piece, sink)?;
+        print_ask(alloc, i as u64 + 1, ask, store, line_buffer, sink)?;
     }
     Ok(())
 }
 
-/// Prints the answer to the ask with number `k`, counted from 1. The answer's end may still be held.
+/// Prints the answer to the ask with number `k`, counted from 1. The answer's end may still be buffered.
 fn print_ask<D: Disk, K: Sink>(
     alloc: Global,
     k: u64,
     ask: &Ask,
     store: &mut Store<D>,
-    piece: &mut Piece,
+    line_buffer: &mut LineBuffer,
     sink: &mut K,
 ) -> Result<(), PrintFault>
     requires known { ask_refusal store.old.head.mdb ask.now ≡ None }
-    requires room { length piece.old < 65536 }
-    ensures moved { OnOk result (HasMoved (K.written sink.old) (K.written sink.new) (piece.old ++ ask_text store.old.head.mdb store.old.history k ask.now) piece.new) }
-    ensures room { OnOk result (length piece.new < 65536) }
-    ensures some { OnErr result (WritesSome (K.written sink.old) (K.written sink.new) (piece.old ++ ask_text store.old.head.mdb store.old.history k ask.now)) }
+    requires room { length line_buffer.old < 65536 }
+    ensures buffered { OnOk result (IsBuffered (K.written sink.old) (K.written sink.new) (line_buffer.old ++ ask_text store.old.head.mdb store.old.history k ask.now) line_buffer.new) }
+    ensures room { OnOk result (length line_buffer.new < 65536) }
+    ensures some { OnErr result (WritesSome (K.written sink.old) (K.written sink.new) (line_buffer.old ++ ask_text store.old.head.mdb store.old.history k ask.now)) }
     ensures later { K.faults sink.old ≤ K.faults sink.new }
     ensures counted { PrintCounted (result_err result) (K.faults sink.old) (K.faults sink.new) }
     ensures same { store.new ≡ store.old }
 {
     match ask {
-        Ask::Values(request) => print_values(alloc, k, request, store, piece, sink),
+        Ask::Values(request) => print_values(alloc, k, request, store, line_buffer, sink),
         Ask::Replay(_) => Ok(()),
     }
 }
 
-/// Prints the answer to a request, the ask with number `k`. The answer's end may still be held.
+/// Prints the answer to a request, the ask with number `k`. The answer's end may still be buffered.
 fn print_values<D: Disk, K: Sink>(
     alloc: Global,
     k: u64,
     request: &Request,
     store: &mut Store<D>,
-    piece: &mut Piece,
+    line_buffer: &mut LineBuffer,
     sink: &mut K,
 ) -> Result<(), PrintFault>
     requires known { request_refusal (number_named store.old.head.mdb request.now.parameter) request.now ≡ None }
-    requires room { length piece.old < 65536 }
-    ensures moved { OnOk result (HasMoved (K.written sink.old) (K.written sink.new) (piece.old ++ ask_text store.old.head.mdb store.old.history k (Ask.Values request.now)) piece.new) }
-    ensures room { OnOk result (length piece.new < 65536) }
-    ensures some { OnErr result (WritesSome (K.written sink.old) (K.written sink.new) (piece.old ++ ask_text store.old.head.mdb store.old.history k (Ask.Values request.now))) }
+    requires room { length line_buffer.old < 65536 }
+    ensures buffered { OnOk result (IsBuffered (K.written sink.old) (K.written sink.new) (line_buffer.old ++ ask_text store.old.head.mdb store.old.history k (Ask.Values request.now)) line_buffer.new) }
+    ensures room { OnOk result (length line_buffer.new < 65536) }
+    ensures some { OnErr result (WritesSome (K.written sink.old) (K.written sink.new) (line_buffer.old ++ ask_text store.old.head.mdb store.old.history k (Ask.Values request.now))) }
     ensures later { K.faults sink.old ≤ K.faults sink.new }
     ensures counted { PrintCounted (result_err result) (K.faults sink.old) (K.faults sink.new) }
     ensures same { store.new ≡ store.old }
 {
     let found = answer_request(alloc, store, request)?;
-    print_found(k, &found, piece, sink)?;
+    print_found(k, &found, line_buffer, sink)?;
     Ok(())
 }

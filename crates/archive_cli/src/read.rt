@@ -31,7 +31,7 @@ pub fn read_limited<I: Inputs>(
     ensures gave { I.given inputs.new ≤ I.given inputs.old + 1 }
     ensures counted { ReadsCounted (result_err result) (I.faults inputs.old) (I.faults inputs.new) }
     ensures later { I.faults inputs.old ≤ I.faults inputs.new }
-    ensures steady { I.never_fails inputs.old → I.never_fails inputs.new × Stays (I.faults inputs.old) (I.faults inputs.new) }
+    ensures reliable { I.never_fails inputs.old → I.never_fails inputs.new × Stays (I.faults inputs.old) (I.faults inputs.new) }
 {
     match read_input(alloc, inputs, name, which.limit() as usize) {
         Ok(octets) => Ok(octets),

@@ -6,9 +6,9 @@ ghost use Rattle.mdb_sheets.specs.Sheets.{ReadsCounted};
 ghost use Rattle.archive_cli.specs.Call.{WritesCounted};
 ghost use Rattle.archive_cli.specs.Caused.{IsRecoverCaused};
 ghost use Rattle.archive_cli.specs.RecoverEnding.{IsRecoverEnding, recover_line};
-ghost use Rattle.archive_cli.specs.Report.{status_at, IsConsulting};
+ghost use Rattle.archive_cli.specs.Report.{status_at, IsReadOnlyReport};
 
-use crate::piece::Piece;
+use crate::line_buffer::LineBuffer;
 use crate::report::{Ended, Report};
 use arch_disk::Disk;
 use arch_types::refusal::Refusal;
@@ -20,7 +20,7 @@ use std::alloc::Global;
 ///
 /// Refuses, in this order: by `DiskFault`, `NoArchive` or `Damaged`; by `WriteFault`. `OutOfMemory` may come anywhere before the line.
 pub fn recover<D: Disk, K: Sink>(alloc: Global, disk: D, sink: &mut K) -> Ended<D>
-    ensures ended { IsTrue D.device.tells → (words : _) (files : _) (moment : _) (read_faults : _) → IsRecoverEnding D.device (record {
+    ensures ended { IsTrue D.device.is_transparent → (words : _) (files : _) (moment : _) (read_faults : _) → IsRecoverEnding D.device (record {
       words = words;
       files = files;
       moment = moment;
@@ -33,14 +33,14 @@ pub fn recover<D: Disk, K: Sink>(alloc: Global, disk: D, sink: &mut K) -> Ended<
     }) disk result.disk result.report.refusal result.report }
     ensures caused { IsRecoverCaused result.report.refusal }
     ensures status { result.status ≡ status_at result.report.refusal }
-    ensures report { IsConsulting result.report.refusal result.report }
+    ensures report { IsReadOnlyReport result.report.refusal result.report }
     ensures reads_counted { (faults : ℕ) → ReadsCounted result.report.refusal faults faults }
     ensures writes_counted { WritesCounted result.report.refusal (K.faults sink.old) (K.faults sink.new) }
     ensures writes_later { K.faults sink.old ≤ K.faults sink.new }
     ensures disk_later { D.device.fault_count disk ≤ D.device.fault_count result.disk }
     ensures disk_fault { result.report.refusal ≡ Some Refusal.DiskFault → raised (D.device.fault_count disk) ≤ D.device.fault_count result.disk }
 {
-    let Ok(mut piece) = Piece::new(alloc) else {
+    let Ok(mut line_buffer) = LineBuffer::new(alloc) else {
         return Ended::unopened(disk, Some(Refusal::OutOfMemory));
     };
     let store = match Store::open(alloc, disk) {
@@ -48,16 +48,16 @@ pub fn recover<D: Disk, K: Sink>(alloc: Global, disk: D, sink: &mut K) -> Ended<
         Err((disk, refusal)) => return Ended::unopened(disk, Some(refusal)),
     };
     let rows = store.front();
-    put_line(&mut piece, rows);
-    let refusal = piece.finish(sink);
-    Ended::of(store.into_disk(), Report::consulted(refusal, rows))
+    put_line(&mut line_buffer, rows);
+    let refusal = line_buffer.finish(sink);
+    Ended::of(store.into_disk(), Report::read_only(refusal, rows))
 }
 
 /// Adds the one line.
-fn put_line(piece: &mut Piece, rows: u64)
-    requires { piece.old ≡ [] }
-    ensures { piece.new ≡ recover_line rows }
+fn put_line(line_buffer: &mut LineBuffer, rows: u64)
+    requires { line_buffer.old ≡ [] }
+    ensures { line_buffer.new ≡ recover_line rows }
 {
-    piece.put_number(b"recovered rows ", rows);
-    piece.put(b" filled 0\n");
+    line_buffer.put_number(b"recovered rows ", rows);
+    line_buffer.put(b" filled 0\n");
 }

@@ -1,7 +1,7 @@
 //! What a call reports.
 
 ghost use Rattle.std.specs.Prelude.{◌≡◌, ◌≤◌};
-ghost use Rattle.archive_cli.specs.Report.{consulted, loaded, status_at, unopened};
+ghost use Rattle.archive_cli.specs.Report.{read_only, loaded, status_at, unopened};
 
 use arch_types::refusal::Refusal;
 
@@ -90,8 +90,8 @@ impl Report {
     }
 
     /// The report of a call that opened or made an archive with a history of this length, and left it so.
-    pub fn consulted(refusal: Option<Refusal>, rows: u64) -> Report
-        ensures { result ≡ consulted refusal rows }
+    pub fn read_only(refusal: Option<Refusal>, rows: u64) -> Report
+        ensures { result ≡ read_only refusal rows }
     {
         Report {
             refusal,

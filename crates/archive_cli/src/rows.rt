@@ -4,9 +4,9 @@ ghost use Rattle.std.specs.Prelude.{◌≡◌, ◌<◌, ◌≤◌, ◌^◌, leng
 ghost use Rattle.std.specs.List.{AllByRecursion};
 ghost use Rattle.arch_types.specs.Packet.{IsPacket};
 ghost use Rattle.space_packet.specs.Cut.{IsPart};
-ghost use Rattle.archive_cli.specs.Loaded.{scanned_row, IsShown, IsAdded, IsLoaded};
+ghost use Rattle.archive_cli.specs.DumpTable.{scanned_row, IsVisible, IsAdded, IsDumpTable};
 
-use crate::counts::{Added, Counts};
+use crate::counts::{Counts, PacketOutcome};
 use arch_types::inserted::Inserted;
 use arch_types::octets::Octets;
 use arch_types::row::Row;
@@ -18,7 +18,7 @@ use yarch_table::table::Table;
 
 /// The rows of a dump, and where it ends.
 #[derive(Drop)]
-pub struct Loaded {
+pub struct DumpTable {
     pub table: Table,
     pub counts: Counts,
     /// The octet where the dump's rest begins.
@@ -31,9 +31,9 @@ pub struct Loaded {
 const STEP: u64 = 1024;
 
 /// The rows of a dump that was received at a moment. The one error is want of memory.
-pub fn load_rows(alloc: Global, dump: &Octets, moment: i64) -> Result<Loaded, AllocError>
+pub fn table_of_dump(alloc: Global, dump: &Octets, moment: i64) -> Result<DumpTable, AllocError>
     requires { length dump.now ≤ 268435456 }
-    ensures { IfOk result (IsLoaded dump.now moment) }
+    ensures { IfOk result (IsDumpTable dump.now moment) }
 {
     let mut table = Table::new(alloc)?;
     let mut counts = Counts::default();
@@ -43,7 +43,7 @@ pub fn load_rows(alloc: Global, dump: &Octets, moment: i64) -> Result<Loaded, Al
         let added = add_packet(&mut table, dump, part, moment, counts.rows)?;
         counts.add(added);
     }
-    Ok(Loaded {
+    Ok(DumpTable {
         table,
         counts,
         at: places.at(),
@@ -69,21 +69,21 @@ fn add_packet(
     part: Part,
     moment: i64,
     position: u64,
-) -> Result<Added, AllocError>
+) -> Result<PacketOutcome, AllocError>
     requires position { position < 2 ^ 32 }
-    requires shown { AllByRecursion IsShown table.old.stored }
+    requires shown { AllByRecursion IsVisible table.old.stored }
     requires part { IsPart dump.now part.start part.end }
     requires room { 0 < table.old.room }
     ensures added { IfOk result (IsAdded table.old.stored table.new.stored moment (slice_range dump.now part.start part.end)) }
 {
     let packet = dump.part(part.start, part.end)?;
     if is_idle_packet(packet.as_slice()) {
-        return Ok(Added::Idle);
+        return Ok(PacketOutcome::Idle);
     }
     let row = row_of_packet(packet, moment);
     match table.insert(row, position) {
-        Inserted::New(_) => Ok(Added::New),
-        Inserted::Duplicate(_) => Ok(Added::Duplicate),
+        Inserted::New(_) => Ok(PacketOutcome::New),
+        Inserted::Duplicate(_) => Ok(PacketOutcome::Duplicate),
     }
 }
 

@@ -4,7 +4,7 @@ ghost use Rattle.std.specs.Prelude.{◌≡◌, IsTrue, map, string_bytes, List, 
 ghost use Rattle.arch_disk.specs.Disk.{raised};
 ghost use Rattle.outer_traits.specs.Outside.{Stays};
 ghost use Rattle.mdb_sheets.specs.Sheets.{ReadsCounted};
-ghost use Rattle.archive_cli.specs.Asked.{asked};
+ghost use Rattle.archive_cli.specs.JobView.{job_view};
 ghost use Rattle.archive_cli.specs.Call.{call_of, WritesCounted};
 ghost use Rattle.archive_cli.specs.Job.{job_of, HasLink};
 ghost use Rattle.archive_cli.specs.Ending.{IsCaused, IsEnding, IsJobEnding};
@@ -12,7 +12,7 @@ ghost use Rattle.archive_cli.specs.Expected.{IsExpected};
 ghost use Rattle.archive_cli.specs.HandedBack.{IsHandedBack};
 ghost use Rattle.archive_cli.specs.Order.{IsInOrder};
 ghost use Rattle.archive_cli.specs.Report.{status_at, IsReport};
-ghost use Rattle.archive_cli.specs.Settled.{FailedAtMostOnce, IsSettledWith};
+ghost use Rattle.archive_cli.specs.Durable.{FailedAtMostOnce, IsDurableWith};
 
 use crate::create::create;
 use crate::job::{Job, job_of};
@@ -41,10 +41,10 @@ pub fn run<D: Disk, I: Inputs, K: Sink, C: Clock>(
     // For each job and each answer its cause, what was written, and what became of the disk.
     ensures ended { IsEnding D.device (call_of (map (λ w. string_bytes w) words.now) (I.files inputs.old) (C.next clock.old) (I.faults inputs.old) (I.faults inputs.new) (K.written sink.old) (K.written sink.new) (K.faults sink.old) (K.faults sink.new)) disk result.disk result.report }
 
-    // The causes of the answers of commands on an archive that don't rest on what the disk tells.
+    // The causes of the answers of commands on an archive that don't rest on what the disk holds.
     ensures caused { IsCaused (call_of (map (λ w. string_bytes w) words.now) (I.files inputs.old) (C.next clock.old) (I.faults inputs.old) (I.faults inputs.new) (K.written sink.old) (K.written sink.new) (K.faults sink.old) (K.faults sink.new)) (job_of (map (λ w. string_bytes w) words.now)) result.report.refusal }
 
-    // Over told inputs, on a disk that tells what it holds, the answer that it has to be, or want of memory.
+    // Over known inputs, on a transparent disk, the answer that it has to be, or want of memory.
     ensures expected { IsExpected D.device (call_of (map (λ w. string_bytes w) words.now) (I.files inputs.old) (C.next clock.old) (I.faults inputs.old) (I.faults inputs.new) (K.written sink.old) (K.written sink.new) (K.faults sink.old) (K.faults sink.new)) (I.given inputs.old) (I.given inputs.new) disk result.disk result.report.refusal }
 
     // A read that failed takes the place of no answer that stands before it: that the first input that can't be read whole
@@ -67,7 +67,7 @@ pub fn run<D: Disk, I: Inputs, K: Sink, C: Clock>(
     ensures writes_counted { WritesCounted result.report.refusal (K.faults sink.old) (K.faults sink.new) }
 
     // Inputs that never fail have no more faults than before.
-    ensures steady { I.never_fails inputs.old → Stays (I.faults inputs.old) (I.faults inputs.new) }
+    ensures reliable { I.never_fails inputs.old → Stays (I.faults inputs.old) (I.faults inputs.new) }
 
     // Nor does the disk's count of faults fall, and it has risen where the answer is DiskFault.
     ensures disk_later { D.device.fault_count disk ≤ D.device.fault_count result.disk }
@@ -75,8 +75,8 @@ pub fn run<D: Disk, I: Inputs, K: Sink, C: Clock>(
 
     // Where an archive was opened or made, and the disk's count of faults stands at most one above its value at entry:
     // the disk reads as a history of `after` rows, and every image that a crash now leaves stands for the same.
-    ensures settled { IsTrue D.device.tells → IsTrue result.report.opened
-        → FailedAtMostOnce D.device disk result.disk → IsSettledWith D.device result.disk result.report.after }
+    ensures durable { IsTrue D.device.is_transparent → IsTrue result.report.opened
+        → FailedAtMostOnce D.device disk result.disk → IsDurableWith D.device result.disk result.report.after }
 
     // Refused before the disk was asked, it hands the very disk back, also where that tells nothing.
     ensures handed_back { IsHandedBack (job_of (map (λ w. string_bytes w) words.now)) disk result.disk result.report }
@@ -96,23 +96,23 @@ fn run_job<D: Disk, I: Inputs, K: Sink, C: Clock>(
     sink: &mut K,
     clock: &mut C,
 ) -> Ended<D>
-    requires link { HasLink (asked job) }
-    ensures ended { (words : List (List ℕ)) → IsJobEnding D.device (call_of words (I.files inputs.old) (C.next clock.old) (I.faults inputs.old) (I.faults inputs.new) (K.written sink.old) (K.written sink.new) (K.faults sink.old) (K.faults sink.new)) disk result.disk (Some (asked job.entry)) result.report }
-    ensures caused { (words : List (List ℕ)) → IsCaused (call_of words (I.files inputs.old) (C.next clock.old) (I.faults inputs.old) (I.faults inputs.new) (K.written sink.old) (K.written sink.new) (K.faults sink.old) (K.faults sink.new)) (Some (asked job.entry)) result.report.refusal }
+    requires link { HasLink (job_view job) }
+    ensures ended { (words : List (List ℕ)) → IsJobEnding D.device (call_of words (I.files inputs.old) (C.next clock.old) (I.faults inputs.old) (I.faults inputs.new) (K.written sink.old) (K.written sink.new) (K.faults sink.old) (K.faults sink.new)) disk result.disk (Some (job_view job.entry)) result.report }
+    ensures caused { (words : List (List ℕ)) → IsCaused (call_of words (I.files inputs.old) (C.next clock.old) (I.faults inputs.old) (I.faults inputs.new) (K.written sink.old) (K.written sink.new) (K.faults sink.old) (K.faults sink.new)) (Some (job_view job.entry)) result.report.refusal }
     ensures status { result.status ≡ status_at result.report.refusal }
-    ensures report { IsReport (Some (asked job.entry)) result.report }
+    ensures report { IsReport (Some (job_view job.entry)) result.report }
     ensures same { I.files inputs.new ≡ I.files inputs.old }
     ensures closed { I.open_sources inputs.old + 1 < 2 ^ 64 → I.open_sources inputs.new ≡ I.open_sources inputs.old }
-    ensures order { IsInOrder (I.files inputs.old) (Some (asked job.entry))
+    ensures order { IsInOrder (I.files inputs.old) (Some (job_view job.entry))
         (I.given inputs.old) (I.given inputs.new) disk result.disk result.report }
     ensures later { I.faults inputs.old ≤ I.faults inputs.new }
     ensures writes_later { K.faults sink.old ≤ K.faults sink.new }
     ensures reads_counted { ReadsCounted result.report.refusal (I.faults inputs.old) (I.faults inputs.new) }
     ensures writes_counted { WritesCounted result.report.refusal (K.faults sink.old) (K.faults sink.new) }
-    ensures steady { I.never_fails inputs.old → Stays (I.faults inputs.old) (I.faults inputs.new) }
+    ensures reliable { I.never_fails inputs.old → Stays (I.faults inputs.old) (I.faults inputs.new) }
     ensures disk_later { D.device.fault_count disk ≤ D.device.fault_count result.disk }
     ensures disk_fault { result.report.refusal ≡ Some Refusal.DiskFault → raised (D.device.fault_count disk) ≤ D.device.fault_count result.disk }
-    ensures handed_back { IsHandedBack (Some (asked job.entry)) disk result.disk result.report }
+    ensures handed_back { IsHandedBack (Some (job_view job.entry)) disk result.disk result.report }
 {
     match job {
         Job::Scan { dump } => Ended::unopened(disk, scan(alloc, dump, inputs, sink, clock).err()),

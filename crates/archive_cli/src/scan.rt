@@ -9,9 +9,9 @@ ghost use Rattle.archive_cli.specs.Order.{AreInOrder, scan_inputs};
 ghost use Rattle.archive_cli.specs.ScanEnding.{IsScanEnding};
 ghost use Rattle.archive_cli.specs.Printing.{lines_of, end_of, text_of_loaded};
 
-use crate::piece::Piece;
-use crate::receive::{ended, receive};
-use crate::rows::Loaded;
+use crate::line_buffer::LineBuffer;
+use crate::rows::DumpTable;
+use crate::scan_input::{ended, read_scan_input};
 use arch_types::refusal::Refusal;
 use outer_traits::clock::Clock;
 use outer_traits::fault::Failed;
@@ -49,60 +49,68 @@ pub fn scan<I: Inputs, K: Sink, C: Clock>(
     ensures writes_counted { WritesCounted (result_err result) (K.faults sink.old) (K.faults sink.new) }
     ensures later { I.faults inputs.old ≤ I.faults inputs.new }
     ensures writes_later { K.faults sink.old ≤ K.faults sink.new }
-    ensures steady { I.never_fails inputs.old → Stays (I.faults inputs.old) (I.faults inputs.new) }
+    ensures reliable { I.never_fails inputs.old → Stays (I.faults inputs.old) (I.faults inputs.new) }
 {
-    let mut reception = receive(alloc, inputs, name, clock)?;
-    match print(&reception.loaded, &mut reception.piece, sink) {
-        Ok(()) => ended(&reception.loaded),
+    let mut scan_input = read_scan_input(alloc, inputs, name, clock)?;
+    match print(&scan_input.loaded, &mut scan_input.line_buffer, sink) {
+        Ok(()) => ended(&scan_input.loaded),
         Err(_) => Err(Refusal::WriteFault),
     }
 }
 
 /// Prints the rows in key order, and where nothing is left of the dump the counts.
-fn print<K: Sink>(loaded: &Loaded, piece: &mut Piece, sink: &mut K) -> Result<(), Failed>
-    requires empty { piece.old ≡ [] }
-    requires shown { AllByRecursion IsShown loaded.now.table.stored }
+fn print<K: Sink>(
+    loaded: &DumpTable,
+    line_buffer: &mut LineBuffer,
+    sink: &mut K,
+) -> Result<(), Failed>
+    requires empty { line_buffer.old ≡ [] }
+    requires shown { AllByRecursion IsVisible loaded.now.table.stored }
     ensures all { OnOk result (Appends (K.written sink.old) (K.written sink.new) (text_of_loaded loaded.now)) }
     ensures some { OnErr result (WritesSome (K.written sink.old) (K.written sink.new) (text_of_loaded loaded.now)) }
     ensures later { K.faults sink.old ≤ K.faults sink.new }
     ensures failed { IsErr result → HasRisen (K.faults sink.old) (K.faults sink.new) }
-    ensures quiet { OnOk result (Stays (K.faults sink.old) (K.faults sink.new)) }
+    ensures no_fault { OnOk result (Stays (K.faults sink.old) (K.faults sink.new)) }
 {
-    print_rows(&loaded.table, piece, sink)?;
-    put_end(piece, loaded);
-    piece.flush(sink)
+    print_rows(&loaded.table, line_buffer, sink)?;
+    put_end(line_buffer, loaded);
+    line_buffer.flush(sink)
 }
 
 /// Adds the counts where nothing is left of the dump.
-fn put_end(piece: &mut Piece, loaded: &Loaded)
-    requires { length piece.old < 65536 }
-    ensures { piece.new ≡ piece.old ++ end_of loaded.now.why loaded.now.counts }
+fn put_end(line_buffer: &mut LineBuffer, loaded: &DumpTable)
+    requires { length line_buffer.old < 65536 }
+    ensures { line_buffer.new ≡ line_buffer.old ++ end_of loaded.now.why loaded.now.counts }
 {
     match loaded.why {
-        Why::End => piece.put_counts(loaded.counts),
+        Why::End => line_buffer.put_counts(loaded.counts),
         Why::Version | Why::Truncated => {}
     }
 }
 
-/// Prints the rows of a table in key order, of which the last may still be held.
-fn print_rows<K: Sink>(table: &Table, piece: &mut Piece, sink: &mut K) -> Result<(), Failed>
-    requires empty { piece.old ≡ [] }
-    requires shown { AllByRecursion IsShown table.now.stored }
-    ensures moved { OnOk result (HasMoved (K.written sink.old) (K.written sink.new) (lines_of table.now.stored) piece.new) }
-    ensures room { OnOk result (length piece.new < 65536) }
+/// Prints the rows of a table in key order, of which the last may still be buffered.
+fn print_rows<K: Sink>(
+    table: &Table,
+    line_buffer: &mut LineBuffer,
+    sink: &mut K,
+) -> Result<(), Failed>
+    requires empty { line_buffer.old ≡ [] }
+    requires shown { AllByRecursion IsVisible table.now.stored }
+    ensures buffered { OnOk result (IsBuffered (K.written sink.old) (K.written sink.new) (lines_of table.now.stored) line_buffer.new) }
+    ensures room { OnOk result (length line_buffer.new < 65536) }
     ensures some { OnErr result (WritesSome (K.written sink.old) (K.written sink.new) (lines_of table.now.stored)) }
     ensures later { K.faults sink.old ≤ K.faults sink.new }
     ensures failed { IsErr result → HasRisen (K.faults sink.old) (K.faults sink.new) }
-    ensures quiet { OnOk result (Stays (K.faults sink.old) (K.faults sink.new)) }
+    ensures no_fault { OnOk result (Stays (K.faults sink.old) (K.faults sink.new)) }
 {
     for row in table.rows_at(u64::MAX) {
-        piece.put_row(row);
-        piece.pour(sink)?;
+        line_buffer.put_row(row);
+        line_buffer.flush_if_full(sink)?;
     }
     Ok(())
 }
 
 ghost use Rattle.std.specs.Prelude.{[]};
 ghost use Rattle.std.specs.List.{AllByRecursion};
-ghost use Rattle.archive_cli.specs.Loaded.{IsShown};
-ghost use Rattle.archive_cli.specs.Printing.{HasMoved};
+ghost use Rattle.archive_cli.specs.DumpTable.{IsVisible};
+ghost use Rattle.archive_cli.specs.Printing.{IsBuffered};

@@ -7,21 +7,21 @@ ghost use Rattle.outer_traits.specs.Outside.{Stays, WritesSome};
 ghost use Rattle.arch_types.specs.Table.{sorted};
 ghost use Rattle.mdb_sheets.specs.Sheets.{ReadsCounted};
 ghost use Rattle.yarch_table.specs.Stored.{rows_of};
-ghost use Rattle.archive_cli.specs.Asked.{words_of};
+ghost use Rattle.archive_cli.specs.JobView.{words_of};
 ghost use Rattle.archive_cli.specs.Call.{Appends, WritesCounted};
-ghost use Rattle.archive_cli.specs.Loaded.{IsShown};
+ghost use Rattle.archive_cli.specs.DumpTable.{IsVisible};
 ghost use Rattle.archive_cli.specs.Order.{AreInOrder, values_inputs};
-ghost use Rattle.archive_cli.specs.Printing.{HasMoved};
+ghost use Rattle.archive_cli.specs.Printing.{IsBuffered};
 ghost use Rattle.archive_cli.specs.ValuesEnding.{IsValuesEnding};
 ghost use Rattle.archive_cli.specs.ValuesPrinting.{PrintCounted, line_of, count_of, cells_of_stored, lines_of_cells, end_of_cells, text_of_cells, refusal_of_print};
 
 use crate::cells::{calibration_of, cell_of};
 use crate::job::ValuesWords;
+use crate::line_buffer::LineBuffer;
 use crate::parameter::{KnownParameter, known_parameter};
-use crate::piece::Piece;
 use crate::print_fault::PrintFault;
-use crate::receive::{ended, receive};
-use crate::rows::Loaded;
+use crate::rows::DumpTable;
+use crate::scan_input::{ended, read_scan_input};
 use arch_types::refusal::Refusal;
 use arch_types::row::Row;
 use mdb_sheets::read_mdb;
@@ -59,7 +59,7 @@ pub fn values<I: Inputs, K: Sink, C: Clock>(
     ensures writes_counted { WritesCounted (result_err result) (K.faults sink.old) (K.faults sink.new) }
     ensures later { I.faults inputs.old ≤ I.faults inputs.new }
     ensures writes_later { K.faults sink.old ≤ K.faults sink.new }
-    ensures steady { I.never_fails inputs.old → Stays (I.faults inputs.old) (I.faults inputs.new) }
+    ensures reliable { I.never_fails inputs.old → Stays (I.faults inputs.old) (I.faults inputs.new) }
 {
     let sheets = read_mdb(
         alloc,
@@ -68,10 +68,16 @@ pub fn values<I: Inputs, K: Sink, C: Clock>(
         words.calibrations,
         words.containers,
     )?;
-    let mut reception = receive(alloc, inputs, words.dump, clock)?;
+    let mut scan_input = read_scan_input(alloc, inputs, words.dump, clock)?;
     let known = known_parameter(alloc, &sheets, words.name)?;
-    match print(alloc, &known, &reception.loaded, &mut reception.piece, sink) {
-        Ok(()) => ended(&reception.loaded),
+    match print(
+        alloc,
+        &known,
+        &scan_input.loaded,
+        &mut scan_input.line_buffer,
+        sink,
+    ) {
+        Ok(()) => ended(&scan_input.loaded),
         Err(fault) => Err(refusal_of(fault)),
     }
 }
@@ -90,12 +96,12 @@ fn refusal_of(fault: PrintFault) -> Refusal
 fn print<K: Sink>(
     alloc: Global,
     known: &KnownParameter,
-    loaded: &Loaded,
-    piece: &mut Piece,
+    loaded: &DumpTable,
+    line_buffer: &mut LineBuffer,
     sink: &mut K,
 ) -> Result<(), PrintFault>
-    requires empty { piece.old ≡ [] }
-    requires shown { AllByRecursion IsShown loaded.now.table.stored }
+    requires empty { line_buffer.old ≡ [] }
+    requires shown { AllByRecursion IsVisible loaded.now.table.stored }
     requires few { length (sorted (rows_of loaded.now.table.stored)) < 2 ^ 64 }
     requires number { known.now.number < length known.now.mdb.parameters }
     ensures all { OnOk result (Appends (K.written sink.old) (K.written sink.new) (text_of_cells known.now.mdb known.now.number loaded.now.table.stored loaded.now.why)) }
@@ -103,37 +109,37 @@ fn print<K: Sink>(
     ensures later { K.faults sink.old ≤ K.faults sink.new }
     ensures counted { PrintCounted (result_err result) (K.faults sink.old) (K.faults sink.new) }
 {
-    let count = print_cells(alloc, known, &loaded.table, piece, sink)?;
-    put_end(piece, loaded.why, count);
-    piece.flush(sink)?;
+    let count = print_cells(alloc, known, &loaded.table, line_buffer, sink)?;
+    put_end(line_buffer, loaded.why, count);
+    line_buffer.flush(sink)?;
     Ok(())
 }
 
 /// Adds the last line where nothing is left of the dump.
-fn put_end(piece: &mut Piece, why: Why, count: u64)
-    requires { length piece.old < 65536 }
-    ensures { piece.new ≡ piece.old ++ end_of_cells why count }
+fn put_end(line_buffer: &mut LineBuffer, why: Why, count: u64)
+    requires { length line_buffer.old < 65536 }
+    ensures { line_buffer.new ≡ line_buffer.old ++ end_of_cells why count }
 {
     match why {
-        Why::End => piece.put_values(count),
+        Why::End => line_buffer.put_values(count),
         Why::Version | Why::Truncated => {}
     }
 }
 
-/// Prints the cells of a table's rows in key order, of which the last may still be held, and counts them.
+/// Prints the cells of a table's rows in key order, of which the last may still be buffered, and counts them.
 fn print_cells<K: Sink>(
     alloc: Global,
     known: &KnownParameter,
     table: &Table,
-    piece: &mut Piece,
+    line_buffer: &mut LineBuffer,
     sink: &mut K,
 ) -> Result<u64, PrintFault>
-    requires empty { piece.old ≡ [] }
-    requires shown { AllByRecursion IsShown table.now.stored }
+    requires empty { line_buffer.old ≡ [] }
+    requires shown { AllByRecursion IsVisible table.now.stored }
     requires few { length (sorted (rows_of table.now.stored)) < 2 ^ 64 }
     requires number { known.now.number < length known.now.mdb.parameters }
-    ensures moved { OnOk result (HasMoved (K.written sink.old) (K.written sink.new) (lines_of_cells known.now.mdb known.now.number table.now.stored) piece.new) }
-    ensures room { OnOk result (length piece.new < 65536) }
+    ensures buffered { OnOk result (IsBuffered (K.written sink.old) (K.written sink.new) (lines_of_cells known.now.mdb known.now.number table.now.stored) line_buffer.new) }
+    ensures room { OnOk result (length line_buffer.new < 65536) }
     ensures count { IfOk result (λ count. count ≡ length (cells_of_stored known.now.mdb known.now.number table.now.stored)) }
     ensures some { OnErr result (WritesSome (K.written sink.old) (K.written sink.new) (lines_of_cells known.now.mdb known.now.number table.now.stored)) }
     ensures later { K.faults sink.old ≤ K.faults sink.new }
@@ -141,9 +147,9 @@ fn print_cells<K: Sink>(
 {
     let mut count = 0;
     for row in table.rows_at(u64::MAX) {
-        let found = put_cell_of(alloc, known, row, piece)?;
+        let found = put_cell_of(alloc, known, row, line_buffer)?;
         count += found;
-        piece.pour(sink)?;
+        line_buffer.flush_if_full(sink)?;
     }
     Ok(count)
 }
@@ -153,19 +159,19 @@ fn put_cell_of(
     alloc: Global,
     known: &KnownParameter,
     row: &Row,
-    piece: &mut Piece,
+    line_buffer: &mut LineBuffer,
 ) -> Result<u64, AllocError>
-    requires room { length piece.old < 65536 }
+    requires room { length line_buffer.old < 65536 }
     requires number { known.now.number < length known.now.mdb.parameters }
-    ensures line { OnOk result (piece.new ≡ piece.old ++ line_of known.now.mdb known.now.number row.now) }
+    ensures line { OnOk result (line_buffer.new ≡ line_buffer.old ++ line_of known.now.mdb known.now.number row.now) }
     ensures count { IfOk result (λ count. count ≡ count_of known.now.mdb known.now.number row.now) }
-    ensures kept { OnErr result (piece.new ≡ piece.old) }
+    ensures kept { OnErr result (line_buffer.new ≡ line_buffer.old) }
 {
     let cell = cell_of(alloc, &known.mdb, known.number, row)?;
     match cell {
         None => Ok(0),
         Some(cell) => {
-            piece.put_cell(cell, calibration_of(&known.mdb, known.number));
+            line_buffer.put_cell(cell, calibration_of(&known.mdb, known.number));
             Ok(1)
         }
     }

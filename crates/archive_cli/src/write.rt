@@ -13,7 +13,7 @@ pub fn write_all<K: Sink>(sink: &mut K, text: &[u8]) -> Result<(), Failed>
     ensures some { OnErr result (WritesSome (K.written sink.old) (K.written sink.new) text.now) }
     ensures later { K.faults sink.old ≤ K.faults sink.new }
     ensures failed { IsErr result → HasRisen (K.faults sink.old) (K.faults sink.new) }
-    ensures quiet { OnOk result (Stays (K.faults sink.old) (K.faults sink.new)) }
+    ensures no_fault { OnOk result (Stays (K.faults sink.old) (K.faults sink.new)) }
 {
     let mut at = 0;
     while at < text.len() {

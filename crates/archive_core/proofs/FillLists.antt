@@ -7,7 +7,7 @@ use Rattle.arch_types.specs.declared.interval.Interval.{Interval}
 use Rattle.archive_core.specs.declared.fills.Fill.{Fill}
 use Rattle.archive_core.specs.declared.fills.Fill.TheVariants.{Begun, Done, Freed, Fault}
 use Rattle.archive_core.specs.Items.{Item, items_of}
-use Rattle.archive_core.specs.Fills.{base_of, base_after, in_flight, flight_after, held, standing, settled, reopened, above, Rising}
+use Rattle.archive_core.specs.Fills.{base_of, base_after, in_flight, flight_after, rows_of_faults, pending_fault_of, cleared, reopened, above, Rising}
 
 -- ---- more items
 
@@ -17,20 +17,20 @@ base_after_item interval fills item = fold-append (base_after interval) None fil
 pub flight_after_item : (interval : Interval) (fills : List Fill) (item : Fill) → in_flight interval (fills ++ item ∷ []) ≡ flight_after interval (in_flight interval fills) item
 flight_after_item interval fills item = fold-append (flight_after interval) None fills (item ∷ [])
 
-pub held-append : (fills more : List Fill) → held (fills ++ more) ≡ held fills ++ held more
-held-append [] more = refl
-held-append (Begun i b ∷ fills) more = held-append fills more
-held-append (Done i b ∷ fills) more = held-append fills more
-held-append (Freed i ∷ fills) more = held-append fills more
-held-append (Fault count wrote rows ∷ fills) more = ap (λ (l : List (List Item)). items_of rows ∷ l) (held-append fills more)
+pub rows_of_faults-append : (fills more : List Fill) → rows_of_faults (fills ++ more) ≡ rows_of_faults fills ++ rows_of_faults more
+rows_of_faults-append [] more = refl
+rows_of_faults-append (Begun i b ∷ fills) more = rows_of_faults-append fills more
+rows_of_faults-append (Done i b ∷ fills) more = rows_of_faults-append fills more
+rows_of_faults-append (Freed i ∷ fills) more = rows_of_faults-append fills more
+rows_of_faults-append (Fault count wrote rows ∷ fills) more = ap (λ (l : List (List Item)). items_of rows ∷ l) (rows_of_faults-append fills more)
 
-pub standing-append : (fills more : List Fill) → standing (fills ++ more) ≡ option_or (standing fills) (standing more)
-standing-append [] more = refl
-standing-append (Begun i b ∷ fills) more = standing-append fills more
-standing-append (Done i b ∷ fills) more = standing-append fills more
-standing-append (Freed i ∷ fills) more = standing-append fills more
-standing-append (Fault count true rows ∷ fills) more = refl
-standing-append (Fault count false rows ∷ fills) more = standing-append fills more
+pub pending_fault_of-append : (fills more : List Fill) → pending_fault_of (fills ++ more) ≡ option_or (pending_fault_of fills) (pending_fault_of more)
+pending_fault_of-append [] more = refl
+pending_fault_of-append (Begun i b ∷ fills) more = pending_fault_of-append fills more
+pending_fault_of-append (Done i b ∷ fills) more = pending_fault_of-append fills more
+pending_fault_of-append (Freed i ∷ fills) more = pending_fault_of-append fills more
+pending_fault_of-append (Fault count true rows ∷ fills) more = refl
+pending_fault_of-append (Fault count false rows ∷ fills) more = pending_fault_of-append fills more
 
 -- ---- rising counts
 
@@ -60,19 +60,19 @@ Rising-append low high next (Fault count wrote rows ∷ fills) more first later 
 
 -- ---- a reopen
 
-pub standing-reopened : (fills : List Fill) → standing (reopened fills) ≡ None
-standing-reopened [] = refl
-standing-reopened (Begun i b ∷ fills) = standing-reopened fills
-standing-reopened (Done i b ∷ fills) = standing-reopened fills
-standing-reopened (Freed i ∷ fills) = standing-reopened fills
-standing-reopened (Fault count wrote rows ∷ fills) = standing-reopened fills
+pub pending_fault_of-reopened : (fills : List Fill) → pending_fault_of (reopened fills) ≡ None
+pending_fault_of-reopened [] = refl
+pending_fault_of-reopened (Begun i b ∷ fills) = pending_fault_of-reopened fills
+pending_fault_of-reopened (Done i b ∷ fills) = pending_fault_of-reopened fills
+pending_fault_of-reopened (Freed i ∷ fills) = pending_fault_of-reopened fills
+pending_fault_of-reopened (Fault count wrote rows ∷ fills) = pending_fault_of-reopened fills
 
-pub held-reopened : (fills : List Fill) → held (reopened fills) ≡ held fills
-held-reopened [] = refl
-held-reopened (Begun i b ∷ fills) = held-reopened fills
-held-reopened (Done i b ∷ fills) = held-reopened fills
-held-reopened (Freed i ∷ fills) = held-reopened fills
-held-reopened (Fault count wrote rows ∷ fills) = ap (λ (l : List (List Item)). items_of rows ∷ l) (held-reopened fills)
+pub rows_of_faults-reopened : (fills : List Fill) → rows_of_faults (reopened fills) ≡ rows_of_faults fills
+rows_of_faults-reopened [] = refl
+rows_of_faults-reopened (Begun i b ∷ fills) = rows_of_faults-reopened fills
+rows_of_faults-reopened (Done i b ∷ fills) = rows_of_faults-reopened fills
+rows_of_faults-reopened (Freed i ∷ fills) = rows_of_faults-reopened fills
+rows_of_faults-reopened (Fault count wrote rows ∷ fills) = ap (λ (l : List (List Item)). items_of rows ∷ l) (rows_of_faults-reopened fills)
 
 pub length-reopened : (fills : List Fill) → length (reopened fills) ≡ length fills
 length-reopened [] = refl
@@ -86,24 +86,24 @@ Rising-reopened (Freed i ∷ fills) low high rising = Rising-reopened fills low 
 Rising-reopened (Fault count wrote rows ∷ fills) low high rising = (rising.0, rising.1, Rising-reopened fills (above count) high rising.2)
 
 -- a fold that doesn't look at the flag
-fold-reopened : (f : Option ℕ → Fill → Option ℕ) → ((base : Option ℕ) (item : Fill) → f base (settled item) ≡ f base item) → (fills : List Fill) (base : Option ℕ) → fold f base (reopened fills) ≡ fold f base fills
+fold-reopened : (f : Option ℕ → Fill → Option ℕ) → ((base : Option ℕ) (item : Fill) → f base (cleared item) ≡ f base item) → (fills : List Fill) (base : Option ℕ) → fold f base (reopened fills) ≡ fold f base fills
 fold-reopened f same [] base = refl
-fold-reopened f same (item ∷ fills) base = fold-reopened f same fills (f base (settled item)) ∙ ap (λ (o : Option ℕ). fold f o fills) (same base item)
+fold-reopened f same (item ∷ fills) base = fold-reopened f same fills (f base (cleared item)) ∙ ap (λ (o : Option ℕ). fold f o fills) (same base item)
 
-base_settled : (interval : Interval) (base : Option ℕ) (item : Fill) → base_after interval base (settled item) ≡ base_after interval base item
-base_settled interval base (Begun i b) = refl
-base_settled interval base (Done i b) = refl
-base_settled interval base (Freed i) = refl
-base_settled interval base (Fault count wrote rows) = refl
+base_cleared : (interval : Interval) (base : Option ℕ) (item : Fill) → base_after interval base (cleared item) ≡ base_after interval base item
+base_cleared interval base (Begun i b) = refl
+base_cleared interval base (Done i b) = refl
+base_cleared interval base (Freed i) = refl
+base_cleared interval base (Fault count wrote rows) = refl
 
-flight_settled : (interval : Interval) (base : Option ℕ) (item : Fill) → flight_after interval base (settled item) ≡ flight_after interval base item
-flight_settled interval base (Begun i b) = refl
-flight_settled interval base (Done i b) = refl
-flight_settled interval base (Freed i) = refl
-flight_settled interval base (Fault count wrote rows) = refl
+flight_cleared : (interval : Interval) (base : Option ℕ) (item : Fill) → flight_after interval base (cleared item) ≡ flight_after interval base item
+flight_cleared interval base (Begun i b) = refl
+flight_cleared interval base (Done i b) = refl
+flight_cleared interval base (Freed i) = refl
+flight_cleared interval base (Fault count wrote rows) = refl
 
 pub base_of-reopened : (interval : Interval) (fills : List Fill) → base_of interval (reopened fills) ≡ base_of interval fills
-base_of-reopened interval fills = fold-reopened (base_after interval) (base_settled interval) fills None
+base_of-reopened interval fills = fold-reopened (base_after interval) (base_cleared interval) fills None
 
 pub in_flight-reopened : (interval : Interval) (fills : List Fill) → in_flight interval (reopened fills) ≡ in_flight interval fills
-in_flight-reopened interval fills = fold-reopened (flight_after interval) (flight_settled interval) fills None
+in_flight-reopened interval fills = fold-reopened (flight_after interval) (flight_cleared interval) fills None

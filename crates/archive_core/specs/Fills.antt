@@ -56,32 +56,32 @@ pub record IsBegunLast (interval : Interval) (base : ℕ) (fills : List Fill) : 
 -- ---- faults
 
 -- the items that each fault holds
-abbrev pub held : List Fill → List (List Item)
-held [] = []
-held (Begun i b ∷ fills) = held fills
-held (Done i b ∷ fills) = held fills
-held (Freed i ∷ fills) = held fills
-held (Fault count wrote rows ∷ fills) = items_of rows ∷ held fills
+abbrev pub rows_of_faults : List Fill → List (List Item)
+rows_of_faults [] = []
+rows_of_faults (Begun i b ∷ fills) = rows_of_faults fills
+rows_of_faults (Done i b ∷ fills) = rows_of_faults fills
+rows_of_faults (Freed i ∷ fills) = rows_of_faults fills
+rows_of_faults (Fault count wrote rows ∷ fills) = items_of rows ∷ rows_of_faults fills
 
 -- the count of the first fault after whose failed write no reopen has succeeded
-abbrev pub standing : List Fill → Option ℕ
-standing [] = None
-standing (Begun i b ∷ fills) = standing fills
-standing (Done i b ∷ fills) = standing fills
-standing (Freed i ∷ fills) = standing fills
-standing (Fault count true rows ∷ fills) = Some count
-standing (Fault count false rows ∷ fills) = standing fills
+abbrev pub pending_fault_of : List Fill → Option ℕ
+pending_fault_of [] = None
+pending_fault_of (Begun i b ∷ fills) = pending_fault_of fills
+pending_fault_of (Done i b ∷ fills) = pending_fault_of fills
+pending_fault_of (Freed i ∷ fills) = pending_fault_of fills
+pending_fault_of (Fault count true rows ∷ fills) = Some count
+pending_fault_of (Fault count false rows ∷ fills) = pending_fault_of fills
 
 -- an item after a reopen that succeeded
-abbrev pub settled : Fill → Fill
-settled (Begun i b) = Begun i b
-settled (Done i b) = Done i b
-settled (Freed i) = Freed i
-settled (Fault count wrote rows) = Fault count false rows
+abbrev pub cleared : Fill → Fill
+cleared (Begun i b) = Begun i b
+cleared (Done i b) = Done i b
+cleared (Freed i) = Freed i
+cleared (Fault count wrote rows) = Fault count false rows
 
 -- a fill list after a reopen that succeeded
 abbrev pub reopened : List Fill → List Fill
-reopened fills = map settled fills
+reopened fills = map cleared fills
 
 -- the next value of a counter that stands still at its last one
 abbrev pub above : ℕ → ℕ

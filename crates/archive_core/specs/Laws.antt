@@ -10,7 +10,7 @@ use Rattle.archive_core.specs.declared.fills.Fill.{Fill}
 use Rattle.archive_core.specs.declared.fills.Fill.TheVariants.{Done}
 use Rattle.archive_core.specs.Items.{Item, is_row_of_interval}
 use Rattle.archive_core.specs.Outcomes.{outcomes_of, fresh_of, Says}
-use Rattle.archive_core.specs.Fills.{base_of, base_after, in_flight, flight_after, IsLastDone, IsBegunLast, held, standing, reopened, above, Rising}
+use Rattle.archive_core.specs.Fills.{base_of, base_after, in_flight, flight_after, IsLastDone, IsBegunLast, rows_of_faults, pending_fault_of, reopened, above, Rising}
 use Rattle.archive_core.specs.Late.{IsLate, IsLastIn, last_in, is_late}
 
 -- ---- outcomes
@@ -80,15 +80,15 @@ BasesAfterItem = (interval : Interval) (fills : List Fill) (item : Fill) →
 -- what more items hold comes after what is held, and the first count that stands stays
 abbrev pub FaultsAfterItems : Type 0
 FaultsAfterItems = (fills more : List Fill) →
-    (held (fills ++ more) ≡ held fills ++ held more) × (standing (fills ++ more) ≡ option_or (standing fills) (standing more))
+    (rows_of_faults (fills ++ more) ≡ rows_of_faults fills ++ rows_of_faults more) × (pending_fault_of (fills ++ more) ≡ option_or (pending_fault_of fills) (pending_fault_of more))
 
 -- counts go on rising over items whose counts rise from above the last count
 abbrev pub CountsGoOn : Type 0
 CountsGoOn = (low high next : ℕ) (fills more : List Fill) → low ≤ above high → high ≤ next → Rising low high fills → Rising (above high) next more → Rising low next (fills ++ more)
 
--- a reopen takes away what stands, and nothing else
+-- a reopen takes away the pending fault, and nothing else
 abbrev pub ReopenSettles : Type 0
 ReopenSettles = (fills : List Fill) →
-    (standing (reopened fills) ≡ None) × (held (reopened fills) ≡ held fills) × (length (reopened fills) ≡ length fills)
+    (pending_fault_of (reopened fills) ≡ None) × (rows_of_faults (reopened fills) ≡ rows_of_faults fills) × (length (reopened fills) ≡ length fills)
     × ((low high : ℕ) → Rising low high fills → Rising low high (reopened fills))
     × ((interval : Interval) → (base_of interval (reopened fills) ≡ base_of interval fills) × (in_flight interval (reopened fills) ≡ in_flight interval fills))

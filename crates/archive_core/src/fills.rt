@@ -1,7 +1,7 @@
 //! What happened to fills, and the faults of the disk.
 
 ghost use Rattle.std.specs.Prelude.{◌≡◌};
-ghost use Rattle.archive_core.specs.Fills.{reopened, settled};
+ghost use Rattle.archive_core.specs.Fills.{reopened, cleared};
 
 use arch_types::interval::Interval;
 use arch_types::row::Rows;
@@ -35,8 +35,8 @@ pub enum Fill {
 }
 
 /// Notes in an item that a reopen succeeded.
-fn settle_one(fill: &mut Fill)
-    ensures { fill.new ≡ settled fill.old }
+fn clear_failed_write(fill: &mut Fill)
+    ensures { fill.new ≡ cleared fill.old }
 {
     match fill {
         Fill::Fault { wrote, .. } => *wrote = false,
@@ -45,10 +45,10 @@ fn settle_one(fill: &mut Fill)
 }
 
 /// Notes in a fill list that a reopen succeeded. Takes no memory.
-pub fn settle(fills: &mut [Fill])
+pub fn clear_failed_writes(fills: &mut [Fill])
     ensures { fills.new ≡ reopened fills.old }
 {
     for i in 0..fills.len() {
-        settle_one(&mut fills[i]);
+        clear_failed_write(&mut fills[i]);
     }
 }

@@ -73,7 +73,7 @@ pub fn counts_go_on()
     ensures { CountsGoOn }
 {}
 
-/// A reopen takes away what stands, and nothing else.
-pub fn reopen_settles()
+/// A reopen takes away the pending fault, and nothing else.
+pub fn reopen_clears()
     ensures { ReopenSettles }
 {}

@@ -2,11 +2,11 @@
 
 use arch_types::interval::Interval;
 use arch_types::row::Rows;
-use archive_core::fills::{Fill, settle};
+use archive_core::fills::{Fill, clear_failed_writes};
 use std::test::*;
 
 #[test]
-fn a_reopen_settles_faults(rt: HostRuntime) -> Result<(), Fail> {
+fn a_reopen_clears_faults(rt: HostRuntime) -> Result<(), Fail> {
     let alloc = rt.alloc();
     let interval = Interval(0);
     let mut fills = Vec::new(alloc);
@@ -20,7 +20,7 @@ fn a_reopen_settles_faults(rt: HostRuntime) -> Result<(), Fail> {
     }
     fills.push(Fill::Done { interval, base: 1 })?;
     fills.push(Fill::Freed { interval })?;
-    settle(&mut fills);
+    clear_failed_writes(&mut fills);
     assert_eq!(rt; fills.len(), 6);
     for fill in &fills {
         assert!(rt; !matches!(fill, Fill::Fault { wrote: true, .. }));

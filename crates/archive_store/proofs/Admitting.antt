@@ -12,7 +12,7 @@ use Rattle.field_codec.specs.Entries.{IsEntry}
 use Rattle.field_codec.specs.Spelling.{entry_octets}
 use Rattle.field_codec.proofs.EntryKinds.{one_spelling}
 use Rattle.archive_store.specs.declared.head.Head.{Head}
-use Rattle.archive_store.specs.Entries.{Archive, archive, Takes, IsPlaced, AreAdmitted}
+use Rattle.archive_store.specs.Entries.{Archive, archive, Applies, IsPlaced, AreAdmitted}
 use Rattle.archive_store.specs.Limits.{IsWithin, PassesFirst, IsLimit}
 use Rattle.archive_store.specs.Stands.{Breaks}
 use Rattle.archive_store.proofs.Exact.{takes_entry}
@@ -67,9 +67,9 @@ pub all_admitted : (head : Head) (items : List Item) (rows : List Row) → IsEnt
 all_admitted head items rows spelled placed within fresh = record { spelled = spelled; placed = placed; fresh = fresh; within = within }
 
 -- an entry that may not follow, and no entry at all
-pub breaks_entry : (old : Option Archive) (e : Entry) (body : List ℕ) → IsEntry e → body ≡ entry_octets e → ((after : Archive) → Takes old e after → ⊥) → Breaks old body
+pub breaks_entry : (old : Option Archive) (e : Entry) (body : List ℕ) → IsEntry e → body ≡ entry_octets e → ((after : Archive) → Applies old e after → ⊥) → Breaks old body
 breaks_entry old e body fits spells bad entry after is takes =
-    bad after (subst (λ (x : Entry). Takes old x after) (one_spelling entry e (takes_entry old entry after takes) fits (sym is ∙ spells)) takes)
+    bad after (subst (λ (x : Entry). Applies old x after) (one_spelling entry e (takes_entry old entry after takes) fits (sym is ∙ spells)) takes)
 
 pub breaks_none : (old : Option Archive) (body : List ℕ) → ((e : Entry) → IsEntry e → body ≡ entry_octets e → ⊥) → Breaks old body
 breaks_none old body none entry after is takes = none entry (takes_entry old entry after takes) is

@@ -7,21 +7,21 @@ use Rattle.disk_journal.specs.declared.opening.Opening.{Opening}
 use Rattle.disk_journal.proofs.Files.{written-push}
 use Rattle.field_codec.specs.declared.entry.Entry.{Entry}
 use Rattle.field_codec.specs.Spelling.{entry_octets}
-use Rattle.archive_store.specs.declared.reading.Made.{Made}
-use Rattle.archive_store.specs.declared.reading.Found.{Found}
-use Rattle.archive_store.specs.Entries.{Archive, archive, Makes}
-use Rattle.archive_store.specs.Made.{archive_made, HasTables, IsFound}
+use Rattle.archive_store.specs.declared.reading.PartialArchive.{PartialArchive}
+use Rattle.archive_store.specs.declared.reading.ReadArchive.{ReadArchive}
+use Rattle.archive_store.specs.Entries.{Archive, archive, Replays}
+use Rattle.archive_store.specs.PartialArchive.{archive_made, HasTables, IsReadArchive}
 use Rattle.archive_store.specs.Stands.{Breaks, IsDamagedAt}
 
 -- an archive that was made stays one
-some_stays : (a : Archive) (b : Option Archive) (es : List Entry) → Makes (Some a) es b → b ≡ None → ⊥
-some_stays a b [] makes none = cc (makes, none)
-some_stays a b (e ∷ es) makes none = some_stays makes.0 b es makes.2 none
+some_stays : (a : Archive) (b : Option Archive) (es : List Entry) → Replays (Some a) es b → b ≡ None → ⊥
+some_stays a b [] replays none = cc (replays, none)
+some_stays a b (e ∷ es) replays none = some_stays replays.0 b es replays.2 none
 
 -- what made nothing were no entries
-pub no_entries : (b : Option Archive) (es : List Entry) → Makes None es b → b ≡ None → es ≡ []
-no_entries b [] makes none = refl
-no_entries b (e ∷ es) makes none = absurd (some_stays makes.0 b es makes.2 none)
+pub no_entries : (b : Option Archive) (es : List Entry) → Replays None es b → b ≡ None → es ≡ []
+no_entries b [] replays none = refl
+no_entries b (e ∷ es) replays none = absurd (some_stays replays.0 b es replays.2 none)
 
 -- a file with an open gate has entries
 pub opens_some : (content : List ℕ) → get_or content 0 0 ≡ 1 → HasRecords content [] → ⊥
@@ -32,22 +32,22 @@ opens_some content one h = go h.tail h.file_is h.closed
     go (gate ∷ rest) is closed = closed (ap (λ (l : List ℕ). get_or l 0 0) (sym is) ∙ one)
 
 -- a record that is cut short
-pub damaged_short : (image : Image) (at : ℕ) (before : Option Archive) (opening : Opening) (es : List Entry) → 2 ≤ length (image 0) → IsAt opening (image 0) (map entry_octets es) → Makes None es before → at ≡ place_of opening → IsCutShortAt (image 0) (map entry_octets es) → IsDamagedAt image at
-damaged_short image at before opening es long is makes at_is short = record {
+pub damaged_short : (image : Image) (at : ℕ) (before : Option Archive) (opening : Opening) (es : List Entry) → 2 ≤ length (image 0) → IsAt opening (image 0) (map entry_octets es) → Replays None es before → at ≡ place_of opening → IsCutShortAt (image 0) (map entry_octets es) → IsDamagedAt image at
+damaged_short image at before opening es long is replays at_is short = record {
   entries = es;
   before = before;
   rest = short.rest;
   long = long;
   small = is.up_to.small;
-  makes = makes;
+  replays = replays;
   file_is = short.file_is;
   at_is = at_is ∙ is.up_to.at_is;
   bad = inl short.short;
 }
 
 -- a record that breaks a rule
-pub damaged_wrong : (image : Image) (at : ℕ) (before : Option Archive) (old new : Opening) (es : List Entry) (body : List ℕ) → 2 ≤ length (image 0) → IsAt old (image 0) (map entry_octets es) → IsAt new (image 0) (map entry_octets es ++ body ∷ []) → Makes None es before → at ≡ place_of old → length body < 2 ^ 32 → Breaks before body → IsDamagedAt image at
-damaged_wrong image at before old new es body long is next makes at_is small breaks =
+pub damaged_wrong : (image : Image) (at : ℕ) (before : Option Archive) (old new : Opening) (es : List Entry) (body : List ℕ) → 2 ≤ length (image 0) → IsAt old (image 0) (map entry_octets es) → IsAt new (image 0) (map entry_octets es ++ body ∷ []) → Replays None es before → at ≡ place_of old → length body < 2 ^ 32 → Breaks before body → IsDamagedAt image at
+damaged_wrong image at before old new es body long is next replays at_is small breaks =
     let more : List ℕ = next.up_to.rest in
     record {
       entries = es;
@@ -55,7 +55,7 @@ damaged_wrong image at before old new es body long is next makes at_is small bre
       rest = framed body ++ more;
       long = long;
       small = is.up_to.small;
-      makes = makes;
+      replays = replays;
       file_is = next.up_to.file_is ∙ written-push (map entry_octets es) body more;
       at_is = at_is ∙ is.up_to.at_is;
       bad = inr (record {
@@ -69,15 +69,15 @@ damaged_wrong image at before old new es body long is next makes at_is small bre
     }
 
 -- what was read to the end
-pub found_is : (content : List ℕ) (opening : Opening) (es : List Entry) (made : Option Made) (f : Found) → Some f.made ≡ made → IsFinished opening f.journal → HasRecords content (map entry_octets es) → IsAt opening content (map entry_octets es) → Makes None es (archive_made made)
-    → IsFound content f.journal (archive f.made.head f.made.history.items)
-found_is content opening es made f is finished has at makes = record {
+pub found_is : (content : List ℕ) (opening : Opening) (es : List Entry) (made : Option PartialArchive) (f : ReadArchive) → Some f.made ≡ made → IsFinished opening f.journal → HasRecords content (map entry_octets es) → IsAt opening content (map entry_octets es) → Replays None es (archive_made made)
+    → IsReadArchive content f.journal (archive f.made.head f.made.history.items)
+found_is content opening es made f is finished has at replays = record {
   entries = es;
   has = has;
-  makes = subst (λ (m : Option Made). Makes None es (archive_made m)) (sym is) makes;
+  replays = subst (λ (m : Option PartialArchive). Replays None es (archive_made m)) (sym is) replays;
   extents = finished.extents ∙ at.extents;
   end = finished.end ∙ at.up_to.at_is;
 }
 
-pub tables_found : (made : Option Made) (f : Found) → Some f.made ≡ made → HasTables made → HasTables (Some f.made)
+pub tables_found : (made : Option PartialArchive) (f : ReadArchive) → Some f.made ≡ made → HasTables made → HasTables (Some f.made)
 tables_found made f is has = subst HasTables (sym is) has

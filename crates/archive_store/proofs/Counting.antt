@@ -10,7 +10,7 @@ use Rattle.std.proofs.lemmas.Bool.{false_from_ne_true}
 use Rattle.std.proofs.lemmas.Bool.Decides.{Decides-int_eq}
 use Rattle.block_map.proofs.KeyedLists.{lookup-insert_entry_same, lookup-insert_entry_other}
 use Rattle.arch_types.specs.declared.interval.Interval.{Interval}
-use Rattle.archive_store.specs.Sizes.{interval_cmp, or_zero, count_of, one_at}
+use Rattle.archive_store.specs.LimitCounts.{interval_cmp, or_zero, count_of, one_at}
 
 interval_cmp_total : IsTotalOrder interval_cmp
 interval_cmp_total = on_total (λ (i : Interval). i.0) int_cmp_total

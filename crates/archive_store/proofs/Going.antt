@@ -3,21 +3,21 @@ use Rattle.std.proofs.Common.{◌≡◌, List, [], ◌∷◌, ◌++◌, sym, sub
 use mathlib.Core.List.{IsPrefix}
 use Rattle.archive_core.specs.declared.fills.Fill.{Fill}
 use Rattle.archive_core.specs.Items.{Item}
-use Rattle.archive_store.specs.Seen.{Seen, GoesOn}
-use Rattle.archive_store.proofs.Standing.{prefix_self}
+use Rattle.archive_store.specs.StoreView.{StoreView, OnlyAppends}
+use Rattle.archive_store.proofs.PendingFaults.{prefix_self}
 
 same_prefix : {A : Type 0} (old new : List A) → new ≡ old → IsPrefix old new
 same_prefix {A = A} old new is = subst (λ (l : List A). IsPrefix old l) (sym is) (prefix_self old)
 
 module _ {D : Type 0} where
   -- nothing was added
-  pub goes_same : (old new : Seen D) → new.history ≡ old.history → new.fills ≡ old.fills → new.head ≡ old.head → new.opened ≡ old.opened → GoesOn old new
+  pub goes_same : (old new : StoreView D) → new.history ≡ old.history → new.fills ≡ old.fills → new.head ≡ old.head → new.opened ≡ old.opened → OnlyAppends old new
   goes_same old new history fills head opened = record { history = same_prefix old.history new.history history; fills = same_prefix old.fills new.fills fills; head = head; opened = opened }
 
   -- items were added to the history
-  pub goes_items : (old new : Seen D) (more : List Item) → new.history ≡ old.history ++ more → new.fills ≡ old.fills → new.head ≡ old.head → new.opened ≡ old.opened → GoesOn old new
+  pub goes_items : (old new : StoreView D) (more : List Item) → new.history ≡ old.history ++ more → new.fills ≡ old.fills → new.head ≡ old.head → new.opened ≡ old.opened → OnlyAppends old new
   goes_items old new more history fills head opened = record { history = (more, sym history); fills = same_prefix old.fills new.fills fills; head = head; opened = opened }
 
   -- an item was added to the fill list
-  pub goes_fill : (old new : Seen D) (item : Fill) → new.history ≡ old.history → new.fills ≡ old.fills ++ item ∷ [] → new.head ≡ old.head → new.opened ≡ old.opened → GoesOn old new
+  pub goes_fill : (old new : StoreView D) (item : Fill) → new.history ≡ old.history → new.fills ≡ old.fills ++ item ∷ [] → new.head ≡ old.head → new.opened ≡ old.opened → OnlyAppends old new
   goes_fill old new item history fills head opened = record { history = same_prefix old.history new.history history; fills = (item ∷ [], sym fills); head = head; opened = opened }

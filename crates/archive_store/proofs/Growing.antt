@@ -11,10 +11,10 @@ use Rattle.arch_types.specs.Interval.{interval_of}
 use Rattle.arch_types.proofs.Histories.{keeps_history}
 use Rattle.archive_core.specs.Items.{Item, is_row_of_interval}
 use Rattle.archive_core.proofs.Outcomes.{new_in_turn, ingested-append}
-use Rattle.archive_store.specs.History.{IsKept}
+use Rattle.archive_store.specs.History.{HistoryInvariant}
 use Rattle.archive_store.specs.Limits.{octets_of, interval_rows, IsWithin}
-use Rattle.archive_store.specs.Shelf.{Shelved}
-use Rattle.archive_store.specs.Sizes.{Measured, count_of, one_at}
+use Rattle.archive_store.specs.TableSet.{HistoryView}
+use Rattle.archive_store.specs.LimitCounts.{LimitCountsView, count_of, one_at}
 use Rattle.archive_store.proofs.Sums.{octets-append, interval_rows-append, interval_rows-one, within_less}
 
 -- what a row adds to the count of an interval
@@ -31,14 +31,14 @@ adds_nothing row i other =
     let far : (row.table == 0) ≡ false = grind (arith, nat_tests, other) in
     ap (λ (b : Bool). if b && int_eq (interval_of row.key.time) i.0 then 1 else 0) far
 
-pub kept_row : (shelf shelf' : Shelved) (sizes sizes' : Measured) (row : Row) → IsKept shelf sizes → shelf'.items ≡ with_row shelf.items row → shelf'.items ≡ shelf.items ++ row ∷ [] → IsWithin (shelf.items ++ row ∷ []) → shelf.room ≡ shelf'.room + 1
-    → sizes'.octets ≡ sizes.octets + length row.packet → ((i : Interval) → count_of sizes'.rows i ≡ count_of sizes.rows i + adds_to i row) → sizes.room ≤ sizes'.room + 1 → IsKept shelf' sizes'
-kept_row shelf shelf' sizes sizes' row k is grown within room octets rows left = record {
-  history = subst IsHistory (sym is) (keeps_history shelf.items (row ∷ []) k.history);
+pub kept_row : (table_set table_set' : HistoryView) (limit_counts limit_counts' : LimitCountsView) (row : Row) → HistoryInvariant table_set limit_counts → table_set'.items ≡ with_row table_set.items row → table_set'.items ≡ table_set.items ++ row ∷ [] → IsWithin (table_set.items ++ row ∷ []) → table_set.room ≡ table_set'.room + 1
+    → limit_counts'.octets ≡ limit_counts.octets + length row.packet → ((i : Interval) → count_of limit_counts'.rows i ≡ count_of limit_counts.rows i + adds_to i row) → limit_counts.room ≤ limit_counts'.room + 1 → HistoryInvariant table_set' limit_counts'
+kept_row table_set table_set' limit_counts limit_counts' row k is grown within room octets rows left = record {
+  history = subst IsHistory (sym is) (keeps_history table_set.items (row ∷ []) k.history);
   within = subst IsWithin (sym grown) within;
-  octets = omega (arith, octets, k.octets, ap octets_of grown, octets-append shelf.items (row ∷ []));
-  rows = λ i. omega (arith, rows i, k.rows i, ap (interval_rows i) grown, interval_rows-append i shelf.items (row ∷ []), interval_rows-one i row);
-  roomy = omega (arith, room, left, k.roomy);
+  octets = omega (arith, octets, k.octets, ap octets_of grown, octets-append table_set.items (row ∷ []));
+  rows = λ i. omega (arith, rows i, k.rows i, ap (interval_rows i) grown, interval_rows-append i table_set.items (row ∷ []), interval_rows-one i row);
+  has_room = omega (arith, room, left, k.has_room);
 }
 
 -- ---- rows one after the other

@@ -1,4 +1,4 @@
--- What an ingest of sorted rows comes to.
+-- What an ingest of classified rows comes to.
 use Rattle.std.proofs.Common.{◌≡◌, ℕ, ◌<◌, List, [], ◌∷◌, ◌++◌, length, refl, sym, ◌∙◌, ap, subst, arith}
 use Rattle.std.proofs.lemmas.List.{append-nil}
 use Rattle.arch_types.specs.declared.refusal.Which.TheVariants as limits

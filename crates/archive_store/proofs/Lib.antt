@@ -13,8 +13,8 @@ pub mod Opened
 pub mod Outcomes
 pub mod Planning
 pub mod Refusals
-pub mod Shelving
-pub mod Standing
+pub mod TableSetFacts
+pub mod PendingFaults
 pub mod Steps
 pub mod Sums
 pub mod Texts

@@ -23,9 +23,9 @@ use Rattle.arch_types.proofs.Histories.{keeps_history}
 use Rattle.archive_core.specs.Items.{Item}
 use Rattle.archive_core.specs.Outcomes.{Says, outcome_of, outcomes_of, fresh_of, answered_new}
 use Rattle.archive_core.proofs.Outcomes.{outcomes_say, outcomes-append, length-outcomes, fresh_added}
-use Rattle.archive_store.specs.Shelf.{is_at_key}
-use Rattle.archive_store.specs.Sorting.{at_cmp, IsFoundAt, Tells}
-use Rattle.archive_store.specs.declared.sorting.TableKey.{TableKey}
+use Rattle.archive_store.specs.TableSet.{is_at_key}
+use Rattle.archive_store.specs.Classifying.{at_cmp, IsFoundAt, IndexesByKey}
+use Rattle.archive_store.specs.declared.classifying.TableKey.{TableKey}
 
 -- ---- items at places
 
@@ -82,15 +82,15 @@ same_test x at row table key =
     ∙ ap (λ (n : ℕ). (at.table == n) && is_eq (key_cmp at.key x.key)) (sym table)
     ∙ ap (λ (k : Key). (at.table == row.table) && is_eq (key_cmp at.key k)) (sym key)
 
-pub found_none : (rows : List Row) (es : List (TableKey × ℕ)) (at : TableKey) → Tells rows es → list_any (is_at_key at.table at.key) rows ≡ false → lookup (is_at (at_cmp at)) es ≡ None
-found_none rows es at tells none = go (lookup (is_at (at_cmp at)) es) refl (tells at)
+pub found_none : (rows : List Row) (es : List (TableKey × ℕ)) (at : TableKey) → IndexesByKey rows es → list_any (is_at_key at.table at.key) rows ≡ false → lookup (is_at (at_cmp at)) es ≡ None
+found_none rows es at is_transparent none = go (lookup (is_at (at_cmp at)) es) refl (is_transparent at)
   where
     go : (o : Option ℕ) → lookup (is_at (at_cmp at)) es ≡ o → IsFoundAt rows at o → o ≡ None
     go None is found = refl
     go (Some i) is found = absurd (true≢false (sym (passes_there (is_at_key at.table at.key) rows i found.0 found.1 found.2) ∙ none))
 
-pub tells_more : (rows : List Row) (es : List (TableKey × ℕ)) (x : TableKey) (row : Row) → row.table ≡ x.table → row.key ≡ x.key → Tells rows es → Tells (rows ++ row ∷ []) (insert_entry at_cmp es x (length rows))
-tells_more rows es x row table key tells at =
+pub tells_more : (rows : List Row) (es : List (TableKey × ℕ)) (x : TableKey) (row : Row) → row.table ≡ x.table → row.key ≡ x.key → IndexesByKey rows es → IndexesByKey (rows ++ row ∷ []) (insert_entry at_cmp es x (length rows))
+tells_more rows es x row table key is_transparent at =
     subst (IsFoundAt (rows ++ row ∷ []) at) (sym (lookup-insert_entry at_cmp_total at x (length rows) es)) (here (is_at (at_cmp x) at) refl)
   where
     passes : is_at (at_cmp x) at ≡ is_at_key at.table at.key row
@@ -102,17 +102,17 @@ tells_more rows es x row table key tells at =
 
     here : (b : Bool) → is_at (at_cmp x) at ≡ b → IsFoundAt (rows ++ row ∷ []) at (cond b (Some (length rows)) (lookup (is_at (at_cmp at)) es))
     here true is = (row, at_end rows row, sym passes ∙ is)
-    here false is = older (lookup (is_at (at_cmp at)) es) (sym passes ∙ is) (tells at)
+    here false is = older (lookup (is_at (at_cmp at)) es) (sym passes ∙ is) (is_transparent at)
 
 -- ---- what an outcome says
 
-or_left : (a b : Bool) → (a || b) ≡ false → a ≡ false
-or_left false b h = refl
-or_left true b h = absurd (true≢false h)
+left_of_or : (a b : Bool) → (a || b) ≡ false → a ≡ false
+left_of_or false b h = refl
+left_of_or true b h = absurd (true≢false h)
 
-or_right : (a b : Bool) → (a || b) ≡ false → b ≡ false
-or_right false b h = h
-or_right true b h = absurd (true≢false h)
+right_of_or : (a b : Bool) → (a || b) ≡ false → b ≡ false
+right_of_or false b h = h
+right_of_or true b h = absurd (true≢false h)
 
 -- the tests by table and key, and by a row that has them, are one
 test_is : (table : ℕ) (key : Key) (row : Row) (items : List Item) (b : Bool) → row.table ≡ table → row.key ≡ key → list_any (is_at_key table key) items ≡ b → list_any (is_duplicate_of row) items ≡ b
@@ -147,7 +147,7 @@ new_alone there row n says = go (list_any (is_duplicate_of row) there) refl says
 
 pub new_behind : (items fresh : List Item) (row : Row) (n : ℕ) → Says (items ++ fresh) row (New n) → list_any (is_at_key row.table row.key) fresh ≡ false
 new_behind items fresh row n says =
-    or_right (list_any (is_duplicate_of row) items) (list_any (is_duplicate_of row) fresh) (sym (list_any-append (is_duplicate_of row) items fresh) ∙ new_alone (items ++ fresh) row n says)
+    right_of_or (list_any (is_duplicate_of row) items) (list_any (is_duplicate_of row) fresh) (sym (list_any-append (is_duplicate_of row) items fresh) ∙ new_alone (items ++ fresh) row n says)
 
 -- ---- one row more
 

@@ -35,25 +35,25 @@ not_before : (a b : Row) → is_before a b ≡ false → b.key.time ≤ℤ a.key
 not_before a b e = later_time a.key.time b.key.time (int_cmp a.key.time b.key.time) (nat_cmp a.key.seq b.key.seq) (int_ranks a.key.time b.key.time) e
 
 -- the rows of a range are in the order of their keys
-pub range_sorted : (table : ℕ) (low high : ℤ) (history : List Row) → IsSortedBy is_before (range_of table low high history)
-range_sorted table low high history = IsSortedBy-filter is_before rows_rank (is_in_range low high) (order_by is_before (filter (is_in_table table) history)) (order_sorted (filter (is_in_table table) history))
+pub range_classified : (table : ℕ) (low high : ℤ) (history : List Row) → IsSortedBy is_before (range_of table low high history)
+range_classified table low high history = IsSortedBy-filter is_before rows_rank (is_in_range low high) (order_by is_before (filter (is_in_table table) history)) (order_sorted (filter (is_in_table table) history))
 
 pub times_rise : (rows : List Row) (d : Row) → IsSortedBy is_before rows → (j k : ℕ) → j + k < length rows → (get_or rows j d).key.time ≤ℤ (get_or rows (j + k) d).key.time
-times_rise rows d sorted j zero within =
+times_rise rows d classified j zero within =
     let same : j + 0 ≡ j = omega arith in
     subst (λ (n : ℕ). (get_or rows j d).key.time ≤ℤ (get_or rows n d).key.time) (sym same) (omega (arith, ints))
-times_rise rows d sorted j (suc k) within =
+times_rise rows d classified j (suc k) within =
     let next : j + suc k ≡ j + k + 1 = omega arith in
-    let step = not_before (get_or rows (j + k + 1) d) (get_or rows (j + k) d) (sorted (j + k) d (omega arith) (omega (arith, within))) in
+    let step = not_before (get_or rows (j + k + 1) d) (get_or rows (j + k) d) (classified (j + k) d (omega arith) (omega (arith, within))) in
     subst (λ (n : ℕ). (get_or rows j d).key.time ≤ℤ (get_or rows n d).key.time) (sym next)
-    (omega (arith, ints, step, times_rise rows d sorted j k (omega (arith, within))))
+    (omega (arith, ints, step, times_rise rows d classified j k (omega (arith, within))))
 
 pub range_rises : (table : ℕ) (low high : ℤ) (history : List Row) (d : Row) (j k : ℕ) → j ≤ k → k < length (range_of table low high history)
     → (get_or (range_of table low high history) j d).key.time ≤ℤ (get_or (range_of table low high history) k d).key.time
 range_rises table low high history d j k le within =
     let same : k ≡ j + (k - j) = omega (arith, le) in
     subst (λ (n : ℕ). (get_or (range_of table low high history) j d).key.time ≤ℤ (get_or (range_of table low high history) n d).key.time) (sym same)
-    (times_rise (range_of table low high history) d (range_sorted table low high history) j (k - j) (omega (arith, within, le)))
+    (times_rise (range_of table low high history) d (range_classified table low high history) j (k - j) (omega (arith, within, le)))
 
 -- ---- intervals rise with times
 
@@ -181,17 +181,17 @@ bounded_put x parts n old rows last there all = bounded_grown x parts n (one_mor
 
 -- ---- the rows that are left
 
-pub sorted_tail : (row : Row) (rest : List Row) → IsSortedBy is_before (row ∷ rest) → IsSortedBy is_before rest
-sorted_tail row rest sorted k d low within =
+pub classified_tail : (row : Row) (rest : List Row) → IsSortedBy is_before (row ∷ rest) → IsSortedBy is_before rest
+classified_tail row rest classified k d low within =
     let next : k + 1 + 1 ≡ suc (k + 1) = omega arith in
     let here : k + 1 ≡ suc k = omega arith in
     subst (λ (n : ℕ). is_before (get_or rest (k + 1) d) (get_or (row ∷ rest) n d) ≡ false) here
-    (subst (λ (n : ℕ). is_before (get_or (row ∷ rest) n d) (get_or (row ∷ rest) (k + 1) d) ≡ false) next (sorted (k + 1) d (omega arith) (omega (arith, within))))
+    (subst (λ (n : ℕ). is_before (get_or (row ∷ rest) n d) (get_or (row ∷ rest) (k + 1) d) ≡ false) next (classified (k + 1) d (omega arith) (omega (arith, within))))
 
 pub first_rises : (row : Row) (rest : List Row) (d : Row) (k : ℕ) → IsSortedBy is_before (row ∷ rest) → k < length rest → interval_of row.key.time ≤ℤ interval_of (get_or rest k d).key.time
-first_rises row rest d k sorted within =
+first_rises row rest d k classified within =
     let here : 0 + suc k ≡ suc k = omega arith in
-    let rises : row.key.time ≤ℤ (get_or rest k d).key.time = subst (λ (n : ℕ). row.key.time ≤ℤ (get_or (row ∷ rest) n d).key.time) here (times_rise (row ∷ rest) d sorted 0 (suc k) (omega (arith, within))) in
+    let rises : row.key.time ≤ℤ (get_or rest k d).key.time = subst (λ (n : ℕ). row.key.time ≤ℤ (get_or (row ∷ rest) n d).key.time) here (times_rise (row ∷ rest) d classified 0 (suc k) (omega (arith, within))) in
     intervals_rise row.key.time (get_or rest k d).key.time rises
 
 pub earlier_next : (parts : List Part) (row : Row) (rest : List Row) (d : Row) (k : ℕ) → ((j : ℕ) (e : Row) → j < length (row ∷ rest) → bounded (interval_of (get_or (row ∷ rest) j e).key.time) parts) → k < length rest → bounded (interval_of (get_or rest k d).key.time) parts

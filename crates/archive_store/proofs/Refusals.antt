@@ -10,8 +10,8 @@ use Rattle.disk_journal.specs.declared.fault.JournalFault.{JournalFault}
 use Rattle.disk_journal.specs.declared.fault.JournalFault.TheVariants.{Exists, NoArchive, Damaged, NeedsReopen, Limit, DiskFault, OutOfMemory}
 use Rattle.archive_store.specs.Entries.{Archive}
 use Rattle.archive_store.specs.Stands.{StandsFor, IsDamagedAt}
-use Rattle.archive_store.specs.Answers.{IsOpenAnswer, IsOpenRefusal, IsCreateAnswer, IsCreateRefusal, IsDamagedOr, IsNoneOr, IsPlain}
-use Rattle.archive_store.specs.Made.{read_refusal, making_refusal, IsReadRefusal}
+use Rattle.archive_store.specs.Answers.{IsOpenAnswer, IsOpenRefusal, IsCreateAnswer, IsCreateRefusal, IsDamagedOrFault, IsNoArchiveOrFault, IsFaultOrMemory}
+use Rattle.archive_store.specs.PartialArchive.{read_refusal, refusal_of_create, IsReadRefusal}
 use Rattle.archive_store.proofs.Exact.{stands_not_damaged, damaged_once, none_not_damaged, none_not_stands}
 
 -- an opening is refused by one of four
@@ -37,14 +37,14 @@ opening_cases c P (refused.Late interval) is none damaged fault memory = absurd 
 opening_cases c P refused.OutOfMemory is none damaged fault memory = memory
 
 -- what may be answered over an image, by what it stands for
-pub damaged_refused : (c : Image) (at : ℕ) (e : Refusal) → IsOpenRefusal c e → IsDamagedAt c at → IsDamagedOr at e
-damaged_refused c at e is d = opening_cases c (IsDamagedOr at) e is (λ none. absurd (none_not_damaged c at none d)) (λ file other zero there. (zero, damaged_once c other at there d)) tt tt
+pub damaged_refused : (c : Image) (at : ℕ) (e : Refusal) → IsOpenRefusal c e → IsDamagedAt c at → IsDamagedOrFault at e
+damaged_refused c at e is d = opening_cases c (IsDamagedOrFault at) e is (λ none. absurd (none_not_damaged c at none d)) (λ file other zero there. (zero, damaged_once c other at there d)) tt tt
 
-pub archive_refused : (c : Image) (x : Archive) (e : Refusal) → IsOpenRefusal c e → StandsFor c x → IsPlain e
-archive_refused c x e is s = opening_cases c IsPlain e is (λ none. absurd (none_not_stands c x none s)) (λ file other zero there. absurd (stands_not_damaged c x other s there)) tt tt
+pub archive_refused : (c : Image) (x : Archive) (e : Refusal) → IsOpenRefusal c e → StandsFor c x → IsFaultOrMemory e
+archive_refused c x e is s = opening_cases c IsFaultOrMemory e is (λ none. absurd (none_not_stands c x none s)) (λ file other zero there. absurd (stands_not_damaged c x other s there)) tt tt
 
-pub none_refused : (c : Image) (e : Refusal) → IsOpenRefusal c e → HoldsNone (c 0) → IsNoneOr e
-none_refused c e is none = opening_cases c IsNoneOr e is (λ there. tt) (λ file other zero there. absurd (none_not_damaged c other none there)) tt tt
+pub none_refused : (c : Image) (e : Refusal) → IsOpenRefusal c e → HoldsNone (c 0) → IsNoArchiveOrFault e
+none_refused c e is none = opening_cases c IsNoArchiveOrFault e is (λ there. tt) (λ file other zero there. absurd (none_not_damaged c other none there)) tt tt
 
 -- a reading's refusals are among them
 pub read_refused : (c : Image) (e : Refusal) → IsReadRefusal e → ((file at : ℕ) → e ≡ refused.Damaged file at → (file ≡ 0) × IsDamagedAt c at) → IsOpenRefusal c e
@@ -88,7 +88,7 @@ begin_answers Limit = tt
 begin_answers DiskFault = tt
 begin_answers OutOfMemory = tt
 
-pub making_answers : (fault : JournalFault) → IsCreateAnswer (making_refusal fault)
+pub making_answers : (fault : JournalFault) → IsCreateAnswer (refusal_of_create fault)
 making_answers Exists = tt
 making_answers NoArchive = tt
 making_answers (Damaged at) = tt
@@ -108,7 +108,7 @@ abbrev IsMakingFault : JournalFault → Type 0
 IsMakingFault fault = (fault ≡ Exists) ⊎ ((fault ≡ DiskFault) ⊎ (fault ≡ OutOfMemory))
 
 -- a making's refusals are among those of an archive's
-pub making_refused : (old new : Image) (fault : JournalFault) → (fault ≡ Exists → (2 ≤ length (old 0)) × (get_or (old 0) 0 0 ≡ 1) × (new ≡ old)) → IsCreateRefusal old new (making_refusal fault)
+pub making_refused : (old new : Image) (fault : JournalFault) → (fault ≡ Exists → (2 ≤ length (old 0)) × (get_or (old 0) 0 0 ≡ 1) × (new ≡ old)) → IsCreateRefusal old new (refusal_of_create fault)
 making_refused old new Exists exists = exists refl
 making_refused old new NoArchive exists = tt
 making_refused old new (Damaged at) exists = tt
@@ -118,7 +118,7 @@ making_refused old new DiskFault exists = tt
 making_refused old new OutOfMemory exists = tt
 
 -- which fault a fault of the disk comes from
-pub making_failed : (fault : JournalFault) → IsMakingFault fault → making_refusal fault ≡ refused.DiskFault → fault ≡ DiskFault
+pub making_failed : (fault : JournalFault) → IsMakingFault fault → refusal_of_create fault ≡ refused.DiskFault → fault ≡ DiskFault
 making_failed Exists only is = absurd cc
 making_failed NoArchive only is = ⊎_elim (λ e. absurd (cc (e))) (⊎_elim (λ e. absurd (cc (e))) (λ e. absurd (cc (e)))) only
 making_failed (Damaged at) only is = ⊎_elim (λ e. absurd (cc (e))) (⊎_elim (λ e. absurd (cc (e))) (λ e. absurd (cc (e)))) only
@@ -128,7 +128,7 @@ making_failed DiskFault only is = refl
 making_failed OutOfMemory only is = absurd cc
 
 -- and want of memory
-pub making_wanting : (fault : JournalFault) → making_refusal fault ≡ refused.OutOfMemory → fault ≡ OutOfMemory
+pub making_wanting : (fault : JournalFault) → refusal_of_create fault ≡ refused.OutOfMemory → fault ≡ OutOfMemory
 making_wanting Exists is = absurd cc
 making_wanting NoArchive is = absurd cc
 making_wanting (Damaged at) is = absurd cc
@@ -149,10 +149,10 @@ read_damaged OutOfMemory file at is = absurd cc
 
 -- of the faults of an append only that of the disk is left
 pub only_fault : (e : JournalFault) → IsAppendFault e → journal_asks {T = ℕ} (Err e) ≡ None → (e ≡ Limit → ⊥) → e ≡ DiskFault
-only_fault Exists f calm below = absurd f
-only_fault NoArchive f calm below = absurd f
-only_fault (Damaged at) f calm below = absurd f
-only_fault (NeedsReopen faults) f calm below = absurd cc
-only_fault Limit f calm below = absurd (below refl)
-only_fault DiskFault f calm below = refl
-only_fault OutOfMemory f calm below = absurd f
+only_fault Exists f no_failed_write below = absurd f
+only_fault NoArchive f no_failed_write below = absurd f
+only_fault (Damaged at) f no_failed_write below = absurd f
+only_fault (NeedsReopen faults) f no_failed_write below = absurd cc
+only_fault Limit f no_failed_write below = absurd (below refl)
+only_fault DiskFault f no_failed_write below = refl
+only_fault OutOfMemory f no_failed_write below = absurd f

@@ -52,25 +52,25 @@ IsCreateRefusal old new OutOfMemory = Unit {0}
 IsCreateRefusal old new _ = ⊥
 
 -- an image of before, or one that holds no archive, or one of the head alone
-abbrev pub IsMaking : (Image → Type 0) → Head → Image → Type 0
-IsMaking before head image = before image ⊎ (HoldsNone (image 0) ⊎ StandsFor image (archive head []))
+abbrev pub IsCreateImage : (Image → Type 0) → Head → Image → Type 0
+IsCreateImage before head image = before image ⊎ (HoldsNone (image 0) ⊎ StandsFor image (archive head []))
 
 -- damaged there, or an answer that may come anyway
-abbrev pub IsDamagedOr : ℕ → Refusal → Type 0
-IsDamagedOr at (Damaged file other) = (file ≡ 0) × (other ≡ at)
-IsDamagedOr at DiskFault = Unit {0}
-IsDamagedOr at OutOfMemory = Unit {0}
-IsDamagedOr at _ = ⊥
+abbrev pub IsDamagedOrFault : ℕ → Refusal → Type 0
+IsDamagedOrFault at (Damaged file other) = (file ≡ 0) × (other ≡ at)
+IsDamagedOrFault at DiskFault = Unit {0}
+IsDamagedOrFault at OutOfMemory = Unit {0}
+IsDamagedOrFault at _ = ⊥
 
 -- no archive, or an answer that may come anyway
-abbrev pub IsNoneOr : Refusal → Type 0
-IsNoneOr NoArchive = Unit {0}
-IsNoneOr DiskFault = Unit {0}
-IsNoneOr OutOfMemory = Unit {0}
-IsNoneOr _ = ⊥
+abbrev pub IsNoArchiveOrFault : Refusal → Type 0
+IsNoArchiveOrFault NoArchive = Unit {0}
+IsNoArchiveOrFault DiskFault = Unit {0}
+IsNoArchiveOrFault OutOfMemory = Unit {0}
+IsNoArchiveOrFault _ = ⊥
 
 -- an answer that may come anyway
-abbrev pub IsPlain : Refusal → Type 0
-IsPlain DiskFault = Unit {0}
-IsPlain OutOfMemory = Unit {0}
-IsPlain _ = ⊥
+abbrev pub IsFaultOrMemory : Refusal → Type 0
+IsFaultOrMemory DiskFault = Unit {0}
+IsFaultOrMemory OutOfMemory = Unit {0}
+IsFaultOrMemory _ = ⊥

@@ -31,13 +31,13 @@ pub record AreAdmitted (old : Archive) (rows : List Row) : Type 0 where
   pub within : IsWithin (old.history ++ items_of rows)
 
 -- An entry makes an archive of nothing or of what there was: the first is a head, no other is, and rows are admitted.
-abbrev pub Takes : Option Archive → Entry → Archive → Type 0
-Takes None (entries.Head tables mdb) new = IsEntry (entries.Head tables mdb) × (new ≡ archive (record { tables = tables; mdb = mdb }) [])
-Takes None (entries.Rows rows) new = ⊥
-Takes (Some old) (entries.Head tables mdb) new = ⊥
-Takes (Some old) (entries.Rows rows) new = AreAdmitted old rows × (new ≡ archive old.head (old.history ++ items_of rows))
+abbrev pub Applies : Option Archive → Entry → Archive → Type 0
+Applies None (entries.Head tables mdb) new = IsEntry (entries.Head tables mdb) × (new ≡ archive (record { tables = tables; mdb = mdb }) [])
+Applies None (entries.Rows rows) new = ⊥
+Applies (Some old) (entries.Head tables mdb) new = ⊥
+Applies (Some old) (entries.Rows rows) new = AreAdmitted old rows × (new ≡ archive old.head (old.history ++ items_of rows))
 
 -- these entries, one after the other
-abbrev pub Makes : Option Archive → List Entry → Option Archive → Type 0
-Makes old [] new = new ≡ old
-Makes old (entry ∷ entries) new = (mid : Archive) × Takes old entry mid × Makes (Some mid) entries new
+abbrev pub Replays : Option Archive → List Entry → Option Archive → Type 0
+Replays old [] new = new ≡ old
+Replays old (entry ∷ entries) new = (mid : Archive) × Applies old entry mid × Replays (Some mid) entries new

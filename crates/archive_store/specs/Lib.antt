@@ -5,10 +5,10 @@ pub mod History
 pub mod Inside
 pub mod Laws
 pub mod Limits
-pub mod Made
+pub mod PartialArchive
 pub mod Plans
-pub mod Seen
-pub mod Shelf
-pub mod Sizes
-pub mod Sorting
+pub mod StoreView
+pub mod TableSet
+pub mod LimitCounts
+pub mod Classifying
 pub mod Stands

@@ -5,17 +5,17 @@ use Rattle.arch_disk.specs.Image.{Image}
 use Rattle.disk_journal.specs.Format.{HasRecords, written, framed, AreSmall}
 use Rattle.field_codec.specs.declared.entry.Entry.{Entry}
 use Rattle.field_codec.specs.Spelling.{entry_octets}
-use Rattle.archive_store.specs.Entries.{Archive, Takes, Makes}
+use Rattle.archive_store.specs.Entries.{Archive, Applies, Replays}
 
 -- the bodies of the journal's records are entries that make this archive
 pub record StandsFor (image : Image) (archive : Archive) : Type 0 where
   pub entries : List Entry
   pub has : HasRecords (image 0) (map entry_octets entries)
-  pub makes : Makes None entries (Some archive)
+  pub replays : Replays None entries (Some archive)
 
 -- no entry with this body may follow
 abbrev pub Breaks : Option Archive → List ℕ → Type 0
-Breaks before body = (entry : Entry) (after : Archive) → body ≡ entry_octets entry → Takes before entry after → ⊥
+Breaks before body = (entry : Entry) (after : Archive) → body ≡ entry_octets entry → Applies before entry after → ⊥
 
 -- a whole record stands there, with the gate octet after it, and breaks a rule
 pub record IsWrong (before : Option Archive) (rest : List ℕ) : Type 0 where
@@ -37,7 +37,7 @@ pub record IsDamagedAt (image : Image) (at : ℕ) : Type 0 where
   pub rest : List ℕ
   pub long : 2 ≤ length (image 0)
   pub small : AreSmall (map entry_octets entries)
-  pub makes : Makes None entries before
+  pub replays : Replays None entries before
   pub file_is : image 0 ≡ written (map entry_octets entries) ++ 1 ∷ rest
   pub at_is : at ≡ length (written (map entry_octets entries))
   pub bad : IsCutShort rest ⊎ IsWrong before rest

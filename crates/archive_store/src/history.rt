@@ -7,14 +7,14 @@ ghost use Rattle.arch_types.specs.History.{ingested, with_row, IsHistory};
 ghost use Rattle.arch_types.specs.Interval.{interval_of};
 ghost use Rattle.arch_types.specs.Table.{range_of};
 ghost use Rattle.archive_core.specs.Items.{Item, items_of};
-ghost use Rattle.archive_store.specs.Shelf.{is_at_key};
+ghost use Rattle.archive_store.specs.TableSet.{is_at_key};
 ghost use Rattle.arch_types.specs.Limits.{limit_of};
 ghost use Rattle.arch_types.specs.declared.refusal.Which.TheVariants as limits;
 ghost use Rattle.archive_store.specs.Limits.{octets_of, interval_rows, IsWithin, PassesFirst};
-ghost use Rattle.archive_store.specs.Sizes.{count_of};
+ghost use Rattle.archive_store.specs.LimitCounts.{count_of};
 
-use crate::shelf::Shelf;
-use crate::sizes::Sizes;
+use crate::limit_counts::LimitCounts;
+use crate::table_set::TableSet;
 use arch_types::interval::Interval;
 use arch_types::key::Key;
 use arch_types::refusal::Which;
@@ -29,19 +29,19 @@ pub(crate) const TM: u8 = 0;
 /// The rows of a history, and what its limits count.
 #[derive(Drop)]
 pub(crate) struct History {
-    shelf: Shelf,
-    sizes: Sizes,
+    table_set: TableSet,
+    limit_counts: LimitCounts,
 }
 
 impl Model for History {
-    ghost use Rattle.archive_store.specs.Shelf.{Shelved};
-    ghost use Rattle.archive_store.specs.History.{IsKept};
+    ghost use Rattle.archive_store.specs.TableSet.{HistoryView};
+    ghost use Rattle.archive_store.specs.History.{HistoryInvariant};
 
-    ghost Value = { Shelved };
+    ghost Value = { HistoryView };
 
-    ghost view = { λ h. h.shelf };
+    ghost view = { λ h. h.table_set };
 
-    ghost invariant = { λ h. IsKept h.shelf h.sizes };
+    ghost invariant = { λ h. HistoryInvariant h.table_set h.limit_counts };
 }
 
 /// The interval of a row's time.
@@ -77,13 +77,13 @@ fn rows_in(rows: &[Row], interval: Interval) -> u64
 }
 
 /// Whether an interval would have too many rows with these. They are counted only where it comes that close to the limit.
-fn are_too_many(sizes: &Sizes, interval: Interval, rows: &[Row]) -> bool
+fn are_too_many(limit_counts: &LimitCounts, interval: Interval, rows: &[Row]) -> bool
     requires few { length rows.now ≤ limit_of limits.Rows }
-    requires counted { count_of sizes.now.rows interval ≤ limit_of limits.IntervalRows }
-    ensures some { result ≡ true → limit_of limits.IntervalRows < count_of sizes.now.rows interval + interval_rows interval (items_of rows.now) }
-    ensures none { result ≡ false → count_of sizes.now.rows interval + interval_rows interval (items_of rows.now) ≤ limit_of limits.IntervalRows }
+    requires counted { count_of limit_counts.now.rows interval ≤ limit_of limits.IntervalRows }
+    ensures some { result ≡ true → limit_of limits.IntervalRows < count_of limit_counts.now.rows interval + interval_rows interval (items_of rows.now) }
+    ensures none { result ≡ false → count_of limit_counts.now.rows interval + interval_rows interval (items_of rows.now) ≤ limit_of limits.IntervalRows }
 {
-    let known = sizes.rows_of(interval);
+    let known = limit_counts.rows_of(interval);
     if known + rows.len() as u64 <= Which::IntervalRows.limit() {
         return false;
     }
@@ -96,8 +96,8 @@ impl History {
         ensures { IfOk result (λ h. h ≡ record { items = []; tables = tables; room = 0 }) }
     {
         Ok(History {
-            shelf: Shelf::new(alloc, tables)?,
-            sizes: Sizes::new(alloc)?,
+            table_set: TableSet::new(alloc, tables)?,
+            limit_counts: LimitCounts::new(alloc)?,
         })
     }
 
@@ -107,7 +107,7 @@ impl History {
         ensures within { IsWithin self.now.items }
         ensures history { IsHistory self.now.items }
     {
-        self.shelf.len()
+        self.table_set.len()
     }
 
     /// Makes the room at least `rows`. The one error is want of memory, and then all is as before.
@@ -115,8 +115,8 @@ impl History {
         ensures ok { OnOk result (self.new ≡ record { items = self.old.items; tables = self.old.tables; room = max self.old.room rows }) }
         ensures err { OnErr result (self.new ≡ self.old) }
     {
-        self.sizes.reserve(rows)?;
-        self.shelf.reserve(rows)
+        self.limit_counts.reserve(rows)?;
+        self.table_set.reserve(rows)
     }
 
     /// The position of the row that has a key in a table.
@@ -125,7 +125,7 @@ impl History {
         ensures some { IfSome result (λ p. (there : Item) × (slice_get self.now.items p ≡ Some there) × (is_at_key table key there ≡ true)) }
         ensures none { IfNone result (list_any (is_at_key table key) self.now.items ≡ false) }
     {
-        self.shelf.position(table, key)
+        self.table_set.position(table, key)
     }
 
     /// Whether an interval would have too many rows with these.
@@ -134,11 +134,11 @@ impl History {
         ensures some { result ≡ true → (i : AnInterval) × (limit_of limits.IntervalRows < interval_rows i (self.now.items ++ items_of rows.now)) }
         ensures none { result ≡ false → (i : AnInterval) → interval_rows i (self.now.items ++ items_of rows.now) ≤ limit_of limits.IntervalRows }
     {
-        let sizes = &self.sizes;
+        let limit_counts = &self.limit_counts;
         for row in rows {
             if row.table == TM {
                 let interval = interval_of_row(row);
-                if are_too_many(sizes, interval, rows) {
+                if are_too_many(limit_counts, interval, rows) {
                     return true;
                 }
             }
@@ -151,10 +151,10 @@ impl History {
         ensures none { IfNone result (IsWithin (self.now.items ++ items_of rows.now)) }
         ensures first { IfSome result (λ which. PassesFirst which (self.now.items ++ items_of rows.now)) }
     {
-        if rows.len() as u64 > Which::Rows.limit() - self.shelf.len() as u64 {
+        if rows.len() as u64 > Which::Rows.limit() - self.table_set.len() as u64 {
             return Some(Which::Rows);
         }
-        if octets_in(rows) > Which::HistoryOctets.limit() - self.sizes.octets() {
+        if octets_in(rows) > Which::HistoryOctets.limit() - self.limit_counts.octets() {
             return Some(Which::HistoryOctets);
         }
         if self.passes_interval(rows) {
@@ -177,12 +177,12 @@ impl History {
         let octets = row.packet.len();
         let table = row.table;
         let interval = interval_of_row(&row);
-        if !self.shelf.add(row) {
+        if !self.table_set.add(row) {
             return false;
         }
-        self.sizes.add_octets(octets);
+        self.limit_counts.add_octets(octets);
         if table == TM {
-            self.sizes.add_row(interval);
+            self.limit_counts.add_row(interval);
         }
         true
     }
@@ -209,6 +209,6 @@ impl History {
         requires { 0 < self.now.tables }
         ensures { result ≡ range_of 0 from to self.now.items }
     {
-        self.shelf.range(TM, from, to)
+        self.table_set.range(TM, from, to)
     }
 }

@@ -6,7 +6,7 @@ ghost use Rattle.arch_disk.specs.Disk.{LeavesOnly, HasCause, CountsFailure};
 ghost use Rattle.arch_types.specs.declared.refusal.Refusal.TheVariants.{DiskFault, Limit, OutOfMemory};
 ghost use Rattle.arch_types.specs.declared.refusal.Which.{Which as AWhich};
 ghost use Rattle.arch_types.specs.History.{ingested};
-ghost use Rattle.archive_core.specs.Fills.{held, standing, reopened};
+ghost use Rattle.archive_core.specs.Fills.{rows_of_faults, pending_fault_of, reopened};
 ghost use Rattle.archive_core.specs.Outcomes.{outcomes_of, fresh_of};
 ghost use Rattle.disk_journal.specs.State.{HasRoom, IsSame};
 ghost use Rattle.field_codec.specs.declared.entry.Entry.TheVariants as entries;
@@ -21,13 +21,13 @@ ghost use Rattle.archive_store.specs.Limits.{IsLimit, IsBelow, IsWithin};
 ghost use Rattle.archive_store.specs.Stands.{StandsFor};
 
 use crate::batch::{Batch, Ingested};
+use crate::classifying::{ClassifiedBatch, classify};
 use crate::history::History;
-use crate::sorting::{Sorted, sort};
 use crate::store::Store;
 use arch_disk::Disk;
 use arch_types::refusal::{Refusal, Which};
 use arch_types::row::{Row, Rows};
-use archive_core::fills::{Fill, settle};
+use archive_core::fills::{Fill, clear_failed_writes};
 use disk_journal::{Frame, Journal};
 use field_codec::{Entry, write_entry};
 use std::alloc::{AllocError, Global};
@@ -71,7 +71,7 @@ fn prepare(
 }
 
 impl<D: Disk> Store<D> {
-    ghost use Rattle.archive_store.specs.Seen.{archive_of, IsNow, rows_in_hand, AddsFault, GoesOn, HasCounts};
+    ghost use Rattle.archive_store.specs.StoreView.{archive_of, IsNow, unacknowledged_rows, AddsFault, OnlyAppends, CountsNeverFall};
     ghost use Rattle.archive_store.specs.Answers.{asks_reopen, IsIngestRefusal};
 
     /// The first limit that is passed with these rows and their record.
@@ -90,7 +90,7 @@ impl<D: Disk> Store<D> {
 
     /// Appends new rows to the disk and then to the history. All memory is taken before the first device call.
     fn append(&mut self, alloc: Global, fresh: Rows) -> Result<(), Refusal>
-        requires calm { standing self.old.fills ≡ None }
+        requires no_failed_write { pending_fault_of self.old.fills ≡ None }
         requires admitted { AreAdmitted (archive_of self.old) fresh }
         requires records { self.old.records < limit_of limits.Records }
         ensures ok { OnOk result ((self.new.history ≡ self.old.history ++ items_of fresh) × (self.new.fills ≡ self.old.fills) × (self.new.records ≡ self.old.records + 1)) }
@@ -99,10 +99,10 @@ impl<D: Disk> Store<D> {
         ensures no_record { OnErr result (self.new.records ≡ self.old.records) }
         ensures fault { result ≡ Err DiskFault → AddsFault D.device self.old self.new fresh }
         ensures untouched { OnErr result ((result ≡ Err DiskFault) ⊎ (self.new ≡ self.old)) }
-        ensures any_moment { IsTrue D.device.tells → LeavesOnly D.device self.old.disk self.new.disk (λ c. StandsFor c (archive_of self.old) ⊎ StandsFor c (archive self.old.head (self.old.history ++ items_of fresh))) }
+        ensures any_moment { IsTrue D.device.is_transparent → LeavesOnly D.device self.old.disk self.new.disk (λ c. StandsFor c (archive_of self.old) ⊎ StandsFor c (archive self.old.head (self.old.history ++ items_of fresh))) }
         ensures only { IfErr result (λ e. (e ≡ DiskFault) ⊎ (e ≡ OutOfMemory)) }
-        ensures later { HasCounts D.device self.old.disk self.new.disk }
-        ensures calm { OnOk result (D.device.failed_writes self.new.disk ≡ D.device.failed_writes self.old.disk) }
+        ensures later { CountsNeverFall D.device self.old.disk self.new.disk }
+        ensures no_failed_write { OnOk result (D.device.failed_writes self.new.disk ≡ D.device.failed_writes self.old.disk) }
     {
         let prepared = prepare(
             alloc,
@@ -126,7 +126,7 @@ impl<D: Disk> Store<D> {
                     wrote: true,
                     rows: fresh,
                 });
-                self.trouble = Some(count);
+                self.pending_fault = Some(count);
                 Err(Refusal::DiskFault)
             }
         }
@@ -148,37 +148,37 @@ impl<D: Disk> Store<D> {
         ensures untouched { OnErr result ((result ≡ Err DiskFault) ⊎ (self.new ≡ self.old)) }
 
         // A crash at any moment of the call leaves the history from before it, or the new one.
-        ensures any_moment { IsTrue D.device.tells → standing self.old.fills ≡ None
+        ensures any_moment { IsTrue D.device.is_transparent → pending_fault_of self.old.fills ≡ None
             → LeavesOnly D.device self.old.disk self.new.disk (λ c. StandsFor c (archive_of self.old) ⊎ StandsFor c (archive self.old.head (ingested self.old.history (batch_rows batch.now)))) }
 
         // Both lists begin with the old ones, also where it is refused.
-        ensures goes_on { GoesOn self.old self.new }
+        ensures goes_on { OnlyAppends self.old self.new }
 
         // NeedsReopen comes exactly where a failed write stands, then the first limit that is passed where rows are new, then a fault of the disk.
         // Want of memory comes before any call of the disk.
-        ensures needs_reopen { asks_reopen result ≡ standing self.old.fills }
+        ensures needs_reopen { asks_reopen result ≡ pending_fault_of self.old.fills }
         ensures limit { (which : AWhich) (number : ℕ) → result ≡ Err (Limit which number) → (number ≡ limit_of which) × IsLimit which self.old.records (ingested self.old.history (batch_rows batch.now)) }
         ensures limit_some { (which : AWhich) (number : ℕ) → result ≡ Err (Limit which number) → fresh_of self.old.history (batch_rows batch.now) ≢ [] }
         ensures below { MatchResult result (λ _. IsBelow self.old.records self.old.history (batch_rows batch.now)) (λ e. e ≡ DiskFault → IsBelow self.old.records self.old.history (batch_rows batch.now)) }
         ensures only { IfErr result IsIngestRefusal }
-        ensures later { HasCounts D.device self.old.disk self.new.disk }
-        ensures calm { OnOk result (D.device.failed_writes self.new.disk ≡ D.device.failed_writes self.old.disk) }
+        ensures later { CountsNeverFall D.device self.old.disk self.new.disk }
+        ensures no_failed_write { OnOk result (D.device.failed_writes self.new.disk ≡ D.device.failed_writes self.old.disk) }
     {
-        match self.trouble {
+        match self.pending_fault {
             Some(faults) => return Err(Refusal::NeedsReopen { faults }),
             None => {}
         }
         // They tell the proof that the history keeps its limits, and that numbers of containers have 16 bits.
         let _known = self.history.len();
         let _names = self.head.mdb.containers();
-        let Ok(sorted) = sort(alloc, &self.history, batch) else {
+        let Ok(classified) = classify(alloc, &self.history, batch) else {
             return Err(Refusal::OutOfMemory);
         };
-        let Sorted {
+        let ClassifiedBatch {
             outcomes,
             fresh,
             places: _,
-        } = sorted;
+        } = classified;
         if fresh.len() == 0 {
             return Ok(Ingested { outcomes });
         }
@@ -194,25 +194,25 @@ impl<D: Disk> Store<D> {
 
     /// Makes a write that failed as if it had never been made, so that batches are taken again. Takes no memory.
     pub fn reopen(&mut self) -> Result<(), Refusal>
-        ensures ok { OnOk result ((self.new.fills ≡ reopened self.old.fills) × (standing self.new.fills ≡ None)) }
+        ensures ok { OnOk result ((self.new.fills ≡ reopened self.old.fills) × (pending_fault_of self.new.fills ≡ None)) }
         ensures err { OnErr result (self.new.fills ≡ self.old.fills) }
         ensures same { (self.new.history ≡ self.old.history) × (self.new.head ≡ self.old.head) × (self.new.opened ≡ self.old.opened) × (self.new.records ≡ self.old.records) }
 
         // Afterwards every image stands for the history, whatever failed before.
-        ensures healed { IsTrue D.device.tells → OnOk result ((c : Image) → D.device.images self.new.disk c → StandsFor c (archive_of self.new)) }
+        ensures healed { IsTrue D.device.is_transparent → OnOk result ((c : Image) → D.device.images self.new.disk c → StandsFor c (archive_of self.new)) }
 
         // A crash at any moment of the call leaves what it could have left before.
-        ensures any_moment { IsTrue D.device.tells → LeavesOnly D.device self.old.disk self.new.disk (IsNow self.old.head self.old.history (rows_in_hand self.old.fills)) }
-        ensures no_call { standing self.old.fills ≡ None → self.new.disk ≡ self.old.disk }
+        ensures any_moment { IsTrue D.device.is_transparent → LeavesOnly D.device self.old.disk self.new.disk (IsNow self.old.head self.old.history (unacknowledged_rows self.old.fills)) }
+        ensures no_call { pending_fault_of self.old.fills ≡ None → self.new.disk ≡ self.old.disk }
         ensures only { IfErr result (λ e. e ≡ DiskFault) }
-        ensures later { HasCounts D.device self.old.disk self.new.disk }
+        ensures later { CountsNeverFall D.device self.old.disk self.new.disk }
         ensures writes { CountsFailure D.device self.old.disk self.new.disk result }
         ensures cause { HasCause D.device self.old.disk self.new.disk result }
     {
         match self.journal.heal(&mut self.disk) {
             Ok(()) => {
-                settle(self.fills.as_mut_slice());
-                self.trouble = None;
+                clear_failed_writes(self.fills.as_mut_slice());
+                self.pending_fault = None;
                 Ok(())
             }
             Err(_) => Err(Refusal::DiskFault),

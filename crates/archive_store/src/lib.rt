@@ -3,29 +3,29 @@
 // A history is rows of tables, the first to come with its key in its table. It stands in the journal in file 0 of the disk: a head record
 // with the tables and the mission database, and then a record for each batch that had new rows. `StandsFor` (specs/Stands.antt) says which
 // archive an image of the disk is, `IsDamagedAt` where it is none, and `laws` that no image is two things. Contracts see a store as
-// `Seen` (specs/Seen.antt): history, fill list, head, the disk, and the disk of the opening.
+// `StoreView` (specs/StoreView.antt): history, fill list, head, the disk, and the disk of the opening.
 // Callers: the commands that create, load, ask and recover an archive, and the store that many callers take in turns.
 //
-// The one idea of the proof is in the store's type: it keeps what a crash at any moment since the opening may have left (`KeepsImages`), and how the
-// faults stand to the disk's counts (`KeepsFaults`), of the value alone. So `front` and `into_disk` hand both out, and each call proves one step:
-// a record more, a record in hand, a record taken back (proofs/Kept.antt, proofs/Healing.antt).
+// The one idea of the proof is in the store's type: it keeps what a crash at any moment since the opening may have left (`CrashInvariant`), and how the
+// faults stand to the disk's counts (`FaultInvariant`), of the value alone. So `front` and `into_disk` hand both out, and each call proves one step:
+// a record more, an unacknowledged record, a record taken back (proofs/Kept.antt, proofs/Healing.antt).
 //
-// In memory the rows stand in a `Table` for each table, and a list of places names them in the order of the history (src/shelf.rt).
-// To be changed together: `Takes` in specs/Entries.antt, src/reading.rt and `IsBatch`; the limits in specs/Limits.antt and src/history.rt.
+// In memory the rows stand in a `Table` for each table, and a list of places names them in the order of the history (src/table_set.rt).
+// To be changed together: `Applies` in specs/Entries.antt, src/reading.rt and `IsBatch`; the limits in specs/Limits.antt and src/history.rt.
 #![tactic(auto)]
 
 mod batch;
+mod classifying;
 mod head;
 mod history;
 mod ingest;
 pub mod laws;
+mod limit_counts;
 mod plan;
 mod reading;
 mod retrieving;
-mod shelf;
-mod sizes;
-mod sorting;
 mod store;
+mod table_set;
 
 pub use batch::{Arrival, Arrivals, Batch, Ingested};
 pub use head::Head;

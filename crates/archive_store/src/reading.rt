@@ -2,8 +2,8 @@
 
 ghost use Rattle.std.specs.Prelude.{◌≡◌, ◌<◌, ◌≤◌, ◌⊎◌, ◌++◌, [], ◌∷◌, List, ℕ, None, Some, IsTrue, true, false, length, map, get_or, OnOk, OnErr, IfOk, IfErr, IfSome};
 ghost use Rattle.std.specs.List.{AllByRecursion};
-ghost use Rattle.arch_disk.specs.Disk.{Looked, raised};
-ghost use Rattle.disk_journal.specs.State.{unhealed, file_of};
+ghost use Rattle.arch_disk.specs.Disk.{OnlyReads, raised};
+ghost use Rattle.disk_journal.specs.State.{unhealed_fault, file_of};
 ghost use Rattle.disk_journal.specs.Reading.{IsAt, file_read, IsFinished};
 ghost use Rattle.arch_types.specs.declared.refusal.Refusal.TheVariants.{Damaged, DiskFault};
 ghost use Rattle.arch_types.specs.declared.row.Row.{Row as ARow};
@@ -11,8 +11,8 @@ ghost use Rattle.field_codec.specs.declared.entry.Entry.{Entry as AnEntry};
 ghost use Rattle.field_codec.specs.declared.entry.Entry.TheVariants as entries;
 ghost use Rattle.field_codec.specs.Entries.{IsEntry};
 ghost use Rattle.field_codec.specs.Spelling.{entry_octets};
-ghost use Rattle.archive_store.specs.Entries.{archive, Takes, AreAdmitted, IsPlaced};
-ghost use Rattle.archive_store.specs.Made.{archive_made, HasTables, read_refusal, IsReadRefusal, IsFound};
+ghost use Rattle.archive_store.specs.Entries.{archive, Applies, AreAdmitted, IsPlaced};
+ghost use Rattle.archive_store.specs.PartialArchive.{archive_made, HasTables, read_refusal, IsReadRefusal, IsReadArchive};
 ghost use Rattle.archive_store.specs.Stands.{IsDamagedAt, Breaks};
 
 use crate::head::Head;
@@ -27,7 +27,7 @@ use std::alloc::{AllocError, Global};
 
 /// What the entries so far have made.
 #[derive(Drop)]
-pub(crate) struct Made {
+pub(crate) struct PartialArchive {
     pub head: Head,
     pub history: History,
 }
@@ -48,7 +48,7 @@ fn are_placed(head: &Head, rows: &[Row]) -> bool
 }
 
 /// Whether these rows may follow; then they do.
-fn admit(made: &mut Made, rows: Rows) -> Result<bool, AllocError>
+fn admit(made: &mut PartialArchive, rows: Rows) -> Result<bool, AllocError>
     requires entry { IsEntry (entries.Rows rows) }
     requires tables { made.old.history.tables ≡ length made.old.head.tables }
     ensures yes { IfOk result (λ ok. ok ≡ true → AreAdmitted (archive made.old.head made.old.history.items) rows
@@ -68,9 +68,13 @@ fn admit(made: &mut Made, rows: Rows) -> Result<bool, AllocError>
 }
 
 /// Whether an entry with these octets may follow; then it does.
-fn take_in(alloc: Global, made: &mut Option<Made>, body: Vec<u8>) -> Result<bool, AllocError>
+fn take_in(
+    alloc: Global,
+    made: &mut Option<PartialArchive>,
+    body: Vec<u8>,
+) -> Result<bool, AllocError>
     requires tables { HasTables made.old }
-    ensures yes { IfOk result (λ ok. ok ≡ true → (entry : AnEntry) × (body.items ≡ entry_octets entry) × (after : Archive) × (archive_made made.new ≡ Some after) × Takes (archive_made made.old) entry after) }
+    ensures yes { IfOk result (λ ok. ok ≡ true → (entry : AnEntry) × (body.items ≡ entry_octets entry) × (after : Archive) × (archive_made made.new ≡ Some after) × Applies (archive_made made.old) entry after) }
     ensures no { IfOk result (λ ok. ok ≡ false → Breaks (archive_made made.old) body.items) }
     ensures tables { HasTables made.new }
 {
@@ -83,7 +87,7 @@ fn take_in(alloc: Global, made: &mut Option<Made>, body: Vec<u8>) -> Result<bool
                 return Ok(false);
             }
             let history = History::new(alloc, tables.as_slice().len())?;
-            *made = Some(Made {
+            *made = Some(PartialArchive {
                 head: Head { tables, mdb },
                 history,
             });
@@ -100,9 +104,9 @@ ghost use Rattle.archive_store.specs.Entries.{Archive};
 
 /// An archive that was read, and its journal.
 #[derive(Drop)]
-pub(crate) struct Found {
+pub(crate) struct ReadArchive {
     pub journal: Journal,
-    pub made: Made,
+    pub made: PartialArchive,
 }
 
 /// The refusal for a fault of a journal that is read.
@@ -121,12 +125,12 @@ pub(crate) fn refusal_of(fault: JournalFault) -> Refusal
 }
 
 /// What was read.
-fn finished(opening: Opening, made: Option<Made>) -> Result<Found, Refusal>
+fn finished(opening: Opening, made: Option<PartialArchive>) -> Result<ReadArchive, Refusal>
     ensures ok { IfOk result (λ f. (Some f.made ≡ made) × IsFinished opening f.journal) }
     ensures none { OnErr result ((made ≡ None) × (result ≡ Err (Damaged 0 0))) }
 {
     match made {
-        Some(made) => Ok(Found {
+        Some(made) => Ok(ReadArchive {
             journal: opening.finish(),
             made,
         }),
@@ -141,16 +145,16 @@ pub(crate) fn read_archive<D: Disk>(
     alloc: Global,
     disk: &mut D,
     opening: Opening,
-) -> Result<Found, Refusal>
-    requires at { IsTrue D.device.tells → IsAt opening (D.device.reads disk.old 0) [] }
+) -> Result<ReadArchive, Refusal>
+    requires at { IsTrue D.device.is_transparent → IsAt opening (D.device.reads disk.old 0) [] }
     requires file { file_read opening ≡ 0 }
-    requires first { IsTrue D.device.tells → (2 ≤ length (D.device.reads disk.old 0)) × (get_or (D.device.reads disk.old 0) 0 0 ≡ 1) }
-    ensures found { IsTrue D.device.tells → IfOk result (λ f. IsFound (D.device.reads disk.old 0) f.journal (archive f.made.head f.made.history.items)) }
-    ensures healthy { IfOk result (λ f. (unhealed f.journal ≡ None) × (file_of f.journal ≡ 0)) }
+    requires first { IsTrue D.device.is_transparent → (2 ≤ length (D.device.reads disk.old 0)) × (get_or (D.device.reads disk.old 0) 0 0 ≡ 1) }
+    ensures found { IsTrue D.device.is_transparent → IfOk result (λ f. IsReadArchive (D.device.reads disk.old 0) f.journal (archive f.made.head f.made.history.items)) }
+    ensures no_pending_fault { IfOk result (λ f. (unhealed_fault f.journal ≡ None) × (file_of f.journal ≡ 0)) }
     ensures tables { IfOk result (λ f. HasTables (Some f.made)) }
-    ensures damaged { IsTrue D.device.tells → (file at : ℕ) → result ≡ Err (Damaged file at) → (file ≡ 0) × IsDamagedAt (D.device.reads disk.old) at }
+    ensures damaged { IsTrue D.device.is_transparent → (file at : ℕ) → result ≡ Err (Damaged file at) → (file ≡ 0) × IsDamagedAt (D.device.reads disk.old) at }
     ensures only { IfErr result IsReadRefusal }
-    ensures looked { Looked D.device disk.old disk.new }
+    ensures looked { OnlyReads D.device disk.old disk.new }
     ensures cause { result ≡ Err DiskFault → raised (D.device.fault_count disk.old) ≤ D.device.fault_count disk.new }
 {
     let mut opening = opening;

@@ -1,4 +1,4 @@
--- Two blocks that stand beside each other: their entries shared out in another way, or joined.
+-- Two blocks that stand beside each other: their entries shared out in another way, or merged.
 use Rattle.std.proofs.Common.{◌≡◌, ℕ, zero, suc, ◌+◌, ◌<◌, ◌≤◌, List, [], ◌∷◌, ◌++◌, length, get_or, set, sym, ◌∙◌, ap, subst, refl, arith, append_assoc}
 use Rattle.std.specs.Prelude.{remove}
 use Rattle.std.specs.Global.{Vec}

@@ -3,7 +3,7 @@ use Rattle.std.specs.Prelude.{◌≡◌, ◌≢◌, ℕ, ◌+◌, ◌<◌, ◌�
 use Rattle.std.specs.Global.{Vec}
 use Rattle.std.specs.List.{flat_map, All}
 use Rattle.std.specs.declared.cmp.Ordering.{Ordering}
-use Rattle.block_map.specs.declared.blocks.TheConstants.{LEAST, FULL}
+use Rattle.block_map.specs.declared.blocks.TheConstants.{MIN_FILL, CAPACITY}
 use Rattle.block_map.specs.Rising.{IsAbove, IsBelow, IsRising}
 
 -- the entries of blocks, one block after the other
@@ -22,23 +22,23 @@ pub record IsBlockFor {K V : Type 0} (cmp : K → K → Ordering) (key : K) (blo
 
 -- a block is no longer than its memory
 abbrev pub IsSized : {K V : Type 0} → Vec (K × V) → Type 0
-IsSized b = (length b.items ≤ FULL) × (FULL ≤ vec_capacity b)
+IsSized b = (length b.items ≤ CAPACITY) × (CAPACITY ≤ vec_capacity b)
 
--- blocks in the order of their keys, each but the first with at least LEAST
+-- blocks in the order of their keys, each but the first with at least MIN_FILL
 pub record IsBlocks {K V : Type 0} (cmp : K → K → Ordering) (blocks : List (Vec (K × V))) : Type 0 where
   pub some : 0 < length blocks
   pub rising : IsRising cmp (entries_of blocks)
-  pub filled : (i : ℕ) (d : Vec (K × V)) → 0 < i → i < length blocks → LEAST ≤ length (slice_index_or blocks i d).items
+  pub filled : (i : ℕ) (d : Vec (K × V)) → 0 < i → i < length blocks → MIN_FILL ≤ length (slice_index_or blocks i d).items
   pub sized : All IsSized blocks
 
--- blocks in order, but for one of them, which may lack an entry of LEAST
-pub record IsThinAt {K V : Type 0} (cmp : K → K → Ordering) (blocks : List (Vec (K × V))) (b : ℕ) : Type 0 where
+-- blocks in order, but for one of them, which may lack an entry of MIN_FILL
+pub record IsUnderfullAt {K V : Type 0} (cmp : K → K → Ordering) (blocks : List (Vec (K × V))) (b : ℕ) : Type 0 where
   pub some : 0 < length blocks
   pub rising : IsRising cmp (entries_of blocks)
-  pub filled : (i : ℕ) (d : Vec (K × V)) → 0 < i → i < length blocks → i ≢ b → LEAST ≤ length (slice_index_or blocks i d).items
-  pub thin : (d : Vec (K × V)) → 0 < b → LEAST ≤ length (slice_index_or blocks b d).items + 1
+  pub filled : (i : ℕ) (d : Vec (K × V)) → 0 < i → i < length blocks → i ≢ b → MIN_FILL ≤ length (slice_index_or blocks i d).items
+  pub underfull : (d : Vec (K × V)) → 0 < b → MIN_FILL ≤ length (slice_index_or blocks b d).items + 1
   pub sized : All IsSized blocks
 
 -- spare blocks are empty, with memory
 abbrev pub AreReady : {K V : Type 0} → List (Vec (K × V)) → Type 0
-AreReady spare = All (λ b. (b.items ≡ []) × (FULL ≤ vec_capacity b)) spare
+AreReady spare = All (λ b. (b.items ≡ []) × (CAPACITY ≤ vec_capacity b)) spare

@@ -3,7 +3,7 @@ use Rattle.std.specs.Prelude.{◌≡◌, ℕ, ◌+◌, ◌*◌, ◌^◌, ◌<◌
 use Rattle.std.specs.Global.{Vec}
 use Rattle.std.specs.BTreeMap.{insert_entry}
 use Rattle.std.specs.declared.cmp.Ordering.{Ordering}
-use Rattle.block_map.specs.declared.blocks.TheConstants.{LEAST}
+use Rattle.block_map.specs.declared.blocks.TheConstants.{MIN_FILL}
 use Rattle.block_map.specs.Blocks.{entries_of, IsBlocks, AreReady}
 
 -- the entries in the order of their keys, and how many more go in without memory
@@ -23,7 +23,7 @@ pub record IsIndex {K V : Type 0} (cmp : K → K → Ordering) (blocks spare : V
   pub fits : vec_len blocks + vec_len spare ≤ vec_capacity blocks
   pub fits_spare : vec_len blocks + vec_len spare ≤ vec_capacity spare
   pub counted : len ≡ length (entries_of blocks.items)
-  pub spared : len + room < (vec_len blocks + vec_len spare) * LEAST
+  pub spared : len + room < (vec_len blocks + vec_len spare) * MIN_FILL
   pub small : len + room < 2 ^ 64
 
 -- one more entry, at its key, in the place of one of the room

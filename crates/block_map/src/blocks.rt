@@ -9,31 +9,31 @@ ghost use Rattle.block_map.specs.Blocks.{entries_of, IsBlockFor, IsBlocks, AreRe
 use crate::search::block_for;
 
 /// The entries of a full block.
-pub const FULL: usize = 1024;
+pub const CAPACITY: usize = 1024;
 
 /// The entries that each block but the first has at least.
-pub const LEAST: usize = FULL / 4;
+pub const MIN_FILL: usize = CAPACITY / 4;
 
 /// The entries that a full block keeps where it is split. Keys that come in order leave blocks behind them that are so full.
-pub const KEPT: usize = FULL - LEAST;
+pub const SPLIT_AT: usize = CAPACITY - MIN_FILL;
 
 pub(crate) type Block<K, V> = Vec<(K, V)>;
 
 /// Moves the last entries of a full block into an empty one.
 fn move_upper<K: Copy, V: Copy>(block: &mut Block<K, V>, upper: &mut Block<K, V>)
-    requires full { vec_len block.old ≡ FULL }
+    requires full { vec_len block.old ≡ CAPACITY }
     requires empty { upper.old.items ≡ [] }
-    requires room { FULL ≤ vec_capacity upper.old }
-    ensures lower { block.new.items ≡ take KEPT block.old.items }
-    ensures upper { upper.new.items ≡ drop KEPT block.old.items }
-    ensures lower_len { vec_len block.new ≡ KEPT }
-    ensures upper_len { vec_len upper.new ≡ LEAST }
+    requires room { CAPACITY ≤ vec_capacity upper.old }
+    ensures lower { block.new.items ≡ take SPLIT_AT block.old.items }
+    ensures upper { upper.new.items ≡ drop SPLIT_AT block.old.items }
+    ensures lower_len { vec_len block.new ≡ SPLIT_AT }
+    ensures upper_len { vec_len upper.new ≡ MIN_FILL }
     ensures same { vec_capacity block.new ≡ vec_capacity block.old }
-    ensures kept { FULL ≤ vec_capacity upper.new }
+    ensures kept { CAPACITY ≤ vec_capacity upper.new }
 {
-    let (_, high) = block.as_slice().split_at(KEPT);
+    let (_, high) = block.as_slice().split_at(SPLIT_AT);
     let _ = upper.extend_from_slice(high);
-    block.truncate(KEPT);
+    block.truncate(SPLIT_AT);
 }
 
 /// Splits a full block, its last entries in a spare block behind it.
@@ -45,7 +45,7 @@ fn split<K: Ord + Copy, V: Copy>(
     requires blocks { IsBlocks K.cmp blocks.old.items }
     requires ready { AreReady spare.old.items }
     requires within { b < length blocks.old.items }
-    requires full { (d : Vec (K × V)) → vec_len (slice_index_or blocks.old.items b d) ≡ FULL }
+    requires full { (d : Vec (K × V)) → vec_len (slice_index_or blocks.old.items b d) ≡ CAPACITY }
     requires spare { 0 < vec_len spare.old }
     requires room { vec_len blocks.old + vec_len spare.old ≤ vec_capacity blocks.old }
     ensures blocks { IsBlocks K.cmp blocks.new.items }
@@ -72,7 +72,7 @@ pub(crate) fn open_block<K: Ord + Copy, V: Copy>(
     requires blocks { IsBlocks K.cmp blocks.old.items }
     requires ready { AreReady spare.old.items }
     requires fits { vec_len blocks.old + vec_len spare.old ≤ vec_capacity blocks.old }
-    requires room { length (entries_of blocks.old.items) < (vec_len blocks.old + vec_len spare.old) * LEAST }
+    requires room { length (entries_of blocks.old.items) < (vec_len blocks.old + vec_len spare.old) * MIN_FILL }
     ensures blocks { IsBlocks K.cmp blocks.new.items }
     ensures same { entries_of blocks.new.items ≡ entries_of blocks.old.items }
     ensures ready { AreReady spare.new.items }
@@ -80,10 +80,10 @@ pub(crate) fn open_block<K: Ord + Copy, V: Copy>(
     ensures fits { vec_len blocks.new + vec_len spare.new ≤ vec_capacity blocks.new }
     ensures spare_capacity { vec_capacity spare.new ≡ vec_capacity spare.old }
     ensures place { IsBlockFor K.cmp key blocks.new.items result }
-    ensures open { (d : Vec (K × V)) → vec_len (slice_index_or blocks.new.items result d) < FULL }
+    ensures open { (d : Vec (K × V)) → vec_len (slice_index_or blocks.new.items result d) < CAPACITY }
 {
     let mut b = block_for(blocks.as_slice(), key);
-    while blocks[b].len() >= FULL {
+    while blocks[b].len() >= CAPACITY {
         split(blocks, spare, b);
         b = block_for(blocks.as_slice(), key);
     }
@@ -101,7 +101,7 @@ pub(crate) fn put<K: Ord + Copy, V: Copy>(
     requires blocks { IsBlocks K.cmp blocks.old.items }
     requires place { IsBlockFor K.cmp key blocks.old.items b }
     requires at { (d : Vec (K × V)) → IsPlaceIn K.cmp key (slice_index_or blocks.old.items b d).items (Err at) }
-    requires open { (d : Vec (K × V)) → vec_len (slice_index_or blocks.old.items b d) < FULL }
+    requires open { (d : Vec (K × V)) → vec_len (slice_index_or blocks.old.items b d) < CAPACITY }
     ensures blocks { IsBlocks K.cmp blocks.new.items }
     ensures entries { entries_of blocks.new.items ≡ insert_entry K.cmp (entries_of blocks.old.items) key value }
     ensures counted { length (entries_of blocks.new.items) ≡ length (entries_of blocks.old.items) + 1 }

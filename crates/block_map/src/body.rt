@@ -8,9 +8,9 @@ ghost use Rattle.block_map.specs.Rising.{IsRising};
 ghost use Rattle.block_map.specs.Blocks.{AreReady};
 ghost use Rattle.block_map.specs.Index.{IsAdded};
 
-use crate::blocks::{Block, FULL, LEAST, open_block, put, set_value};
+use crate::blocks::{Block, CAPACITY, MIN_FILL, open_block, put, set_value};
 use crate::entries::Entries;
-use crate::removal::{refill, take_out};
+use crate::removal::{rebalance, take_out};
 use crate::search::{block_for, place_in};
 use std::alloc::{AllocError, Global};
 use std::marker::Model;
@@ -64,7 +64,7 @@ fn add_spare<K: Copy, V: Copy>(
     blocks.reserve(wanted - blocks.len())?;
     spare.reserve(wanted - spare.len())?;
     for _ in present..wanted {
-        spare.push_reserved(Vec::with_capacity(alloc, FULL)?);
+        spare.push_reserved(Vec::with_capacity(alloc, CAPACITY)?);
     }
     Ok(())
 }
@@ -75,7 +75,7 @@ impl<K: Ord + Copy, V: Copy> Body<K, V> {
         ensures { IfOk result (λ i. i ≡ record { entries = []; room = 0 }) }
     {
         let mut blocks = Vec::with_capacity(alloc, 1)?;
-        blocks.push_reserved(Vec::with_capacity(alloc, FULL)?);
+        blocks.push_reserved(Vec::with_capacity(alloc, CAPACITY)?);
         Ok(Body {
             alloc,
             blocks,
@@ -116,7 +116,7 @@ impl<K: Ord + Copy, V: Copy> Body<K, V> {
             self.alloc,
             &mut self.blocks,
             &mut self.spare,
-            total / LEAST + 1,
+            total / MIN_FILL + 1,
         )?;
         self.room = additional;
         Ok(())
@@ -189,7 +189,7 @@ impl<K: Ord + Copy, V: Copy> Body<K, V> {
             Ok(at) => {
                 let old = block[at].1;
                 take_out(&mut self.blocks, b, at, key);
-                refill(&mut self.blocks, &mut self.spare, b);
+                rebalance(&mut self.blocks, &mut self.spare, b);
                 self.len -= 1;
                 self.room += 1;
                 Some(old)

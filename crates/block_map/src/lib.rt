@@ -5,9 +5,9 @@
 // Callers: the tables (key to place of a row), the late intervals, the partitions and the histogram.
 //
 // An index takes no memory before its first `reserve`; then it has a body.
-// The entries stand in blocks of at most `FULL` entries, each block but the first at least `LEAST`. A full block
-// is split, and its last `LEAST` go into a spare block. The one idea of the proof: where a block is full and each
-// but the first has `LEAST`, `blocks * LEAST <= len`; so `len + room < (blocks + spare) * LEAST` promises every
+// The entries stand in blocks of at most `CAPACITY` entries, each block but the first at least `MIN_FILL`. A full block
+// is split, and its last `MIN_FILL` go into a spare block. The one idea of the proof: where a block is full and each
+// but the first has `MIN_FILL`, `blocks * MIN_FILL <= len`; so `len + room < (blocks + spare) * MIN_FILL` promises every
 // insert the spare block that it may need, and no split has ever to be counted.
 // The searches need two facts alone: a key that is not below an entry is above those before it, and a key below an
 // entry is below those after it (proofs/Rising.antt).

@@ -18,13 +18,13 @@ use Rattle.mdb_model.specs.ParameterRows.{admits, degree, reach}
 use Rattle.calibration.specs.Admitted.{IsAdmitted, IsInWidth, IsPoint, IsRising, IsSigned, IsUnsigned, KeepsRules}
 use Rattle.calibration.specs.Carried.{AreCarried}
 
-and_left : (a b : Bool) → (a && b) ≡ true → a ≡ true
-and_left true b e = refl
-and_left false b e = e
+left_of_and : (a b : Bool) → (a && b) ≡ true → a ≡ true
+left_of_and true b e = refl
+left_of_and false b e = e
 
-and_right : (a b : Bool) → (a && b) ≡ true → b ≡ true
-and_right true b e = e
-and_right false b e = cc
+right_of_and : (a b : Bool) → (a && b) ≡ true → b ≡ true
+right_of_and true b e = e
+right_of_and false b e = cc
 
 unsigned_within : (bits : ℕ) (raw : ℤ) → IsUnsigned bits raw → unsigned_abs raw ≤ 2 ^ bits
 unsigned_within bits raw is = omega (arith, ints)
@@ -50,8 +50,8 @@ carried c raw rows is e =
     record {
       bits = bits;
       within = raw_within is.parameter.coding bits raw is.in_width;
-      low = leb-true (bits * degree rows) 60 (and_left (nat_le (bits * degree rows) 60) (nat_lt (sum_by (reach bits) rows) 9223372036854775808) both);
-      near = ltb-true (sum_by (reach bits) rows) 9223372036854775808 (and_right (nat_le (bits * degree rows) 60) (nat_lt (sum_by (reach bits) rows) 9223372036854775808) both);
+      low = leb-true (bits * degree rows) 60 (left_of_and (nat_le (bits * degree rows) 60) (nat_lt (sum_by (reach bits) rows) 9223372036854775808) both);
+      near = ltb-true (sum_by (reach bits) rows) 9223372036854775808 (right_of_and (nat_le (bits * degree rows) 60) (nat_lt (sum_by (reach bits) rows) 9223372036854775808) both);
     }
 
 -- the points of a calibration that is admitted

@@ -27,13 +27,13 @@ rise p q = plain (wide q.millionths -ℤ wide p.millionths)
 abbrev pub run : ℤ → ℤ → ℤ
 run from to = plain (plain to -ℤ plain from)
 
-and_left : (a b : Bool) → (a && b) ≡ true → a ≡ true
-and_left true b e = refl
-and_left false b e = e
+left_of_and : (a b : Bool) → (a && b) ≡ true → a ≡ true
+left_of_and true b e = refl
+left_of_and false b e = e
 
-and_right : (a b : Bool) → (a && b) ≡ true → b ≡ true
-and_right true b e = e
-and_right false b e = cc
+right_of_and : (a b : Bool) → (a && b) ≡ true → b ≡ true
+right_of_and true b e = e
+right_of_and false b e = cc
 
 not_true : (b : Bool) → not b ≡ true → b ≡ false
 not_true true e = cc
@@ -44,11 +44,11 @@ decimal_bound m is = ltb-true (unsigned_abs m) 1000000000000000000 is
 
 range_bound : (x : ℤ) → is_in_range x ≡ true → unsigned_abs x ≤ 18446744073709551616
 range_bound (pos n) is =
-    let high = not_true (int_lt (pos 18446744073709551615) (pos n)) (and_right (not (int_lt (pos n) (negsuc 9223372036854775807))) (not (int_lt (pos 18446744073709551615) (pos n))) is) in
+    let high = not_true (int_lt (pos 18446744073709551615) (pos n)) (right_of_and (not (int_lt (pos n) (negsuc 9223372036854775807))) (not (int_lt (pos 18446744073709551615) (pos n))) is) in
     let le = ltb-false 18446744073709551615 n high in
     omega arith
 range_bound (negsuc n) is =
-    let low = not_true (int_lt (negsuc n) (negsuc 9223372036854775807)) (and_left (not (int_lt (negsuc n) (negsuc 9223372036854775807))) (not (int_lt (pos 18446744073709551615) (negsuc n))) is) in
+    let low = not_true (int_lt (negsuc n) (negsuc 9223372036854775807)) (left_of_and (not (int_lt (negsuc n) (negsuc 9223372036854775807))) (not (int_lt (pos 18446744073709551615) (negsuc n))) is) in
     let le = ltb-false 9223372036854775807 n low in
     omega arith
 

@@ -14,8 +14,8 @@ use Rattle.mdb_model.specs.declared.fault.MdbLimit.{MdbLimit}
 use Rattle.mdb_model.specs.declared.fault.MdbLimit.TheVariants as limit
 use Rattle.mdb_model.specs.declared.fault.MdbSheet.TheVariants as sheet
 use Rattle.mdb_model.specs.declared.parameter.Parameter.{Parameter}
-use Rattle.mdb_model.specs.declared.rows.Cells.{Cells}
-use Rattle.mdb_model.specs.declared.rows.Cells.TheVariants.{Unread, Coefficient, Point, Label}
+use Rattle.mdb_model.specs.declared.rows.RowValues.{RowValues}
+use Rattle.mdb_model.specs.declared.rows.RowValues.TheVariants.{Unread, Coefficient, Point, Label}
 use Rattle.mdb_model.specs.declared.rows.ParameterRow.{ParameterRow}
 use Rattle.mdb_model.specs.CalibrationRows.{CalibrationRow, calibration_checks, calibration_fault, calibration_fault_at, calibrations_of, continued, empty_table, has_x, has_y, repeats, table_named, with_calibration_row, with_name, with_new_row, with_row}
 use Rattle.mdb_model.specs.Checks.{Checks, first_at, first_broken, or_else}
@@ -122,7 +122,7 @@ HasPoints (Poly rows) = Unit {0}
 HasPoints (Points points) = AllByRecursion IsPoint points × IsRising points
 HasPoints (Enum rows) = Unit {0}
 
-with_points : (t : Table) (cells : Cells) → HasPoints t → has_x cells ≡ true → has_y cells ≡ true → repeats (Some t) cells ≡ false → HasPoints (with_row t cells)
+with_points : (t : Table) (row_values : RowValues) → HasPoints t → has_x row_values ≡ true → has_y row_values ≡ true → repeats (Some t) row_values ≡ false → HasPoints (with_row t row_values)
 with_points (Poly rows) Unread h x y r = tt
 with_points (Poly rows) (Coefficient None m) h x y r = tt
 with_points (Poly rows) (Coefficient (Some e) None) h x y r = tt
@@ -143,7 +143,7 @@ with_points (Enum rows) (Point n m) h x y r = tt
 with_points (Enum rows) (Label None l) h x y r = tt
 with_points (Enum rows) (Label (Some n) l) h x y r = tt
 
-first_points : (cells : Cells) → has_x cells ≡ true → has_y cells ≡ true → HasPoints (with_row (empty_table cells) cells)
+first_points : (row_values : RowValues) → has_x row_values ≡ true → has_y row_values ≡ true → HasPoints (with_row (empty_table row_values) row_values)
 first_points Unread x y = tt
 first_points (Coefficient None m) x y = tt
 first_points (Coefficient (Some e) None) x y = tt
@@ -183,25 +183,25 @@ some_table : (b : Bool) (x y : Table) → (if b then Some x else None) ≡ Some 
 some_table true x y e = cc
 some_table false x y e = cc
 
-new_calibration : (above : List Calibration) (row : CalibrationRow) → AllByRecursion Keeps above → continued above row.name ≡ None → has_x row.cells ≡ true → has_y row.cells ≡ true → AllByRecursion Keeps (with_calibration_row above row)
+new_calibration : (above : List Calibration) (row : CalibrationRow) → AllByRecursion Keeps above → continued above row.name ≡ None → has_x row.row_values ≡ true → has_y row.row_values ≡ true → AllByRecursion Keeps (with_calibration_row above row)
 new_calibration above row all fresh x y =
-    let c : Calibration = record { name = row.name; table = empty_table row.cells } in
-    let begun : with_name above row.name row.cells ≡ above ++ c ∷ [] = rw fresh refl in
-    let grown : with_calibration_row above row ≡ above ++ with_new_row row.cells c ∷ [] = ap (at_last (with_new_row row.cells)) begun ∙ at_last-push (with_new_row row.cells) above c in
-    subst (AllByRecursion Keeps) (sym grown) (all_push Keeps above (with_new_row row.cells c) all (first_points row.cells x y))
+    let c : Calibration = record { name = row.name; table = empty_table row.row_values } in
+    let begun : with_name above row.name row.row_values ≡ above ++ c ∷ [] = rw fresh refl in
+    let grown : with_calibration_row above row ≡ above ++ with_new_row row.row_values c ∷ [] = ap (at_last (with_new_row row.row_values)) begun ∙ at_last-push (with_new_row row.row_values) above c in
+    subst (AllByRecursion Keeps) (sym grown) (all_push Keeps above (with_new_row row.row_values c) all (first_points row.row_values x y))
 
-same_calibration : (front : List Calibration) (c : Calibration) (row : CalibrationRow) (t : Table) → AllByRecursion Keeps (front ++ c ∷ []) → continued (front ++ c ∷ []) row.name ≡ Some t → has_x row.cells ≡ true → has_y row.cells ≡ true
-    → repeats (Some t) row.cells ≡ false → AllByRecursion Keeps (with_calibration_row (front ++ c ∷ []) row)
+same_calibration : (front : List Calibration) (c : Calibration) (row : CalibrationRow) (t : Table) → AllByRecursion Keeps (front ++ c ∷ []) → continued (front ++ c ∷ []) row.name ≡ Some t → has_x row.row_values ≡ true → has_y row.row_values ≡ true
+    → repeats (Some t) row.row_values ≡ false → AllByRecursion Keeps (with_calibration_row (front ++ c ∷ []) row)
 same_calibration front c row t all is x y r =
     let last : table_named row.name (Some c) ≡ Some t = ap (table_named row.name) (sym (last_of-push front c)) ∙ is in
     let same : c.table ≡ t = some_table (bytes_eq c.name row.name) c.table t last in
     let parts = all_front Keeps front c all in
-    let rises : repeats (Some c.table) row.cells ≡ false = ap (λ (u : Table). repeats (Some u) row.cells) same ∙ r in
-    let begun : with_name (front ++ c ∷ []) row.name row.cells ≡ front ++ c ∷ [] = rw is refl in
-    let grown : with_calibration_row (front ++ c ∷ []) row ≡ front ++ with_new_row row.cells c ∷ [] = ap (at_last (with_new_row row.cells)) begun ∙ at_last-push (with_new_row row.cells) front c in
-    subst (AllByRecursion Keeps) (sym grown) (all_push Keeps front (with_new_row row.cells c) parts.0 (with_points c.table row.cells parts.1 x y rises))
+    let rises : repeats (Some c.table) row.row_values ≡ false = ap (λ (u : Table). repeats (Some u) row.row_values) same ∙ r in
+    let begun : with_name (front ++ c ∷ []) row.name row.row_values ≡ front ++ c ∷ [] = rw is refl in
+    let grown : with_calibration_row (front ++ c ∷ []) row ≡ front ++ with_new_row row.row_values c ∷ [] = ap (at_last (with_new_row row.row_values)) begun ∙ at_last-push (with_new_row row.row_values) front c in
+    subst (AllByRecursion Keeps) (sym grown) (all_push Keeps front (with_new_row row.row_values c) parts.0 (with_points c.table row.row_values parts.1 x y rises))
 
-one_row : (above : List Calibration) (row : CalibrationRow) (o : Option Table) → AllByRecursion Keeps above → continued above row.name ≡ o → has_x row.cells ≡ true → has_y row.cells ≡ true → repeats o row.cells ≡ false
+one_row : (above : List Calibration) (row : CalibrationRow) (o : Option Table) → AllByRecursion Keeps above → continued above row.name ≡ o → has_x row.row_values ≡ true → has_y row.row_values ≡ true → repeats o row.row_values ≡ false
     → AllByRecursion Keeps (with_calibration_row above row)
 one_row above row None all is x y r = new_calibration above row all is x y
 one_row [] row (Some t) all is x y r = cc
@@ -214,7 +214,7 @@ sound_calibration : (above : List Calibration) (row : CalibrationRow) (o next : 
 sound_calibration above row o next is sound all =
     let none : first_broken (calibration_checks above row (option_map (λ (r : CalibrationRow). r.name) next)) ≡ None = rw is at sound in
     let p = all_pass (calibration_checks above row (option_map (λ (r : CalibrationRow). r.name) next)) none in
-    one_row above row (continued above row.name) all refl (is_true (has_x row.cells) p.1.1.1.1.1.0) (is_true (has_y row.cells) p.1.1.1.1.1.1.1.0) p.1.1.1.1.1.1.0
+    one_row above row (continued above row.name) all refl (is_true (has_x row.row_values) p.1.1.1.1.1.0) (is_true (has_y row.row_values) p.1.1.1.1.1.1.1.0) p.1.1.1.1.1.1.0
 
 pub take-next : {X : Type 0} (xs : List X) (i : ℕ) → i < length xs → (x : X) × (slice_get xs i ≡ Some x) × (take (suc i) xs ≡ take i xs ++ x ∷ [])
 take-next [] i lt = absurd (omega arith)

@@ -7,7 +7,7 @@ use Rattle.std.proofs.lemmas.List.Sums.{passes_at_first}
 use Rattle.std.proofs.lemmas.Option.{same_Some}
 use Rattle.mdb_model.specs.declared.container.Entry.{Entry}
 use Rattle.mdb_model.specs.Database.{Database, IsDatabase}
-use Rattle.container_extract.specs.Chain.{GoesOn, IsChain, chain_from, chain_of, entries_at, first_child, if_some, is_number, is_taken, next_of}
+use Rattle.container_extract.specs.Chain.{IsChainFrom, IsChain, chain_from, chain_of, entries_at, first_child, if_some, is_number, is_taken, next_of}
 use Rattle.container_extract.specs.Laws.{ChainIsOne}
 use Rattle.container_extract.specs.Values.{fits, holds, value_of}
 use Rattle.container_extract.proofs.Rules.{has_root, sound_container}
@@ -20,9 +20,9 @@ if_some_is : (b : Bool) (o : Option ℕ) (m : ℕ) → (if b then o else None) �
 if_some_is true o m e = (refl, e)
 if_some_is false o m e = cc
 
-and_left : (a b : Bool) → (a && b) ≡ true → a ≡ true
-and_left true b e = refl
-and_left false b e = e
+left_of_and : (a b : Bool) → (a && b) ≡ true → a ≡ true
+left_of_and true b e = refl
+left_of_and false b e = e
 
 pub item : {X : Type 0} (xs : List X) (i : ℕ) → i < length xs → (x : X) × (slice_get xs i ≡ Some x) × (get_or xs i x ≡ x)
 item [] i lt = absurd (omega arith)
@@ -50,12 +50,12 @@ next_below db packet entries n m is e =
     let values = map (value_of db packet) entries in
     let both = if_some_is (list_all (fits db packet) (entries_at db n)) (first_child db.containers n values) m e in
     let child = found (is_taken n values) db.containers m both.1 in
-    let parent = is_the_parent n child.0.parent (and_left (is_number n child.0.parent) (holds values child.0.condition) child.3) in
+    let parent = is_the_parent n child.0.parent (left_of_and (is_number n child.0.parent) (holds values child.0.condition) child.3) in
     ((sound_container db m child.0 is child.1).parent n parent, child.2)
 
 -- a container, what comes after it, and so on
 after : (db : Database) (packet : List ℕ) (most : ℕ) (above : List Entry) (n : ℕ) (o : Option ℕ) → IsDatabase db → n < length db.containers → length db.containers ≤ n + suc most
-    → next_of db packet (above ++ entries_at db n) n ≡ o → GoesOn db packet above (n ∷ if_some (chain_from db packet most (above ++ entries_at db n)) o)
+    → next_of db packet (above ++ entries_at db n) n ≡ o → IsChainFrom db packet above (n ∷ if_some (chain_from db packet most (above ++ entries_at db n)) o)
 after db packet most above n None is known enough e = e
 after db packet zero above n (Some m) is known enough e =
     let next = next_below db packet (above ++ entries_at db n) n m is e in absurd (omega arith)
@@ -69,13 +69,13 @@ chain_from_root db packet zero is e = let root = has_root db is in absurd (omega
 chain_from_root db packet (suc most) is e = (refl, after db packet most [] 0 (next_of db packet (entries_at db 0) 0) is (has_root db is) (omega arith) refl)
 
 -- below the same entries the same containers follow
-one_below : (db : Database) (packet : List ℕ) (above : List Entry) (n : ℕ) (xs ys : List ℕ) → GoesOn db packet above (n ∷ xs) → GoesOn db packet above (n ∷ ys) → xs ≡ ys
+one_below : (db : Database) (packet : List ℕ) (above : List Entry) (n : ℕ) (xs ys : List ℕ) → IsChainFrom db packet above (n ∷ xs) → IsChainFrom db packet above (n ∷ ys) → xs ≡ ys
 one_below db packet above n [] [] a b = refl
 one_below db packet above n [] (k ∷ ys) a b = let e = b.0 in cc
 one_below db packet above n (m ∷ xs) [] a b = let e = a.0 in cc
 one_below db packet above n (m ∷ xs) (k ∷ ys) a b =
     let same : m ≡ k = same_Some m k (sym a.0 ∙ b.0) in
-    let P : ℕ → Type 0 = λ j. GoesOn db packet (above ++ entries_at db n) (j ∷ ys) in
+    let P : ℕ → Type 0 = λ j. IsChainFrom db packet (above ++ entries_at db n) (j ∷ ys) in
     let rest = one_below db packet (above ++ entries_at db n) m xs ys a.1 (subst P (sym same) b.1) in
     cc
 
@@ -84,7 +84,7 @@ one_chain db packet [] ys a b = elim a [ ]
 one_chain db packet (n ∷ xs) [] a b = elim b [ ]
 one_chain db packet (n ∷ xs) (m ∷ ys) a b =
     let same : n ≡ m = a.0 ∙ sym b.0 in
-    let P : ℕ → Type 0 = λ k. GoesOn db packet [] (k ∷ ys) in
+    let P : ℕ → Type 0 = λ k. IsChainFrom db packet [] (k ∷ ys) in
     let rest = one_below db packet [] n xs ys a.1 (subst P (sym same) b.1) in
     cc
 

@@ -74,13 +74,13 @@ field_within a m z at w s o small bits is =
     let front : number_of a * 256 ^ length m ≡ number_of a * 2 ^ (o + (w + s)) = ap (λ (x : ℕ). number_of a * x) (octets_are_bits (length m) ∙ ap (λ (x : ℕ). 2 ^ x) bits) in
     ap (λ (k : ℕ). n / 2 ^ k % 2 ^ w) shift ∙ ap (λ (x : ℕ). x % 2 ^ w) (twice ∙ ap (λ (x : ℕ). x / 2 ^ s) (cut ∙ ap (λ (x : ℕ). x + number_of m) front)) ∙ front_cleared (number_of a) (number_of m) s w o
 
--- one octet more is turned
-pub turned_more : (left turned rest : ℕ) → turned * 256 ^ suc left + reversed (suc left) rest ≡ (turned * 256 + rest % 256) * 256 ^ left + reversed left (rest / 256)
-turned_more left turned rest =
+-- one octet more is swapped
+pub swapped_more : (left swapped rest : ℕ) → swapped * 256 ^ suc left + reversed (suc left) rest ≡ (swapped * 256 + rest % 256) * 256 ^ left + reversed left (rest / 256)
+swapped_more left swapped rest =
     let p = 256 ^ left in
     let up : 256 ^ suc left ≡ p * 256 = pow-suc 256 left in
-    let same : turned * 256 ^ suc left ≡ turned * 256 * p = ap (λ (x : ℕ). turned * x) (up ∙ mul_comm p 256) ∙ sym (mul_assoc turned 256 p) in
-    let split = add-mul (turned * 256) (rest % 256) p in
+    let same : swapped * 256 ^ suc left ≡ swapped * 256 * p = ap (λ (x : ℕ). swapped * x) (up ∙ mul_comm p 256) ∙ sym (mul_assoc swapped 256 p) in
+    let split = add-mul (swapped * 256) (rest % 256) p in
     omega arith
 
 pub reversed_below : (octets number : ℕ) → reversed octets number < 256 ^ octets
@@ -135,22 +135,22 @@ field_is packet at w number small narrow inside is =
     let mask : 1 * 2 ^ w % 340282366920938463463374607431768211456 ≡ 2 ^ w = one_shl w 128 (omega arith) in
     ap (λ (x : ℕ). bit_and (number / 2 ^ s) (x - 1)) mask ∙ and_mask (number / 2 ^ s) w ∙ ap (λ (x : ℕ). x / 2 ^ s % 2 ^ w) is ∙ sym there ∙ ap (λ (xs : List ℕ). field_at xs at w) parts
 
--- one octet more of a number that is turned
-pub turned_below : (turned rest i : ℕ) → turned < 256 ^ i → turned * 256 + rest % 256 < 256 ^ (i + 1)
-turned_below turned rest i less =
+-- one octet more of a number that is swapped
+pub swapped_below : (swapped rest i : ℕ) → swapped < 256 ^ i → swapped * 256 + rest % 256 < 256 ^ (i + 1)
+swapped_below swapped rest i less =
     let low : rest % 256 < 256 = mod_below rest 256 (omega arith) in
     let at : suc i ≡ i + 1 = omega arith in
-    subst (λ (k : ℕ). turned * 256 + rest % 256 < 256 ^ k) at (next_below turned (rest % 256) i less low)
+    subst (λ (k : ℕ). swapped * 256 + rest % 256 < 256 ^ k) at (next_below swapped (rest % 256) i less low)
 
-pub turned_step : (octets number turned rest i : ℕ) → i < octets → reversed octets number ≡ turned * 256 ^ (octets - i) + reversed (octets - i) rest
-    → reversed octets number ≡ (turned * 256 + rest % 256) * 256 ^ (octets - (i + 1)) + reversed (octets - (i + 1)) (rest / 256)
-turned_step octets number turned rest i lt e =
+pub swapped_step : (octets number swapped rest i : ℕ) → i < octets → reversed octets number ≡ swapped * 256 ^ (octets - i) + reversed (octets - i) rest
+    → reversed octets number ≡ (swapped * 256 + rest % 256) * 256 ^ (octets - (i + 1)) + reversed (octets - (i + 1)) (rest / 256)
+swapped_step octets number swapped rest i lt e =
     let left = octets - (i + 1) in
     let at : octets - i ≡ suc left = omega arith in
-    e ∙ ap (λ (k : ℕ). turned * 256 ^ k + reversed k rest) at ∙ turned_more left turned rest
+    e ∙ ap (λ (k : ℕ). swapped * 256 ^ k + reversed k rest) at ∙ swapped_more left swapped rest
 
-pub turned_whole : (octets number turned rest i : ℕ) → octets ≤ i → reversed octets number ≡ turned * 256 ^ (octets - i) + reversed (octets - i) rest → turned ≡ reversed octets number
-turned_whole octets number turned rest i ge e =
+pub swapped_whole : (octets number swapped rest i : ℕ) → octets ≤ i → reversed octets number ≡ swapped * 256 ^ (octets - i) + reversed (octets - i) rest → swapped ≡ reversed octets number
+swapped_whole octets number swapped rest i ge e =
     let at : octets - i ≡ 0 = omega arith in
-    let none : turned * 256 ^ 0 + reversed 0 rest ≡ turned = omega arith in
-    sym (e ∙ ap (λ (k : ℕ). turned * 256 ^ k + reversed k rest) at ∙ none)
+    let none : swapped * 256 ^ 0 + reversed 0 rest ≡ swapped = omega arith in
+    sym (e ∙ ap (λ (k : ℕ). swapped * 256 ^ k + reversed k rest) at ∙ none)

@@ -8,15 +8,15 @@ use Rattle.mdb_model.specs.declared.container.Container.{Container}
 use Rattle.mdb_model.specs.declared.container.Entry.{Entry}
 use Rattle.mdb_model.specs.declared.fault.MdbSheet.TheVariants as sheet
 use Rattle.mdb_model.specs.declared.parameter.Parameter.{Parameter}
-use Rattle.mdb_model.specs.declared.rows.Head.{Head}
-use Rattle.mdb_model.specs.declared.rows.Head.TheVariants.{Begins, Continues}
+use Rattle.mdb_model.specs.declared.rows.ContainerColumns.{ContainerColumns}
+use Rattle.mdb_model.specs.declared.rows.ContainerColumns.TheVariants.{Begins, Continues}
 use Rattle.mdb_model.specs.declared.rows.Position.{Position}
 use Rattle.mdb_model.specs.declared.rows.Position.TheVariants as place
 use Rattle.mdb_model.specs.declared.rows.Position.TheVariants.{At}
 use Rattle.mdb_model.specs.declared.rows.Reference.{Reference}
 use Rattle.mdb_model.specs.declared.rows.Reference.TheVariants.{Nothing, Unknown, Known}
 use Rattle.mdb_model.specs.Checks.{first_at, first_broken}
-use Rattle.mdb_model.specs.ContainerRows.{ContainerRow, begun_checks, container_fault, container_fault_at, containers_of, entry_checks, head_checks, is_continuing, is_parent, last_line, line_up, row_fault, rows_of_container, with_container_row, with_entry, with_head, with_new_entry}
+use Rattle.mdb_model.specs.ContainerRows.{ContainerRow, new_container_checks, container_fault, container_fault_at, containers_of, entry_checks, columns_checks, is_continuing, is_parent, last_path, path_up, row_fault, rows_of_container, with_container_row, with_entry, with_columns, with_new_entry}
 use Rattle.mdb_model.specs.Database.{Database, IsDatabase, broken_below, containers_fault, rows_of}
 use Rattle.mdb_model.specs.Lists.{at_last}
 use Rattle.mdb_model.specs.ParameterRows.{is_reference, number_of}
@@ -64,10 +64,10 @@ parent_before above Nothing p is e = cc
 parent_before above Unknown p is e = cc
 parent_before above (Known n) p is e = let same : n ≡ p = cc in let less = ltb-true n above is in omega arith
 
-with_sound_head : (ps : List Parameter) (above : List Container) (fields : ℕ) (head : Head) → first_broken ((2, not (fields == 6)) ∷ head_checks above head) ≡ None → AreSound ps 0 above → AreSound ps 0 (with_head above head)
+with_sound_head : (ps : List Parameter) (above : List Container) (fields : ℕ) (columns : ContainerColumns) → first_broken ((2, not (fields == 6)) ∷ columns_checks above columns) ≡ None → AreSound ps 0 above → AreSound ps 0 (with_columns above columns)
 with_sound_head ps above fields (Continues says) none all = all
 with_sound_head ps above fields (Begins b) none all =
-    let p = all_pass ((2, not (fields == 6)) ∷ begun_checks above (line_up above b) b) none in
+    let p = all_pass ((2, not (fields == 6)) ∷ new_container_checks above (path_up above b) b) none in
     let known : is_parent (length above) b.parent ≡ true = is_true (is_parent (length above) b.parent) p.1.1.1.1.0 in
     let c : Container = record { name = b.name; parent = number_of b.parent; archive = unwrap_or b.archive false; condition = unwrap_or b.condition []; entries = [] } in
     let before : (n : ℕ) → c.parent ≡ Some n → n < 0 + length above = λ n e. let less = parent_before (length above) b.parent n known e in omega arith in
@@ -84,10 +84,10 @@ with_sound_entry ps cs (Known n) (At at) known all = sound_last ps 0 cs (record 
 with_sound_row : (ps : List Parameter) (above : List Container) (row : ContainerRow) (o : Option ContainerRow) → o ≡ Some row → container_fault ps above o ≡ None → AreSound ps 0 above → AreSound ps 0 (with_container_row above row)
 with_sound_row ps above row o is sound all =
     let none : row_fault ps above row ≡ None = rw is at sound in
-    let checks = entry_checks ps (last_line (with_head above row.head)) (is_continuing row.head) row.entry row.position in
-    let both = or_else-none (first_broken ((2, not (row.fields == 6)) ∷ head_checks above row.head)) (first_broken checks) none in
+    let checks = entry_checks ps (last_path (with_columns above row.columns)) (is_continuing row.columns) row.entry row.position in
+    let both = or_else-none (first_broken ((2, not (row.fields == 6)) ∷ columns_checks above row.columns)) (first_broken checks) none in
     let p = all_pass checks both.1 in
-    with_sound_entry ps (with_head above row.head) row.entry row.position (is_true (is_reference (length ps) row.entry) p.0) (with_sound_head ps above row.fields row.head both.0 all)
+    with_sound_entry ps (with_columns above row.columns) row.entry row.position (is_true (is_reference (length ps) row.entry) p.0) (with_sound_head ps above row.fields row.columns both.0 all)
 
 upto : (ps : List Parameter) (rows : List ContainerRow) → ((j : ℕ) → j < length rows → container_fault_at ps rows j ≡ None) → (i : ℕ) → i ≤ length rows → AreSound ps 0 (containers_of (take i rows))
 unfolding container_fault_at

@@ -13,7 +13,7 @@ use Rattle.mdb_model.specs.declared.container.Container.{Container}
 use Rattle.mdb_model.specs.declared.container.Entry.{Entry}
 use Rattle.mdb_model.specs.declared.parameter.Parameter.{Parameter}
 use Rattle.mdb_model.specs.Database.{Database, IsDatabase}
-use Rattle.mdb_model.specs.Lines.{bits_of_parameter}
+use Rattle.mdb_model.specs.Paths.{bits_of_parameter}
 use Rattle.calibration.specs.Admitted.{IsAdmitted, IsInWidth}
 use Rattle.calibration.specs.Calibrated.{calibrated, calibration_at}
 use Rattle.calibration.proofs.Rules.{admitted, sound_parameter_at}
@@ -63,21 +63,21 @@ value_is db packet e p z raw cs o eng at plain raw_is same o_is eng_is =
 
 -- ---- entries one after the other
 
-and_left : (a b : Bool) → (a && b) ≡ true → a ≡ true
-and_left true b e = refl
-and_left false b e = e
+left_of_and : (a b : Bool) → (a && b) ≡ true → a ≡ true
+left_of_and true b e = refl
+left_of_and false b e = e
 
-and_right : (a b : Bool) → (a && b) ≡ true → b ≡ true
-and_right true b e = e
-and_right false b e = cc
+right_of_and : (a b : Bool) → (a && b) ≡ true → b ≡ true
+right_of_and true b e = e
+right_of_and false b e = cc
 
 -- what is taken ends before the first that doesn't pass
 pub cut_here : {X : Type 0} (p : X → Bool) (xs : List X) (i : ℕ) (d : X) → i < length xs → list_all p (take i xs) ≡ true → p (get_or xs i d) ≡ false → take_while p xs ≡ take i xs
 cut_here p [] i d lt all isnt = absurd (omega arith)
 cut_here p (x ∷ xs) zero d lt all isnt = take_while-cons p x xs ∙ ap (λ b. cond b (x ∷ take_while p xs) []) isnt
 cut_here p (x ∷ xs) (suc i) d lt all isnt =
-    let here = and_left (p x) (list_all p (take i xs)) all in
-    let rest = cut_here p xs i d (omega arith) (and_right (p x) (list_all p (take i xs)) all) isnt in
+    let here = left_of_and (p x) (list_all p (take i xs)) all in
+    let rest = cut_here p xs i d (omega arith) (right_of_and (p x) (list_all p (take i xs)) all) isnt in
     take_while-cons p x xs ∙ ap (λ b. cond b (x ∷ take_while p xs) []) here ∙ ap (λ zs. x ∷ zs) rest
 
 -- the entries of a container are of parameters of the database

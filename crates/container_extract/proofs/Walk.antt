@@ -11,7 +11,7 @@ use Rattle.mdb_model.specs.declared.container.Container.{Container}
 use Rattle.mdb_model.specs.declared.container.Entry.{Entry}
 use Rattle.mdb_model.specs.Database.{Database, IsDatabase, entry_count}
 use Rattle.container_extract.specs.declared.values.ParameterValue.{ParameterValue}
-use Rattle.container_extract.specs.Chain.{GoesOn, IsChain, entries_at, entries_of, first_child, next_of}
+use Rattle.container_extract.specs.Chain.{IsChainFrom, IsChain, entries_at, entries_of, first_child, next_of}
 use Rattle.container_extract.specs.Extraction.{values_along}
 use Rattle.container_extract.specs.Step.{IsStep}
 use Rattle.container_extract.specs.Values.{fits, value_of}
@@ -36,7 +36,7 @@ entries_more db chain n = flat_map-append (entries_at db) chain (n ∷ []) ∙ a
 
 -- whatever goes on from a container makes a chain with the ones above it, whose entries are all taken
 pub record IsWalk (db : Database) (packet : List ℕ) (chain : List ℕ) (values : List ParameterValue) (n : ℕ) : Type 0 where
-  pub goes : (rest : List ℕ) → GoesOn db packet (flat_map (entries_at db) chain) (n ∷ rest) → IsChain db packet (chain ++ n ∷ rest)
+  pub goes : (rest : List ℕ) → IsChainFrom db packet (flat_map (entries_at db) chain) (n ∷ rest) → IsChain db packet (chain ++ n ∷ rest)
   pub fit : list_all (fits db packet) (flat_map (entries_at db) chain) ≡ true
   pub taken : values ≡ map (value_of db packet) (flat_map (entries_at db) chain)
   pub known : n < length db.containers
@@ -119,8 +119,8 @@ walk_goes_on db packet chain values more n m is w s =
     let next : next_of db packet (above ++ entries_at db n) n ≡ Some m = sym (step_is_next db packet chain values more n (Some m) w s) in
     let below = next_below db packet (above ++ entries_at db n) n m is next in
     let es = entries_more db chain n in
-    let goes : (rest : List ℕ) → GoesOn db packet (flat_map (entries_at db) (chain ++ n ∷ [])) (m ∷ rest) → IsChain db packet ((chain ++ n ∷ []) ++ m ∷ rest) =
-    λ rest h. subst (IsChain db packet) (sym (append_assoc chain (n ∷ []) (m ∷ rest))) (w.goes (m ∷ rest) (next, subst (λ (xs : List Entry). GoesOn db packet xs (m ∷ rest)) es h)) in (
+    let goes : (rest : List ℕ) → IsChainFrom db packet (flat_map (entries_at db) (chain ++ n ∷ [])) (m ∷ rest) → IsChain db packet ((chain ++ n ∷ []) ++ m ∷ rest) =
+    λ rest h. subst (IsChain db packet) (sym (append_assoc chain (n ∷ []) (m ∷ rest))) (w.goes (m ∷ rest) (next, subst (λ (xs : List Entry). IsChainFrom db packet xs (m ∷ rest)) es h)) in (
       record {
         goes = goes;
         fit = ap (list_all (fits db packet)) es ∙ list_all-append (fits db packet) above (entries_at db n) ∙ ap (λ b. b && list_all (fits db packet) (entries_at db n)) w.fit ∙ all;

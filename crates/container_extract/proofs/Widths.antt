@@ -11,23 +11,23 @@ use Rattle.calibration.specs.Admitted.{IsInWidth, IsSigned, IsUnsigned}
 use Rattle.container_extract.specs.Bits.{coded_as, reversed, twos_complement}
 use Rattle.container_extract.proofs.Numbers.{octets_are_bits, reversed_below}
 
-and_left : (a b : Bool) → (a && b) ≡ true → a ≡ true
-and_left true b e = refl
-and_left false b e = e
+left_of_and : (a b : Bool) → (a && b) ≡ true → a ≡ true
+left_of_and true b e = refl
+left_of_and false b e = e
 
-and_right : (a b : Bool) → (a && b) ≡ true → b ≡ true
-and_right true b e = e
-and_right false b e = cc
+right_of_and : (a b : Bool) → (a && b) ≡ true → b ≡ true
+right_of_and true b e = e
+right_of_and false b e = cc
 
 -- the bounds of a width
 pub width_bounds : (coding : Coding) (width : ℕ) → fits_coding (Some coding) (Some width) ≡ true → (1 ≤ width) × (width ≤ 64)
 width_bounds coding width is =
-    let both = and_left (nat_le 1 width && nat_le width 64) (not (is_le coding) || (width % 8 == 0)) is in
-    (leb-true 1 width (and_left (nat_le 1 width) (nat_le width 64) both), leb-true width 64 (and_right (nat_le 1 width) (nat_le width 64) both))
+    let both = left_of_and (nat_le 1 width && nat_le width 64) (not (is_le coding) || (width % 8 == 0)) is in
+    (leb-true 1 width (left_of_and (nat_le 1 width) (nat_le width 64) both), leb-true width 64 (right_of_and (nat_le 1 width) (nat_le width 64) both))
 
 whole_octets : (coding : Coding) (width : ℕ) → is_le coding ≡ true → fits_coding (Some coding) (Some width) ≡ true → 8 * (width / 8) ≡ width
 whole_octets coding width le is =
-    let last : (not (is_le coding) || (width % 8 == 0)) ≡ true = and_right (nat_le 1 width && nat_le width 64) (not (is_le coding) || (width % 8 == 0)) is in
+    let last : (not (is_le coding) || (width % 8 == 0)) ≡ true = right_of_and (nat_le 1 width && nat_le width 64) (not (is_le coding) || (width % 8 == 0)) is in
     let even : (width % 8 == 0) ≡ true = ap (λ b. not b || (width % 8 == 0)) (sym le) ∙ last in
     let none = eqb-true (width % 8) 0 even in
     omega arith
@@ -61,8 +61,8 @@ signed width number some less =
           subst P (sym (if_is b false (pos number) whole isnt)) (omega (arith, ints), omega (arith, ints))
     ]
 
-turned : (coding : Coding) (width field : ℕ) → is_le coding ≡ true → fits_coding (Some coding) (Some width) ≡ true → reversed (width / 8) field < 2 ^ width
-turned coding width field le is =
+swapped : (coding : Coding) (width field : ℕ) → is_le coding ≡ true → fits_coding (Some coding) (Some width) ≡ true → reversed (width / 8) field < 2 ^ width
+swapped coding width field le is =
     let bits : 256 ^ (width / 8) ≡ 2 ^ width = octets_are_bits (width / 8) ∙ ap (λ (k : ℕ). 2 ^ k) (whole_octets coding width le is) in
     let below = reversed_below (width / 8) field in
     omega arith
@@ -70,5 +70,5 @@ turned coding width field le is =
 pub in_width : (coding : Coding) (width field : ℕ) → fits_coding (Some coding) (Some width) ≡ true → field < 2 ^ width → IsInWidth coding width (coded_as coding width field)
 in_width Uint width field is less = unsigned width field less
 in_width Int width field is less = let b = width_bounds Int width is in signed width field b.0 less
-in_width UintLe width field is less = unsigned width (reversed (width / 8) field) (turned UintLe width field refl is)
-in_width IntLe width field is less = let b = width_bounds IntLe width is in signed width (reversed (width / 8) field) b.0 (turned IntLe width field refl is)
+in_width UintLe width field is less = unsigned width (reversed (width / 8) field) (swapped UintLe width field refl is)
+in_width IntLe width field is less = let b = width_bounds IntLe width is in signed width (reversed (width / 8) field) b.0 (swapped IntLe width field refl is)

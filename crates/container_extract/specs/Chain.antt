@@ -36,15 +36,15 @@ abbrev pub next_of : Database → List ℕ → List Entry → ℕ → Option ℕ
 next_of db packet entries n = if list_all (fits db packet) (entries_at db n) then first_child db.containers n (map (value_of db packet) entries) else None
 
 -- containers each of which comes after the one before it, below entries further up, and after the last of which nothing comes
-abbrev pub GoesOn : Database → List ℕ → List Entry → List ℕ → Type 0
-GoesOn db packet above [] = ⊥
-GoesOn db packet above (n ∷ []) = next_of db packet (above ++ entries_at db n) n ≡ None
-GoesOn db packet above (n ∷ m ∷ chain) = (next_of db packet (above ++ entries_at db n) n ≡ Some m) × GoesOn db packet (above ++ entries_at db n) (m ∷ chain)
+abbrev pub IsChainFrom : Database → List ℕ → List Entry → List ℕ → Type 0
+IsChainFrom db packet above [] = ⊥
+IsChainFrom db packet above (n ∷ []) = next_of db packet (above ++ entries_at db n) n ≡ None
+IsChainFrom db packet above (n ∷ m ∷ chain) = (next_of db packet (above ++ entries_at db n) n ≡ Some m) × IsChainFrom db packet (above ++ entries_at db n) (m ∷ chain)
 
 -- the chain of a packet starts at the root, which is the first container of the sheet
 abbrev pub IsChain : Database → List ℕ → List ℕ → Type 0
 IsChain db packet [] = ⊥
-IsChain db packet (n ∷ chain) = (n ≡ 0) × GoesOn db packet [] (n ∷ chain)
+IsChain db packet (n ∷ chain) = (n ≡ 0) × IsChainFrom db packet [] (n ∷ chain)
 
 -- what comes of a number, or nothing where there is none
 abbrev pub if_some : {X : Type 0} → (ℕ → List X) → Option ℕ → List X

@@ -10,7 +10,7 @@ use Rattle.mdb_model.specs.declared.parameter.Coding.{Coding}
 use Rattle.mdb_model.specs.declared.parameter.Coding.TheVariants.{Uint}
 use Rattle.mdb_model.specs.declared.parameter.Parameter.{Parameter}
 use Rattle.mdb_model.specs.Database.{Database}
-use Rattle.mdb_model.specs.Lines.{bits_of_parameter}
+use Rattle.mdb_model.specs.Paths.{bits_of_parameter}
 use Rattle.calibration.specs.Calibrated.{calibrated, calibration_at}
 use Rattle.container_extract.specs.declared.values.ParameterValue.{ParameterValue}
 use Rattle.container_extract.specs.Bits.{bits_at}

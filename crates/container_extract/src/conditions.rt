@@ -3,7 +3,7 @@
 ghost use Rattle.std.specs.Prelude.{◌≡◌};
 ghost use Rattle.container_extract.specs.Values.{compares, holds, is_met, value_among};
 
-use crate::taken::Taken;
+use crate::indexed_values::IndexedValues;
 use mdb_model::{Comparison, Operator};
 
 /// How a raw number compares with a number.
@@ -21,7 +21,7 @@ fn compares(operator: Operator, raw: i128, number: i128) -> bool
 }
 
 /// A comparison with a parameter that has no value isn't met.
-fn is_met(comparison: Comparison, values: &Taken) -> bool
+fn is_met(comparison: Comparison, values: &IndexedValues) -> bool
     ensures { result ≡ is_met comparison (value_among comparison.parameter values.now) }
 {
     match values.value_of(comparison.parameter) {
@@ -31,7 +31,7 @@ fn is_met(comparison: Comparison, values: &Taken) -> bool
 }
 
 /// Each comparison is met.
-pub(crate) fn holds(values: &Taken, condition: &[Comparison]) -> bool
+pub(crate) fn holds(values: &IndexedValues, condition: &[Comparison]) -> bool
     ensures { result ≡ holds values.now condition.now }
 {
     condition

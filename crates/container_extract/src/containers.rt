@@ -8,12 +8,12 @@ ghost use Rattle.container_extract.specs.Step.{IsStep, holds_at};
 
 use crate::conditions::holds;
 use crate::entries::take_entries;
-use crate::taken::Taken;
+use crate::indexed_values::IndexedValues;
 use mdb_model::{Container, Mdb};
 use std::alloc::AllocError;
 
 /// The condition of the container with a number holds of values.
-fn holds_at(containers: &[Container], number: u16, values: &Taken) -> bool
+fn holds_at(containers: &[Container], number: u16, values: &IndexedValues) -> bool
     ensures { result ≡ holds_at containers.now values.now number }
 {
     match containers.get(number as usize) {
@@ -23,7 +23,11 @@ fn holds_at(containers: &[Container], number: u16, values: &Taken) -> bool
 }
 
 /// The first of some containers whose condition holds of values.
-fn first_of<'a>(containers: &[Container], numbers: &'a [u16], values: &Taken) -> Option<&'a u16>
+fn first_of<'a>(
+    containers: &[Container],
+    numbers: &'a [u16],
+    values: &IndexedValues,
+) -> Option<&'a u16>
     ensures { option_copied result ≡ find (holds_at containers.now values.now) numbers.now }
 {
     numbers
@@ -32,7 +36,7 @@ fn first_of<'a>(containers: &[Container], numbers: &'a [u16], values: &Taken) ->
 }
 
 /// The first child in sheet order whose condition holds of values.
-fn first_child(mdb: &Mdb, number: u16, values: &Taken) -> Option<u16>
+fn first_child(mdb: &Mdb, number: u16, values: &IndexedValues) -> Option<u16>
     requires { number < length mdb.now.containers }
     ensures { result ≡ first_child mdb.now.containers number values.now }
 {
@@ -44,7 +48,7 @@ pub(crate) fn next_of(
     mdb: &Mdb,
     packet: &[u8],
     number: u16,
-    values: &mut Taken,
+    values: &mut IndexedValues,
 ) -> Result<Option<u16>, AllocError>
     requires known { number < length mdb.now.containers }
     requires sound { IsDatabase mdb.now }

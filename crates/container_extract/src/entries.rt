@@ -6,7 +6,7 @@ ghost use Rattle.calibration.specs.Calibrated.{calibration_at};
 ghost use Rattle.container_extract.specs.Values.{fits, value_of};
 
 use crate::fields::bits;
-use crate::taken::Taken;
+use crate::indexed_values::IndexedValues;
 use crate::values::ParameterValue;
 use calibration::calibrate;
 use mdb_model::{Calibration, Entry, Mdb};
@@ -50,7 +50,7 @@ pub(crate) fn take_entries(
     mdb: &Mdb,
     packet: &[u8],
     entries: &[Entry],
-    values: &mut Taken,
+    values: &mut IndexedValues,
 ) -> Result<bool, AllocError>
     requires known { All (λ e. e.parameter < length mdb.now.parameters) entries.now }
     requires room { length values.old + length entries.now ≤ 65536 }

@@ -6,7 +6,7 @@ ghost use Rattle.container_extract.specs.Extraction.{extraction};
 
 use crate::chain::Chain;
 use crate::containers::{name_along, next_of};
-use crate::taken::Taken;
+use crate::indexed_values::IndexedValues;
 use crate::values::Values;
 use arch_types::steps::Steps;
 use mdb_model::Mdb;
@@ -28,7 +28,7 @@ fn walk(alloc: Global, mdb: &Mdb, packet: &[u8]) -> Result<Extracted, AllocError
     ensures one { IfOk result (λ x. x.chain ≡ chain_of mdb.now packet.now) }
     ensures values { IfOk result (λ x. x.values ≡ extraction mdb.now packet.now) }
 {
-    let mut values = Taken::new(alloc);
+    let mut values = IndexedValues::new(alloc);
     let mut chain = Chain::new(alloc);
     let mut number = 0;
     mdb.is_sound();

@@ -41,12 +41,12 @@ fn reversed(octets: u8, number: u64) -> u64
     ensures bound { result < 256 ^ octets }
 {
     let mut rest = number;
-    let mut turned: u64 = 0;
+    let mut swapped: u64 = 0;
     for _ in 0..octets {
-        turned = turned * 256 + rest % 256;
+        swapped = swapped * 256 + rest % 256;
         rest /= 256;
     }
-    turned
+    swapped
 }
 
 /// The two's complement of so many bits.

@@ -15,8 +15,8 @@ mod containers;
 mod entries;
 mod extraction;
 mod fields;
+mod indexed_values;
 pub mod laws;
-mod taken;
 pub mod values;
 
 pub use extraction::{Extracted, extract, packet_name};

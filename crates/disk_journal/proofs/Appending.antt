@@ -4,11 +4,11 @@ use Rattle.arch_disk.specs.Image.{Image, Torn, InFile, Becomes, overwritten}
 use Rattle.arch_disk.specs.Disk.{Device, IsDurable, LeavesOnly}
 use Rattle.arch_disk.proofs.Moments.{joins, weakens, at_end}
 use Rattle.disk_journal.specs.Format.{framed, written, HasRecords, HasStaged, IsBeforeOrAfter, IsClosed, HoldsNone}
-use Rattle.disk_journal.specs.State.{Keeps, KeepsSome, StateIs, IsOldBut, IsSame, extents_from}
+use Rattle.disk_journal.specs.State.{HasOnDisk, IsOnDisk, StateIs, IsOldBut, IsSame, extents_from}
 use Rattle.disk_journal.specs.declared.journal.Extent.{Extent}
 use Rattle.disk_journal.specs.declared.journal.Journal.{Journal}
-use Rattle.disk_journal.specs.declared.journal.Trouble.{Trouble}
-use Rattle.disk_journal.specs.declared.journal.Trouble.TheVariants.{Healthy, GateTouched}
+use Rattle.disk_journal.specs.declared.journal.PendingFault.{PendingFault}
+use Rattle.disk_journal.specs.declared.journal.PendingFault.TheVariants.{Absent, GateWritten}
 use Rattle.disk_journal.proofs.Files.{behind_gate, at_gate, staged_done, opened_done, staged_either, length-framed, gate_inside, sum_is}
 use Rattle.std.specs.Prelude.{IsTrue, min, ◌-◌}
 
@@ -17,11 +17,11 @@ abbrev pub Wrote : {D : Type 0} → Device D → ℕ → ℕ → ℕ → D → I
 Wrote device file at n old c = (d : Image) × device.images old d × InFile (Torn at n) file d c
 
 module _ {D : Type 0} (device : Device D) where
-  pub healthy_state : (journal : Journal) (bodies : List (List ℕ)) (pending : List ℕ) (disk : D) → journal.trouble ≡ Healthy → Keeps device journal bodies pending disk → HasRecords (device.reads disk journal.file) bodies × IsDurable device journal.file (device.reads disk journal.file) disk
-  healthy_state journal bodies pending disk is keeps = subst (λ (t : Trouble). StateIs device t journal.file bodies pending disk) is keeps.state
+  pub no_pending_fault_state : (journal : Journal) (bodies : List (List ℕ)) (pending : List ℕ) (disk : D) → journal.pending_fault ≡ Absent → HasOnDisk device journal bodies pending disk → HasRecords (device.reads disk journal.file) bodies × IsDurable device journal.file (device.reads disk journal.file) disk
+  no_pending_fault_state journal bodies pending disk is keeps = subst (λ (t : PendingFault). StateIs device t journal.file bodies pending disk) is keeps.state
 
-  pub touched_state : (journal : Journal) (bodies : List (List ℕ)) (pending : List ℕ) (disk : D) (faults : ℕ) → journal.trouble ≡ GateTouched faults → Keeps device journal bodies pending disk → (c : Image) → device.images disk c → HasStaged (c journal.file) bodies pending
-  touched_state journal bodies pending disk faults is keeps = subst (λ (t : Trouble). StateIs device t journal.file bodies pending disk) is keeps.state
+  pub touched_state : (journal : Journal) (bodies : List (List ℕ)) (pending : List ℕ) (disk : D) (faults : ℕ) → journal.pending_fault ≡ GateWritten faults → HasOnDisk device journal bodies pending disk → (c : Image) → device.images disk c → HasStaged (c journal.file) bodies pending
+  touched_state journal bodies pending disk faults is keeps = subst (λ (t : PendingFault). StateIs device t journal.file bodies pending disk) is keeps.state
 
   module _ (file end : ℕ) (bodies : List (List ℕ)) (body : List ℕ) (end_is : end ≡ length (written bodies)) where
     pub first_images : (disk : D) (n : ℕ) → HasRecords (device.reads disk file) bodies × IsDurable device file (device.reads disk file) disk → (c : Image) → Wrote device file (end + 1) n disk c → HasRecords (c file) bodies
@@ -52,10 +52,10 @@ module _ {D : Type 0} (device : Device D) where
         (λ c wrote. staged_either (c file) bodies body (gate_images mid (staged_images mid staged only) c wrote))
 
   -- the octet behind the gate, where the sum is cut at the type's end
-  pub behind_is : (journal : Journal) (bodies : List (List ℕ)) (pending : List ℕ) (disk : D) (sum : ℕ) → IsTrue device.tells → journal.trouble ≡ Healthy → Keeps device journal bodies pending disk → sum ≡ min (journal.end + 1) (2 ^ 64 - 1) → sum ≡ journal.end + 1
-  behind_is journal bodies pending disk sum told is keeps sum_at =
-      let state = healthy_state journal bodies pending disk is keeps in
-      sum_is journal.end 1 sum sum_at (omega (arith, gate_inside (device.reads disk journal.file) bodies state.0, keeps.end, device.lengths_fit disk journal.file told))
+  pub behind_is : (journal : Journal) (bodies : List (List ℕ)) (pending : List ℕ) (disk : D) (sum : ℕ) → IsTrue device.is_transparent → journal.pending_fault ≡ Absent → HasOnDisk device journal bodies pending disk → sum ≡ min (journal.end + 1) (2 ^ 64 - 1) → sum ≡ journal.end + 1
+  behind_is journal bodies pending disk sum transparent is keeps sum_at =
+      let state = no_pending_fault_state journal bodies pending disk is keeps in
+      sum_is journal.end 1 sum sum_at (omega (arith, gate_inside (device.reads disk journal.file) bodies state.0, keeps.end, device.lengths_fit disk journal.file transparent))
 
   -- the first write and its moments, at that octet
   pub first_moments : (old mid : D) (file at end n : ℕ) → at ≡ end + 1 → LeavesOnly device old mid (Wrote device file at n old) → LeavesOnly device old mid (Wrote device file (end + 1) n old)
@@ -79,14 +79,14 @@ module _ {D : Type 0} (device : Device D) where
   elsewhere_two old mid new file at n at' n' first second = elsewhere_on old mid new file (elsewhere_one old mid file at n first) (elsewhere_one mid new file at' n' second)
 
   -- the same journal keeps the same records
-  pub keeps_same : (old new : Journal) (bodies : List (List ℕ)) (pending : List ℕ) (disk : D) → IsSame old new → Keeps device old bodies pending disk → Keeps device new bodies pending disk
+  pub keeps_same : (old new : Journal) (bodies : List (List ℕ)) (pending : List ℕ) (disk : D) → IsSame old new → HasOnDisk device old bodies pending disk → HasOnDisk device new bodies pending disk
   keeps_same old new bodies pending disk same keeps = record {
     extents = same.extents ∙ keeps.extents;
     end = same.end ∙ keeps.end;
-    state = subst (λ (t : Trouble). StateIs device t new.file bodies pending disk) (sym same.trouble) (subst (λ (f : ℕ). StateIs device old.trouble f bodies pending disk) (sym same.file) keeps.state);
+    state = subst (λ (t : PendingFault). StateIs device t new.file bodies pending disk) (sym same.pending_fault) (subst (λ (f : ℕ). StateIs device old.pending_fault f bodies pending disk) (sym same.file) keeps.state);
   }
 
-  pub some_same : (old new : Journal) (disk : D) → IsSame old new → KeepsSome device old disk → KeepsSome device new disk
+  pub some_same : (old new : Journal) (disk : D) → IsSame old new → IsOnDisk device old disk → IsOnDisk device new disk
   some_same old new disk same k = record { bodies = k.bodies; pending = k.pending; keeps = keeps_same old new k.bodies k.pending disk same k.keeps }
 
 abbrev pub extent : ℕ → ℕ → Extent

@@ -5,10 +5,10 @@ use Rattle.std.proofs.lemmas.List.{take_at, drop_at, drop-drop}
 use Rattle.disk_journal.specs.Format.{framed, written}
 use Rattle.std.specs.Prelude.{IsTrue, Result, Ok, Err, IfOk}
 use Rattle.arch_disk.specs.Disk.{Device}
-use Rattle.disk_journal.specs.State.{extents_from, StateIs, Keeps}
+use Rattle.disk_journal.specs.State.{extents_from, StateIs, HasOnDisk}
 use Rattle.disk_journal.specs.declared.journal.Journal.{Journal}
-use Rattle.disk_journal.specs.declared.journal.Trouble.{Trouble}
-use Rattle.disk_journal.specs.declared.journal.Trouble.TheVariants.{Healthy, GateClosed, GateTouched}
+use Rattle.disk_journal.specs.declared.journal.PendingFault.{PendingFault}
+use Rattle.disk_journal.specs.declared.journal.PendingFault.TheVariants.{Absent, GateClosed, GateWritten}
 use Rattle.disk_journal.specs.declared.journal.Extent.{Extent}
 use Rattle.disk_journal.proofs.Files.{length-framed}
 
@@ -52,19 +52,19 @@ located (body ∷ bodies) at (suc i) tail e lt is =
     }
 
 -- in every state the file begins with the records
-pub begins : {D : Type 0} (device : Device D) (trouble : Trouble) (file : ℕ) (bodies : List (List ℕ)) (pending : List ℕ) (disk : D) → StateIs device trouble file bodies pending disk → IsTrue device.tells → (tail : List ℕ) × (device.reads disk file ≡ written bodies ++ tail)
-begins device Healthy file bodies pending disk state told = (state.0.tail, state.0.file_is)
-begins device (GateClosed faults) file bodies pending disk state told = let h = state (device.reads disk) (device.reads_as_image disk told) in (h.tail, h.file_is)
-begins device (GateTouched faults) file bodies pending disk state told = let s = state (device.reads disk) (device.reads_as_image disk told) in (s.gate ∷ framed pending ++ s.tail, s.file_is)
+pub begins : {D : Type 0} (device : Device D) (pending_fault : PendingFault) (file : ℕ) (bodies : List (List ℕ)) (pending : List ℕ) (disk : D) → StateIs device pending_fault file bodies pending disk → IsTrue device.is_transparent → (tail : List ℕ) × (device.reads disk file ≡ written bodies ++ tail)
+begins device Absent file bodies pending disk state transparent = (state.0.tail, state.0.file_is)
+begins device (GateClosed faults) file bodies pending disk state transparent = let h = state (device.reads disk) (device.reads_as_image disk transparent) in (h.tail, h.file_is)
+begins device (GateWritten faults) file bodies pending disk state transparent = let s = state (device.reads disk) (device.reads_as_image disk transparent) in (s.gate ∷ framed pending ++ s.tail, s.file_is)
 
 pub length-extents : (at : ℕ) (bodies : List (List ℕ)) → length (extents_from at bodies) ≡ length bodies
 length-extents at [] = refl
 length-extents at (body ∷ bodies) = ap suc (length-extents (at + 5 + length body) bodies)
 
 -- where the journal finds a body
-pub found : {D : Type 0} (device : Device D) (journal : Journal) (bodies : List (List ℕ)) (pending : List ℕ) (disk : D) (i : ℕ) (e : Extent) → Keeps device journal bodies pending disk → IsTrue device.tells → i < length journal.extents.items → get_or journal.extents.items i e ≡ e → IsLocated (device.reads disk journal.file) bodies 0 i e
-found device journal bodies pending disk i e keeps told lt is =
-    let b = begins device journal.trouble journal.file bodies pending disk keeps.state told in
+pub found : {D : Type 0} (device : Device D) (journal : Journal) (bodies : List (List ℕ)) (pending : List ℕ) (disk : D) (i : ℕ) (e : Extent) → HasOnDisk device journal bodies pending disk → IsTrue device.is_transparent → i < length journal.extents.items → get_or journal.extents.items i e ≡ e → IsLocated (device.reads disk journal.file) bodies 0 i e
+found device journal bodies pending disk i e keeps transparent lt is =
+    let b = begins device journal.pending_fault journal.file bodies pending disk keeps.state transparent in
     let l = located bodies 0 i b.0 e (omega (arith, length-extents 0 bodies, ap length keeps.extents, lt)) (ap (λ (l : List Extent). get_or l i e) (sym keeps.extents) ∙ is) in
     subst (λ (f : List ℕ). IsLocated f bodies 0 i e) (sym b.1) l
 

@@ -5,7 +5,7 @@ use Rattle.std.proofs.lemmas.Nat.{from_be_bytes-to_be_bytes_4}
 use Rattle.std.specs.Int.{w32, to_be_bytes, from_be_bytes}
 use Rattle.disk_journal.specs.Format.{framed, written, AreSmall, IsClosed, HasRecords, IsDamagedAt}
 use Rattle.std.specs.Prelude.{Result, Ok, Err, IfOk, IfErr, IsErrAnd}
-use Rattle.disk_journal.specs.State.{IsReadFrom, IsReadFault, IsDamagedOr}
+use Rattle.disk_journal.specs.State.{IsReadFrom, IsReadFault, IsDamagedOrFault}
 use Rattle.disk_journal.specs.declared.journal.Journal.{Journal}
 use Rattle.disk_journal.specs.declared.fault.JournalFault.{JournalFault}
 use Rattle.disk_journal.specs.declared.fault.JournalFault.TheVariants.{Exists, NoArchive, Damaged, NeedsReopen, Limit, DiskFault, OutOfMemory}
@@ -94,7 +94,7 @@ pub place_once : (file : List ℕ) (at other : ℕ) → IsDamagedAt file at → 
 place_once file at other d e = d.at_is ∙ same_place d.bodies e.bodies d.rest e.rest d.small e.small d.short e.short (sym d.file_is ∙ e.file_is) ∙ sym e.at_is
 
 -- what reading a damaged file answers
-pub exactly : (at : ℕ) (content : List ℕ) (r : Result Journal JournalFault) → IsDamagedAt content at → IfOk r (IsReadFrom content) → ((other : ℕ) → r ≡ Err (Damaged other) → IsDamagedAt content other) → IfErr r IsReadFault → IsErrAnd r (IsDamagedOr at)
+pub exactly : (at : ℕ) (content : List ℕ) (r : Result Journal JournalFault) → IsDamagedAt content at → IfOk r (IsReadFrom content) → ((other : ℕ) → r ≡ Err (Damaged other) → IsDamagedAt content other) → IfErr r IsReadFault → IsErrAnd r (IsDamagedOrFault at)
 exactly at content (Ok journal) d ok damaged only = absurd (no_records content ok.bodies at ok.has d)
 exactly at content (Err Exists) d ok damaged only = only
 exactly at content (Err NoArchive) d ok damaged only = only

@@ -2,33 +2,33 @@
 use Rattle.std.proofs.Common.{◌≡◌, ℕ, List, [], sym, ◌∙◌, ap, subst}
 use Rattle.std.specs.Prelude.{None}
 use Rattle.arch_disk.specs.Image.{Image}
-use Rattle.arch_disk.specs.Disk.{Device, IsDurable, Looked}
+use Rattle.arch_disk.specs.Disk.{Device, IsDurable, OnlyReads}
 use Rattle.disk_journal.specs.Format.{HasRecords, IsDamagedAt}
 use Rattle.disk_journal.specs.Reading.{IsAt, IsCutShortAt}
 use Rattle.disk_journal.specs.declared.opening.Opening.{Opening}
-use Rattle.disk_journal.specs.State.{Keeps, StateIs, IsReadFrom, faults_of, unhealed, file_of}
+use Rattle.disk_journal.specs.State.{HasOnDisk, StateIs, IsReadFrom, faults_of, unhealed_fault, file_of}
 use Rattle.disk_journal.specs.declared.journal.Journal.{Journal}
-use Rattle.disk_journal.specs.declared.journal.Trouble.{Trouble}
-use Rattle.disk_journal.specs.declared.journal.Trouble.TheVariants.{Healthy, GateClosed, GateTouched}
+use Rattle.disk_journal.specs.declared.journal.PendingFault.{PendingFault}
+use Rattle.disk_journal.specs.declared.journal.PendingFault.TheVariants.{Absent, GateClosed, GateWritten}
 
 module _ {D : Type 0} (device : Device D) where
-  settled : (t : Trouble) (file : ℕ) (bodies : List (List ℕ)) (disk : D) → faults_of t ≡ None → StateIs device Healthy file bodies [] disk → StateIs device t file bodies [] disk
-  settled Healthy file bodies disk none state = state
-  settled (GateClosed faults) file bodies disk none state = absurd cc
-  settled (GateTouched faults) file bodies disk none state = absurd cc
+  without_fault : (t : PendingFault) (file : ℕ) (bodies : List (List ℕ)) (disk : D) → faults_of t ≡ None → StateIs device Absent file bodies [] disk → StateIs device t file bodies [] disk
+  without_fault Absent file bodies disk none state = state
+  without_fault (GateClosed faults) file bodies disk none state = absurd cc
+  without_fault (GateWritten faults) file bodies disk none state = absurd cc
 
-  pub opened : (journal : Journal) (begun file : ℕ) (old mid new : D) → begun ≡ file → unhealed journal ≡ None → file_of journal ≡ begun → IsReadFrom (device.reads mid begun) journal → device.reads mid ≡ device.reads old → IsDurable device file (device.reads mid file) mid → Looked device mid new
-      → (bodies : List (List ℕ)) × HasRecords (device.reads old file) bodies × Keeps device journal bodies [] new
-  opened journal begun file old mid new begun_is healthy file_is r reads durable looked =
+  pub opened : (journal : Journal) (begun file : ℕ) (old mid new : D) → begun ≡ file → unhealed_fault journal ≡ None → file_of journal ≡ begun → IsReadFrom (device.reads mid begun) journal → device.reads mid ≡ device.reads old → IsDurable device file (device.reads mid file) mid → OnlyReads device mid new
+      → (bodies : List (List ℕ)) × HasRecords (device.reads old file) bodies × HasOnDisk device journal bodies [] new
+  opened journal begun file old mid new begun_is no_pending_fault file_is r reads durable looked =
       let here : device.reads new file ≡ device.reads mid file = ap (λ (x : Image). x file) looked.reads_same in
       let has : HasRecords (device.reads mid file) r.bodies = subst (λ (f : ℕ). HasRecords (device.reads mid f) r.bodies) begun_is r.has in
-      let state : StateIs device Healthy file r.bodies [] new = (subst (λ (l : List ℕ). HasRecords l r.bodies) (sym here) has, λ c left. durable c (looked.images c left) ∙ sym here) in (
+      let state : StateIs device Absent file r.bodies [] new = (subst (λ (l : List ℕ). HasRecords l r.bodies) (sym here) has, λ c left. durable c (looked.images c left) ∙ sym here) in (
         r.bodies,
         subst (λ (x : Image). HasRecords (x file) r.bodies) reads has,
         record {
           extents = r.extents;
           end = r.end;
-          state = settled journal.trouble journal.file r.bodies new healthy (subst (λ (f : ℕ). StateIs device Healthy f r.bodies [] new) (sym (file_is ∙ begun_is)) state);
+          state = without_fault journal.pending_fault journal.file r.bodies new no_pending_fault (subst (λ (f : ℕ). StateIs device Absent f r.bodies [] new) (sym (file_is ∙ begun_is)) state);
         },
       )
 

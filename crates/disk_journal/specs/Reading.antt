@@ -2,7 +2,7 @@
 use Rattle.std.specs.Prelude.{◌≡◌, ℕ, ◌+◌, ◌<◌, ◌≤◌, ◌^◌, List, ◌∷◌, ◌++◌, length, get_or, take, drop, None}
 use Rattle.std.specs.Int.{w32, to_be_bytes, from_be_bytes}
 use Rattle.disk_journal.specs.Format.{written, HasUpTo}
-use Rattle.disk_journal.specs.State.{extents_from, unhealed}
+use Rattle.disk_journal.specs.State.{extents_from, unhealed_fault}
 use Rattle.disk_journal.specs.declared.journal.Extent.{Extent}
 use Rattle.disk_journal.specs.declared.journal.Journal.{Journal}
 use Rattle.disk_journal.specs.declared.opening.Opening.{Opening}
@@ -40,4 +40,4 @@ pub record IsFinished (opening : Opening) (journal : Journal) : Type 0 where
   pub file : journal.file ≡ opening.file
   pub extents : journal.extents.items ≡ opening.extents.items
   pub end : journal.end ≡ opening.at
-  pub healthy : unhealed journal ≡ None
+  pub no_pending_fault : unhealed_fault journal ≡ None

@@ -7,8 +7,8 @@ use Rattle.disk_journal.specs.declared.journal.Journal.{Journal}
 use Rattle.disk_journal.specs.declared.fault.JournalFault.{JournalFault}
 use Rattle.disk_journal.specs.declared.fault.JournalFault.TheVariants.{NoArchive, Damaged, NeedsReopen, Limit, DiskFault, OutOfMemory}
 use Rattle.disk_journal.specs.declared.journal.Extent.{Extent}
-use Rattle.disk_journal.specs.declared.journal.Trouble.{Trouble}
-use Rattle.disk_journal.specs.declared.journal.Trouble.TheVariants.{Healthy, GateClosed, GateTouched}
+use Rattle.disk_journal.specs.declared.journal.PendingFault.{PendingFault}
+use Rattle.disk_journal.specs.declared.journal.PendingFault.TheVariants.{Absent, GateClosed, GateWritten}
 
 -- the places of the bodies in a file whose records begin at this octet
 abbrev pub extents_from : ℕ → List (List ℕ) → List Extent
@@ -17,21 +17,21 @@ extents_from at (body ∷ bodies) = record { at = at + 5; len = length body } �
 
 -- What is known of the file by the failures of writes and syncs since the last heal;
 -- `pending` is the body of the record whose gate may have been written.
-abbrev pub StateIs : {D : Type 0} → Device D → Trouble → ℕ → List (List ℕ) → List ℕ → D → Type 0
-StateIs device Healthy file bodies pending disk = HasRecords (device.reads disk file) bodies × IsDurable device file (device.reads disk file) disk
+abbrev pub StateIs : {D : Type 0} → Device D → PendingFault → ℕ → List (List ℕ) → List ℕ → D → Type 0
+StateIs device Absent file bodies pending disk = HasRecords (device.reads disk file) bodies × IsDurable device file (device.reads disk file) disk
 StateIs device (GateClosed faults) file bodies pending disk = (c : Image) → device.images disk c → HasRecords (c file) bodies
-StateIs device (GateTouched faults) file bodies pending disk = (c : Image) → device.images disk c → HasStaged (c file) bodies pending
+StateIs device (GateWritten faults) file bodies pending disk = (c : Image) → device.images disk c → HasStaged (c file) bodies pending
 
 -- the journal has just these records on this disk
-pub record Keeps {D : Type 0} (device : Device D) (journal : Journal) (bodies : List (List ℕ)) (pending : List ℕ) (disk : D) : Type 0 where
+pub record HasOnDisk {D : Type 0} (device : Device D) (journal : Journal) (bodies : List (List ℕ)) (pending : List ℕ) (disk : D) : Type 0 where
   pub extents : journal.extents.items ≡ extents_from 0 bodies
   pub end : journal.end ≡ length (written bodies)
-  pub state : StateIs device journal.trouble journal.file bodies pending disk
+  pub state : StateIs device journal.pending_fault journal.file bodies pending disk
 
-pub record KeepsSome {D : Type 0} (device : Device D) (journal : Journal) (disk : D) : Type 0 where
+pub record IsOnDisk {D : Type 0} (device : Device D) (journal : Journal) (disk : D) : Type 0 where
   pub bodies : List (List ℕ)
   pub pending : List ℕ
-  pub keeps : Keeps device journal bodies pending disk
+  pub keeps : HasOnDisk device journal bodies pending disk
 
 -- the disk reads as before, and a crash leaves what it could have left before
 pub record IsUntouched {D : Type 0} (device : Device D) (old new : D) : Type 0 where
@@ -48,7 +48,7 @@ pub record IsSame (old new : Journal) : Type 0 where
   pub file : new.file ≡ old.file
   pub extents : new.extents.items ≡ old.extents.items
   pub end : new.end ≡ old.end
-  pub trouble : new.trouble ≡ old.trouble
+  pub pending_fault : new.pending_fault ≡ old.pending_fault
 
 abbrev pub file_of : Journal → ℕ
 file_of journal = journal.file
@@ -60,14 +60,14 @@ count_of journal = length journal.extents.items
 abbrev pub HasRoom : Journal → Type 0
 HasRoom journal = vec_len journal.extents < vec_capacity journal.extents
 
-abbrev pub faults_of : Trouble → Option ℕ
-faults_of Healthy = None
+abbrev pub faults_of : PendingFault → Option ℕ
+faults_of Absent = None
 faults_of (GateClosed faults) = Some faults
-faults_of (GateTouched faults) = Some faults
+faults_of (GateWritten faults) = Some faults
 
 -- the disk's count of faults at the failure that is not healed
-abbrev pub unhealed : Journal → Option ℕ
-unhealed journal = faults_of journal.trouble
+abbrev pub unhealed_fault : Journal → Option ℕ
+unhealed_fault journal = faults_of journal.pending_fault
 
 -- the count in a NeedsReopen
 abbrev pub asks_reopen : {T : Type 0} → Result T JournalFault → Option ℕ
@@ -110,8 +110,8 @@ IsOpenFault OutOfMemory = Unit {0}
 IsOpenFault _ = ⊥
 
 -- it is damaged at that gate, or the disk failed or memory is wanting
-abbrev pub IsDamagedOr : ℕ → JournalFault → Type 0
-IsDamagedOr at (Damaged other) = other ≡ at
-IsDamagedOr at DiskFault = Unit {0}
-IsDamagedOr at OutOfMemory = Unit {0}
-IsDamagedOr at _ = ⊥
+abbrev pub IsDamagedOrFault : ℕ → JournalFault → Type 0
+IsDamagedOrFault at (Damaged other) = other ≡ at
+IsDamagedOrFault at DiskFault = Unit {0}
+IsDamagedOrFault at OutOfMemory = Unit {0}
+IsDamagedOrFault at _ = ⊥

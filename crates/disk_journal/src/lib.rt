@@ -8,8 +8,8 @@
 // Called by the archive's store and by the writers of sealed files. `Frame` is a record ready to be written, `Journal` the
 // records that a file has, `Opening` a reading record by record for a caller whose own rules a body may break.
 //
-// The one idea of the proof: `Keeps` (specs/State.antt) ties a journal in memory to every image that a crash may leave, by
-// the failures since the last heal: gate closed, or touched and the record whole behind it. To touch together: the format
+// The one idea of the proof: `HasOnDisk` (specs/State.antt) ties a journal in memory to every image that a crash may leave, by
+// the failures since the last heal: gate closed, or written and the record whole behind it. To touch together: the format
 // (specs/Format.antt), `StateIs`, and the order of the calls in src/append.rt. That a file's octets mean one list of records
 // is `laws::records_are_one`.
 #![tactic(auto)]
@@ -24,5 +24,5 @@ mod steps;
 
 pub use fault::JournalFault;
 pub use frame::Frame;
-pub use journal::{Extent, Journal, Trouble};
+pub use journal::{Extent, Journal, PendingFault};
 pub use opening::Opening;

@@ -1,12 +1,12 @@
 // A journal that is being read, record after record, in one pass.
 ghost use Rattle.std.specs.Prelude.{◌≡◌, ◌≢◌, ◌+◌, ◌<◌, ◌^◌, ◌≤◌, ◌⊎◌, ◌++◌, [], ◌∷◌, List, ℕ, IsTrue, length, get_or, take, drop, OnOk, IfOk, IfErr, IfSome, None};
-ghost use Rattle.arch_disk.specs.Disk.{AddsNoImage, IsDurable, LeavesOnly, Looked, raised};
+ghost use Rattle.arch_disk.specs.Disk.{AddsNoImage, IsDurable, LeavesOnly, OnlyReads, raised};
 ghost use Rattle.disk_journal.specs.Format.{HasRecords, IsDamagedAt, HoldsNone};
 ghost use Rattle.disk_journal.specs.declared.fault.JournalFault.TheVariants.{NoArchive, DiskFault};
-ghost use Rattle.disk_journal.specs.State.{IsReadFault, unhealed, file_of};
+ghost use Rattle.disk_journal.specs.State.{IsReadFault, unhealed_fault, file_of};
 
 use crate::JournalFault;
-use crate::journal::{Extent, Journal, Trouble, begins_open};
+use crate::journal::{Extent, Journal, PendingFault, begins_open};
 use crate::steps::{flush, number_at, octet_at, octets_at};
 use arch_disk::Disk;
 use std::alloc::{AllocError, Global};
@@ -28,10 +28,10 @@ impl Opening {
 
     /// Begins at the first record, with a sync.
     pub fn begin<D: Disk>(alloc: Global, disk: &mut D, file: u32) -> Result<Opening, JournalFault>
-        ensures at { IsTrue D.device.tells → IfOk result (λ opening. IsAt opening (D.device.reads disk.old file) []) }
+        ensures at { IsTrue D.device.is_transparent → IfOk result (λ opening. IsAt opening (D.device.reads disk.old file) []) }
         ensures file { IfOk result (λ opening. file_read opening ≡ file) }
-        ensures open { IsTrue D.device.tells → OnOk result ((2 ≤ length (D.device.reads disk.old file)) × (get_or (D.device.reads disk.old file) 0 0 ≡ 1)) }
-        ensures none { IsTrue D.device.tells → result ≡ Err JournalFault.NoArchive → HoldsNone (D.device.reads disk.old file) }
+        ensures open { IsTrue D.device.is_transparent → OnOk result ((2 ≤ length (D.device.reads disk.old file)) × (get_or (D.device.reads disk.old file) 0 0 ≡ 1)) }
+        ensures none { IsTrue D.device.is_transparent → result ≡ Err JournalFault.NoArchive → HoldsNone (D.device.reads disk.old file) }
         ensures durable { OnOk result (IsDurable D.device file (D.device.reads disk.new file) disk.new) }
         ensures reads { D.device.reads disk.new ≡ D.device.reads disk.old }
         ensures moments { LeavesOnly D.device disk.old disk.new (D.device.images disk.old) }
@@ -56,15 +56,15 @@ impl Opening {
     }
 
     // Where the body of the next record stands; None at a closed gate.
-    fn look<D: Disk>(&self, disk: &mut D) -> Result<Option<Extent>, JournalFault>
-        requires { IsTrue D.device.tells → (self.now.len ≡ length (D.device.reads disk.old self.now.file)) × (self.now.at < self.now.len)
+    fn read_header<D: Disk>(&self, disk: &mut D) -> Result<Option<Extent>, JournalFault>
+        requires { IsTrue D.device.is_transparent → (self.now.len ≡ length (D.device.reads disk.old self.now.file)) × (self.now.at < self.now.len)
             × (self.now.at ≡ 0 → get_or (D.device.reads disk.old self.now.file) self.now.at 0 ≡ 1) }
-        ensures some { IsTrue D.device.tells → IfOk result (λ next. IfSome next (λ extent. IsWholeAt (D.device.reads disk.old self.now.file) self.now.at extent)) }
-        ensures none { IsTrue D.device.tells → IfOk result (λ next. next ≡ None → get_or (D.device.reads disk.old self.now.file) self.now.at 0 ≢ 1) }
+        ensures some { IsTrue D.device.is_transparent → IfOk result (λ next. IfSome next (λ extent. IsWholeAt (D.device.reads disk.old self.now.file) self.now.at extent)) }
+        ensures none { IsTrue D.device.is_transparent → IfOk result (λ next. next ≡ None → get_or (D.device.reads disk.old self.now.file) self.now.at 0 ≢ 1) }
         ensures within { IfOk result (λ next. IfSome next (λ extent. (extent.at ≡ self.now.at + 5) × (self.now.at + 5 + extent.len < 2 ^ 64))) }
-        ensures damaged { IsTrue D.device.tells → (bodies : List (List ℕ)) → IsAt self.now (D.device.reads disk.old self.now.file) bodies
+        ensures damaged { IsTrue D.device.is_transparent → (bodies : List (List ℕ)) → IsAt self.now (D.device.reads disk.old self.now.file) bodies
             → (at : ℕ) → result ≡ Err (JournalFault.Damaged at) → (at ≡ self.now.at) × IsCutShortAt (D.device.reads disk.old self.now.file) bodies }
-        ensures looked { Looked D.device disk.old disk.new }
+        ensures looked { OnlyReads D.device disk.old disk.new }
         ensures only { IfErr result IsReadFault }
         ensures cause { result ≡ Err JournalFault.DiskFault → raised (D.device.fault_count disk.old) ≤ D.device.fault_count disk.new }
     {
@@ -104,20 +104,20 @@ impl Opening {
         alloc: Global,
         disk: &mut D,
     ) -> Result<Option<Vec<u8>>, JournalFault>
-        requires { IsTrue D.device.tells → (bodies : List (List ℕ)) × IsAt self.old (D.device.reads disk.old (file_read self.old)) bodies }
-        ensures some { IsTrue D.device.tells → (bodies : List (List ℕ)) → IsAt self.old (D.device.reads disk.old (file_read self.old)) bodies
+        requires { IsTrue D.device.is_transparent → (bodies : List (List ℕ)) × IsAt self.old (D.device.reads disk.old (file_read self.old)) bodies }
+        ensures some { IsTrue D.device.is_transparent → (bodies : List (List ℕ)) → IsAt self.old (D.device.reads disk.old (file_read self.old)) bodies
             → IfOk result (λ next. IfSome next (λ body. IsAt self.new (D.device.reads disk.old (file_read self.old)) (bodies ++ body.items ∷ []))) }
-        ensures none { IsTrue D.device.tells → (bodies : List (List ℕ)) → IsAt self.old (D.device.reads disk.old (file_read self.old)) bodies
+        ensures none { IsTrue D.device.is_transparent → (bodies : List (List ℕ)) → IsAt self.old (D.device.reads disk.old (file_read self.old)) bodies
             → IfOk result (λ next. next ≡ None → HasRecords (D.device.reads disk.old (file_read self.old)) bodies × IsAt self.new (D.device.reads disk.old (file_read self.old)) bodies) }
-        ensures damaged { IsTrue D.device.tells → (bodies : List (List ℕ)) → IsAt self.old (D.device.reads disk.old (file_read self.old)) bodies
+        ensures damaged { IsTrue D.device.is_transparent → (bodies : List (List ℕ)) → IsAt self.old (D.device.reads disk.old (file_read self.old)) bodies
             → (at : ℕ) → result ≡ Err (JournalFault.Damaged at) → (at ≡ place_of self.old) × IsCutShortAt (D.device.reads disk.old (file_read self.old)) bodies }
         ensures moves { IfOk result (λ next. IfSome next (λ body. (place_of self.old < place_of self.new) × (length body.items < 2 ^ 32))) }
         ensures file { file_read self.new ≡ file_read self.old }
-        ensures looked { Looked D.device disk.old disk.new }
+        ensures looked { OnlyReads D.device disk.old disk.new }
         ensures only { IfErr result IsReadFault }
         ensures cause { result ≡ Err JournalFault.DiskFault → raised (D.device.fault_count disk.old) ≤ D.device.fault_count disk.new }
     {
-        match self.look(disk)? {
+        match self.read_header(disk)? {
             None => Ok(None),
             Some(extent) => {
                 let body = octets_at(alloc, disk, self.file, extent.at, extent.len)?;
@@ -129,15 +129,15 @@ impl Opening {
 
     // Reads on to the closed gate that ends the records, over the bodies.
     pub(crate) fn finish_all<D: Disk>(mut self, disk: &mut D) -> Result<Journal, JournalFault>
-        requires { IsTrue D.device.tells → IsAt self (D.device.reads disk.old (file_read self)) [] }
-        ensures records { IsTrue D.device.tells → IfOk result (IsReadFrom (D.device.reads disk.old (file_read self))) }
-        ensures healthy { IfOk result (λ journal. (unhealed journal ≡ None) × (file_of journal ≡ file_read self)) }
-        ensures damaged { IsTrue D.device.tells → (at : ℕ) → result ≡ Err (JournalFault.Damaged at) → IsDamagedAt (D.device.reads disk.old (file_read self)) at }
+        requires { IsTrue D.device.is_transparent → IsAt self (D.device.reads disk.old (file_read self)) [] }
+        ensures records { IsTrue D.device.is_transparent → IfOk result (IsReadFrom (D.device.reads disk.old (file_read self))) }
+        ensures no_pending_fault { IfOk result (λ journal. (unhealed_fault journal ≡ None) × (file_of journal ≡ file_read self)) }
+        ensures damaged { IsTrue D.device.is_transparent → (at : ℕ) → result ≡ Err (JournalFault.Damaged at) → IsDamagedAt (D.device.reads disk.old (file_read self)) at }
         ensures only { IfErr result IsReadFault }
-        ensures looked { Looked D.device disk.old disk.new }
+        ensures looked { OnlyReads D.device disk.old disk.new }
         ensures cause { result ≡ Err JournalFault.DiskFault → raised (D.device.fault_count disk.old) ≤ D.device.fault_count disk.new }
     {
-        'records: while let Some(extent) = self.look(disk)? {
+        'records: while let Some(extent) = self.read_header(disk)? {
             self.advance(extent)?;
         }
         Ok(self.finish())
@@ -164,7 +164,7 @@ impl Opening {
             file,
             extents,
             end: at,
-            trouble: Trouble::Healthy,
+            pending_fault: PendingFault::Absent,
         }
     }
 }

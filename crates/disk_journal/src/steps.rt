@@ -2,7 +2,7 @@
 ghost use Rattle.std.specs.Prelude.{◌≡◌, ◌+◌, ◌<◌, ◌≤◌, ◌⊎◌, IsTrue, length, take, drop, get_or, OnOk, IfOk, IfErr};
 ghost use Rattle.std.specs.Int.{w32, from_be_bytes, to_be_bytes};
 ghost use Rattle.arch_disk.specs.Image.{Image, AgreesBut, Torn, InFile, Becomes, overwritten};
-ghost use Rattle.arch_disk.specs.Disk.{AddsNoImage, IsDurable, LeavesOnly, Looked, HasCause, CountsFailure, raised};
+ghost use Rattle.arch_disk.specs.Disk.{AddsNoImage, IsDurable, LeavesOnly, OnlyReads, HasCause, CountsFailure, raised};
 ghost use Rattle.disk_journal.specs.declared.fault.JournalFault.TheVariants.{DiskFault, OutOfMemory};
 
 use crate::JournalFault;
@@ -11,9 +11,9 @@ use std::alloc::Global;
 
 // A write and a sync.
 pub fn put<D: Disk>(disk: &mut D, file: u32, at: u64, octets: &[u8]) -> Result<(), Failed>
-    requires { IsTrue D.device.tells → at ≤ length (D.device.reads disk.old file) }
-    ensures written { OnOk result (IsTrue D.device.tells → InFile (Becomes (overwritten at octets.now)) file (D.device.reads disk.old) (D.device.reads disk.new)) }
-    ensures reads { IsTrue D.device.tells → AgreesBut file (D.device.reads disk.old) (D.device.reads disk.new) }
+    requires { IsTrue D.device.is_transparent → at ≤ length (D.device.reads disk.old file) }
+    ensures written { OnOk result (IsTrue D.device.is_transparent → InFile (Becomes (overwritten at octets.now)) file (D.device.reads disk.old) (D.device.reads disk.new)) }
+    ensures reads { IsTrue D.device.is_transparent → AgreesBut file (D.device.reads disk.old) (D.device.reads disk.new) }
     ensures durable { OnOk result (IsDurable D.device file (D.device.reads disk.new file) disk.new) }
 
     // A crash at any moment leaves the range torn.
@@ -40,9 +40,9 @@ pub fn flush<D: Disk>(disk: &mut D, file: u32) -> Result<(), Failed>
 
 // One octet.
 pub fn octet_at<D: Disk>(disk: &mut D, file: u32, at: u64) -> Result<u8, Failed>
-    requires { IsTrue D.device.tells → at < length (D.device.reads disk.old file) }
-    ensures octet { IfOk result (λ octet. IsTrue D.device.tells → octet ≡ get_or (D.device.reads disk.old file) at 0) }
-    ensures looked { Looked D.device disk.old disk.new }
+    requires { IsTrue D.device.is_transparent → at < length (D.device.reads disk.old file) }
+    ensures octet { IfOk result (λ octet. IsTrue D.device.is_transparent → octet ≡ get_or (D.device.reads disk.old file) at 0) }
+    ensures looked { OnlyReads D.device disk.old disk.new }
     ensures cause { HasCause D.device disk.old disk.new result }
 {
     let mut octets = [0; 1];
@@ -61,10 +61,10 @@ fn number_of(octets: &[u8]) -> u32
 
 // A number of four octets.
 pub fn number_at<D: Disk>(disk: &mut D, file: u32, at: u64) -> Result<u32, Failed>
-    requires { IsTrue D.device.tells → at + 4 ≤ length (D.device.reads disk.old file) }
-    ensures number { IfOk result (λ number. IsTrue D.device.tells → number ≡ from_be_bytes w32 (take 4 (drop at (D.device.reads disk.old file)))) }
-    ensures octets { IfOk result (λ number. IsTrue D.device.tells → to_be_bytes w32 number ≡ take 4 (drop at (D.device.reads disk.old file))) }
-    ensures looked { Looked D.device disk.old disk.new }
+    requires { IsTrue D.device.is_transparent → at + 4 ≤ length (D.device.reads disk.old file) }
+    ensures number { IfOk result (λ number. IsTrue D.device.is_transparent → number ≡ from_be_bytes w32 (take 4 (drop at (D.device.reads disk.old file)))) }
+    ensures octets { IfOk result (λ number. IsTrue D.device.is_transparent → to_be_bytes w32 number ≡ take 4 (drop at (D.device.reads disk.old file))) }
+    ensures looked { OnlyReads D.device disk.old disk.new }
     ensures cause { HasCause D.device disk.old disk.new result }
 {
     let mut octets = [0; 4];
@@ -74,8 +74,8 @@ pub fn number_at<D: Disk>(disk: &mut D, file: u32, at: u64) -> Result<u32, Faile
 
 // The length of a file.
 pub fn len_of<D: Disk>(disk: &mut D, file: u32) -> Result<u64, Failed>
-    ensures len { IfOk result (λ n. IsTrue D.device.tells → n ≡ length (D.device.reads disk.old file)) }
-    ensures looked { Looked D.device disk.old disk.new }
+    ensures len { IfOk result (λ n. IsTrue D.device.is_transparent → n ≡ length (D.device.reads disk.old file)) }
+    ensures looked { OnlyReads D.device disk.old disk.new }
     ensures cause { HasCause D.device disk.old disk.new result }
 {
     disk.len(file)
@@ -89,10 +89,10 @@ pub fn octets_at<D: Disk>(
     at: u64,
     size: u32,
 ) -> Result<Vec<u8>, JournalFault>
-    requires { IsTrue D.device.tells → at + size ≤ length (D.device.reads disk.old file) }
-    ensures octets { IfOk result (λ octets. IsTrue D.device.tells → octets.items ≡ take size (drop at (D.device.reads disk.old file))) }
+    requires { IsTrue D.device.is_transparent → at + size ≤ length (D.device.reads disk.old file) }
+    ensures octets { IfOk result (λ octets. IsTrue D.device.is_transparent → octets.items ≡ take size (drop at (D.device.reads disk.old file))) }
     ensures long { IfOk result (λ octets. length octets.items ≡ size) }
-    ensures looked { Looked D.device disk.old disk.new }
+    ensures looked { OnlyReads D.device disk.old disk.new }
     ensures only { IfErr result (λ e. (e ≡ DiskFault) ⊎ (e ≡ OutOfMemory)) }
     ensures cause { result ≡ Err JournalFault.DiskFault → raised (D.device.fault_count disk.old) ≤ D.device.fault_count disk.new }
 {

@@ -1,9 +1,9 @@
 // What no clause says: that calls succeed while memory lasts, which device calls are made, and that the images of every
 // moment open to the records from before, or with the new one.
 ghost use Rattle.std.specs.Prelude.{◌<◌, ◌^◌, IsTrue, length, IfOk};
-ghost use Rattle.disk_journal.specs.State.{KeepsSome};
+ghost use Rattle.disk_journal.specs.State.{IsOnDisk};
 
-use arch_disk::{Crash, Disk, Length, MemDisk, Silent, Unsynced};
+use arch_disk::{Crash, Disk, Length, MemDisk, OpaqueDisk, Unsynced};
 use disk_journal::{Frame, Journal, JournalFault};
 use std::alloc::{AllocError, Global};
 use std::process::Abort;
@@ -65,7 +65,7 @@ fn failing_at(alloc: Global, call: u64) -> Result<MemDisk, AllocError> {
 
 // A journal of one record.
 fn created<D: Disk>(alloc: Global, disk: &mut D) -> Result<Journal, JournalFault>
-    ensures { IsTrue D.device.tells → IfOk result (λ journal. KeepsSome D.device journal disk.new) }
+    ensures { IsTrue D.device.is_transparent → IfOk result (λ journal. IsOnDisk D.device journal disk.new) }
 {
     let first = Frame::of(alloc, body_at(0))?;
     Journal::create(alloc, disk, FILE, &first)
@@ -79,8 +79,8 @@ fn add<D: Disk>(
     body: &[u8],
 ) -> Result<u64, JournalFault>
     requires small { length body.now < 2 ^ 32 }
-    requires kept { IsTrue D.device.tells → KeepsSome D.device journal.old disk.old }
-    ensures { IsTrue D.device.tells → KeepsSome D.device journal.new disk.new }
+    requires kept { IsTrue D.device.is_transparent → IsOnDisk D.device journal.old disk.old }
+    ensures { IsTrue D.device.is_transparent → IsOnDisk D.device journal.new disk.new }
 {
     let frame = Frame::of(alloc, body)?;
     journal.reserve()?;
@@ -95,8 +95,8 @@ fn grow<D: Disk>(
     body: &[u8],
 ) -> Result<bool, JournalFault>
     requires small { length body.now < 2 ^ 32 }
-    requires kept { IsTrue D.device.tells → KeepsSome D.device journal.old disk.old }
-    ensures { IsTrue D.device.tells → KeepsSome D.device journal.new disk.new }
+    requires kept { IsTrue D.device.is_transparent → IsOnDisk D.device journal.old disk.old }
+    ensures { IsTrue D.device.is_transparent → IsOnDisk D.device journal.new disk.new }
 {
     match add(alloc, journal, disk, body) {
         Ok(_) => Ok(true),
@@ -114,8 +114,8 @@ fn grow_many<D: Disk>(
     disk: &mut D,
     n: u64,
 ) -> Result<(), JournalFault>
-    requires { IsTrue D.device.tells → KeepsSome D.device journal.old disk.old }
-    ensures { IsTrue D.device.tells → KeepsSome D.device journal.new disk.new }
+    requires { IsTrue D.device.is_transparent → IsOnDisk D.device journal.old disk.old }
+    ensures { IsTrue D.device.is_transparent → IsOnDisk D.device journal.new disk.new }
 {
     for i in 0..n {
         grow(alloc, journal, disk, body_at(i))?;
@@ -168,8 +168,8 @@ fn grow_and_open(
     journal: &mut Journal,
     disk: &mut MemDisk,
 ) -> Result<(), Fail>
-    requires { KeepsSome ⟦<MemDisk as Disk>⟧.device journal.old disk.old }
-    ensures { KeepsSome ⟦<MemDisk as Disk>⟧.device journal.new disk.new }
+    requires { IsOnDisk ⟦<MemDisk as Disk>⟧.device journal.old disk.old }
+    ensures { IsOnDisk ⟦<MemDisk as Disk>⟧.device journal.new disk.new }
 {
     let from = disk.moments();
     let low = journal.count();
@@ -280,7 +280,7 @@ fn images_of_appends_and_heals(rt: HostRuntime) -> Result<(), Fail> {
 // file, and reads each gate but the first and each record's length once.
 #[test]
 fn many_appends(rt: HostRuntime) -> Result<(), Fail> {
-    let mut disk = Silent::new(MemDisk::new(rt.alloc()));
+    let mut disk = OpaqueDisk::new(MemDisk::new(rt.alloc()));
     let mut journal = created(rt.alloc(), &mut disk)?;
     grow_many(rt.alloc(), &mut journal, &mut disk, 100_000)?;
     assert_eq!(rt; journal.count(), 100_001);

@@ -20,5 +20,5 @@ pub record IsHistogram (index : Listing NamedTime ℕ) (rows room : ℕ) : Type 
   pub rising : IsRising named_cmp index.entries
   pub times : AreTimes index.entries
   pub counted : rows ≡ total index.entries
-  pub roomy : room ≤ index.room
+  pub has_room : room ≤ index.room
   pub small : rows + room < 2 ^ 64

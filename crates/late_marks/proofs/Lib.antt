@@ -1,3 +1,3 @@
 pub mod IntervalOrder
 pub mod Positions
-pub mod Waiting
+pub mod LateFree

@@ -1,3 +1,3 @@
 pub mod Mark
 pub mod Marks
-pub mod Books
+pub mod MarkIndexes

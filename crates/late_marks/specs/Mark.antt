@@ -28,8 +28,8 @@ abbrev pub is_late_mark : Mark → Bool
 is_late_mark m = is_late_by m.last m.base
 
 -- the interval is late, and nobody has taken it
-abbrev pub is_waiting : Mark → Bool
-is_waiting m = is_late_mark m && not m.taken
+abbrev pub is_late_free_mark : Mark → Bool
+is_late_free_mark m = is_late_mark m && not m.taken
 
 -- the mark after one more row
 abbrev pub touched : Option Mark → ℕ → Mark

@@ -7,7 +7,7 @@ use Rattle.std.specs.Map.{lookup}
 use Rattle.std.specs.BTreeMap.{is_at}
 use Rattle.arch_types.specs.declared.interval.Interval.{Interval}
 use Rattle.late_marks.specs.declared.mark.Mark.{Mark}
-use Rattle.late_marks.specs.Mark.{is_late_mark, is_waiting}
+use Rattle.late_marks.specs.Mark.{is_late_mark, is_late_free_mark}
 
 -- intervals stand in the order of their numbers
 abbrev pub interval_cmp : Interval → Interval → Ordering
@@ -44,7 +44,7 @@ is_late m interval = option_map_or is_late_mark (mark_of m interval) false
 
 -- it is late, and nobody has taken it
 abbrev pub is_late_free : Marks → Interval → Bool
-is_late_free m interval = option_map_or is_waiting (mark_of m interval) false
+is_late_free m interval = option_map_or is_late_free_mark (mark_of m interval) false
 
 -- one interval has this mark from now on, and all others the mark that they had
 pub record Marked (old new : Marks) (interval : Interval) (mark : Mark) : Type 0 where

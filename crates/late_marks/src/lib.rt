@@ -8,11 +8,11 @@
 // Callers: the store, which touches the interval of each row, notes fills, and asks for the next interval to fill.
 //
 // The marks stand in one ordered index, and the intervals that are late and free in a second one, so that the least of them is
-// its first entry. The one idea of the proof: a mark that doesn't wait has a place kept for it in the second index
-// (`roomy` in specs/Books.antt), so that no change of a mark ever takes memory.
-// To be changed together: `is_waiting` in specs/Mark.antt and `Mark::waits`.
+// its first entry. The one idea of the proof: a mark that isn't late and free has a place kept for it in the second index
+// (`has_room` in specs/MarkIndexes.antt), so that no change of a mark ever takes memory.
+// To be changed together: `is_late_free_mark` in specs/Mark.antt and `Mark::is_late_free`.
 #![tactic(auto)]
 
-mod books;
+mod indexes;
 pub mod mark;
 pub mod marks;

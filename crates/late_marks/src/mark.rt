@@ -1,7 +1,7 @@
 //! The mark of an interval.
 
 ghost use Rattle.std.specs.Prelude.{◌≡◌};
-ghost use Rattle.late_marks.specs.Mark.{is_late_mark, is_waiting, touched};
+ghost use Rattle.late_marks.specs.Mark.{is_late_mark, is_late_free_mark, touched};
 
 /// What is known of an interval that has rows.
 #[derive(Clone, Copy, Debug, PartialEq, Eq)]
@@ -43,8 +43,8 @@ impl Mark {
     }
 
     /// Whether the interval is late, and nobody has taken it.
-    pub(crate) fn waits(&self) -> bool
-        ensures { result ≡ is_waiting self.now }
+    pub(crate) fn is_late_free(&self) -> bool
+        ensures { result ≡ is_late_free_mark self.now }
     {
         self.is_late() && !self.taken
     }

@@ -4,7 +4,7 @@ ghost use Rattle.std.specs.Prelude.{◌≡◌, ℕ, ◌+◌, ◌<◌, ◌≤◌,
 ghost use Rattle.late_marks.specs.Mark.{touched, StandAt, IsLateBy};
 ghost use Rattle.late_marks.specs.Marks.{mark_of, has_rows, last_of, base_of, is_late, is_late_free, Marked, IsLeast};
 
-use crate::books::follow;
+use crate::indexes::update_late_free;
 use crate::mark::Mark;
 use arch_types::interval::Interval;
 use block_map::index::Index;
@@ -16,18 +16,18 @@ use std::marker::Model;
 pub struct LateMarks {
     marks: Index<Interval, Mark>,
     /// The intervals that are late and that nobody has taken.
-    waiting: Index<Interval, ()>,
+    late_free: Index<Interval, ()>,
 }
 
 impl Model for LateMarks {
     ghost use Rattle.late_marks.specs.Marks.{Marks};
-    ghost use Rattle.late_marks.specs.Books.{AreBooks};
+    ghost use Rattle.late_marks.specs.MarkIndexes.{AreConsistent};
 
     ghost Value = { Marks };
 
     ghost view = { λ b. record { marks = b.marks.entries; room = b.marks.room } };
 
-    ghost invariant = { λ b. AreBooks b.marks b.waiting };
+    ghost invariant = { λ b. AreConsistent b.marks b.late_free };
 }
 
 impl LateMarks {
@@ -37,7 +37,7 @@ impl LateMarks {
     {
         LateMarks {
             marks: Index::new(alloc),
-            waiting: Index::new(alloc),
+            late_free: Index::new(alloc),
         }
     }
 
@@ -54,7 +54,7 @@ impl LateMarks {
         let Some(all) = self.marks.len().checked_add(intervals) else {
             return Err(AllocError);
         };
-        self.waiting.reserve(all)?;
+        self.late_free.reserve(all)?;
         self.marks.reserve(intervals)
     }
 
@@ -119,7 +119,7 @@ impl LateMarks {
     pub fn least_late_free(&self) -> Option<Interval>
         ensures { IsLeast (λ i. is_late_free self.now i ≡ true) result }
     {
-        let (interval, ()) = self.waiting.first()?;
+        let (interval, ()) = self.late_free.first()?;
         Some(interval)
     }
 
@@ -179,7 +179,12 @@ impl LateMarks {
         ensures room { self.new.room ≡ self.old.room }
     {
         if let Some(old) = self.marks.replace(interval, mark) {
-            follow(&mut self.waiting, interval, old.waits(), mark.waits());
+            update_late_free(
+                &mut self.late_free,
+                interval,
+                old.is_late_free(),
+                mark.is_late_free(),
+            );
         }
     }
 
@@ -191,6 +196,6 @@ impl LateMarks {
         ensures room { self.new.room + 1 ≡ self.old.room }
     {
         self.marks.insert(interval, mark);
-        follow(&mut self.waiting, interval, false, mark.waits());
+        update_late_free(&mut self.late_free, interval, false, mark.is_late_free());
     }
 }

@@ -10,55 +10,55 @@ use Rattle.std.proofs.lemmas.Slice.Eq.{bytes_eq-Decides}
 use Rattle.mdb_model.specs.declared.calibration.Calibration.{Calibration}
 use Rattle.mdb_model.specs.declared.calibration.Table.{Table}
 use Rattle.mdb_model.specs.declared.calibration.Table.TheVariants.{Poly, Points, Enum}
-use Rattle.mdb_model.specs.declared.rows.Cells.{Cells}
-use Rattle.mdb_model.specs.declared.rows.Cells.TheVariants.{Unread, Coefficient, Point, Label}
-use Rattle.mdb_model.specs.CalibrationRows.{CalibrationRow, calibration_checks, calibration_fault, calibration_fault_at, calibrations_of, cells_of, continued, empty_table, has_x, has_y, is_other_kind, is_unread, rows_of_calibration, table_named, with_calibration_row, with_name, with_new_row, with_row}
+use Rattle.mdb_model.specs.declared.rows.RowValues.{RowValues}
+use Rattle.mdb_model.specs.declared.rows.RowValues.TheVariants.{Unread, Coefficient, Point, Label}
+use Rattle.mdb_model.specs.CalibrationRows.{CalibrationRow, calibration_checks, calibration_fault, calibration_fault_at, calibrations_of, row_values_of, continued, empty_table, has_x, has_y, is_other_kind, is_unread, rows_of_calibration, table_named, with_calibration_row, with_name, with_new_row, with_row}
 use Rattle.mdb_model.specs.Checks.{first_at, first_broken}
 use Rattle.mdb_model.specs.Lists.{at_last}
 use Rattle.mdb_model.specs.Texts.{Text}
 use Rattle.mdb_model.proofs.Ends.{at_last-push, item_at, last_of-push, snoc}
 use Rattle.mdb_model.proofs.Passing.{all_pass, each_none, is_same, is_true, take-next}
 
--- cells of a table's kind become its last row
-cells_row : (t : Table) (cells : Cells) → is_other_kind (Some t) cells ≡ false → has_x cells ≡ true → has_y cells ≡ true → cells_of (with_row t cells) ≡ cells_of t ++ cells ∷ []
-cells_row (Poly rows) Unread k x y = cc
-cells_row (Poly rows) (Coefficient None m) k x y = cc
-cells_row (Poly rows) (Coefficient (Some e) None) k x y = cc
-cells_row (Poly rows) (Coefficient (Some e) (Some m)) k x y = map-append _ rows _
-cells_row (Poly rows) (Point n m) k x y = cc
-cells_row (Poly rows) (Label n l) k x y = cc
-cells_row (Points rows) Unread k x y = cc
-cells_row (Points rows) (Coefficient e m) k x y = cc
-cells_row (Points rows) (Point None m) k x y = cc
-cells_row (Points rows) (Point (Some n) None) k x y = cc
-cells_row (Points rows) (Point (Some n) (Some m)) k x y = map-append _ rows _
-cells_row (Points rows) (Label n l) k x y = cc
-cells_row (Enum rows) Unread k x y = cc
-cells_row (Enum rows) (Coefficient e m) k x y = cc
-cells_row (Enum rows) (Point n m) k x y = cc
-cells_row (Enum rows) (Label None l) k x y = cc
-cells_row (Enum rows) (Label (Some n) l) k x y = map-append _ rows _
+-- values of a table's kind become its last row
+row_values_row : (t : Table) (row_values : RowValues) → is_other_kind (Some t) row_values ≡ false → has_x row_values ≡ true → has_y row_values ≡ true → row_values_of (with_row t row_values) ≡ row_values_of t ++ row_values ∷ []
+row_values_row (Poly rows) Unread k x y = cc
+row_values_row (Poly rows) (Coefficient None m) k x y = cc
+row_values_row (Poly rows) (Coefficient (Some e) None) k x y = cc
+row_values_row (Poly rows) (Coefficient (Some e) (Some m)) k x y = map-append _ rows _
+row_values_row (Poly rows) (Point n m) k x y = cc
+row_values_row (Poly rows) (Label n l) k x y = cc
+row_values_row (Points rows) Unread k x y = cc
+row_values_row (Points rows) (Coefficient e m) k x y = cc
+row_values_row (Points rows) (Point None m) k x y = cc
+row_values_row (Points rows) (Point (Some n) None) k x y = cc
+row_values_row (Points rows) (Point (Some n) (Some m)) k x y = map-append _ rows _
+row_values_row (Points rows) (Label n l) k x y = cc
+row_values_row (Enum rows) Unread k x y = cc
+row_values_row (Enum rows) (Coefficient e m) k x y = cc
+row_values_row (Enum rows) (Point n m) k x y = cc
+row_values_row (Enum rows) (Label None l) k x y = cc
+row_values_row (Enum rows) (Label (Some n) l) k x y = map-append _ rows _
 
-own_kind : (cells : Cells) → is_unread cells ≡ false → is_other_kind (Some (empty_table cells)) cells ≡ false
+own_kind : (row_values : RowValues) → is_unread row_values ≡ false → is_other_kind (Some (empty_table row_values)) row_values ≡ false
 own_kind Unread u = cc
 own_kind (Coefficient e m) u = refl
 own_kind (Point n m) u = refl
 own_kind (Label n l) u = refl
 
-no_cells : (cells : Cells) → cells_of (empty_table cells) ≡ []
-no_cells Unread = refl
-no_cells (Coefficient e m) = refl
-no_cells (Point n m) = refl
-no_cells (Label n l) = refl
+no_row_values : (row_values : RowValues) → row_values_of (empty_table row_values) ≡ []
+no_row_values Unread = refl
+no_row_values (Coefficient e m) = refl
+no_row_values (Point n m) = refl
+no_row_values (Label n l) = refl
 
--- the row of a name with some cells
-abbrev row_with : Text → Cells → CalibrationRow
-row_with name cells = record { fields = 4; name = name; cells = cells }
+-- the row of a name with some values
+abbrev row_with : Text → RowValues → CalibrationRow
+row_with name row_values = record { fields = 4; name = name; row_values = row_values }
 
 -- a calibration with one more row has that row at its end
-more_rows : (c : Calibration) (cells : Cells) → is_other_kind (Some c.table) cells ≡ false → has_x cells ≡ true → has_y cells ≡ true
-    → rows_of_calibration (with_new_row cells c) ≡ rows_of_calibration c ++ row_with c.name cells ∷ []
-more_rows c cells k x y = ap (map (row_with c.name)) (cells_row c.table cells k x y) ∙ map-append (row_with c.name) (cells_of c.table) (cells ∷ [])
+more_rows : (c : Calibration) (row_values : RowValues) → is_other_kind (Some c.table) row_values ≡ false → has_x row_values ≡ true → has_y row_values ≡ true
+    → rows_of_calibration (with_new_row row_values c) ≡ rows_of_calibration c ++ row_with c.name row_values ∷ []
+more_rows c row_values k x y = ap (map (row_with c.name)) (row_values_row c.table row_values k x y) ∙ map-append (row_with c.name) (row_values_of c.table) (row_values ∷ [])
 
 pub if_some : {X : Type 0} (b : Bool) (x y : X) → (if b then Some x else None) ≡ Some y → (b ≡ true) × (x ≡ y)
 if_some true x y e = (refl, same_Some x y e)
@@ -71,35 +71,35 @@ last_named c name t e =
     ((bytes_eq-Decides c.name name).0 p.0, p.1)
 
 -- a new calibration has the row alone
-new_row : (above : List Calibration) (row : CalibrationRow) → continued above row.name ≡ None → row.fields ≡ 4 → is_unread row.cells ≡ false → has_x row.cells ≡ true → has_y row.cells ≡ true
+new_row : (above : List Calibration) (row : CalibrationRow) → continued above row.name ≡ None → row.fields ≡ 4 → is_unread row.row_values ≡ false → has_x row.row_values ≡ true → has_y row.row_values ≡ true
     → flat_map rows_of_calibration (with_calibration_row above row) ≡ flat_map rows_of_calibration above ++ row ∷ []
 new_row above row fresh fields u x y =
-    let c : Calibration = record { name = row.name; table = empty_table row.cells } in
-    let begun : with_name above row.name row.cells ≡ above ++ c ∷ [] = rw fresh refl in
-    let grown : with_calibration_row above row ≡ above ++ with_new_row row.cells c ∷ [] = ap (at_last (with_new_row row.cells)) begun ∙ at_last-push (with_new_row row.cells) above c in
-    let own : rows_of_calibration (with_new_row row.cells c) ≡ row_with row.name row.cells ∷ [] =
-    more_rows c row.cells (own_kind row.cells u) x y ∙ ap (λ (cells : List Cells). map (row_with row.name) cells ++ row_with row.name row.cells ∷ []) (no_cells row.cells) in
-    let same : row_with row.name row.cells ≡ row = ap (λ (n : ℕ). let r : CalibrationRow = record { fields = n; name = row.name; cells = row.cells } in r) (sym fields) in
-    ap (flat_map rows_of_calibration) grown ∙ flat_map-append rows_of_calibration above (with_new_row row.cells c ∷ [])
+    let c : Calibration = record { name = row.name; table = empty_table row.row_values } in
+    let begun : with_name above row.name row.row_values ≡ above ++ c ∷ [] = rw fresh refl in
+    let grown : with_calibration_row above row ≡ above ++ with_new_row row.row_values c ∷ [] = ap (at_last (with_new_row row.row_values)) begun ∙ at_last-push (with_new_row row.row_values) above c in
+    let own : rows_of_calibration (with_new_row row.row_values c) ≡ row_with row.name row.row_values ∷ [] =
+    more_rows c row.row_values (own_kind row.row_values u) x y ∙ ap (λ (row_values : List RowValues). map (row_with row.name) row_values ++ row_with row.name row.row_values ∷ []) (no_row_values row.row_values) in
+    let same : row_with row.name row.row_values ≡ row = ap (λ (n : ℕ). let r : CalibrationRow = record { fields = n; name = row.name; row_values = row.row_values } in r) (sym fields) in
+    ap (flat_map rows_of_calibration) grown ∙ flat_map-append rows_of_calibration above (with_new_row row.row_values c ∷ [])
     ∙ ap (λ (rs : List CalibrationRow). flat_map rows_of_calibration above ++ (rs ++ [])) (own ∙ ap (λ (r : CalibrationRow). r ∷ []) same)
 
 -- the last calibration has the row at its end
-next_row : (front : List Calibration) (c : Calibration) (row : CalibrationRow) (t : Table) → continued (front ++ c ∷ []) row.name ≡ Some t → row.fields ≡ 4 → is_other_kind (Some t) row.cells ≡ false → has_x row.cells ≡ true → has_y row.cells ≡ true
+next_row : (front : List Calibration) (c : Calibration) (row : CalibrationRow) (t : Table) → continued (front ++ c ∷ []) row.name ≡ Some t → row.fields ≡ 4 → is_other_kind (Some t) row.row_values ≡ false → has_x row.row_values ≡ true → has_y row.row_values ≡ true
     → flat_map rows_of_calibration (with_calibration_row (front ++ c ∷ []) row) ≡ flat_map rows_of_calibration (front ++ c ∷ []) ++ row ∷ []
 next_row front c row t is fields k x y =
     let last : table_named row.name (Some c) ≡ Some t = ap (table_named row.name) (sym (last_of-push front c)) ∙ is in
     let named = last_named c row.name t last in
-    let kind : is_other_kind (Some c.table) row.cells ≡ false = ap (λ (u : Table). is_other_kind (Some u) row.cells) named.1 ∙ k in
-    let begun : with_name (front ++ c ∷ []) row.name row.cells ≡ front ++ c ∷ [] = rw is refl in
-    let grown : with_calibration_row (front ++ c ∷ []) row ≡ front ++ with_new_row row.cells c ∷ [] = ap (at_last (with_new_row row.cells)) begun ∙ at_last-push (with_new_row row.cells) front c in
-    let same : row_with c.name row.cells ≡ row = ap (λ (n : Text). row_with n row.cells) named.0 ∙ ap (λ (n : ℕ). let r : CalibrationRow = record { fields = n; name = row.name; cells = row.cells } in r) (sym fields) in
-    let own : rows_of_calibration (with_new_row row.cells c) ≡ rows_of_calibration c ++ row ∷ [] =
-    more_rows c row.cells kind x y ∙ ap (λ (r : CalibrationRow). rows_of_calibration c ++ r ∷ []) same in
+    let kind : is_other_kind (Some c.table) row.row_values ≡ false = ap (λ (u : Table). is_other_kind (Some u) row.row_values) named.1 ∙ k in
+    let begun : with_name (front ++ c ∷ []) row.name row.row_values ≡ front ++ c ∷ [] = rw is refl in
+    let grown : with_calibration_row (front ++ c ∷ []) row ≡ front ++ with_new_row row.row_values c ∷ [] = ap (at_last (with_new_row row.row_values)) begun ∙ at_last-push (with_new_row row.row_values) front c in
+    let same : row_with c.name row.row_values ≡ row = ap (λ (n : Text). row_with n row.row_values) named.0 ∙ ap (λ (n : ℕ). let r : CalibrationRow = record { fields = n; name = row.name; row_values = row.row_values } in r) (sym fields) in
+    let own : rows_of_calibration (with_new_row row.row_values c) ≡ rows_of_calibration c ++ row ∷ [] =
+    more_rows c row.row_values kind x y ∙ ap (λ (r : CalibrationRow). rows_of_calibration c ++ r ∷ []) same in
     let f = rows_of_calibration in
-    ap (flat_map f) grown ∙ flat_map-append f front (with_new_row row.cells c ∷ []) ∙ ap (λ (rs : List CalibrationRow). flat_map f front ++ rs) (append-nil (f (with_new_row row.cells c)) ∙ own)
+    ap (flat_map f) grown ∙ flat_map-append f front (with_new_row row.row_values c ∷ []) ∙ ap (λ (rs : List CalibrationRow). flat_map f front ++ rs) (append-nil (f (with_new_row row.row_values c)) ∙ own)
     ∙ sym (append_assoc (flat_map f front) (f c) (row ∷ [])) ∙ ap (λ (rs : List CalibrationRow). rs ++ row ∷ []) (sym (flat_map-append f front (c ∷ []) ∙ ap (λ (rs : List CalibrationRow). flat_map f front ++ rs) (append-nil (f c))))
 
-added : (above : List Calibration) (row : CalibrationRow) (o : Option Table) → continued above row.name ≡ o → row.fields ≡ 4 → is_unread row.cells ≡ false → is_other_kind o row.cells ≡ false → has_x row.cells ≡ true → has_y row.cells ≡ true
+added : (above : List Calibration) (row : CalibrationRow) (o : Option Table) → continued above row.name ≡ o → row.fields ≡ 4 → is_unread row.row_values ≡ false → is_other_kind o row.row_values ≡ false → has_x row.row_values ≡ true → has_y row.row_values ≡ true
     → flat_map rows_of_calibration (with_calibration_row above row) ≡ flat_map rows_of_calibration above ++ row ∷ []
 added above row None is fields u k x y = new_row above row is fields u x y
 added [] row (Some t) is fields u k x y = cc
@@ -113,7 +113,7 @@ pub row_added : (above : List Calibration) (row : CalibrationRow) (next : Option
     → flat_map rows_of_calibration (with_calibration_row above row) ≡ flat_map rows_of_calibration above ++ row ∷ []
 row_added above row next sound =
     let p = all_pass (calibration_checks above row next) sound in
-    added above row (continued above row.name) refl (is_same row.fields 4 p.0) p.1.1.1.0 p.1.1.1.1.0 (is_true (has_x row.cells) p.1.1.1.1.1.0) (is_true (has_y row.cells) p.1.1.1.1.1.1.1.0)
+    added above row (continued above row.name) refl (is_same row.fields 4 p.0) p.1.1.1.0 p.1.1.1.1.0 (is_true (has_x row.row_values) p.1.1.1.1.1.0) (is_true (has_y row.row_values) p.1.1.1.1.1.1.1.0)
 
 sound_row : (above : List Calibration) (row : CalibrationRow) (o : Option CalibrationRow) (next : Option CalibrationRow) → o ≡ Some row → calibration_fault above o next ≡ None → first_broken (calibration_checks above row (option_map (λ r. r.name) next)) ≡ None
 sound_row above row o next is sound = rw is at sound

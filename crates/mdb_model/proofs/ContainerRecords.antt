@@ -3,45 +3,45 @@ use Rattle.std.proofs.Common.{◌≡◌, ◌∙◌, ℕ, List, ◌∷◌, length
 use Rattle.std.specs.Prelude.{IfOk, not, ◌==◌}
 use Rattle.mdb_model.specs.declared.container.Container.{Container}
 use Rattle.mdb_model.specs.declared.parameter.Parameter.{Parameter}
-use Rattle.mdb_model.specs.declared.rows.Head.{Head}
+use Rattle.mdb_model.specs.declared.rows.ContainerColumns.{ContainerColumns}
 use Rattle.mdb_model.specs.declared.rows.Position.{Position}
 use Rattle.mdb_model.specs.declared.rows.Reference.{Reference}
 use Rattle.mdb_model.specs.Checks.{first_broken, or_else}
-use Rattle.mdb_model.specs.ContainerRows.{entry_checks, head_checks, is_continuing, last_line, row_fault, with_head}
-use Rattle.mdb_model.specs.Lines.{line_end}
-use Rattle.mdb_model.specs.Sheets.{head_of, name_of_container, name_of_parameter, read_container, read_head, read_position, read_reference}
+use Rattle.mdb_model.specs.ContainerRows.{entry_checks, columns_checks, is_continuing, last_path, row_fault, with_columns}
+use Rattle.mdb_model.specs.Paths.{path_end}
+use Rattle.mdb_model.specs.Sheets.{columns_of, name_of_container, name_of_parameter, read_container, read_columns, read_position, read_reference}
 use Rattle.mdb_model.specs.Texts.{Text, field}
 
 -- the names are those of the items
-pub head_is : (ps : List Parameter) (above : List Container) (names numbers : List Text) (fields : List Text) (head : Head) → names ≡ map name_of_parameter ps → numbers ≡ map name_of_container above
-    → head ≡ read_head names numbers (field fields 0) (field fields 1) (field fields 2) (field fields 3) → head ≡ head_of ps above fields
-head_is ps above names numbers fields head first second is =
-    is ∙ ap (λ (xs : List Text). read_head xs numbers (field fields 0) (field fields 1) (field fields 2) (field fields 3)) first
-    ∙ ap (λ (xs : List Text). read_head (map name_of_parameter ps) xs (field fields 0) (field fields 1) (field fields 2) (field fields 3)) second
+pub columns_is : (ps : List Parameter) (above : List Container) (names numbers : List Text) (fields : List Text) (columns : ContainerColumns) → names ≡ map name_of_parameter ps → numbers ≡ map name_of_container above
+    → columns ≡ read_columns names numbers (field fields 0) (field fields 1) (field fields 2) (field fields 3) → columns ≡ columns_of ps above fields
+columns_is ps above names numbers fields columns first second is =
+    is ∙ ap (λ (xs : List Text). read_columns xs numbers (field fields 0) (field fields 1) (field fields 2) (field fields 3)) first
+    ∙ ap (λ (xs : List Text). read_columns (map name_of_parameter ps) xs (field fields 0) (field fields 1) (field fields 2) (field fields 3)) second
 
 -- once the columns before the entry break no rule, the entry's rules decide
-entry_decides : (ps : List Parameter) (above middle : List Container) (fields : List Text) (head : Head) (continuing : Bool) (entry : Reference) (position : Position) → head ≡ head_of ps above fields
-    → None ≡ first_broken ((2, not (length fields == 6)) ∷ head_checks above head) → middle ≡ with_head above head → continuing ≡ is_continuing head
-    → entry ≡ read_reference (map name_of_parameter ps) (field fields 4) → position ≡ read_position (line_end ps (last_line middle)) entry (field fields 5)
-    → first_broken (entry_checks ps (last_line middle) continuing entry position) ≡ row_fault ps above (read_container ps above fields)
-entry_decides ps above middle fields head continuing entry position heads sound grown continues enters placed =
-    let h = head_of ps above fields in
+entry_decides : (ps : List Parameter) (above middle : List Container) (fields : List Text) (columns : ContainerColumns) (continuing : Bool) (entry : Reference) (position : Position) → columns ≡ columns_of ps above fields
+    → None ≡ first_broken ((2, not (length fields == 6)) ∷ columns_checks above columns) → middle ≡ with_columns above columns → continuing ≡ is_continuing columns
+    → entry ≡ read_reference (map name_of_parameter ps) (field fields 4) → position ≡ read_position (path_end ps (last_path middle)) entry (field fields 5)
+    → first_broken (entry_checks ps (last_path middle) continuing entry position) ≡ row_fault ps above (read_container ps above fields)
+entry_decides ps above middle fields columns continuing entry position heads sound grown continues enters placed =
+    let h = columns_of ps above fields in
     let e = read_reference (map name_of_parameter ps) (field fields 4) in
-    let at = λ (m : List Container) (r : Reference). read_position (line_end ps (last_line m)) r (field fields 5) in
-    let rest : Option ℕ = first_broken (entry_checks ps (last_line (with_head above h)) (is_continuing h) e (at (with_head above h) e)) in
-    let passes : None ≡ first_broken ((2, not (length fields == 6)) ∷ head_checks above h) = sound ∙ ap (λ (x : Head). first_broken ((2, not (length fields == 6)) ∷ head_checks above x)) heads in
-    ap (λ (p : Position). first_broken (entry_checks ps (last_line middle) continuing entry p)) placed
-    ∙ ap (λ (m : List Container). first_broken (entry_checks ps (last_line m) continuing entry (at m entry))) grown
-    ∙ ap (λ (b : Bool). first_broken (entry_checks ps (last_line (with_head above head)) b entry (at (with_head above head) entry))) continues
-    ∙ ap (λ (r : Reference). first_broken (entry_checks ps (last_line (with_head above head)) (is_continuing head) r (at (with_head above head) r))) enters
-    ∙ ap (λ (x : Head). first_broken (entry_checks ps (last_line (with_head above x)) (is_continuing x) e (at (with_head above x) e))) heads
+    let at = λ (m : List Container) (r : Reference). read_position (path_end ps (last_path m)) r (field fields 5) in
+    let rest : Option ℕ = first_broken (entry_checks ps (last_path (with_columns above h)) (is_continuing h) e (at (with_columns above h) e)) in
+    let passes : None ≡ first_broken ((2, not (length fields == 6)) ∷ columns_checks above h) = sound ∙ ap (λ (x : ContainerColumns). first_broken ((2, not (length fields == 6)) ∷ columns_checks above x)) heads in
+    ap (λ (p : Position). first_broken (entry_checks ps (last_path middle) continuing entry p)) placed
+    ∙ ap (λ (m : List Container). first_broken (entry_checks ps (last_path m) continuing entry (at m entry))) grown
+    ∙ ap (λ (b : Bool). first_broken (entry_checks ps (last_path (with_columns above columns)) b entry (at (with_columns above columns) entry))) continues
+    ∙ ap (λ (r : Reference). first_broken (entry_checks ps (last_path (with_columns above columns)) (is_continuing columns) r (at (with_columns above columns) r))) enters
+    ∙ ap (λ (x : ContainerColumns). first_broken (entry_checks ps (last_path (with_columns above x)) (is_continuing x) e (at (with_columns above x) e))) heads
     ∙ ap (λ (o : Option ℕ). or_else o rest) passes
 
-pub entry_answers : {E : Type 0} (ps slice : List Parameter) (above middle : List Container) (fields : List Text) (head : Head) (continuing : Bool) (entry : Reference) (position : Position) (r : Result (Option ℕ) E) → slice ≡ ps → head ≡ head_of ps above fields
-    → None ≡ first_broken ((2, not (length fields == 6)) ∷ head_checks above head) → middle ≡ with_head above head → continuing ≡ is_continuing head
-    → entry ≡ read_reference (map name_of_parameter ps) (field fields 4) → position ≡ read_position (line_end ps (last_line middle)) entry (field fields 5)
-    → IfOk r (λ rule. rule ≡ first_broken (entry_checks slice (last_line middle) continuing entry position)) → IfOk r (λ rule. rule ≡ row_fault ps above (read_container ps above fields))
-entry_answers ps slice above middle fields head continuing entry position r same heads sound grown continues enters placed answer =
+pub entry_answers : {E : Type 0} (ps slice : List Parameter) (above middle : List Container) (fields : List Text) (columns : ContainerColumns) (continuing : Bool) (entry : Reference) (position : Position) (r : Result (Option ℕ) E) → slice ≡ ps → columns ≡ columns_of ps above fields
+    → None ≡ first_broken ((2, not (length fields == 6)) ∷ columns_checks above columns) → middle ≡ with_columns above columns → continuing ≡ is_continuing columns
+    → entry ≡ read_reference (map name_of_parameter ps) (field fields 4) → position ≡ read_position (path_end ps (last_path middle)) entry (field fields 5)
+    → IfOk r (λ rule. rule ≡ first_broken (entry_checks slice (last_path middle) continuing entry position)) → IfOk r (λ rule. rule ≡ row_fault ps above (read_container ps above fields))
+entry_answers ps slice above middle fields columns continuing entry position r same heads sound grown continues enters placed answer =
     let P : Option ℕ → Type 0 = λ x. IfOk r (λ rule. rule ≡ x) in
-    let Q : List Parameter → Type 0 = λ xs. IfOk r (λ rule. rule ≡ first_broken (entry_checks xs (last_line middle) continuing entry position)) in
-    subst P (entry_decides ps above middle fields head continuing entry position heads sound grown continues enters placed) (subst Q same answer)
+    let Q : List Parameter → Type 0 = λ xs. IfOk r (λ rule. rule ≡ first_broken (entry_checks xs (last_path middle) continuing entry position)) in
+    subst P (entry_decides ps above middle fields columns continuing entry position heads sound grown continues enters placed) (subst Q same answer)

@@ -9,18 +9,18 @@ use Rattle.mdb_model.specs.declared.container.Container.{Container}
 use Rattle.mdb_model.specs.declared.container.Entry.{Entry}
 use Rattle.mdb_model.specs.declared.fault.MdbSheet.TheVariants as sheet
 use Rattle.mdb_model.specs.declared.parameter.Parameter.{Parameter}
-use Rattle.mdb_model.specs.declared.rows.Begun.{Begun}
-use Rattle.mdb_model.specs.declared.rows.Head.{Head}
-use Rattle.mdb_model.specs.declared.rows.Head.TheVariants.{Begins, Continues}
+use Rattle.mdb_model.specs.declared.rows.NewContainer.{NewContainer}
+use Rattle.mdb_model.specs.declared.rows.ContainerColumns.{ContainerColumns}
+use Rattle.mdb_model.specs.declared.rows.ContainerColumns.TheVariants.{Begins, Continues}
 use Rattle.mdb_model.specs.declared.rows.Position.{Position}
 use Rattle.mdb_model.specs.declared.rows.Position.TheVariants as place
 use Rattle.mdb_model.specs.declared.rows.Position.TheVariants.{At}
 use Rattle.mdb_model.specs.declared.rows.Reference.{Reference}
 use Rattle.mdb_model.specs.declared.rows.Reference.TheVariants.{Nothing, Unknown, Known}
 use Rattle.mdb_model.specs.Checks.{Checks, first_at, first_broken}
-use Rattle.mdb_model.specs.ContainerRows.{ContainerRow, begin_row, begun_checks, container_fault, container_fault_at, containers_of, entry_checks, entry_row, head_checks, is_condition, is_continuing, is_parent, last_line, line_up, row_fault, rows_of_container, with_container_row, with_entry, with_head, with_new_entry}
+use Rattle.mdb_model.specs.ContainerRows.{ContainerRow, begin_row, new_container_checks, container_fault, container_fault_at, containers_of, entry_checks, entry_row, columns_checks, is_condition, is_continuing, is_parent, last_path, path_up, row_fault, rows_of_container, with_container_row, with_entry, with_columns, with_new_entry}
 use Rattle.mdb_model.specs.Database.{broken_below, containers_fault}
-use Rattle.mdb_model.specs.Lines.{Line}
+use Rattle.mdb_model.specs.Paths.{ContainerPath}
 use Rattle.mdb_model.specs.Lists.{is_empty}
 use Rattle.mdb_model.specs.ParameterRows.{number_of}
 use Rattle.mdb_model.specs.Texts.{Text}
@@ -29,7 +29,7 @@ use Rattle.mdb_model.proofs.Passing.{AllPass, all_pass, each_none, first_none, i
 
 -- the rules of a row's entry
 abbrev checks_of : List Parameter → List Container → ContainerRow → Checks
-checks_of ps above row = entry_checks ps (last_line (with_head above row.head)) (is_continuing row.head) row.entry row.position
+checks_of ps above row = entry_checks ps (last_path (with_columns above row.columns)) (is_continuing row.columns) row.entry row.position
 
 -- rows below containers, none of which breaks a rule
 abbrev pub Faultless : List Parameter → List Container → List ContainerRow → Type 0
@@ -40,19 +40,19 @@ faultless_append : (ps : List Parameter) (above : List Container) (xs ys : List 
 faultless_append ps above [] ys a b = b
 faultless_append ps above (x ∷ xs) ys a b = (a.0, faultless_append ps (with_container_row above x) xs ys a.1 b)
 
-abbrev begun_of : Begun → Container
-begun_of b = record { name = b.name; parent = number_of b.parent; archive = unwrap_or b.archive false; condition = unwrap_or b.condition []; entries = [] }
+abbrev new_container_of : NewContainer → Container
+new_container_of b = record { name = b.name; parent = number_of b.parent; archive = unwrap_or b.archive false; condition = unwrap_or b.condition []; entries = [] }
 
 -- the row that only begins a container, and the row that only adds an entry
-abbrev begin_only : Begun → ContainerRow
-begin_only b = record { fields = 6; head = Begins b; entry = Nothing; position = place.Nothing }
+abbrev begin_only : NewContainer → ContainerRow
+begin_only b = record { fields = 6; columns = Begins b; entry = Nothing; position = place.Nothing }
 
 abbrev entry_only : ℕ → ℕ → ContainerRow
-entry_only n at = record { fields = 6; head = Continues false; entry = Known n; position = At at }
+entry_only n at = record { fields = 6; columns = Continues false; entry = Known n; position = At at }
 
-abbrev head_rows : Head → List ContainerRow
-head_rows (Begins b) = begin_only b ∷ []
-head_rows (Continues says) = []
+abbrev columns_rows : ContainerColumns → List ContainerRow
+columns_rows (Begins b) = begin_only b ∷ []
+columns_rows (Continues says) = []
 
 abbrev entry_rows : Reference → Position → List ContainerRow
 entry_rows (Known n) (At at) = entry_only n at ∷ []
@@ -60,18 +60,18 @@ entry_rows entry position = []
 
 -- a row as one that begins a container and one that adds an entry
 abbrev pub parts_of : ContainerRow → List ContainerRow
-parts_of row = head_rows row.head ++ entry_rows row.entry row.position
+parts_of row = columns_rows row.columns ++ entry_rows row.entry row.position
 
 pushed_not_empty : {X : Type 0} (xs : List X) (x : X) → is_empty (xs ++ x ∷ []) ≡ false
 pushed_not_empty [] x = refl
 pushed_not_empty (y ∷ xs) x = refl
 
 -- the part that begins a container breaks no rule
-begin_sound : (ps : List Parameter) (above : List Container) (b : Begun) → first_broken (head_checks above (Begins b)) ≡ None → row_fault ps above (begin_only b) ≡ None
+begin_sound : (ps : List Parameter) (above : List Container) (b : NewContainer) → first_broken (columns_checks above (Begins b)) ≡ None → row_fault ps above (begin_only b) ≡ None
 begin_sound ps above b sound = rw sound refl
 
 -- the part that adds an entry breaks no rule
-entry_sound : (ps : List Parameter) (containers : List Container) (n at : ℕ) → is_empty containers ≡ false → first_broken (entry_checks ps (last_line containers) true (Known n) (At at)) ≡ None → row_fault ps containers (entry_only n at) ≡ None
+entry_sound : (ps : List Parameter) (containers : List Container) (n at : ℕ) → is_empty containers ≡ false → first_broken (entry_checks ps (last_path containers) true (Known n) (At at)) ≡ None → row_fault ps containers (entry_only n at) ≡ None
 entry_sound ps containers n at begun sound = rw begun sound
 
 -- an entry and its position that break no rule: both are there, or neither is
@@ -79,32 +79,32 @@ data Placed : Bool → Reference → Position → Type 0 where
   nowhere : Placed false Nothing place.Nothing
   there : {continuing : Bool} {n at : ℕ} → Placed continuing (Known n) (At at)
 
-placed : (ps : List Parameter) (line : Line) (continuing : Bool) (entry : Reference) (position : Position) → AllPass (entry_checks ps line continuing entry position) → Placed continuing entry position
-placed ps line continuing Unknown position p = let bad : true ≡ false = p.0 in cc
-placed ps line true Nothing position p = let bad : true ≡ false = p.1.1.0 in cc
-placed ps line false Nothing place.Nothing p = nowhere
-placed ps line false Nothing place.Unknown p = let bad : true ≡ false = p.1.1.1.1.0 in cc
-placed ps line false Nothing (At at) p = let bad : true ≡ false = p.1.1.1.1.0 in cc
-placed ps line continuing (Known n) place.Nothing p = let bad : true ≡ false = p.1.1.1.1.0 in cc
-placed ps line continuing (Known n) place.Unknown p = let bad : true ≡ false = p.1.1.1.1.0 in cc
-placed ps line continuing (Known n) (At at) p = there
+placed : (ps : List Parameter) (path : ContainerPath) (continuing : Bool) (entry : Reference) (position : Position) → AllPass (entry_checks ps path continuing entry position) → Placed continuing entry position
+placed ps path continuing Unknown position p = let bad : true ≡ false = p.0 in cc
+placed ps path true Nothing position p = let bad : true ≡ false = p.1.1.0 in cc
+placed ps path false Nothing place.Nothing p = nowhere
+placed ps path false Nothing place.Unknown p = let bad : true ≡ false = p.1.1.1.1.0 in cc
+placed ps path false Nothing (At at) p = let bad : true ≡ false = p.1.1.1.1.0 in cc
+placed ps path continuing (Known n) place.Nothing p = let bad : true ≡ false = p.1.1.1.1.0 in cc
+placed ps path continuing (Known n) place.Unknown p = let bad : true ≡ false = p.1.1.1.1.0 in cc
+placed ps path continuing (Known n) (At at) p = there
 
 -- whether the row continues makes no difference to an entry
-entry_either : (ps : List Parameter) (line : Line) (continuing : Bool) (n at : ℕ) → first_broken (entry_checks ps line continuing (Known n) (At at)) ≡ None → first_broken (entry_checks ps line true (Known n) (At at)) ≡ None
-entry_either ps line true n at sound = sound
-entry_either ps line false n at sound = sound
+entry_either : (ps : List Parameter) (path : ContainerPath) (continuing : Bool) (n at : ℕ) → first_broken (entry_checks ps path continuing (Known n) (At at)) ≡ None → first_broken (entry_checks ps path true (Known n) (At at)) ≡ None
+entry_either ps path true n at sound = sound
+entry_either ps path false n at sound = sound
 
 -- what the parts of a sound row come to
-abbrev PartsAreSound : List Parameter → List Container → Head → Reference → Position → Type 0
-PartsAreSound ps above head entry position =
-    Faultless ps above (head_rows head ++ entry_rows entry position)
-    × (fold with_container_row above (head_rows head ++ entry_rows entry position) ≡ with_entry (with_head above head) entry position)
+abbrev PartsAreSound : List Parameter → List Container → ContainerColumns → Reference → Position → Type 0
+PartsAreSound ps above columns entry position =
+    Faultless ps above (columns_rows columns ++ entry_rows entry position)
+    × (fold with_container_row above (columns_rows columns ++ entry_rows entry position) ≡ with_entry (with_columns above columns) entry position)
 
-head_tail : (ps : List Parameter) (above : List Container) (fields : ℕ) (head : Head) → first_broken ((2, not (fields == 6)) ∷ head_checks above head) ≡ None → first_broken (head_checks above head) ≡ None
-head_tail ps above fields head sound = none_broken (head_checks above head) ((all_pass ((2, not (fields == 6)) ∷ head_checks above head) sound).1)
+head_tail : (ps : List Parameter) (above : List Container) (fields : ℕ) (columns : ContainerColumns) → first_broken ((2, not (fields == 6)) ∷ columns_checks above columns) ≡ None → first_broken (columns_checks above columns) ≡ None
+head_tail ps above fields columns sound = none_broken (columns_checks above columns) ((all_pass ((2, not (fields == 6)) ∷ columns_checks above columns) sound).1)
 
-parts_sound : (ps : List Parameter) (above : List Container) (head : Head) (entry : Reference) (position : Position) → first_broken (head_checks above head) ≡ None → first_broken (entry_checks ps (last_line (with_head above head)) (is_continuing head) entry position) ≡ None
-    → Placed (is_continuing head) entry position → PartsAreSound ps above head entry position
+parts_sound : (ps : List Parameter) (above : List Container) (columns : ContainerColumns) (entry : Reference) (position : Position) → first_broken (columns_checks above columns) ≡ None → first_broken (entry_checks ps (last_path (with_columns above columns)) (is_continuing columns) entry position) ≡ None
+    → Placed (is_continuing columns) entry position → PartsAreSound ps above columns entry position
 parts_sound ps above (Begins b) Nothing place.Nothing h e q = ((begin_sound ps above b h, tt), refl)
 parts_sound ps above (Begins b) Nothing place.Unknown h e q = elim q [ ]
 parts_sound ps above (Begins b) Nothing (At at) h e q = elim q [ ]
@@ -112,21 +112,21 @@ parts_sound ps above (Begins b) Unknown position h e q = elim q [ ]
 parts_sound ps above (Begins b) (Known n) place.Nothing h e q = elim q [ ]
 parts_sound ps above (Begins b) (Known n) place.Unknown h e q = elim q [ ]
 parts_sound ps above (Begins b) (Known n) (At at) h e q =
-    let begun = with_head above (Begins b) in
-    ((begin_sound ps above b h, (entry_sound ps begun n at (pushed_not_empty above (begun_of b)) (entry_either ps (last_line begun) false n at e), tt)), refl)
+    let begun = with_columns above (Begins b) in
+    ((begin_sound ps above b h, (entry_sound ps begun n at (pushed_not_empty above (new_container_of b)) (entry_either ps (last_path begun) false n at e), tt)), refl)
 parts_sound ps above (Continues says) Nothing position h e q = elim q [ ]
 parts_sound ps above (Continues says) Unknown position h e q = elim q [ ]
 parts_sound ps above (Continues says) (Known n) place.Nothing h e q = elim q [ ]
 parts_sound ps above (Continues says) (Known n) place.Unknown h e q = elim q [ ]
 parts_sound ps above (Continues says) (Known n) (At at) h e q =
-    let p = all_pass (head_checks above (Continues says)) h in
+    let p = all_pass (columns_checks above (Continues says)) h in
     ((entry_sound ps above n at p.0 e, tt), refl)
 
-sound_parts : (ps : List Parameter) (above : List Container) (row : ContainerRow) → row_fault ps above row ≡ None → PartsAreSound ps above row.head row.entry row.position
+sound_parts : (ps : List Parameter) (above : List Container) (row : ContainerRow) → row_fault ps above row ≡ None → PartsAreSound ps above row.columns row.entry row.position
 sound_parts ps above row sound =
-    let both = or_else-none (first_broken ((2, not (row.fields == 6)) ∷ head_checks above row.head)) (first_broken (entry_checks ps (last_line (with_head above row.head)) (is_continuing row.head) row.entry row.position)) sound in
-    parts_sound ps above row.head row.entry row.position (head_tail ps above row.fields row.head both.0) both.1
-    (placed ps (last_line (with_head above row.head)) (is_continuing row.head) row.entry row.position (all_pass (checks_of ps above row) both.1))
+    let both = or_else-none (first_broken ((2, not (row.fields == 6)) ∷ columns_checks above row.columns)) (first_broken (entry_checks ps (last_path (with_columns above row.columns)) (is_continuing row.columns) row.entry row.position)) sound in
+    parts_sound ps above row.columns row.entry row.position (head_tail ps above row.fields row.columns both.0) both.1
+    (placed ps (last_path (with_columns above row.columns)) (is_continuing row.columns) row.entry row.position (all_pass (checks_of ps above row) both.1))
 
 -- the parts of sound rows are sound, and spell the same containers
 all_parts : (ps : List Parameter) (rows : List ContainerRow) (above : List Container) → Faultless ps above rows
@@ -143,7 +143,7 @@ all_parts ps (row ∷ rows) above sound =
 
 -- a container that a sound row begins has that row
 begin_back : (name : Text) (parent : Reference) (condition : Option (List Comparison)) (archive : Option Bool) (count : ℕ) → is_parent count parent ≡ true → is_condition condition ≡ true → is_some archive ≡ true
-    → rows_of_container (begun_of (record { name = name; parent = parent; condition = condition; archive = archive })) ≡ begin_only (record { name = name; parent = parent; condition = condition; archive = archive }) ∷ []
+    → rows_of_container (new_container_of (record { name = name; parent = parent; condition = condition; archive = archive })) ≡ begin_only (record { name = name; parent = parent; condition = condition; archive = archive }) ∷ []
 begin_back name Unknown condition archive count p c a = cc
 begin_back name Nothing None archive count p c a = cc
 begin_back name Nothing (Some cs) None count p c a = cc
@@ -152,11 +152,11 @@ begin_back name (Known n) None archive count p c a = cc
 begin_back name (Known n) (Some cs) None count p c a = cc
 begin_back name (Known n) (Some cs) (Some yes_no) count p c a = refl
 
-begun_rows : (above : List Container) (b : Begun) → first_broken (head_checks above (Begins b)) ≡ None → flat_map rows_of_container (with_head above (Begins b)) ≡ flat_map rows_of_container above ++ begin_only b ∷ []
+begun_rows : (above : List Container) (b : NewContainer) → first_broken (columns_checks above (Begins b)) ≡ None → flat_map rows_of_container (with_columns above (Begins b)) ≡ flat_map rows_of_container above ++ begin_only b ∷ []
 begun_rows above b sound =
-    let p = all_pass (begun_checks above (line_up above b) b) sound in
+    let p = all_pass (new_container_checks above (path_up above b) b) sound in
     let own = begin_back b.name b.parent b.condition b.archive (length above) (is_true (is_parent (length above) b.parent) p.1.1.1.0) (is_true (is_condition b.condition) p.1.1.1.1.1.0) (is_true (is_some b.archive) p.1.1.1.1.1.1.1.1.0) in
-    flat_map-append rows_of_container above (begun_of b ∷ []) ∙ ap (λ (rs : List ContainerRow). flat_map rows_of_container above ++ rs) (append-nil (rows_of_container (begun_of b)) ∙ own)
+    flat_map-append rows_of_container above (new_container_of b ∷ []) ∙ ap (λ (rs : List ContainerRow). flat_map rows_of_container above ++ rs) (append-nil (rows_of_container (new_container_of b)) ∙ own)
 
 -- one more entry in the last container
 entered_rows : (front : List Container) (c : Container) (n at : ℕ) → flat_map rows_of_container (with_entry (front ++ c ∷ []) (Known n) (At at)) ≡ flat_map rows_of_container (front ++ c ∷ []) ++ entry_only n at ∷ []
@@ -175,8 +175,8 @@ entered (a ∷ containers) n at begun =
     subst P (sym parts.2) (entered_rows parts.0 parts.1 n at)
 
 -- a sound row adds its parts to the rows
-row_added : (ps : List Parameter) (above : List Container) (head : Head) (entry : Reference) (position : Position) → first_broken (head_checks above head) ≡ None → Placed (is_continuing head) entry position
-    → flat_map rows_of_container (with_entry (with_head above head) entry position) ≡ flat_map rows_of_container above ++ (head_rows head ++ entry_rows entry position)
+row_added : (ps : List Parameter) (above : List Container) (columns : ContainerColumns) (entry : Reference) (position : Position) → first_broken (columns_checks above columns) ≡ None → Placed (is_continuing columns) entry position
+    → flat_map rows_of_container (with_entry (with_columns above columns) entry position) ≡ flat_map rows_of_container above ++ (columns_rows columns ++ entry_rows entry position)
 row_added ps above (Begins b) Nothing place.Nothing h q = begun_rows above b h
 row_added ps above (Begins b) Nothing place.Unknown h q = elim q [ ]
 row_added ps above (Begins b) Nothing (At at) h q = elim q [ ]
@@ -184,22 +184,22 @@ row_added ps above (Begins b) Unknown position h q = elim q [ ]
 row_added ps above (Begins b) (Known n) place.Nothing h q = elim q [ ]
 row_added ps above (Begins b) (Known n) place.Unknown h q = elim q [ ]
 row_added ps above (Begins b) (Known n) (At at) h q =
-    entered (with_head above (Begins b)) n at (pushed_not_empty above (begun_of b)) ∙ ap (λ (rs : List ContainerRow). rs ++ entry_only n at ∷ []) (begun_rows above b h)
+    entered (with_columns above (Begins b)) n at (pushed_not_empty above (new_container_of b)) ∙ ap (λ (rs : List ContainerRow). rs ++ entry_only n at ∷ []) (begun_rows above b h)
     ∙ append_assoc (flat_map rows_of_container above) (begin_only b ∷ []) (entry_only n at ∷ [])
 row_added ps above (Continues says) Nothing position h q = elim q [ ]
 row_added ps above (Continues says) Unknown position h q = elim q [ ]
 row_added ps above (Continues says) (Known n) place.Nothing h q = elim q [ ]
 row_added ps above (Continues says) (Known n) place.Unknown h q = elim q [ ]
 row_added ps above (Continues says) (Known n) (At at) h q =
-    let p = all_pass (head_checks above (Continues says)) h in
+    let p = all_pass (columns_checks above (Continues says)) h in
     entered above n at p.0
 
 all_rows : (ps : List Parameter) (rows : List ContainerRow) (above : List Container) → Faultless ps above rows → flat_map rows_of_container (fold with_container_row above rows) ≡ flat_map rows_of_container above ++ flat_map parts_of rows
 all_rows ps [] above sound = sym (append-nil (flat_map rows_of_container above))
 all_rows ps (row ∷ rows) above sound =
-    let both = or_else-none (first_broken ((2, not (row.fields == 6)) ∷ head_checks above row.head)) (first_broken (entry_checks ps (last_line (with_head above row.head)) (is_continuing row.head) row.entry row.position)) sound.0 in
-    let here = row_added ps above row.head row.entry row.position (head_tail ps above row.fields row.head both.0)
-    (placed ps (last_line (with_head above row.head)) (is_continuing row.head) row.entry row.position (all_pass (checks_of ps above row) both.1)) in
+    let both = or_else-none (first_broken ((2, not (row.fields == 6)) ∷ columns_checks above row.columns)) (first_broken (entry_checks ps (last_path (with_columns above row.columns)) (is_continuing row.columns) row.entry row.position)) sound.0 in
+    let here = row_added ps above row.columns row.entry row.position (head_tail ps above row.fields row.columns both.0)
+    (placed ps (last_path (with_columns above row.columns)) (is_continuing row.columns) row.entry row.position (all_pass (checks_of ps above row) both.1)) in
     let rest = all_rows ps rows (with_container_row above row) sound.1 in
     rest ∙ ap (λ (rs : List ContainerRow). rs ++ flat_map parts_of rows) here ∙ append_assoc (flat_map rows_of_container above) (parts_of row) (flat_map parts_of rows)
 
@@ -247,10 +247,10 @@ map_none f (Some x) e = cc
 -- the first of sound rows begins a container
 first_begins : (ps : List Parameter) (row : ContainerRow) (rows : List ContainerRow) → row_fault ps [] row ≡ None → 0 < length (flat_map parts_of (row ∷ rows))
 first_begins ps row rows sound =
-    let both = or_else-none (first_broken ((2, not (row.fields == 6)) ∷ head_checks [] row.head)) (first_broken (entry_checks ps (last_line (with_head [] row.head)) (is_continuing row.head) row.entry row.position)) sound in
-    begins row.head (head_tail ps [] row.fields row.head both.0)
+    let both = or_else-none (first_broken ((2, not (row.fields == 6)) ∷ columns_checks [] row.columns)) (first_broken (entry_checks ps (last_path (with_columns [] row.columns)) (is_continuing row.columns) row.entry row.position)) sound in
+    begins row.columns (head_tail ps [] row.fields row.columns both.0)
   where
-    begins : (head : Head) → first_broken (head_checks [] head) ≡ None → 0 < length ((head_rows head ++ entry_rows row.entry row.position) ++ flat_map parts_of rows)
+    begins : (columns : ContainerColumns) → first_broken (columns_checks [] columns) ≡ None → 0 < length ((columns_rows columns ++ entry_rows row.entry row.position) ++ flat_map parts_of rows)
     begins (Begins b) h = omega arith
     begins (Continues says) h = cc
 

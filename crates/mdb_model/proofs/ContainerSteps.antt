@@ -5,15 +5,15 @@ use Rattle.std.proofs.lemmas.Bool.{leb-false, leb-true, ltb-true}
 use Rattle.std.proofs.lemmas.Option.{same_Some}
 use Rattle.mdb_model.specs.declared.container.Container.{Container}
 use Rattle.mdb_model.specs.declared.parameter.Parameter.{Parameter}
-use Rattle.mdb_model.specs.declared.rows.Begun.{Begun}
+use Rattle.mdb_model.specs.declared.rows.NewContainer.{NewContainer}
 use Rattle.mdb_model.specs.declared.rows.Position.TheVariants.{At}
 use Rattle.mdb_model.specs.declared.rows.Reference.{Reference}
 use Rattle.mdb_model.specs.declared.rows.Reference.TheVariants.{Nothing, Unknown, Known}
 use Rattle.mdb_model.specs.Checks.{first_broken}
-use Rattle.mdb_model.specs.ContainerRows.{begun_checks, entry_checks, is_parent}
-use Rattle.mdb_model.specs.Lines.{Line, bits_at, last_number}
+use Rattle.mdb_model.specs.ContainerRows.{new_container_checks, entry_checks, is_parent}
+use Rattle.mdb_model.specs.Paths.{ContainerPath, bits_at, last_number}
 use Rattle.mdb_model.specs.ParameterRows.{number_of}
-use Rattle.mdb_model.specs.Spans.{IsNumber}
+use Rattle.mdb_model.specs.Totals.{IsNumber}
 use Rattle.mdb_model.specs.Texts.{place_of}
 use Rattle.mdb_model.proofs.Passing.{all_pass, is_true}
 
@@ -22,11 +22,11 @@ none_of None e = refl
 none_of (Some x) e = cc
 
 -- a name, a depth and a parent that break no rule
-pub begun_name : (above : List Container) (up : Line) (b : Begun) → first_broken (begun_checks above up b) ≡ None → place_of b.name (map (λ c. c.name) above) ≡ None
-begun_name above up b sound = let p = all_pass (begun_checks above up b) sound in none_of (place_of b.name (map (λ c. c.name) above)) p.1.0
+pub begun_name : (above : List Container) (up : ContainerPath) (b : NewContainer) → first_broken (new_container_checks above up b) ≡ None → place_of b.name (map (λ c. c.name) above) ≡ None
+begun_name above up b sound = let p = all_pass (new_container_checks above up b) sound in none_of (place_of b.name (map (λ c. c.name) above)) p.1.0
 
-pub begun_depth : (above : List Container) (up : Line) (b : Begun) → first_broken (begun_checks above up b) ≡ None → up.containers < 32
-begun_depth above up b sound = let p = all_pass (begun_checks above up b) sound in leb-false 32 up.containers p.1.1.0
+pub begun_depth : (above : List Container) (up : ContainerPath) (b : NewContainer) → first_broken (new_container_checks above up b) ≡ None → up.containers < 32
+begun_depth above up b sound = let p = all_pass (new_container_checks above up b) sound in leb-false 32 up.containers p.1.1.0
 
 pub parent_below : (n : ℕ) (r : Reference) → is_parent n r ≡ true → (p : ℕ) → number_of r ≡ Some p → p < n
 parent_below n Nothing is p e = cc
@@ -36,8 +36,8 @@ parent_below n (Known k) is p e =
     let less = ltb-true k n is in
     omega arith
 
-pub begun_parent : (above : List Container) (up : Line) (b : Begun) → first_broken (begun_checks above up b) ≡ None → (p : ℕ) → number_of b.parent ≡ Some p → p < length above
-begun_parent above up b sound = let p = all_pass (begun_checks above up b) sound in parent_below (length above) b.parent (is_true (is_parent (length above) b.parent) p.1.1.1.0)
+pub begun_parent : (above : List Container) (up : ContainerPath) (b : NewContainer) → first_broken (new_container_checks above up b) ≡ None → (p : ℕ) → number_of b.parent ≡ Some p → p < length above
+begun_parent above up b sound = let p = all_pass (new_container_checks above up b) sound in parent_below (length above) b.parent (is_true (is_parent (length above) b.parent) p.1.1.1.0)
 
 -- the last number is that of a container
 pub last_is_number : (cs : List Container) → IsNumber cs (last_number cs)
@@ -47,10 +47,10 @@ last_is_number (c ∷ cs) n e =
     omega arith
 
 -- an entry that breaks no rule has room and ends near enough
-pub entry_room : (ps : List Parameter) (line : Line) (continuing : Bool) (n at : ℕ) → first_broken (entry_checks ps line continuing (Known n) (At at)) ≡ None → length line.entries < 256
-entry_room ps line continuing n at sound = let p = all_pass (entry_checks ps line continuing (Known n) (At at)) sound in leb-false 256 (length line.entries) p.1.1.1.0
+pub entry_room : (ps : List Parameter) (path : ContainerPath) (continuing : Bool) (n at : ℕ) → first_broken (entry_checks ps path continuing (Known n) (At at)) ≡ None → length path.entries < 256
+entry_room ps path continuing n at sound = let p = all_pass (entry_checks ps path continuing (Known n) (At at)) sound in leb-false 256 (length path.entries) p.1.1.1.0
 
-pub entry_near : (ps : List Parameter) (line : Line) (continuing : Bool) (n at : ℕ) → first_broken (entry_checks ps line continuing (Known n) (At at)) ≡ None → at + bits_at ps n ≤ 524336
-entry_near ps line continuing n at sound =
-    let p = all_pass (entry_checks ps line continuing (Known n) (At at)) sound in
+pub entry_near : (ps : List Parameter) (path : ContainerPath) (continuing : Bool) (n at : ℕ) → first_broken (entry_checks ps path continuing (Known n) (At at)) ≡ None → at + bits_at ps n ≤ 524336
+entry_near ps path continuing n at sound =
+    let p = all_pass (entry_checks ps path continuing (Known n) (At at)) sound in
     leb-true (at + bits_at ps n) 524336 (is_true (nat_le (at + bits_at ps n) 524336) p.1.1.1.1.1.0)

@@ -8,20 +8,20 @@ use Rattle.mdb_model.specs.declared.container.Comparison.{Comparison}
 use Rattle.mdb_model.specs.declared.container.Container.{Container}
 use Rattle.mdb_model.specs.declared.container.Entry.{Entry}
 use Rattle.mdb_model.specs.declared.parameter.Parameter.{Parameter}
-use Rattle.mdb_model.specs.declared.rows.Begun.{Begun}
-use Rattle.mdb_model.specs.declared.rows.Head.TheVariants.{Begins, Continues}
+use Rattle.mdb_model.specs.declared.rows.NewContainer.{NewContainer}
+use Rattle.mdb_model.specs.declared.rows.ContainerColumns.TheVariants.{Begins, Continues}
 use Rattle.mdb_model.specs.declared.rows.Position.TheVariants as place
 use Rattle.mdb_model.specs.declared.rows.Position.TheVariants.{At}
 use Rattle.mdb_model.specs.declared.rows.Reference.TheVariants.{Nothing, Known}
 use Rattle.mdb_model.specs.Checks.{first_broken}
-use Rattle.mdb_model.specs.ContainerRows.{ContainerRow, begin_row, begun_checks, compares_other, entry_checks, entry_row, head_checks, is_condition, is_parent, last_line, line_up, row_fault, rows_of_container, with_container_row, with_head, with_new_entry}
-use Rattle.mdb_model.specs.Lines.{Line, bits_at, last_number, line_at, line_below, lines_of, no_line, stands_on, with_line}
+use Rattle.mdb_model.specs.ContainerRows.{ContainerRow, begin_row, new_container_checks, compares_other, entry_checks, entry_row, columns_checks, is_condition, is_parent, last_path, path_up, row_fault, rows_of_container, with_container_row, with_columns, with_new_entry}
+use Rattle.mdb_model.specs.Paths.{ContainerPath, bits_at, last_number, path_at, path_below, paths_of, no_path, stands_on, with_path}
 use Rattle.mdb_model.specs.Numbers.{is_in_range}
 use Rattle.mdb_model.specs.ParameterRows.{is_reference, number_of, reference_to}
-use Rattle.mdb_model.specs.Retaking.{are_sound, containers_sound}
+use Rattle.mdb_model.specs.Rechecking.{are_sound, containers_sound}
 use Rattle.mdb_model.specs.Spelling.{FitsComparison, FitsContainer, FitsEntry, link}
 use Rattle.mdb_model.specs.Texts.{is_name}
-use Rattle.mdb_model.proofs.Ancestry.{length-lines_of, lines_of-push}
+use Rattle.mdb_model.proofs.Ancestry.{length-paths_of, paths_of-push}
 use Rattle.mdb_model.proofs.DatabaseFits.{all_join, name_short, range_fits}
 use Rattle.mdb_model.proofs.Ends.{at_last-push, length-push, slice_get-end}
 use Rattle.mdb_model.proofs.Passing.{all_pass, is_true, or_else-none}
@@ -38,31 +38,31 @@ both_true false b e = cc
 abbrev AreBelow : ℕ → List Entry → Type 0
 AreBelow count entries = AllByRecursion (λ e. e.parameter < count) entries
 
-abbrev LineIsBelow : ℕ → Line → Type 0
-LineIsBelow count line = AreBelow count line.entries
+abbrev LineIsBelow : ℕ → ContainerPath → Type 0
+LineIsBelow count path = AreBelow count path.entries
 
 abbrev ContainerIsBelow : ℕ → Container → Type 0
 ContainerIsBelow count c = AreBelow count c.entries
 
-line_here : (count : ℕ) (ls : List Line) (n : ℕ) → AllByRecursion (LineIsBelow count) ls → LineIsBelow count (unwrap_or (slice_get ls n) no_line)
-line_here count [] n h = tt
-line_here count (l ∷ ls) zero h = h.0
-line_here count (l ∷ ls) (suc n) h = line_here count ls n h.1
+path_here : (count : ℕ) (ls : List ContainerPath) (n : ℕ) → AllByRecursion (LineIsBelow count) ls → LineIsBelow count (unwrap_or (slice_get ls n) no_path)
+path_here count [] n h = tt
+path_here count (l ∷ ls) zero h = h.0
+path_here count (l ∷ ls) (suc n) h = path_here count ls n h.1
 
-line_named : (count : ℕ) (ls : List Line) (o : Option ℕ) → AllByRecursion (LineIsBelow count) ls → LineIsBelow count (line_at ls o)
-line_named count ls None h = tt
-line_named count ls (Some n) h = line_here count ls n h
+path_named : (count : ℕ) (ls : List ContainerPath) (o : Option ℕ) → AllByRecursion (LineIsBelow count) ls → LineIsBelow count (path_at ls o)
+path_named count ls None h = tt
+path_named count ls (Some n) h = path_here count ls n h
 
-lines_below : (count : ℕ) (cs : List Container) (ls : List Line) → AllByRecursion (LineIsBelow count) ls → AllByRecursion (ContainerIsBelow count) cs → AllByRecursion (LineIsBelow count) (fold with_line ls cs)
-lines_below count [] ls h k = h
-lines_below count (c ∷ cs) ls h k =
-    let up = line_at ls c.parent in
-    let own : LineIsBelow count (line_below up c) = all_join (λ e. e.parameter < count) up.entries c.entries (line_named count ls c.parent h) k.0 in
-    lines_below count cs (with_line ls c) (all_join (LineIsBelow count) ls (line_below up c ∷ []) h (own, tt)) k.1
+paths_below : (count : ℕ) (cs : List Container) (ls : List ContainerPath) → AllByRecursion (LineIsBelow count) ls → AllByRecursion (ContainerIsBelow count) cs → AllByRecursion (LineIsBelow count) (fold with_path ls cs)
+paths_below count [] ls h k = h
+paths_below count (c ∷ cs) ls h k =
+    let up = path_at ls c.parent in
+    let own : LineIsBelow count (path_below up c) = all_join (λ e. e.parameter < count) up.entries c.entries (path_named count ls c.parent h) k.0 in
+    paths_below count cs (with_path ls c) (all_join (LineIsBelow count) ls (path_below up c ∷ []) h (own, tt)) k.1
 
-line_is_below : (count : ℕ) (cs : List Container) (o : Option ℕ) → AllByRecursion (ContainerIsBelow count) cs → LineIsBelow count (line_at (lines_of cs) o)
-unfolding lines_of
-line_is_below count cs o h = line_named count (fold with_line [] cs) o (lines_below count cs [] tt h)
+path_is_below : (count : ℕ) (cs : List Container) (o : Option ℕ) → AllByRecursion (ContainerIsBelow count) cs → LineIsBelow count (path_at (paths_of cs) o)
+unfolding paths_of
+path_is_below count cs o h = path_named count (fold with_path [] cs) o (paths_below count cs [] tt h)
 
 first_stands : (count : ℕ) (e : Entry) (entries : List Entry) (n : ℕ) → e.parameter < count → (b : Bool) → (e.parameter == n) ≡ b → stands_on (e ∷ entries) n ≡ true → (stands_on entries n ≡ true → n < count) → n < count
 first_stands count e entries n lt true same is more = let q = eqb-true e.parameter n same in omega arith
@@ -94,24 +94,24 @@ last_number-push : (cs : List Container) (c : Container) → last_number (cs ++ 
 last_number-push [] c = refl
 last_number-push (d ∷ cs) c = ap Some (length-push cs c)
 
-pub last_line-push : (above : List Container) (c : Container) → last_line (above ++ c ∷ []) ≡ line_below (line_at (lines_of above) c.parent) c
-last_line-push above c =
-    let ls = lines_of above in
-    let l = line_below (line_at ls c.parent) c in
-    let at : slice_get (ls ++ l ∷ []) (length above) ≡ Some l = ap (slice_get (ls ++ l ∷ [])) (sym (length-lines_of above)) ∙ slice_get-end ls l [] in
-    ap (line_at (lines_of (above ++ c ∷ []))) (last_number-push above c) ∙ ap (λ (xs : List Line). line_at xs (Some (length above))) (lines_of-push above c) ∙ ap (λ (o : Option Line). unwrap_or o no_line) at
+pub last_path-push : (above : List Container) (c : Container) → last_path (above ++ c ∷ []) ≡ path_below (path_at (paths_of above) c.parent) c
+last_path-push above c =
+    let ls = paths_of above in
+    let l = path_below (path_at ls c.parent) c in
+    let at : slice_get (ls ++ l ∷ []) (length above) ≡ Some l = ap (slice_get (ls ++ l ∷ [])) (sym (length-paths_of above)) ∙ slice_get-end ls l [] in
+    ap (path_at (paths_of (above ++ c ∷ []))) (last_number-push above c) ∙ ap (λ (xs : List ContainerPath). path_at xs (Some (length above))) (paths_of-push above c) ∙ ap (λ (o : Option ContainerPath). unwrap_or o no_path) at
 
 record EntryIsSound (parameters : List Parameter) (above : List Container) (e : Entry) : Type 0 where
   parameter : e.parameter < length parameters
   at : e.at ≤ 524336
-  room : length (last_line above).entries < 256
+  room : length (last_path above).entries < 256
 
 entry_is_sound : (parameters : List Parameter) (above : List Container) (e : Entry) → row_fault parameters above (entry_row e) ≡ None → EntryIsSound parameters above e
 entry_is_sound parameters above e sound =
-    let both = or_else-none (first_broken ((2, false) ∷ head_checks above (Continues false))) (first_broken (entry_checks parameters (last_line above) true (Known e.parameter) (At e.at))) sound in
-    let q = all_pass (entry_checks parameters (last_line above) true (Known e.parameter) (At e.at)) both.1 in
+    let both = or_else-none (first_broken ((2, false) ∷ columns_checks above (Continues false))) (first_broken (entry_checks parameters (last_path above) true (Known e.parameter) (At e.at))) sound in
+    let q = all_pass (entry_checks parameters (last_path above) true (Known e.parameter) (At e.at)) both.1 in
     let known = ltb-true e.parameter (length parameters) (is_true (is_reference (length parameters) (Known e.parameter)) q.0) in
-    let room = leb-false 256 (length (last_line above).entries) q.1.1.1.0 in
+    let room = leb-false 256 (length (last_path above).entries) q.1.1.1.0 in
     let near = leb-true (e.at + bits_at parameters e.parameter) 524336 (is_true (nat_le (e.at + bits_at parameters e.parameter) 524336) q.1.1.1.1.1.0) in
     record { parameter = known; at = omega arith; room = room }
 
@@ -131,9 +131,9 @@ entries_fit parameters above c front (e ∷ es) more few le sound =
     let next = above ++ with_entries c (front ++ e ∷ []) ∷ [] in
     let p = both_true (is_none (row_fault parameters now (entry_row e))) (containers_sound parameters (with_container_row now (entry_row e)) (map entry_row es ++ more)) sound in
     let s = entry_is_sound parameters now e (none_is (row_fault parameters now (entry_row e)) p.0) in
-    let up = line_at (lines_of above) c.parent in
-    let line : (last_line now).entries ≡ up.entries ++ front = ap (λ (l : Line). l.entries) (last_line-push above (with_entries c front)) in
-    let room : length front < 256 = omega (arith, s.room, ap length line, length-append up.entries front) in
+    let up = path_at (paths_of above) c.parent in
+    let path : (last_path now).entries ≡ up.entries ++ front = ap (λ (l : ContainerPath). l.entries) (last_path-push above (with_entries c front)) in
+    let room : length front < 256 = omega (arith, s.room, ap length path, length-append up.entries front) in
     let step : with_container_row now (entry_row e) ≡ next = at_last-push (with_new_entry e) above (with_entries c front) in
     let rest = entries_fit parameters above c (front ++ e ∷ []) es more few (omega (arith, length-push front e)) (ap (λ (cs : List Container). containers_sound parameters cs (map entry_row es ++ more)) (sym step) ∙ p.1) in
     let lt = s.parameter in
@@ -147,8 +147,8 @@ entries_fit parameters above c front (e ∷ es) more few le sound =
 
 -- ---- one container after the other
 
-abbrev pub begun_of : Container → Begun
-begun_of c = record { name = c.name; parent = reference_to c.parent; condition = Some c.condition; archive = Some c.archive }
+abbrev pub new_container_of : Container → NewContainer
+new_container_of c = record { name = c.name; parent = reference_to c.parent; condition = Some c.condition; archive = Some c.archive }
 
 pub number_back : (o : Option ℕ) → number_of (reference_to o) ≡ o
 number_back None = refl
@@ -167,10 +167,10 @@ unfolding are_sound
 containers_fit parameters [] above few le below sound = tt
 containers_fit parameters (c ∷ cs) above few le below sound =
     let more = flat_map rows_of_container cs in
-    let b = begun_of c in
+    let b = new_container_of c in
     let p = both_true (is_none (row_fault parameters above (begin_row c))) (containers_sound parameters (with_container_row above (begin_row c)) (map entry_row c.entries ++ more)) sound in
-    let both = or_else-none (first_broken ((2, false) ∷ head_checks above (Begins b))) (first_broken (entry_checks parameters (last_line (with_head above (Begins b))) false Nothing place.Nothing)) (none_is (row_fault parameters above (begin_row c)) p.0) in
-    let q = all_pass ((2, false) ∷ begun_checks above (line_up above b) b) both.0 in
+    let both = or_else-none (first_broken ((2, false) ∷ columns_checks above (Begins b))) (first_broken (entry_checks parameters (last_path (with_columns above (Begins b))) false Nothing place.Nothing)) (none_is (row_fault parameters above (begin_row c)) p.0) in
+    let q = all_pass ((2, false) ∷ new_container_checks above (path_up above b) b) both.0 in
     let condition = both_true (nat_le (length c.condition) 255) (list_all (λ c. is_in_range c.number) c.condition) (is_true (is_condition (Some c.condition)) q.1.1.1.1.1.1.0) in
     let short = leb-true (length c.condition) 255 condition.0 in
     let started : containers_sound parameters (above ++ with_entries c [] ∷ []) (map entry_row c.entries ++ more) ≡ true = ap (λ (xs : List Container). containers_sound parameters xs (map entry_row c.entries ++ more)) (sym (begin_step above c)) ∙ p.1 in
@@ -180,7 +180,7 @@ containers_fit parameters (c ∷ cs) above few le below sound =
     let own : FitsContainer c = record {
       name = name_short c.name (is_true (is_name c.name) q.1.0);
       parent = parent_small (length above) c.parent (omega arith) (is_true (is_parent (length above) (reference_to c.parent)) q.1.1.1.1.0);
-      condition = (omega arith, comparisons_fit (length parameters) (line_up above b).entries c.condition few (line_is_below (length parameters) above (number_of (reference_to c.parent)) below) q.1.1.1.1.1.1.1.0 condition.1);
+      condition = (omega arith, comparisons_fit (length parameters) (path_up above b).entries c.condition few (path_is_below (length parameters) above (number_of (reference_to c.parent)) below) q.1.1.1.1.1.1.1.0 condition.1);
       entries = (omega arith, entries.fits);
     } in
     (own, containers_fit parameters cs now few (omega (arith, length-push above c)) (all_join (ContainerIsBelow (length parameters)) above (c ∷ []) below (entries.below, tt)) entries.left)

@@ -16,16 +16,16 @@ use Rattle.mdb_model.specs.declared.calibration.Table.{Table}
 use Rattle.mdb_model.specs.declared.calibration.Table.TheVariants.{Poly, Points, Enum}
 use Rattle.mdb_model.specs.declared.parameter.Coding.{Coding}
 use Rattle.mdb_model.specs.declared.parameter.Parameter.{Parameter}
-use Rattle.mdb_model.specs.declared.rows.Cells.{Cells}
-use Rattle.mdb_model.specs.declared.rows.Cells.TheVariants.{Unread, Coefficient, Point, Label}
+use Rattle.mdb_model.specs.declared.rows.RowValues.{RowValues}
+use Rattle.mdb_model.specs.declared.rows.RowValues.TheVariants.{Unread, Coefficient, Point, Label}
 use Rattle.mdb_model.specs.declared.rows.ParameterRow.{ParameterRow}
-use Rattle.mdb_model.specs.CalibrationRows.{CalibrationRow, calibration_checks, calibration_fault, calibration_fault_at, calibrations_of, cells_of, continued, empty_table, has_x, has_y, rows_of_calibration, with_calibration_row, with_new_row, with_row}
+use Rattle.mdb_model.specs.CalibrationRows.{CalibrationRow, calibration_checks, calibration_fault, calibration_fault_at, calibrations_of, row_values_of, continued, empty_table, has_x, has_y, rows_of_calibration, with_calibration_row, with_new_row, with_row}
 use Rattle.mdb_model.specs.Checks.{first_at, first_broken}
 use Rattle.mdb_model.specs.Lists.{at_last}
 use Rattle.mdb_model.specs.Numbers.{is_in_range}
 use Rattle.mdb_model.specs.ParameterRows.{fits_coding, is_reference, parameter_checks, parameter_fault, parameter_fault_at, parameters_of, reference_to, row_of_parameter}
 use Rattle.mdb_model.specs.Database.{row_count, table_len}
-use Rattle.mdb_model.specs.Retaking.{HasRows}
+use Rattle.mdb_model.specs.Rechecking.{HasRows}
 use Rattle.mdb_model.specs.Spelling.{FitsCalibration, FitsEnum, FitsParameter, FitsPoints, FitsPoly, FitsTable, link}
 use Rattle.mdb_model.specs.Texts.{Text, is_label, is_name}
 use Rattle.mdb_model.proofs.Ends.{at_last-push}
@@ -92,8 +92,8 @@ parameters_fit calibrations ps few none = all_at FitsParameter ps (λ i p at.
 
 record RowFits (r : CalibrationRow) : Type 0 where
   name : is_name r.name ≡ true
-  x : has_x r.cells ≡ true
-  y : has_y r.cells ≡ true
+  x : has_x r.row_values ≡ true
+  y : has_y r.row_values ≡ true
 
 sound_calibration : (above : List Calibration) (o next : Option CalibrationRow) (row : CalibrationRow) → o ≡ Some row → calibration_fault above o next ≡ None → first_broken (calibration_checks above row (option_map (λ r. r.name) next)) ≡ None
 sound_calibration above o next row is sound = rw is at sound
@@ -103,7 +103,7 @@ unfolding calibration_fault_at
 rows_fit rows none = all_at RowFits rows (λ i r at.
     let sound = sound_calibration (calibrations_of (take i rows)) (slice_get rows i) (slice_get rows (i + 1)) r at (each_none (calibration_fault_at rows) (length rows) none i (slice_get_within rows i r at)) in
     let q = all_pass (calibration_checks (calibrations_of (take i rows)) r (option_map (λ r. r.name) (slice_get rows (i + 1)))) sound in
-    record { name = is_true (is_name r.name) q.1.0; x = is_true (has_x r.cells) q.1.1.1.1.1.0; y = is_true (has_y r.cells) q.1.1.1.1.1.1.1.0 })
+    record { name = is_true (is_name r.name) q.1.0; x = is_true (has_x r.row_values) q.1.1.1.1.1.0; y = is_true (has_y r.row_values) q.1.1.1.1.1.1.1.0 })
 
 decimal_fits : (m : ℤ) → nat_lt (unsigned_abs m) 1000000000000000000 ≡ true → FitsSigned w64 m
 decimal_fits (pos n) h = let lt = ltb-true n 1000000000000000000 h in record { sfits = omega (arith, ints) }
@@ -112,29 +112,29 @@ decimal_fits (negsuc n) h = let lt = ltb-true (suc n) 1000000000000000000 h in r
 pub range_fits : (x : ℤ) → is_in_range x ≡ true → FitsSigned w128 x
 range_fits x h = record { sfits = grind (arith, ints) }
 
-abbrev row_with : Text → Cells → CalibrationRow
-row_with name cells = record { fields = 4; name = name; cells = cells }
+abbrev row_with : Text → RowValues → CalibrationRow
+row_with name row_values = record { fields = 4; name = name; row_values = row_values }
 
-poly_fits : (name : Text) (rows : List PolyRow) → AllByRecursion RowFits (map (row_with name) (cells_of (Poly rows))) → AllByRecursion FitsPoly rows
+poly_fits : (name : Text) (rows : List PolyRow) → AllByRecursion RowFits (map (row_with name) (row_values_of (Poly rows))) → AllByRecursion FitsPoly rows
 poly_fits name [] h = tt
 poly_fits name (r ∷ rows) h =
     let e = leb-true r.exponent 3 h.0.x in
     (record { exponent = omega arith; millionths = decimal_fits r.millionths h.0.y }, poly_fits name rows h.1)
 
-points_fits : (name : Text) (rows : List PointsRow) → AllByRecursion RowFits (map (row_with name) (cells_of (Points rows))) → AllByRecursion FitsPoints rows
+points_fits : (name : Text) (rows : List PointsRow) → AllByRecursion RowFits (map (row_with name) (row_values_of (Points rows))) → AllByRecursion FitsPoints rows
 points_fits name [] h = tt
 points_fits name (r ∷ rows) h = (record { x = range_fits r.x h.0.x; millionths = decimal_fits r.millionths h.0.y }, points_fits name rows h.1)
 
-enum_fits : (name : Text) (rows : List EnumRow) → AllByRecursion RowFits (map (row_with name) (cells_of (Enum rows))) → AllByRecursion FitsEnum rows
+enum_fits : (name : Text) (rows : List EnumRow) → AllByRecursion RowFits (map (row_with name) (row_values_of (Enum rows))) → AllByRecursion FitsEnum rows
 enum_fits name [] h = tt
 enum_fits name (r ∷ rows) h = (record { x = range_fits r.x h.0.x; label = label_short r.label h.0.y }, enum_fits name rows h.1)
 
-table_fits : (name : Text) (t : Table) → table_len t ≤ 65536 → AllByRecursion RowFits (map (row_with name) (cells_of t)) → FitsTable t
+table_fits : (name : Text) (t : Table) → table_len t ≤ 65536 → AllByRecursion RowFits (map (row_with name) (row_values_of t)) → FitsTable t
 table_fits name (Poly rows) le h = (omega arith, poly_fits name rows h)
 table_fits name (Points rows) le h = (omega arith, points_fits name rows h)
 table_fits name (Enum rows) le h = (omega arith, enum_fits name rows h)
 
-has_name : (name : Text) (t : Table) → 0 < table_len t → AllByRecursion RowFits (map (row_with name) (cells_of t)) → is_name name ≡ true
+has_name : (name : Text) (t : Table) → 0 < table_len t → AllByRecursion RowFits (map (row_with name) (row_values_of t)) → is_name name ≡ true
 has_name name (Poly []) lt h = absurd (omega arith)
 has_name name (Poly (r ∷ rows)) lt h = h.0.name
 has_name name (Points []) lt h = absurd (omega arith)
@@ -153,7 +153,7 @@ calibrations_fit cs has few none = each_fits cs has (all_below row_count 65536 c
 
 -- ---- no calibration is without rows
 
-grows : (t : Table) (x : Cells) → table_len t ≤ table_len (with_row t x)
+grows : (t : Table) (x : RowValues) → table_len t ≤ table_len (with_row t x)
 grows (Poly rows) Unread = omega arith
 grows (Poly rows) (Coefficient None m) = omega arith
 grows (Poly rows) (Coefficient (Some e) None) = omega arith
@@ -172,7 +172,7 @@ grows (Enum rows) (Point n m) = omega arith
 grows (Enum rows) (Label None l) = omega arith
 grows (Enum rows) (Label (Some n) l) = omega (arith, length-append rows (record { x = n; label = l } ∷ []))
 
-first_row : (x : Cells) → has_x x ≡ true → has_y x ≡ true → 0 < table_len (with_row (empty_table x) x)
+first_row : (x : RowValues) → has_x x ≡ true → has_y x ≡ true → 0 < table_len (with_row (empty_table x) x)
 first_row Unread h k = cc
 first_row (Coefficient None m) h k = cc
 first_row (Coefficient (Some e) None) h k = cc
@@ -188,7 +188,7 @@ last_has f [] h has = tt
 last_has f (c ∷ []) h has = (h c has.0, tt)
 last_has f (c ∷ d ∷ cs) h has = (has.0, last_has f (d ∷ cs) h has.1)
 
-taken_has : (above : List Calibration) (name : Text) (x : Cells) (b : Bool) → has_x x ≡ true → has_y x ≡ true → AllByRecursion HasRows above
+taken_has : (above : List Calibration) (name : Text) (x : RowValues) (b : Bool) → has_x x ≡ true → has_y x ≡ true → AllByRecursion HasRows above
     → AllByRecursion HasRows (at_last (with_new_row x) (cond b above (above ++ record { name = name; table = empty_table x } ∷ [])))
 taken_has above name x true h k has = last_has (with_new_row x) above (λ c some. let more = grows c.table x in omega arith) has
 taken_has above name x false h k has =
@@ -198,7 +198,7 @@ taken_has above name x false h k has =
 
 fold_has : (rows : List CalibrationRow) (above : List Calibration) → AllByRecursion RowFits rows → AllByRecursion HasRows above → AllByRecursion HasRows (fold with_calibration_row above rows)
 fold_has [] above fits has = has
-fold_has (r ∷ rows) above fits has = fold_has rows (with_calibration_row above r) fits.1 (taken_has above r.name r.cells (is_some (continued above r.name)) fits.0.x fits.0.y has)
+fold_has (r ∷ rows) above fits has = fold_has rows (with_calibration_row above r) fits.1 (taken_has above r.name r.row_values (is_some (continued above r.name)) fits.0.x fits.0.y has)
 
 pub calibrations_have_rows : (rows : List CalibrationRow) → first_at (calibration_fault_at rows) (length rows) ≡ None → AllByRecursion HasRows (calibrations_of rows)
 calibrations_have_rows rows none = fold_has rows [] (rows_fit rows none) tt

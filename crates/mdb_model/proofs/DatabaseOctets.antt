@@ -13,7 +13,7 @@ use Rattle.mdb_model.specs.Checks.{first_at, or_else}
 use Rattle.mdb_model.specs.ContainerRows.{ContainerRow, container_fault_at, containers_of, rows_of_container, with_container_row}
 use Rattle.mdb_model.specs.Database.{Database, IsDatabase, broken_below, calibrations_fault, containers_fault, limit_passed, parameters_fault, row_count, rows_of}
 use Rattle.mdb_model.specs.ParameterRows.{parameter_fault_at, parameter_of, parameters_of, row_of_parameter}
-use Rattle.mdb_model.specs.Retaking.{HasRows, calibration_fault_before, calibrations_sound, container_fault_below, containers_sound, parameter_fault_below, parameters_sound, with_parameter_row}
+use Rattle.mdb_model.specs.Rechecking.{HasRows, calibration_fault_before, calibrations_sound, container_fault_below, containers_sound, parameter_fault_below, parameters_sound, with_parameter_row}
 use Rattle.mdb_model.specs.Spelling.{FitsDatabase}
 use Rattle.std.specs.List.{AllByRecursion}
 use Rattle.mdb_model.proofs.ContainersFit.{containers_fit}

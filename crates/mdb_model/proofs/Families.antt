@@ -6,7 +6,7 @@ use Rattle.std.proofs.lemmas.List.{append-nil, get_or-set_same, length-set, leng
 use Rattle.std.proofs.lemmas.Option.{slice_get-get_or, slice_get_within}
 use Rattle.mdb_model.specs.declared.container.Container.{Container}
 use Rattle.mdb_model.specs.Children.{AreChildren, children_from, children_of, if_parent, is_parent_of}
-use Rattle.mdb_model.specs.Spans.{AreEarlier, parent_of}
+use Rattle.mdb_model.specs.Totals.{AreEarlier, parent_of}
 use Rattle.mdb_model.proofs.Ends.{length-push, slice_get-end, slice_get-left}
 use Rattle.mdb_model.proofs.Passing.{take-next}
 

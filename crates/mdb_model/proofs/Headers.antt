@@ -11,9 +11,9 @@ use Rattle.mdb_model.specs.declared.fault.MdbSheet.TheVariants as sheet
 use Rattle.mdb_model.specs.declared.parameter.Parameter.{Parameter}
 use Rattle.mdb_model.specs.declared.parameter_rows.Parameters.{Parameters}
 use Rattle.mdb_model.specs.Database.{Broken, calibrations_fault, containers_fault, parameters_fault}
-use Rattle.mdb_model.specs.Given.{GivenCalibrations, GivenContainers, GivenParameters}
+use Rattle.mdb_model.specs.SheetResults.{IsCalibrationSheetResult, IsContainerSheetResult, IsParameterSheetResult}
 use Rattle.mdb_model.specs.Sheets.{is_calibration_header, is_container_header, is_parameter_header, read_calibration, read_containers, read_parameter, sheet_fault}
-use Rattle.mdb_model.specs.Steps.{CalibrationsGive, ContainersGive, ParametersGive, Refuses}
+use Rattle.mdb_model.specs.Steps.{IsCalibrationsResult, IsContainersResult, IsParametersResult, Refuses}
 use Rattle.mdb_model.specs.Texts.{Text}
 
 -- without a record the header is missing
@@ -32,21 +32,21 @@ good_header s test (r ∷ records) fault header at is = let here : test r ≡ tr
 same_refusal : (a b : Option Broken) (f : MdbFault) → a ≡ b → Refuses b f → Refuses a f
 same_refusal a b f same e = let P : Option Broken → Type 0 = λ x. Refuses x f in subst P (sym same) e
 
-pub given_calibrations : (records : List (List Text)) (header : List Text) (r : Result Calibrations MdbFault) → slice_get records 0 ≡ Some header → is_calibration_header header ≡ true → CalibrationsGive (map read_calibration (drop 1 records)) r → GivenCalibrations records r
+pub given_calibrations : (records : List (List Text)) (header : List Text) (r : Result Calibrations MdbFault) → slice_get records 0 ≡ Some header → is_calibration_header header ≡ true → IsCalibrationsResult (map read_calibration (drop 1 records)) r → IsCalibrationSheetResult records r
 given_calibrations records header (Ok c) at is e = (good_header sheet.Calibrations is_calibration_header records (calibrations_fault (map read_calibration (drop 1 records))) header at is ∙ e.0, e.0, e.1, e.2)
 given_calibrations records header (Err f) at is e =
     let fault = calibrations_fault (map read_calibration (drop 1 records)) in
     same_refusal (sheet_fault sheet.Calibrations is_calibration_header records fault) fault f (good_header sheet.Calibrations is_calibration_header records fault header at is) e
 
 pub given_parameters : (cs : List Calibration) (names : List Text) (records : List (List Text)) (header : List Text) (r : Result Parameters MdbFault) → slice_get records 0 ≡ Some header → is_parameter_header header ≡ true
-    → ParametersGive cs (map (read_parameter names) (drop 1 records)) r → GivenParameters cs names records r
+    → IsParametersResult cs (map (read_parameter names) (drop 1 records)) r → IsParameterSheetResult cs names records r
 given_parameters cs names records header (Ok p) at is e = (good_header sheet.Parameters is_parameter_header records (parameters_fault cs (map (read_parameter names) (drop 1 records))) header at is ∙ e.0, e.0, e.1, e.2)
 given_parameters cs names records header (Err f) at is e =
     let fault = parameters_fault cs (map (read_parameter names) (drop 1 records)) in
     same_refusal (sheet_fault sheet.Parameters is_parameter_header records fault) fault f (good_header sheet.Parameters is_parameter_header records fault header at is) e
 
 pub given_containers : (ps : List Parameter) (records : List (List Text)) (header : List Text) (r : Result Containers MdbFault) → slice_get records 0 ≡ Some header → is_container_header header ≡ true
-    → ContainersGive ps (read_containers ps [] (drop 1 records)) r → GivenContainers ps records r
+    → IsContainersResult ps (read_containers ps [] (drop 1 records)) r → IsContainerSheetResult ps records r
 given_containers ps records header (Ok c) at is e = (good_header sheet.Containers is_container_header records (containers_fault ps (read_containers ps [] (drop 1 records))) header at is ∙ e.0, e.0, e.1, e.2)
 given_containers ps records header (Err f) at is e =
     let fault = containers_fault ps (read_containers ps [] (drop 1 records)) in

@@ -5,7 +5,7 @@ pub mod Powers
 pub mod Pieces
 pub mod Ends
 pub mod Ancestry
-pub mod SpanSteps
+pub mod TotalsSteps
 pub mod ContainerSteps
 pub mod ContainerRecords
 pub mod Passing

@@ -13,10 +13,10 @@ use Rattle.mdb_model.specs.CalibrationRows.{calibrations_of, rows_of_calibration
 use Rattle.mdb_model.specs.Checks.{or_else}
 use Rattle.mdb_model.specs.ContainerRows.{containers_of, rows_of_container}
 use Rattle.mdb_model.specs.Database.{Broken, Database, IsDatabase, broken_below, calibrations_fault, containers_fault, database_of, first_fault, limit_passed, parameters_fault, rows_of, table_len}
-use Rattle.mdb_model.specs.Given.{LimitsGive}
+use Rattle.mdb_model.specs.SheetResults.{IsLimitsResult}
 use Rattle.mdb_model.specs.ParameterRows.{parameters_of, row_of_parameter}
 use Rattle.mdb_model.specs.Reading.{database_at}
-use Rattle.mdb_model.specs.Retaking.{HasRows, Refused, calibrations_sound, containers_sound, parameters_sound, refusal}
+use Rattle.mdb_model.specs.Rechecking.{HasRows, Refused, calibrations_sound, containers_sound, parameters_sound, refusal}
 use Rattle.mdb_model.specs.Spelling.{database_octets}
 use Rattle.mdb_model.proofs.DatabaseOctets.{calibrations_are_sound, calibrations_none, containers_are_sound, containers_first, containers_none, database_fits, has_rows, parameters_are_sound, parameters_none, parts_of}
 use Rattle.mdb_model.proofs.ItemOctets.{database_exact}
@@ -115,7 +115,7 @@ pub refuse_passed : (d : Database) → is_some (limit_passed d) ≡ true → IsD
 refuse_passed d passed is = true_not_false (is_some (limit_passed d)) passed (ap is_some is.small)
 
 -- A limit that is passed is passed by the database.
-pub refuse_limits : (d made : Database) (fault : MdbFault) → (IsDatabase d → made ≡ d) → LimitsGive made (Err fault) → Refused (refusal fault) (IsDatabase d → ⊥)
+pub refuse_limits : (d made : Database) (fault : MdbFault) → (IsDatabase d → made ≡ d) → IsLimitsResult made (Err fault) → Refused (refusal fault) (IsDatabase d → ⊥)
 refuse_limits d made (Bad s row rule) same passed = λ is. passed
 refuse_limits d made (Limit which number) same passed = λ is. absurd (cc (sym passed ∙ ap limit_passed (same is) ∙ is.small))
 refuse_limits d made OutOfMemory same passed = tt

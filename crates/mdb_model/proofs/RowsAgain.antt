@@ -14,22 +14,22 @@ use Rattle.mdb_model.specs.declared.calibration_rows.Calibrations.{Calibrations}
 use Rattle.mdb_model.specs.declared.container.Container.{Container}
 use Rattle.mdb_model.specs.declared.container.Entry.{Entry}
 use Rattle.mdb_model.specs.declared.parameter.Parameter.{Parameter}
-use Rattle.mdb_model.specs.declared.rows.Cells.{Cells}
+use Rattle.mdb_model.specs.declared.rows.RowValues.{RowValues}
 use Rattle.mdb_model.specs.declared.rows.ParameterRow.{ParameterRow}
 use Rattle.octet_fields.specs.declared.fault.DecodeError.{DecodeError}
 use Rattle.octet_fields.specs.declared.fault.DecodeError.TheVariants as errors
-use Rattle.mdb_model.specs.CalibrationRows.{CalibrationRow, calibration_checks, calibrations_of, cells_of, rows_of_calibration, with_calibration_row}
+use Rattle.mdb_model.specs.CalibrationRows.{CalibrationRow, calibration_checks, calibrations_of, row_values_of, rows_of_calibration, with_calibration_row}
 use Rattle.mdb_model.specs.Checks.{first_at, first_broken, or_else}
 use Rattle.mdb_model.specs.declared.container_rows.Containers.{Containers}
-use Rattle.mdb_model.specs.declared.rows.Begun.{Begun}
-use Rattle.mdb_model.specs.declared.rows.Head.TheVariants.{Begins, Continues}
+use Rattle.mdb_model.specs.declared.rows.NewContainer.{NewContainer}
+use Rattle.mdb_model.specs.declared.rows.ContainerColumns.TheVariants.{Begins, Continues}
 use Rattle.mdb_model.specs.declared.rows.Position.TheVariants as place
 use Rattle.mdb_model.specs.declared.rows.Position.TheVariants.{At}
 use Rattle.mdb_model.specs.declared.rows.Reference.TheVariants.{Nothing, Known}
-use Rattle.mdb_model.specs.ContainerRows.{ContainerRow, begin_row, containers_of, entry_checks, entry_row, head_checks, last_line, row_fault, rows_of_container, with_container_row, with_entry, with_head, with_new_entry}
+use Rattle.mdb_model.specs.ContainerRows.{ContainerRow, begin_row, containers_of, entry_checks, entry_row, columns_checks, last_path, row_fault, rows_of_container, with_container_row, with_entry, with_columns, with_new_entry}
 use Rattle.mdb_model.specs.Database.{table_len}
 use Rattle.mdb_model.specs.ParameterRows.{number_of, parameter_checks, parameter_of, reference_to, row_of_parameter}
-use Rattle.mdb_model.specs.Retaking.{CalibrationsRetaken, ContainersRetaken, HasRows, ParametersRetaken, Refused, Retaken, RowsRetaken, are_sound, calibration_fault_before, calibrations_sound, container_fault_below, containers_sound, first_name, parameter_fault_below, parameters_sound, row_with, with_parameter_row}
+use Rattle.mdb_model.specs.Rechecking.{CalibrationsRechecked, ContainersRechecked, HasRows, ParametersRechecked, Refused, RowsRechecked, CalibrationRechecked, are_sound, calibration_fault_before, calibrations_sound, container_fault_below, containers_sound, first_name, parameter_fault_below, parameters_sound, row_with, with_parameter_row}
 use Rattle.mdb_model.specs.Steps.{IsInStep}
 use Rattle.mdb_model.specs.Texts.{Text, place_of}
 use Rattle.mdb_model.proofs.Ends.{length-at_last}
@@ -98,18 +98,18 @@ module _ {S R : Type 0} (fault : S → R → List R → Option ℕ) (step : S �
 -- ---- the rows of one calibration
 
 -- the rows that are left, whatever comes after them, if its first name is `next`
-pub record RowsLeft (old : List Calibration) (name : Text) (next : Option Text) (all : List Cells) (items : List Calibration) (i : ℕ) : Type 0 where
+pub record RowsLeft (old : List Calibration) (name : Text) (next : Option Text) (all : List RowValues) (items : List Calibration) (i : ℕ) : Type 0 where
   pub done : items ≡ fold with_calibration_row old (map (row_with name) (take i all))
   pub left : (more : List CalibrationRow) → first_name more ≡ next → calibrations_sound old (map (row_with name) all ++ more) ≡ calibrations_sound items (map (row_with name) (drop i all) ++ more)
 
-first_is : (name : Text) (after next : Option Text) (ys : List Cells) (more : List CalibrationRow) → (0 < length ys → after ≡ Some name) → (length ys ≡ 0 → after ≡ next) → first_name more ≡ next → first_name (map (row_with name) ys ++ more) ≡ after
+first_is : (name : Text) (after next : Option Text) (ys : List RowValues) (more : List CalibrationRow) → (0 < length ys → after ≡ Some name) → (length ys ≡ 0 → after ≡ next) → first_name more ≡ next → first_name (map (row_with name) ys ++ more) ≡ after
 first_is name after next [] more some none e = e ∙ sym (none refl)
 first_is name after next (y ∷ ys) more some none e = sym (some (omega arith))
 
-pub rows_begin : (old : List Calibration) (name : Text) (next : Option Text) (all : List Cells) → RowsLeft old name next all old 0
+pub rows_begin : (old : List Calibration) (name : Text) (next : Option Text) (all : List RowValues) → RowsLeft old name next all old 0
 rows_begin old name next all = record { done = refl; left = λ more e. refl }
 
-rows_go_on : (old items now : List Calibration) (name : Text) (after next : Option Text) (all : List Cells) (i : ℕ) (x : Cells) → slice_get all i ≡ Some x → (i + 1 < length all → after ≡ Some name) → (length all ≤ i + 1 → after ≡ next)
+rows_go_on : (old items now : List Calibration) (name : Text) (after next : Option Text) (all : List RowValues) (i : ℕ) (x : RowValues) → slice_get all i ≡ Some x → (i + 1 < length all → after ≡ Some name) → (length all ≤ i + 1 → after ≡ next)
     → first_broken (calibration_checks items (row_with name x) after) ≡ None → now ≡ with_calibration_row items (row_with name x) → RowsLeft old name next all items i → RowsLeft old name next all now (i + 1)
 rows_go_on old items now name after next all i x at some none sound is so_far =
     let row = row_with name x in
@@ -119,28 +119,28 @@ rows_go_on old items now name after next all i x at some none sound is so_far =
           ∙ ap (fold with_calibration_row old) (sym (map-append f (take i all) (x ∷ [])) ∙ ap (map f) (sym (take-next all i x at)));
       left = λ more e.
           let rest = map f (drop (i + 1) all) ++ more in
-          let split : map f (drop i all) ++ more ≡ row ∷ rest = ap (λ (xs : List Cells). map f xs ++ more) (drop_next all i x at) in
+          let split : map f (drop i all) ++ more ≡ row ∷ rest = ap (λ (xs : List RowValues). map f xs ++ more) (drop_next all i x at) in
           let first : first_name rest ≡ after = first_is name after next (drop (i + 1) all) more (λ lt. some (omega (arith, length-drop (i + 1) all))) (λ z. none (omega (arith, length-drop (i + 1) all, slice_get_within all i x at))) e in
           let here : calibration_fault_before items row rest ≡ None = ap (λ (o : Option Text). first_broken (calibration_checks items row o)) first ∙ sound in
           so_far.left more e ∙ ap (calibrations_sound items) split ∙ sound_next calibration_fault_before with_calibration_row items now row rest here is;
     }
 
-rows_fail : (old items : List Calibration) (name : Text) (after next : Option Text) (all : List Cells) (i : ℕ) (x : Cells) → slice_get all i ≡ Some x → (i + 1 < length all → after ≡ Some name) → (length all ≤ i + 1 → after ≡ next)
+rows_fail : (old items : List Calibration) (name : Text) (after next : Option Text) (all : List RowValues) (i : ℕ) (x : RowValues) → slice_get all i ≡ Some x → (i + 1 < length all → after ≡ Some name) → (length all ≤ i + 1 → after ≡ next)
     → is_none (first_broken (calibration_checks items (row_with name x) after)) ≡ false → RowsLeft old name next all items i → (more : List CalibrationRow) → first_name more ≡ next → calibrations_sound old (map (row_with name) all ++ more) ≡ false
 rows_fail old items name after next all i x at some none broken so_far more e =
     let row = row_with name x in
     let f = row_with name in
     let rest = map f (drop (i + 1) all) ++ more in
-    let split : map f (drop i all) ++ more ≡ row ∷ rest = ap (λ (xs : List Cells). map f xs ++ more) (drop_next all i x at) in
+    let split : map f (drop i all) ++ more ≡ row ∷ rest = ap (λ (xs : List RowValues). map f xs ++ more) (drop_next all i x at) in
     let first : first_name rest ≡ after = first_is name after next (drop (i + 1) all) more (λ lt. some (omega (arith, length-drop (i + 1) all))) (λ z. none (omega (arith, length-drop (i + 1) all, slice_get_within all i x at))) e in
     let here : is_none (calibration_fault_before items row rest) ≡ false = ap (λ (o : Option Text). is_none (first_broken (calibration_checks items row o))) first ∙ broken in
     so_far.left more e ∙ ap (calibrations_sound items) split ∙ sound_fails calibration_fault_before with_calibration_row items row rest here
 
-pub rows_done : (old items : List Calibration) (name : Text) (next : Option Text) (all : List Cells) (i : ℕ) → length all ≤ i → RowsLeft old name next all items i
+pub rows_done : (old items : List Calibration) (name : Text) (next : Option Text) (all : List RowValues) (i : ℕ) → length all ≤ i → RowsLeft old name next all items i
     → (items ≡ fold with_calibration_row old (map (row_with name) all)) × ((more : List CalibrationRow) → first_name more ≡ next → calibrations_sound old (map (row_with name) all ++ more) ≡ calibrations_sound items more)
 rows_done old items name next all i le so_far = (
-  so_far.done ∙ ap (λ (xs : List Cells). fold with_calibration_row old (map (row_with name) xs)) (take_all i all le),
-  λ more e. so_far.left more e ∙ ap (λ (xs : List Cells). calibrations_sound items (map (row_with name) xs ++ more)) (drop_all i all le),
+  so_far.done ∙ ap (λ (xs : List RowValues). fold with_calibration_row old (map (row_with name) xs)) (take_all i all le),
+  λ more e. so_far.left more e ∙ ap (λ (xs : List RowValues). calibrations_sound items (map (row_with name) xs ++ more)) (drop_all i all le),
 )
 
 -- ---- what a loop or an exit has to show
@@ -149,49 +149,49 @@ pub refused_as : (e : DecodeError) (P Q : Type 0) → (P → Q) → Refused e P 
 refused_as errors.Memory P Q f h = tt
 refused_as errors.Malformed P Q f h = f h
 
-length-cells : (t : Table) → length (cells_of t) ≡ table_len t
-length-cells (Poly rows) = length-map rows _
-length-cells (Points rows) = length-map rows _
-length-cells (Enum rows) = length-map rows _
+length-row_values : (t : Table) → length (row_values_of t) ≡ table_len t
+length-row_values (Poly rows) = length-map rows _
+length-row_values (Points rows) = length-map rows _
+length-row_values (Enum rows) = length-map rows _
 
 -- the name after a row, as a test of its place gives it
 abbrev NamedAfter : Calibration → Text → Option Text → Option Text → ℕ → ℕ → Type 0
 NamedAfter c name after next count i = (name ≡ c.name) × (count ≡ table_len c.table) × (ltb (i + 1) count ≡ true → after ≡ Some name) × (ltb (i + 1) count ≡ false → after ≡ next)
 
-named_some : (c : Calibration) (name : Text) (after next : Option Text) (count i : ℕ) → NamedAfter c name after next count i → i + 1 < length (cells_of c.table) → after ≡ Some c.name
-named_some c name after next count i n lt = n.2 (lt-ltb (i + 1) count (omega (arith, n.1, length-cells c.table))) ∙ ap Some n.0
+named_some : (c : Calibration) (name : Text) (after next : Option Text) (count i : ℕ) → NamedAfter c name after next count i → i + 1 < length (row_values_of c.table) → after ≡ Some c.name
+named_some c name after next count i n lt = n.2 (lt-ltb (i + 1) count (omega (arith, n.1, length-row_values c.table))) ∙ ap Some n.0
 
-named_none : (c : Calibration) (name : Text) (after next : Option Text) (count i : ℕ) → NamedAfter c name after next count i → length (cells_of c.table) ≤ i + 1 → after ≡ next
-named_none c name after next count i n le = n.3 (le-ltb (i + 1) count (omega (arith, n.1, length-cells c.table)))
+named_none : (c : Calibration) (name : Text) (after next : Option Text) (count i : ℕ) → NamedAfter c name after next count i → length (row_values_of c.table) ≤ i + 1 → after ≡ next
+named_none c name after next count i n le = n.3 (le-ltb (i + 1) count (omega (arith, n.1, length-row_values c.table)))
 
-pub row_more : (old mid now : Calibrations) (c : Calibration) (name : Text) (next after : Option Text) (count i : ℕ) (x : Cells) → NamedAfter c name after next count i → slice_get (cells_of c.table) i ≡ Some x
+pub row_more : (old mid now : Calibrations) (c : Calibration) (name : Text) (next after : Option Text) (count i : ℕ) (x : RowValues) → NamedAfter c name after next count i → slice_get (row_values_of c.table) i ≡ Some x
     → (first_broken (calibration_checks mid.items.items (row_with name x) after) ≡ None) × (now.items.items ≡ with_calibration_row mid.items.items (row_with name x)) × IsInStep now
-    → RowsLeft old.items.items c.name next (cells_of c.table) mid.items.items i → IsInStep now × RowsLeft old.items.items c.name next (cells_of c.table) now.items.items (i + 1)
+    → RowsLeft old.items.items c.name next (row_values_of c.table) mid.items.items i → IsInStep now × RowsLeft old.items.items c.name next (row_values_of c.table) now.items.items (i + 1)
 row_more old mid now c name next after count i x n at taken so_far =
     let sound : first_broken (calibration_checks mid.items.items (row_with c.name x) after) ≡ None = subst (λ (m : Text). first_broken (calibration_checks mid.items.items (row_with m x) after) ≡ None) n.0 taken.0 in
     let is : now.items.items ≡ with_calibration_row mid.items.items (row_with c.name x) = subst (λ (m : Text). now.items.items ≡ with_calibration_row mid.items.items (row_with m x)) n.0 taken.1 in
-    (taken.2, rows_go_on old.items.items mid.items.items now.items.items c.name after next (cells_of c.table) i x at (named_some c name after next count i n) (named_none c name after next count i n) sound is so_far)
+    (taken.2, rows_go_on old.items.items mid.items.items now.items.items c.name after next (row_values_of c.table) i x at (named_some c name after next count i n) (named_none c name after next count i n) sound is so_far)
 
-pub row_refused : (old mid now : Calibrations) (c : Calibration) (name : Text) (next after : Option Text) (count i : ℕ) (x : Cells) (e : DecodeError) → NamedAfter c name after next count i → slice_get (cells_of c.table) i ≡ Some x
+pub row_refused : (old mid now : Calibrations) (c : Calibration) (name : Text) (next after : Option Text) (count i : ℕ) (x : RowValues) (e : DecodeError) → NamedAfter c name after next count i → slice_get (row_values_of c.table) i ≡ Some x
     → Refused e (is_none (first_broken (calibration_checks mid.items.items (row_with name x) after)) ≡ false)
-    → RowsLeft old.items.items c.name next (cells_of c.table) mid.items.items i → RowsRetaken old now c next (Err e)
+    → RowsLeft old.items.items c.name next (row_values_of c.table) mid.items.items i → CalibrationRechecked old now c next (Err e)
 row_refused old mid now c name next after count i x e n at refused so_far =
     refused_as e (is_none (first_broken (calibration_checks mid.items.items (row_with name x) after)) ≡ false) ((more : List CalibrationRow) → first_name more ≡ next → calibrations_sound old.items.items (rows_of_calibration c ++ more) ≡ false)
-    (λ broken. rows_fail old.items.items mid.items.items c.name after next (cells_of c.table) i x at (named_some c name after next count i n) (named_none c name after next count i n)
+    (λ broken. rows_fail old.items.items mid.items.items c.name after next (row_values_of c.table) i x at (named_some c name after next count i n) (named_none c name after next count i n)
     (subst (λ (m : Text). is_none (first_broken (calibration_checks mid.items.items (row_with m x) after)) ≡ false) n.0 broken) so_far) refused
 
 -- ---- calibrations one after the other
 
 first_row : (c : Calibration) (more : List CalibrationRow) → HasRows c → first_name (rows_of_calibration c ++ more) ≡ Some c.name
-first_row c more has = cells c.table has
+first_row c more has = row_values c.table has
   where
-    cells : (t : Table) → 0 < table_len t → first_name (map (row_with c.name) (cells_of t) ++ more) ≡ Some c.name
-    cells (Poly []) lt = absurd (omega arith)
-    cells (Poly (r ∷ rs)) lt = refl
-    cells (Points []) lt = absurd (omega arith)
-    cells (Points (r ∷ rs)) lt = refl
-    cells (Enum []) lt = absurd (omega arith)
-    cells (Enum (r ∷ rs)) lt = refl
+    row_values : (t : Table) → 0 < table_len t → first_name (map (row_with c.name) (row_values_of t) ++ more) ≡ Some c.name
+    row_values (Poly []) lt = absurd (omega arith)
+    row_values (Poly (r ∷ rs)) lt = refl
+    row_values (Points []) lt = absurd (omega arith)
+    row_values (Points (r ∷ rs)) lt = refl
+    row_values (Enum []) lt = absurd (omega arith)
+    row_values (Enum (r ∷ rs)) lt = refl
 
 first_of : (given : List Calibration) → AllByRecursion HasRows given → first_name (flat_map rows_of_calibration given) ≡ option_map (λ c. c.name) (slice_get given 0)
 first_of [] has = refl
@@ -218,7 +218,7 @@ later_name : (given : List Calibration) (i : ℕ) → AllByRecursion HasRows giv
 later_name given i has = first_of (drop (i + 1) given) (has_later given (i + 1) has) ∙ ap (option_map (λ (c : Calibration). c.name)) (head_of_drop given (i + 1))
 
 pub calibration_more : (given : List Calibration) (old now : Calibrations) (i : ℕ) (c : Calibration) (next : Option Text) → AllByRecursion HasRows given → slice_get given i ≡ Some c → next ≡ option_map (λ c. c.name) (slice_get given (i + 1))
-    → RowsRetaken old now c next (Ok tt) → CalibrationsLeft given old.items.items i → CalibrationsLeft given now.items.items (i + 1)
+    → CalibrationRechecked old now c next (Ok tt) → CalibrationsLeft given old.items.items i → CalibrationsLeft given now.items.items (i + 1)
 calibration_more given old now i c next has at is taken so_far =
     let f = rows_of_calibration in
     let rest = flat_map f (drop (i + 1) given) in
@@ -229,7 +229,7 @@ calibration_more given old now i c next has at is taken so_far =
     }
 
 pub calibration_refused : (given : List Calibration) (old now : Calibrations) (i : ℕ) (c : Calibration) (next : Option Text) (e : DecodeError) → AllByRecursion HasRows given → slice_get given i ≡ Some c → next ≡ option_map (λ c. c.name) (slice_get given (i + 1))
-    → RowsRetaken old now c next (Err e) → CalibrationsLeft given old.items.items i → CalibrationsRetaken given (Err e)
+    → CalibrationRechecked old now c next (Err e) → CalibrationsLeft given old.items.items i → CalibrationsRechecked given (Err e)
 calibration_refused given old now i c next e has at is refused so_far =
     let f = rows_of_calibration in
     refused_as e ((more : List CalibrationRow) → first_name more ≡ next → calibrations_sound old.items.items (f c ++ more) ≡ false) (calibrations_sound [] (flat_map f given) ≡ false)
@@ -267,7 +267,7 @@ parameter_more calibrations given items now i p at sound is so_far = record {
 }
 
 pub parameter_refused : (calibrations : List Calibration) (given items : List Parameter) (i : ℕ) (p : Parameter) (e : DecodeError) → slice_get given i ≡ Some p → Refused e (is_none (first_broken (parameter_checks calibrations items (row_of_parameter p))) ≡ false)
-    → ParametersLeft calibrations given items i → ParametersRetaken calibrations given (Err e)
+    → ParametersLeft calibrations given items i → ParametersRechecked calibrations given (Err e)
 parameter_refused calibrations given items i p e at refused so_far =
     refused_as e (is_none (first_broken (parameter_checks calibrations items (row_of_parameter p))) ≡ false) (parameters_sound calibrations [] (map row_of_parameter given) ≡ false)
     (λ broken. so_far.left ∙ ap (λ (ps : List Parameter). parameters_sound calibrations items (map row_of_parameter ps)) (drop_next given i p at)
@@ -353,50 +353,50 @@ some_not_none : {X : Type 0} (o rest : Option X) → is_some o ≡ true → is_n
 some_not_none None rest e = cc
 some_not_none (Some x) rest e = refl
 
-abbrev begun_of : Container → Begun
-begun_of c = record { name = c.name; parent = reference_to c.parent; condition = Some c.condition; archive = Some c.archive }
+abbrev new_container_of : Container → NewContainer
+new_container_of c = record { name = c.name; parent = reference_to c.parent; condition = Some c.condition; archive = Some c.archive }
 
-pub begin_fails : (parameters : List Parameter) (old : List Container) (c : Container) (rule : Option ℕ) → rule ≡ first_broken ((2, not (6 == 6)) ∷ head_checks old (Begins (begun_of c))) → is_some rule ≡ true
+pub begin_fails : (parameters : List Parameter) (old : List Container) (c : Container) (rule : Option ℕ) → rule ≡ first_broken ((2, not (6 == 6)) ∷ columns_checks old (Begins (new_container_of c))) → is_some rule ≡ true
     → (more : List ContainerRow) → containers_sound parameters old ((begin_row c ∷ []) ++ more) ≡ false
 begin_fails parameters old c rule is some more =
-    let head = first_broken ((2, not (6 == 6)) ∷ head_checks old (Begins (begun_of c))) in
-    one_fails parameters old (begin_row c) (some_not_none head (first_broken (entry_checks parameters (last_line (with_head old (Begins (begun_of c)))) false Nothing place.Nothing)) (ap is_some (sym is) ∙ some)) more
+    let columns = first_broken ((2, not (6 == 6)) ∷ columns_checks old (Begins (new_container_of c))) in
+    one_fails parameters old (begin_row c) (some_not_none columns (first_broken (entry_checks parameters (last_path (with_columns old (Begins (new_container_of c)))) false Nothing place.Nothing)) (ap is_some (sym is) ∙ some)) more
 
-pub begin_taken : (parameters : List Parameter) (old now : List Container) (c : Container) (rule : Option ℕ) → rule ≡ first_broken ((2, not (6 == 6)) ∷ head_checks old (Begins (begun_of c))) → is_some rule ≡ false → now ≡ with_head old (Begins (begun_of c))
+pub begin_taken : (parameters : List Parameter) (old now : List Container) (c : Container) (rule : Option ℕ) → rule ≡ first_broken ((2, not (6 == 6)) ∷ columns_checks old (Begins (new_container_of c))) → is_some rule ≡ false → now ≡ with_columns old (Begins (new_container_of c))
     → ((more : List ContainerRow) → containers_sound parameters old ((begin_row c ∷ []) ++ more) ≡ containers_sound parameters now more) × (now ≡ fold with_container_row old (begin_row c ∷ []))
 begin_taken parameters old now c rule is none same =
-    let head : first_broken ((2, not (6 == 6)) ∷ head_checks old (Begins (begun_of c))) ≡ None = sym is ∙ is_some_none rule none in
-    let sound : row_fault parameters old (begin_row c) ≡ None = ap (λ (o : Option ℕ). or_else o None) head in
+    let columns : first_broken ((2, not (6 == 6)) ∷ columns_checks old (Begins (new_container_of c))) ≡ None = sym is ∙ is_some_none rule none in
+    let sound : row_fault parameters old (begin_row c) ≡ None = ap (λ (o : Option ℕ). or_else o None) columns in
     (one_taken parameters old now (begin_row c) sound same, same)
 
-continuing : (old : List Container) → 0 < length old → first_broken ((2, not (6 == 6)) ∷ head_checks old (Continues false)) ≡ None
+continuing : (old : List Container) → 0 < length old → first_broken ((2, not (6 == 6)) ∷ columns_checks old (Continues false)) ≡ None
 continuing [] some = absurd (omega arith)
 continuing (k ∷ old) some = refl
 
-pub entry_fails : (parameters : List Parameter) (old : List Container) (e : Entry) (rule : Option ℕ) → 0 < length old → rule ≡ first_broken (entry_checks parameters (last_line old) true (Known e.parameter) (At e.at)) → is_some rule ≡ true
+pub entry_fails : (parameters : List Parameter) (old : List Container) (e : Entry) (rule : Option ℕ) → 0 < length old → rule ≡ first_broken (entry_checks parameters (last_path old) true (Known e.parameter) (At e.at)) → is_some rule ≡ true
     → (more : List ContainerRow) → containers_sound parameters old ((entry_row e ∷ []) ++ more) ≡ false
 entry_fails parameters old e rule begun is some more =
-    let fault : row_fault parameters old (entry_row e) ≡ rule = ap (λ (o : Option ℕ). or_else o (first_broken (entry_checks parameters (last_line old) true (Known e.parameter) (At e.at)))) (continuing old begun) ∙ sym is in
+    let fault : row_fault parameters old (entry_row e) ≡ rule = ap (λ (o : Option ℕ). or_else o (first_broken (entry_checks parameters (last_path old) true (Known e.parameter) (At e.at)))) (continuing old begun) ∙ sym is in
     one_fails parameters old (entry_row e) (ap is_none fault ∙ some_is_none rule some) more
   where
     some_is_none : (o : Option ℕ) → is_some o ≡ true → is_none o ≡ false
     some_is_none None e = cc
     some_is_none (Some n) e = refl
 
-pub entry_taken : (parameters : List Parameter) (old now : List Container) (e : Entry) (rule : Option ℕ) → 0 < length old → rule ≡ first_broken (entry_checks parameters (last_line old) true (Known e.parameter) (At e.at)) → is_some rule ≡ false
+pub entry_taken : (parameters : List Parameter) (old now : List Container) (e : Entry) (rule : Option ℕ) → 0 < length old → rule ≡ first_broken (entry_checks parameters (last_path old) true (Known e.parameter) (At e.at)) → is_some rule ≡ false
     → now ≡ with_entry old (Known e.parameter) (At e.at) → ((more : List ContainerRow) → containers_sound parameters old ((entry_row e ∷ []) ++ more) ≡ containers_sound parameters now more) × (now ≡ fold with_container_row old (entry_row e ∷ []))
 entry_taken parameters old now e rule begun is none same =
-    let fault : row_fault parameters old (entry_row e) ≡ None = ap (λ (o : Option ℕ). or_else o (first_broken (entry_checks parameters (last_line old) true (Known e.parameter) (At e.at)))) (continuing old begun) ∙ sym is ∙ is_some_none rule none in
+    let fault : row_fault parameters old (entry_row e) ≡ None = ap (λ (o : Option ℕ). or_else o (first_broken (entry_checks parameters (last_path old) true (Known e.parameter) (At e.at)))) (continuing old begun) ∙ sym is ∙ is_some_none rule none in
     (one_taken parameters old now (entry_row e) fault same, same)
 
-pub begin_refused : (parameters : List Parameter) (old mid : Containers) (c : Container) (e : DecodeError) → Retaken parameters old mid (begin_row c ∷ []) (Err e) → Retaken parameters old mid (rows_of_container c) (Err e)
+pub begin_refused : (parameters : List Parameter) (old mid : Containers) (c : Container) (e : DecodeError) → RowsRechecked parameters old mid (begin_row c ∷ []) (Err e) → RowsRechecked parameters old mid (rows_of_container c) (Err e)
 begin_refused parameters old mid c e refused =
     refused_as e ((more : List ContainerRow) → containers_sound parameters old.items.items ((begin_row c ∷ []) ++ more) ≡ false) ((more : List ContainerRow) → containers_sound parameters old.items.items (rows_of_container c ++ more) ≡ false)
     (λ fails more. fails (map entry_row c.entries ++ more)) refused
 
 -- The beginning was taken in, and then the entries are or aren't.
-pub container_rest : (parameters : List Parameter) (old mid now : Containers) (c : Container) (result : Result (Unit {0}) DecodeError) → Retaken parameters old mid (begin_row c ∷ []) (Ok tt) → Retaken parameters mid now (flat_map (λ e. entry_row e ∷ []) c.entries) result
-    → Retaken parameters old now (rows_of_container c) result
+pub container_rest : (parameters : List Parameter) (old mid now : Containers) (c : Container) (result : Result (Unit {0}) DecodeError) → RowsRechecked parameters old mid (begin_row c ∷ []) (Ok tt) → RowsRechecked parameters mid now (flat_map (λ e. entry_row e ∷ []) c.entries) result
+    → RowsRechecked parameters old now (rows_of_container c) result
 container_rest parameters old mid now c (Ok _) begun taken =
     let each = one_each entry_row c.entries in (
       λ more. begun.0 (map entry_row c.entries ++ more) ∙ ap (λ (rows : List ContainerRow). containers_sound parameters mid.items.items (rows ++ more)) (sym each) ∙ taken.0 more,
@@ -417,7 +417,7 @@ containers_done parameters given items i le so_far =
     let d = left_done parameters rows_of_container [] items given i le so_far in
     (ap (containers_sound parameters []) (sym (append-nil (flat_map rows_of_container given))) ∙ d.0 [], d.1)
 
-pub containers_refused : (parameters : List Parameter) (given : List Container) (e : DecodeError) → Refused e ((more : List ContainerRow) → containers_sound parameters [] (flat_map rows_of_container given ++ more) ≡ false) → ContainersRetaken parameters given (Err e)
+pub containers_refused : (parameters : List Parameter) (given : List Container) (e : DecodeError) → Refused e ((more : List ContainerRow) → containers_sound parameters [] (flat_map rows_of_container given ++ more) ≡ false) → ContainersRechecked parameters given (Err e)
 containers_refused parameters given e refused =
     refused_as e ((more : List ContainerRow) → containers_sound parameters [] (flat_map rows_of_container given ++ more) ≡ false) (containers_sound parameters [] (flat_map rows_of_container given) ≡ false)
     (λ fails. ap (containers_sound parameters []) (sym (append-nil (flat_map rows_of_container given))) ∙ fails []) refused

@@ -5,16 +5,16 @@ use Rattle.mdb_model.specs.declared.container.Comparison.{Comparison}
 use Rattle.mdb_model.specs.declared.container.Container.{Container}
 use Rattle.mdb_model.specs.declared.container.Entry.{Entry}
 use Rattle.mdb_model.specs.declared.parameter.Parameter.{Parameter}
-use Rattle.mdb_model.specs.declared.rows.Begun.{Begun}
-use Rattle.mdb_model.specs.declared.rows.Head.{Head}
-use Rattle.mdb_model.specs.declared.rows.Head.TheVariants.{Begins, Continues}
+use Rattle.mdb_model.specs.declared.rows.NewContainer.{NewContainer}
+use Rattle.mdb_model.specs.declared.rows.ContainerColumns.{ContainerColumns}
+use Rattle.mdb_model.specs.declared.rows.ContainerColumns.TheVariants.{Begins, Continues}
 use Rattle.mdb_model.specs.declared.rows.Position.{Position}
 use Rattle.mdb_model.specs.declared.rows.Position.TheVariants as place
 use Rattle.mdb_model.specs.declared.rows.Position.TheVariants.{At}
 use Rattle.mdb_model.specs.declared.rows.Reference.{Reference}
 use Rattle.mdb_model.specs.declared.rows.Reference.TheVariants.{Nothing, Unknown, Known}
 use Rattle.mdb_model.specs.Checks.{Checks, first_broken, or_else}
-use Rattle.mdb_model.specs.Lines.{Line, bits_at, last_number, line_at, lines_of, stands_on}
+use Rattle.mdb_model.specs.Paths.{ContainerPath, bits_at, last_number, path_at, paths_of, stands_on}
 use Rattle.mdb_model.specs.Lists.{at_last, is_empty}
 use Rattle.mdb_model.specs.Numbers.{is_in_range}
 use Rattle.mdb_model.specs.ParameterRows.{is_reference, number_of, reference_to}
@@ -23,7 +23,7 @@ use Rattle.mdb_model.specs.Texts.{is_name, place_of}
 -- a row: the number of fields of its record, its columns before the entry, and its entry
 pub record ContainerRow : Type 0 where
   pub fields : ℕ
-  pub head : Head
+  pub columns : ContainerColumns
   pub entry : Reference
   pub position : Position
 
@@ -48,9 +48,9 @@ is_condition (Some comparisons) = nat_le (length comparisons) 255 && list_all (�
 abbrev pub compares_other : List Entry → List Comparison → Bool
 compares_other entries comparisons = list_any (λ c. not (stands_on entries c.parameter)) comparisons
 
--- the rules of a row that begins a container, below the containers above it; `up` is its parent's line
-abbrev pub begun_checks : List Container → Line → Begun → Checks
-begun_checks above up b =
+-- the rules of a row that begins a container, below the containers above it; `up` is its parent's path
+abbrev pub new_container_checks : List Container → ContainerPath → NewContainer → Checks
+new_container_checks above up b =
     -- the name isn't a name
     (3, not (is_name b.name))
     -- the name is that of an earlier container
@@ -80,17 +80,17 @@ continued_checks above says =
     ∷ (18, says)
     ∷ []
 
--- the line of the parent of a container that begins
-abbrev pub line_up : List Container → Begun → Line
-line_up above b = line_at (lines_of above) (number_of b.parent)
+-- the path of the parent of a container that begins
+abbrev pub path_up : List Container → NewContainer → ContainerPath
+path_up above b = path_at (paths_of above) (number_of b.parent)
 
 -- the rules of the columns before the entry
-abbrev pub head_checks : List Container → Head → Checks
-head_checks above (Begins b) = begun_checks above (line_up above b) b
-head_checks above (Continues says) = continued_checks above says
+abbrev pub columns_checks : List Container → ContainerColumns → Checks
+columns_checks above (Begins b) = new_container_checks above (path_up above b) b
+columns_checks above (Continues says) = continued_checks above says
 
 -- the row has no name: it continues the container above it
-abbrev pub is_continuing : Head → Bool
+abbrev pub is_continuing : ContainerColumns → Bool
 is_continuing (Begins b) = false
 is_continuing (Continues says) = true
 
@@ -100,7 +100,7 @@ is_known Nothing = false
 is_known Unknown = false
 is_known (Known n) = true
 
--- the parameter of the entry stands on the line already
+-- the parameter of the entry stands on the path already
 abbrev pub is_repeated : List Entry → Reference → Bool
 is_repeated entries Nothing = false
 is_repeated entries Unknown = false
@@ -121,17 +121,17 @@ abbrev pub is_too_far : List Parameter → Reference → Position → Bool
 is_too_far parameters (Known n) (At at) = not (nat_le (at + bits_at parameters n) 524336)
 is_too_far parameters entry position = false
 
--- the rules of a row's entry, which goes to the end of the line
-abbrev pub entry_checks : List Parameter → Line → Bool → Reference → Position → Checks
-entry_checks parameters line continuing entry position =
+-- the rules of a row's entry, which goes to the end of the path
+abbrev pub entry_checks : List Parameter → ContainerPath → Bool → Reference → Position → Checks
+entry_checks parameters path continuing entry position =
     -- no parameter has the name
     (24, not (is_reference (length parameters) entry))
     -- the parameter stands twice on the path
-    ∷ (25, is_repeated line.entries entry)
+    ∷ (25, is_repeated path.entries entry)
     -- a continuing row has no entry
     ∷ (26, continuing && is_nothing entry)
     -- more than 256 entries stand on the path
-    ∷ (29, is_known entry && nat_le 256 (length line.entries))
+    ∷ (29, is_known entry && nat_le 256 (length path.entries))
     -- the text isn't a position, or there is a position without an entry
     ∷ (27, not (is_placed entry position))
     -- position plus bits is above 524,336
@@ -139,9 +139,9 @@ entry_checks parameters line continuing entry position =
     ∷ []
 
 -- the containers with one more, where the row begins one; it has no entry yet
-abbrev pub with_head : List Container → Head → List Container
-with_head above (Continues says) = above
-with_head above (Begins b) = above ++ record {
+abbrev pub with_columns : List Container → ContainerColumns → List Container
+with_columns above (Continues says) = above
+with_columns above (Begins b) = above ++ record {
   name = b.name;
   parent = number_of b.parent;
   archive = unwrap_or b.archive false;
@@ -160,21 +160,21 @@ with_entry containers entry position = containers
 
 -- the containers with one more row
 abbrev pub with_container_row : List Container → ContainerRow → List Container
-with_container_row above row = with_entry (with_head above row.head) row.entry row.position
+with_container_row above row = with_entry (with_columns above row.columns) row.entry row.position
 
 -- the containers that rows spell
 abbrev pub containers_of : List ContainerRow → List Container
 containers_of rows = fold with_container_row [] rows
 
--- the line of the last container
-abbrev pub last_line : List Container → Line
-last_line containers = line_at (lines_of containers) (last_number containers)
+-- the path of the last container
+abbrev pub last_path : List Container → ContainerPath
+last_path containers = path_at (paths_of containers) (last_number containers)
 
 -- the first rule that a row breaks, from the left
 abbrev pub row_fault : List Parameter → List Container → ContainerRow → Option ℕ
 row_fault parameters above row =
-    or_else (first_broken ((2, not (row.fields == 6)) ∷ head_checks above row.head))
-    (first_broken (entry_checks parameters (last_line (with_head above row.head)) (is_continuing row.head) row.entry row.position))
+    or_else (first_broken ((2, not (row.fields == 6)) ∷ columns_checks above row.columns))
+    (first_broken (entry_checks parameters (last_path (with_columns above row.columns)) (is_continuing row.columns) row.entry row.position))
 
 -- the first rule that a row breaks, where there is a row
 abbrev pub container_fault : List Parameter → List Container → Option ContainerRow → Option ℕ
@@ -189,14 +189,14 @@ container_fault_at parameters rows i = container_fault parameters (containers_of
 abbrev pub begin_row : Container → ContainerRow
 begin_row c = record {
   fields = 6;
-  head = Begins (record { name = c.name; parent = reference_to c.parent; condition = Some c.condition; archive = Some c.archive });
+  columns = Begins (record { name = c.name; parent = reference_to c.parent; condition = Some c.condition; archive = Some c.archive });
   entry = Nothing;
   position = place.Nothing;
 }
 
 -- the row that adds an entry
 abbrev pub entry_row : Entry → ContainerRow
-entry_row e = record { fields = 6; head = Continues false; entry = Known e.parameter; position = At e.at }
+entry_row e = record { fields = 6; columns = Continues false; entry = Known e.parameter; position = At e.at }
 
 -- the rows of a container
 abbrev pub rows_of_container : Container → List ContainerRow

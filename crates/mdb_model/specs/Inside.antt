@@ -9,7 +9,7 @@ abbrev pub database_inside : Inside → Database
 database_inside a = record { parameters = a.parameters.items; calibrations = a.calibrations.items; containers = a.containers.items }
 
 -- the rules and the limits; the names are those of the items, in their order; and beside the containers their children
-pub record IsKept (a : Inside) : Type 0 where
+pub record MdbInvariant (a : Inside) : Type 0 where
   pub kept : IsDatabase (database_inside a)
   pub parameter_names : a.parameter_names ≡ map (λ p. p.name) a.parameters.items
   pub container_names : a.container_names ≡ map (λ c. c.name) a.containers.items

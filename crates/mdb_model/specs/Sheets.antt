@@ -9,10 +9,10 @@ use Rattle.mdb_model.specs.declared.fault.MdbSheet.TheVariants.{Parameters, Cali
 use Rattle.mdb_model.specs.declared.parameter.Coding.{Coding}
 use Rattle.mdb_model.specs.declared.parameter.Coding.TheVariants.{Uint, Int, UintLe, IntLe}
 use Rattle.mdb_model.specs.declared.parameter.Parameter.{Parameter}
-use Rattle.mdb_model.specs.declared.rows.Cells.{Cells}
-use Rattle.mdb_model.specs.declared.rows.Cells.TheVariants.{Unread, Coefficient, Point, Label}
-use Rattle.mdb_model.specs.declared.rows.Head.{Head}
-use Rattle.mdb_model.specs.declared.rows.Head.TheVariants.{Begins, Continues}
+use Rattle.mdb_model.specs.declared.rows.RowValues.{RowValues}
+use Rattle.mdb_model.specs.declared.rows.RowValues.TheVariants.{Unread, Coefficient, Point, Label}
+use Rattle.mdb_model.specs.declared.rows.ContainerColumns.{ContainerColumns}
+use Rattle.mdb_model.specs.declared.rows.ContainerColumns.TheVariants.{Begins, Continues}
 use Rattle.mdb_model.specs.declared.rows.ParameterRow.{ParameterRow}
 use Rattle.mdb_model.specs.declared.rows.Position.{Position}
 use Rattle.mdb_model.specs.declared.rows.Position.TheVariants as place
@@ -23,23 +23,23 @@ use Rattle.mdb_model.specs.declared.sheet.RawMdb.{RawMdb}
 use Rattle.mdb_model.specs.CalibrationRows.{CalibrationRow, calibrations_of}
 use Rattle.mdb_model.specs.Checks.{or_else}
 use Rattle.mdb_model.specs.Conditions.{condition}
-use Rattle.mdb_model.specs.ContainerRows.{ContainerRow, is_nothing, last_line, with_container_row, with_head}
+use Rattle.mdb_model.specs.ContainerRows.{ContainerRow, is_nothing, last_path, with_container_row, with_columns}
 use Rattle.mdb_model.specs.Database.{Broken, Database, Rows, calibrations_fault, containers_fault, database_of, limit_passed, parameters_fault}
-use Rattle.mdb_model.specs.Lines.{line_end}
+use Rattle.mdb_model.specs.Paths.{path_end}
 use Rattle.mdb_model.specs.Lists.{is_empty}
 use Rattle.mdb_model.specs.ParameterRows.{parameters_of}
 use Rattle.mdb_model.specs.Texts.{Text, decimal_number, digits_at_most, field, offset, place_of, small_number, whole_number}
 
 -- what the columns kind, x and y say
-abbrev pub read_cells : Text → Text → Text → Cells
-read_cells kind x y =
+abbrev pub read_row_values : Text → Text → Text → RowValues
+read_row_values kind x y =
     if bytes_eq kind (codes "poly") then Coefficient (small_number 0 3 x) (decimal_number y)
     else (if bytes_eq kind (codes "points") then Point (whole_number x) (decimal_number y)
     else (if bytes_eq kind (codes "enum") then Label (whole_number x) y else Unread))
 
 -- a row of the calibrations sheet: name, kind, x, y
 abbrev pub read_calibration : List Text → CalibrationRow
-read_calibration fields = record { fields = length fields; name = field fields 0; cells = read_cells (field fields 1) (field fields 2) (field fields 3) }
+read_calibration fields = record { fields = length fields; name = field fields 0; row_values = read_row_values (field fields 1) (field fields 2) (field fields 3) }
 
 -- the coding that a text spells
 abbrev pub read_coding : Text → Option Coding
@@ -75,9 +75,9 @@ read_archive [] = Some false
 read_archive (b ∷ text) = if bytes_eq (b ∷ text) (codes "yes") then Some true else (if bytes_eq (b ∷ text) (codes "no") then Some false else None)
 
 -- the columns container, parent, condition and archive
-abbrev pub read_head : List Text → List Text → Text → Text → Text → Text → Head
-read_head parameters above [] parent text archive = Continues (not (is_empty parent) || not (is_empty text) || not (is_empty archive))
-read_head parameters above (b ∷ name) parent text archive = Begins (record {
+abbrev pub read_columns : List Text → List Text → Text → Text → Text → Text → ContainerColumns
+read_columns parameters above [] parent text archive = Continues (not (is_empty parent) || not (is_empty text) || not (is_empty archive))
+read_columns parameters above (b ∷ name) parent text archive = Begins (record {
   name = b ∷ name;
   parent = read_reference above parent;
   condition = condition parameters text;
@@ -104,16 +104,16 @@ abbrev pub name_of_container : Container → Text
 name_of_container c = c.name
 
 -- the columns of a record before its entry, below these parameters and containers
-abbrev pub head_of : List Parameter → List Container → List Text → Head
-head_of parameters above fields =
-    read_head (map name_of_parameter parameters) (map name_of_container above) (field fields 0) (field fields 1) (field fields 2) (field fields 3)
+abbrev pub columns_of : List Parameter → List Container → List Text → ContainerColumns
+columns_of parameters above fields =
+    read_columns (map name_of_parameter parameters) (map name_of_container above) (field fields 0) (field fields 1) (field fields 2) (field fields 3)
 
 -- a row of the containers sheet below the containers above it: container, parent, condition, archive, entry, position
 abbrev pub read_container : List Parameter → List Container → List Text → ContainerRow
 read_container parameters above fields =
-    let head = head_of parameters above fields in
+    let columns = columns_of parameters above fields in
     let entry = read_reference (map name_of_parameter parameters) (field fields 4) in
-    record { fields = length fields; head = head; entry = entry; position = read_position (line_end parameters (last_line (with_head above head))) entry (field fields 5) }
+    record { fields = length fields; columns = columns; entry = entry; position = read_position (path_end parameters (last_path (with_columns above columns))) entry (field fields 5) }
 
 -- the rows of records, each read below the containers of those above it
 abbrev pub read_containers : List Parameter → List Container → List (List Text) → List ContainerRow
@@ -168,8 +168,8 @@ abbrev pub sheets_database : RawMdb → Database
 sheets_database raw = database_of (rows_of_sheets raw)
 
 -- the database, or the first rule broken, or where none is the first limit passed
-abbrev pub SheetsGive : RawMdb → Result Database MdbFault → Type 0
-SheetsGive raw (Ok database) = (sheets_fault raw ≡ None) × (limit_passed (sheets_database raw) ≡ None) × (database ≡ sheets_database raw)
-SheetsGive raw (Err (Bad sheet row rule)) = sheets_fault raw ≡ Some (record { sheet = sheet; row = row; rule = rule })
-SheetsGive raw (Err (Limit which number)) = (sheets_fault raw ≡ None) × (limit_passed (sheets_database raw) ≡ Some (which, number))
-SheetsGive raw (Err OutOfMemory) = Unit {0}
+abbrev pub IsCheckResult : RawMdb → Result Database MdbFault → Type 0
+IsCheckResult raw (Ok database) = (sheets_fault raw ≡ None) × (limit_passed (sheets_database raw) ≡ None) × (database ≡ sheets_database raw)
+IsCheckResult raw (Err (Bad sheet row rule)) = sheets_fault raw ≡ Some (record { sheet = sheet; row = row; rule = rule })
+IsCheckResult raw (Err (Limit which number)) = (sheets_fault raw ≡ None) × (limit_passed (sheets_database raw) ≡ Some (which, number))
+IsCheckResult raw (Err OutOfMemory) = Unit {0}

@@ -13,7 +13,7 @@ use Rattle.mdb_model.specs.ContainerRows.{ContainerRow, containers_of}
 use Rattle.mdb_model.specs.Database.{Broken, calibrations_fault, containers_fault, parameters_fault}
 use Rattle.mdb_model.specs.Lists.{last_of}
 use Rattle.mdb_model.specs.ParameterRows.{parameters_of}
-use Rattle.mdb_model.specs.Spans.{IsInLine}
+use Rattle.mdb_model.specs.Totals.{HasPaths}
 
 -- the names are those of the calibrations, and the numbers those of the last one where it is an enum
 pub record IsInStep (c : Calibrations) : Type 0 where
@@ -27,16 +27,16 @@ Refuses fault (Limit which number) = ⊥
 Refuses fault OutOfMemory = Unit {0}
 
 -- the calibrations that rows spell, or the first rule that the rows break
-abbrev pub CalibrationsGive : List CalibrationRow → Result Calibrations MdbFault → Type 0
-CalibrationsGive rows (Ok c) = (calibrations_fault rows ≡ None) × (c.items.items ≡ calibrations_of rows) × IsInStep c
-CalibrationsGive rows (Err fault) = Refuses (calibrations_fault rows) fault
+abbrev pub IsCalibrationsResult : List CalibrationRow → Result Calibrations MdbFault → Type 0
+IsCalibrationsResult rows (Ok c) = (calibrations_fault rows ≡ None) × (c.items.items ≡ calibrations_of rows) × IsInStep c
+IsCalibrationsResult rows (Err fault) = Refuses (calibrations_fault rows) fault
 
 -- the parameters that rows spell, or the first rule that the rows break
-abbrev pub ParametersGive : List Calibration → List ParameterRow → Result Parameters MdbFault → Type 0
-ParametersGive calibrations rows (Ok p) = (parameters_fault calibrations rows ≡ None) × (p.items.items ≡ parameters_of rows) × (p.names ≡ map (λ x. x.name) p.items.items)
-ParametersGive calibrations rows (Err fault) = Refuses (parameters_fault calibrations rows) fault
+abbrev pub IsParametersResult : List Calibration → List ParameterRow → Result Parameters MdbFault → Type 0
+IsParametersResult calibrations rows (Ok p) = (parameters_fault calibrations rows ≡ None) × (p.items.items ≡ parameters_of rows) × (p.names ≡ map (λ x. x.name) p.items.items)
+IsParametersResult calibrations rows (Err fault) = Refuses (parameters_fault calibrations rows) fault
 
 -- the containers that rows spell, or the first rule that the rows break
-abbrev pub ContainersGive : List Parameter → List ContainerRow → Result Containers MdbFault → Type 0
-ContainersGive parameters rows (Ok c) = (containers_fault parameters rows ≡ None) × (c.items.items ≡ containers_of rows) × IsInLine parameters c
-ContainersGive parameters rows (Err fault) = Refuses (containers_fault parameters rows) fault
+abbrev pub IsContainersResult : List Parameter → List ContainerRow → Result Containers MdbFault → Type 0
+IsContainersResult parameters rows (Ok c) = (containers_fault parameters rows ≡ None) × (c.items.items ≡ containers_of rows) × HasPaths parameters c
+IsContainersResult parameters rows (Err fault) = Refuses (containers_fault parameters rows) fault

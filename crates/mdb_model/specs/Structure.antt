@@ -6,7 +6,7 @@ use Rattle.mdb_model.specs.declared.container.Entry.{Entry}
 use Rattle.mdb_model.specs.declared.parameter.Parameter.{Parameter}
 use Rattle.mdb_model.specs.ContainerRows.{compares_other}
 use Rattle.mdb_model.specs.Database.{Database, IsDatabase, entry_count, row_count}
-use Rattle.mdb_model.specs.Lines.{bits_at, line_at, lines_of}
+use Rattle.mdb_model.specs.Paths.{bits_at, path_at, paths_of}
 use Rattle.mdb_model.specs.ParameterRows.{admits, fits_coding, is_reference, reference_to, table_at}
 
 -- the bits fit the coding, and the calibration is one of the database and may be the parameter's
@@ -23,10 +23,10 @@ pub record IsEntry (d : Database) (e : Entry) : Type 0 where
 -- the container with a number: its parent stands earlier, it compares entries from above, and its path has at most 32 containers and 256 entries
 pub record IsContainer (d : Database) (n : ℕ) (c : Container) : Type 0 where
   pub parent : (p : ℕ) → c.parent ≡ Some p → p < n
-  pub compared : compares_other (line_at (lines_of d.containers) c.parent).entries c.condition ≡ false
+  pub compared : compares_other (path_at (paths_of d.containers) c.parent).entries c.condition ≡ false
   pub entries : AllByRecursion (IsEntry d) c.entries
-  pub containers_on_path : (line_at (lines_of d.containers) (Some n)).containers ≤ 32
-  pub entries_on_path : length (line_at (lines_of d.containers) (Some n)).entries ≤ 256
+  pub containers_on_path : (path_at (paths_of d.containers) (Some n)).containers ≤ 32
+  pub entries_on_path : length (path_at (paths_of d.containers) (Some n)).entries ≤ 256
 
 -- a database within its limits, with a root, whose parameters and containers are each sound
 pub record IsStructured (d : Database) : Type 0 where

@@ -36,12 +36,12 @@ abbrev pub is_digit : ℕ → Bool
 is_digit b = nat_le 48 b && nat_le b 57
 
 -- the number that digits spell
-abbrev pub digits_worth : Text → ℕ
-digits_worth text = fold (λ n b. 10 * n + (b - 48)) 0 text
+abbrev pub decimal_value : Text → ℕ
+decimal_value text = fold (λ n b. 10 * n + (b - 48)) 0 text
 
 -- the number that 1 to `most` digits spell
 abbrev pub digits_at_most : ℕ → Text → Option ℕ
-digits_at_most most text = if nat_le 1 (length text) && nat_le (length text) most && list_all is_digit text then Some (digits_worth text) else None
+digits_at_most most text = if nat_le 1 (length text) && nat_le (length text) most && list_all is_digit text then Some (decimal_value text) else None
 
 -- the text begins with `-`
 abbrev pub is_minus : Text → Bool
@@ -96,4 +96,4 @@ small_number low high text = between low high (whole_number text)
 
 -- one digit or more; beyond the last bit of a packet all numbers are alike
 abbrev pub offset : Text → Option ℕ
-offset text = if nat_le 1 (length text) && list_all is_digit text then Some (min (digits_worth text) 524336) else None
+offset text = if nat_le 1 (length text) && list_all is_digit text then Some (min (decimal_value text) 524336) else None

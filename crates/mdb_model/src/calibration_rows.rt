@@ -14,7 +14,7 @@ use crate::calibration::{Calibration, EnumRow, PointsRow, PolyRow, Table};
 use crate::items::Items;
 use crate::name::MdbName;
 use crate::names::{Names, Numbers};
-use crate::rows::Cells;
+use crate::rows::RowValues;
 use crate::texts::{is_label, is_name};
 use std::alloc::{AllocError, Global};
 
@@ -43,49 +43,49 @@ fn is_decimal(millionths: Option<i64>) -> bool
     }
 }
 
-fn is_unread(cells: &Cells) -> bool
-    ensures { result ≡ is_unread cells.now }
+fn is_unread(row_values: &RowValues) -> bool
+    ensures { result ≡ is_unread row_values.now }
 {
-    matches!(cells, Cells::Unread)
+    matches!(row_values, RowValues::Unread)
 }
 
-fn is_point(cells: &Cells) -> bool
-    ensures { result ≡ is_point cells.now }
+fn is_point(row_values: &RowValues) -> bool
+    ensures { result ≡ is_point row_values.now }
 {
-    matches!(cells, Cells::Point(_, _))
+    matches!(row_values, RowValues::Point(_, _))
 }
 
-fn has_x(cells: &Cells) -> bool
-    ensures { result ≡ has_x cells.now }
+fn has_x(row_values: &RowValues) -> bool
+    ensures { result ≡ has_x row_values.now }
 {
-    match cells {
-        Cells::Unread => false,
-        Cells::Coefficient(Some(exponent), _) => *exponent <= 3,
-        Cells::Coefficient(None, _) => false,
-        Cells::Point(x, _) => is_whole_number(*x),
-        Cells::Label(x, _) => is_whole_number(*x),
+    match row_values {
+        RowValues::Unread => false,
+        RowValues::Coefficient(Some(exponent), _) => *exponent <= 3,
+        RowValues::Coefficient(None, _) => false,
+        RowValues::Point(x, _) => is_whole_number(*x),
+        RowValues::Label(x, _) => is_whole_number(*x),
     }
 }
 
-fn has_y(cells: &Cells) -> bool
-    ensures { result ≡ has_y cells.now }
+fn has_y(row_values: &RowValues) -> bool
+    ensures { result ≡ has_y row_values.now }
 {
-    match cells {
-        Cells::Unread => false,
-        Cells::Coefficient(_, y) => is_decimal(*y),
-        Cells::Point(_, y) => is_decimal(*y),
-        Cells::Label(_, label) => is_label(label.as_bytes()),
+    match row_values {
+        RowValues::Unread => false,
+        RowValues::Coefficient(_, y) => is_decimal(*y),
+        RowValues::Point(_, y) => is_decimal(*y),
+        RowValues::Label(_, label) => is_label(label.as_bytes()),
     }
 }
 
-fn is_other_kind(table: Option<&Table>, cells: &Cells) -> bool
-    ensures { result ≡ is_other_kind (option_copied table.entry) cells.now }
+fn is_other_kind(table: Option<&Table>, row_values: &RowValues) -> bool
+    ensures { result ≡ is_other_kind (option_copied table.entry) row_values.now }
 {
     match table {
         None => false,
-        Some(Table::Poly(_)) => !matches!(cells, Cells::Coefficient(_, _)),
-        Some(Table::Points(_)) => !matches!(cells, Cells::Point(_, _)),
-        Some(Table::Enum(_)) => !matches!(cells, Cells::Label(_, _)),
+        Some(Table::Poly(_)) => !matches!(row_values, RowValues::Coefficient(_, _)),
+        Some(Table::Points(_)) => !matches!(row_values, RowValues::Point(_, _)),
+        Some(Table::Enum(_)) => !matches!(row_values, RowValues::Label(_, _)),
     }
 }
 
@@ -105,22 +105,22 @@ fn is_not_above(x: i128, point: Option<&PointsRow>) -> bool
 }
 
 /// The x repeats, or doesn't rise in points. `numbers` are those of an enum.
-fn repeats(table: Option<&Table>, numbers: &Numbers, cells: &Cells) -> bool
+fn repeats(table: Option<&Table>, numbers: &Numbers, row_values: &RowValues) -> bool
     requires { (t : TableValue) → option_copied table ≡ Some t → numbers.now ≡ enum_numbers (Some t) }
-    ensures { result ≡ repeats (option_copied table.entry) cells.now }
+    ensures { result ≡ repeats (option_copied table.entry) row_values.now }
 {
     match table {
         None => false,
-        Some(Table::Poly(rows)) => match cells {
-            Cells::Coefficient(Some(exponent), _) => has_exponent(rows.as_slice(), *exponent),
+        Some(Table::Poly(rows)) => match row_values {
+            RowValues::Coefficient(Some(exponent), _) => has_exponent(rows.as_slice(), *exponent),
             _ => false,
         },
-        Some(Table::Points(rows)) => match cells {
-            Cells::Point(Some(x), _) => is_not_above(*x, rows.as_slice().last()),
+        Some(Table::Points(rows)) => match row_values {
+            RowValues::Point(Some(x), _) => is_not_above(*x, rows.as_slice().last()),
             _ => false,
         },
-        Some(Table::Enum(_)) => match cells {
-            Cells::Label(Some(x), _) => numbers.contains(*x),
+        Some(Table::Enum(_)) => match row_values {
+            RowValues::Label(Some(x), _) => numbers.contains(*x),
             _ => false,
         },
     }
@@ -135,25 +135,25 @@ fn is_named(name: &[u8], next: Option<&[u8]>) -> bool
     }
 }
 
-/// A table without rows, of the kind of cells.
-fn empty_table(alloc: Global, cells: &Cells) -> Table
-    ensures { result ≡ empty_table cells.now }
+/// A table without rows, of the kind of values.
+fn empty_table(alloc: Global, row_values: &RowValues) -> Table
+    ensures { result ≡ empty_table row_values.now }
 {
-    match cells {
-        Cells::Unread => Table::Poly(Items::new(alloc)),
-        Cells::Coefficient(_, _) => Table::Poly(Items::new(alloc)),
-        Cells::Point(_, _) => Table::Points(Items::new(alloc)),
-        Cells::Label(_, _) => Table::Enum(Items::new(alloc)),
+    match row_values {
+        RowValues::Unread => Table::Poly(Items::new(alloc)),
+        RowValues::Coefficient(_, _) => Table::Poly(Items::new(alloc)),
+        RowValues::Point(_, _) => Table::Points(Items::new(alloc)),
+        RowValues::Label(_, _) => Table::Enum(Items::new(alloc)),
     }
 }
 
-/// Adds a row, where the cells are of the table's kind and whole.
-fn push_row(table: &mut Table, cells: Cells) -> Result<(), AllocError>
-    ensures { OnOk result (table.new ≡ with_row table.old cells) }
+/// Adds a row, where the values are of the table's kind and whole.
+fn push_row(table: &mut Table, row_values: RowValues) -> Result<(), AllocError>
+    ensures { OnOk result (table.new ≡ with_row table.old row_values) }
 {
     match table {
         Table::Poly(rows) => {
-            if let Cells::Coefficient(Some(exponent), Some(millionths)) = cells {
+            if let RowValues::Coefficient(Some(exponent), Some(millionths)) = row_values {
                 rows.push(PolyRow {
                     exponent,
                     millionths,
@@ -161,12 +161,12 @@ fn push_row(table: &mut Table, cells: Cells) -> Result<(), AllocError>
             }
         }
         Table::Points(rows) => {
-            if let Cells::Point(Some(x), Some(millionths)) = cells {
+            if let RowValues::Point(Some(x), Some(millionths)) = row_values {
                 rows.push(PointsRow { x, millionths })?;
             }
         }
         Table::Enum(rows) => {
-            if let Cells::Label(Some(x), label) = cells {
+            if let RowValues::Label(Some(x), label) = row_values {
                 rows.push(EnumRow { x, label })?;
             }
         }
@@ -175,16 +175,16 @@ fn push_row(table: &mut Table, cells: Cells) -> Result<(), AllocError>
 }
 
 /// Adds the raw number of an enum's row.
-fn note_number(numbers: &mut Numbers, cells: &Cells) -> Result<(), AllocError>
-    requires { AreNew numbers.old cells.now }
-    ensures { OnOk result (numbers.new ≡ numbers.old ++ label_number cells.now) }
+fn note_number(numbers: &mut Numbers, row_values: &RowValues) -> Result<(), AllocError>
+    requires { AreNew numbers.old row_values.now }
+    ensures { OnOk result (numbers.new ≡ numbers.old ++ label_number row_values.now) }
 {
-    match cells {
-        Cells::Unread => Ok(()),
-        Cells::Coefficient(_, _) => Ok(()),
-        Cells::Point(_, _) => Ok(()),
-        Cells::Label(None, _) => Ok(()),
-        Cells::Label(Some(x), _) => numbers.add(*x),
+    match row_values {
+        RowValues::Unread => Ok(()),
+        RowValues::Coefficient(_, _) => Ok(()),
+        RowValues::Point(_, _) => Ok(()),
+        RowValues::Label(None, _) => Ok(()),
+        RowValues::Label(Some(x), _) => numbers.add(*x),
     }
 }
 
@@ -236,10 +236,10 @@ impl Calibrations {
     }
 
     /// The row is the only one of its points.
-    fn is_alone(&self, name: &[u8], cells: &Cells, next: Option<&[u8]>) -> bool
-        ensures { result ≡ (is_point cells.now && not (is_some (continued self.now.items.items name.now)) && not (is_named name.now (option_copied next.entry))) }
+    fn is_alone(&self, name: &[u8], row_values: &RowValues, next: Option<&[u8]>) -> bool
+        ensures { result ≡ (is_point row_values.now && not (is_some (continued self.now.items.items name.now)) && not (is_named name.now (option_copied next.entry))) }
     {
-        if !is_point(cells) {
+        if !is_point(row_values) {
             return false;
         }
         match self.continued(name) {
@@ -253,11 +253,11 @@ impl Calibrations {
         &self,
         fields: usize,
         name: &[u8],
-        cells: &Cells,
+        row_values: &RowValues,
         next: Option<&[u8]>,
     ) -> Option<u8>
         requires step { IsInStep self.now }
-        ensures { result ≡ first_broken (calibration_checks self.now.items.items (record { fields = fields; name = name.now; cells = cells.now }) (option_copied next.entry)) }
+        ensures { result ≡ first_broken (calibration_checks self.now.items.items (record { fields = fields; name = name.now; row_values = row_values.now }) (option_copied next.entry)) }
     {
         if fields != 4 {
             return Some(2);
@@ -268,39 +268,44 @@ impl Calibrations {
         if self.began_before(name) {
             return Some(5);
         }
-        if is_unread(cells) {
+        if is_unread(row_values) {
             return Some(4);
         }
         let table = self.continued(name);
-        if is_other_kind(table, cells) {
+        if is_other_kind(table, row_values) {
             return Some(6);
         }
-        if !has_x(cells) {
+        if !has_x(row_values) {
             return Some(7);
         }
-        if repeats(table, &self.numbers, cells) {
+        if repeats(table, &self.numbers, row_values) {
             return Some(8);
         }
-        if !has_y(cells) {
+        if !has_y(row_values) {
             return Some(9);
         }
-        if self.is_alone(name, cells, next) {
+        if self.is_alone(name, row_values, next) {
             return Some(10);
         }
         None
     }
 
     /// Begins a calibration without rows. After want of memory nothing is known of the calibrations.
-    fn begin(&mut self, alloc: Global, name: &[u8], cells: &Cells) -> Result<(), AllocError>
+    fn begin(
+        &mut self,
+        alloc: Global,
+        name: &[u8],
+        row_values: &RowValues,
+    ) -> Result<(), AllocError>
         requires fresh { place_of name.now self.old.names ≡ None }
-        ensures items { OnOk result (self.new.items.items ≡ self.old.items.items ++ (record { name = name.now; table = empty_table cells.now }) ∷ []) }
+        ensures items { OnOk result (self.new.items.items ≡ self.old.items.items ++ (record { name = name.now; table = empty_table row_values.now }) ∷ []) }
         ensures names { OnOk result (self.new.names ≡ self.old.names ++ name.now ∷ []) }
         ensures numbers { OnOk result (self.new.numbers ≡ []) }
     {
         self.names.add(Vec::from_slice(alloc, name)?)?;
         self.items.push(Calibration {
             name: MdbName::from_slice(alloc, name)?,
-            table: empty_table(alloc, cells),
+            table: empty_table(alloc, row_values),
         })?;
         self.numbers = Numbers::new(alloc);
         Ok(())
@@ -308,31 +313,31 @@ impl Calibrations {
 
     /// Begins a calibration, where the last one hasn't the name. After want of memory nothing is known of the
     /// calibrations.
-    fn open(&mut self, alloc: Global, name: &[u8], cells: &Cells) -> Result<(), AllocError>
+    fn open(&mut self, alloc: Global, name: &[u8], row_values: &RowValues) -> Result<(), AllocError>
         requires step { IsInStep self.old }
         requires fresh { continued self.old.items.items name.now ≡ None → place_of name.now self.old.names ≡ None }
-        ensures items { OnOk result (self.new.items.items ≡ with_name self.old.items.items name.now cells.now) }
+        ensures items { OnOk result (self.new.items.items ≡ with_name self.old.items.items name.now row_values.now) }
         ensures names { OnOk result (self.new.names ≡ map (λ x. x.name) self.new.items.items) }
         ensures numbers { OnOk result (self.new.numbers ≡ enum_numbers (continued self.old.items.items name.now)) }
     {
         if self.continued(name).is_some() {
             return Ok(());
         }
-        self.begin(alloc, name, cells)
+        self.begin(alloc, name, row_values)
     }
 
     /// Adds a row to the last calibration. After want of memory nothing is known of the calibrations.
-    fn push(&mut self, cells: Cells) -> Result<(), AllocError>
+    fn push(&mut self, row_values: RowValues) -> Result<(), AllocError>
         requires begun { 0 < length self.old.items.items }
-        requires fresh { AreNew self.old.numbers cells }
-        ensures items { OnOk result (self.new.items.items ≡ at_last (with_new_row cells) self.old.items.items) }
+        requires fresh { AreNew self.old.numbers row_values }
+        ensures items { OnOk result (self.new.items.items ≡ at_last (with_new_row row_values) self.old.items.items) }
         ensures names { OnOk result (self.new.names ≡ self.old.names) }
-        ensures numbers { OnOk result (self.new.numbers ≡ self.old.numbers ++ label_number cells) }
+        ensures numbers { OnOk result (self.new.numbers ≡ self.old.numbers ++ label_number row_values) }
     {
-        note_number(&mut self.numbers, &cells)?;
+        note_number(&mut self.numbers, &row_values)?;
         let last = self.items.len() - 1;
         let calibration = &mut self.items[last];
-        push_row(&mut calibration.table, cells)
+        push_row(&mut calibration.table, row_values)
     }
 
     /// Adds a row that breaks no rule. After want of memory nothing is known of the calibrations.
@@ -341,15 +346,15 @@ impl Calibrations {
         alloc: Global,
         fields: usize,
         name: &[u8],
-        cells: Cells,
+        row_values: RowValues,
         next: Option<&[u8]>,
     ) -> Result<(), AllocError>
         requires step { IsInStep self.old }
-        requires sound { first_broken (calibration_checks self.old.items.items (record { fields = fields; name = name.now; cells = cells }) (option_copied next)) ≡ None }
-        ensures added { OnOk result (self.new.items.items ≡ with_calibration_row self.old.items.items (record { fields = fields; name = name.now; cells = cells })) }
+        requires sound { first_broken (calibration_checks self.old.items.items (record { fields = fields; name = name.now; row_values = row_values }) (option_copied next)) ≡ None }
+        ensures added { OnOk result (self.new.items.items ≡ with_calibration_row self.old.items.items (record { fields = fields; name = name.now; row_values = row_values })) }
         ensures step { OnOk result (IsInStep self.new) }
     {
-        self.open(alloc, name, &cells)?;
-        self.push(cells)
+        self.open(alloc, name, &row_values)?;
+        self.push(row_values)
     }
 }

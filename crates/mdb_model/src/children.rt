@@ -2,7 +2,7 @@
 
 ghost use Rattle.std.specs.Prelude.{◌≡◌, ◌<◌, ◌≤◌, ◌++◌, ℕ, List, length, slice_get, Some, OnOk, IfOk};
 ghost use Rattle.mdb_model.specs.Children.{AreChildren, if_parent};
-ghost use Rattle.mdb_model.specs.Spans.{AreEarlier};
+ghost use Rattle.mdb_model.specs.Totals.{AreEarlier};
 
 use crate::container::Container;
 use crate::items::Items;

@@ -3,14 +3,14 @@
 ghost use Rattle.std.specs.Prelude.{◌≡◌, ◌≤◌, ◌<◌, ◌+◌, ◌∷◌, ◌++◌, ◌==◌, [], List, length, map, slice_get, nat_le, not, ◌&&◌, None, Some, is_some, unwrap_or, option_copied, Ok, IfOk, OnOk};
 ghost use Rattle.std.specs.List.{list_any, list_all};
 ghost use Rattle.mdb_model.specs.Checks.{first_broken};
-ghost use Rattle.mdb_model.specs.ContainerRows.{begun_checks, compares_other, continued_checks, entry_checks, head_checks, is_condition, is_continuing, is_known, is_nothing, is_parent, is_placed, is_repeated, is_too_far, last_line, line_up, with_entry, with_head, with_new_entry};
+ghost use Rattle.mdb_model.specs.ContainerRows.{new_container_checks, compares_other, continued_checks, entry_checks, columns_checks, is_condition, is_continuing, is_known, is_nothing, is_parent, is_placed, is_repeated, is_too_far, last_path, path_up, with_entry, with_columns, with_new_entry};
 ghost use Rattle.mdb_model.specs.declared.parameter.Parameter.{Parameter as ParameterValue};
-ghost use Rattle.mdb_model.specs.declared.rows.Head.TheVariants.{Begins as BeginsValue};
-ghost use Rattle.mdb_model.specs.Lines.{bits_at, last_number, line_at, line_end, lines_of, stands_on};
+ghost use Rattle.mdb_model.specs.declared.rows.ContainerColumns.TheVariants.{Begins as BeginsValue};
+ghost use Rattle.mdb_model.specs.Paths.{bits_at, last_number, path_at, path_end, paths_of, stands_on};
 ghost use Rattle.mdb_model.specs.Lists.{at_last, is_empty};
 ghost use Rattle.mdb_model.specs.Numbers.{is_in_range};
 ghost use Rattle.mdb_model.specs.ParameterRows.{number_of};
-ghost use Rattle.mdb_model.specs.Spans.{AreEarlier, IsInLine, IsInSomeLine, StaysInLine, span_at};
+ghost use Rattle.mdb_model.specs.Totals.{AreEarlier, HasPaths, HasSomePaths, KeepsPaths, totals_at};
 ghost use Rattle.mdb_model.specs.Texts.{place_of};
 
 use crate::calibration_rows::is_in_range;
@@ -19,13 +19,13 @@ use crate::items::Items;
 use crate::names::Names;
 use crate::parameter::Parameter;
 use crate::parameter_rows::{is_reference, number_of};
-use crate::rows::{Begun, Head, Position, Reference};
+use crate::rows::{ContainerColumns, NewContainer, Position, Reference};
 use crate::texts::is_name;
 use std::alloc::{AllocError, Global};
 
 /// What the path from the root down to a container comes to.
 #[derive(Drop, Clone, Copy)]
-pub(crate) struct Span {
+pub(crate) struct PathTotals {
     /// How many containers stand on it.
     pub containers: usize,
     /// How many entries they have.
@@ -34,11 +34,11 @@ pub(crate) struct Span {
     pub end: u32,
 }
 
-/// The containers of the rows so far, their names, and the spans of their paths.
+/// The containers of the rows so far, their names, and the totals of their paths.
 #[derive(Drop)]
 pub(crate) struct Containers {
     pub names: Names,
-    pub spans: Vec<Span>,
+    pub all_totals: Vec<PathTotals>,
     pub items: Vec<Container>,
 }
 
@@ -94,10 +94,10 @@ fn is_placed(entry: Reference, position: Position) -> bool
     }
 }
 
-pub(crate) fn is_continuing(head: &Head) -> bool
-    ensures { result ≡ is_continuing head.now }
+pub(crate) fn is_continuing(columns: &ContainerColumns) -> bool
+    ensures { result ≡ is_continuing columns.now }
 {
-    matches!(head, Head::Continues(_))
+    matches!(columns, ContainerColumns::Continues(_))
 }
 
 fn bits_at(parameters: &[Parameter], number: usize) -> u8
@@ -166,11 +166,11 @@ impl Containers {
     pub fn new(alloc: Global) -> Containers
         ensures none { result.items.items ≡ [] }
         ensures names { result.names ≡ [] }
-        ensures spans { result.spans.items ≡ [] }
+        ensures all_totals { result.all_totals.items ≡ [] }
     {
         Containers {
             names: Names::new(alloc),
-            spans: Vec::new(alloc),
+            all_totals: Vec::new(alloc),
             items: Vec::new(alloc),
         }
     }
@@ -189,11 +189,11 @@ impl Containers {
         self.items.get(number)
     }
 
-    /// The span of a container's path.
-    fn span(&self, number: Option<usize>) -> Span
-        ensures { result ≡ span_at self.now.spans.items number }
+    /// The totals of a container's path.
+    fn totals(&self, number: Option<usize>) -> PathTotals
+        ensures { result ≡ totals_at self.now.all_totals.items number }
     {
-        let none = Span {
+        let none = PathTotals {
             containers: 0,
             entries: 0,
             end: 0,
@@ -201,8 +201,8 @@ impl Containers {
         match number {
             None => none,
             Some(number) => {
-                if number < self.spans.len() {
-                    self.spans[number]
+                if number < self.all_totals.len() {
+                    self.all_totals[number]
                 } else {
                     none
                 }
@@ -212,31 +212,31 @@ impl Containers {
 
     /// How many containers stand on the path from the root down to a container.
     fn depth(&self, number: Option<usize>) -> usize
-        requires { IsInSomeLine self.now }
-        ensures { result ≡ (line_at (lines_of self.now.items.items) number).containers }
+        requires { HasSomePaths self.now }
+        ensures { result ≡ (path_at (paths_of self.now.items.items) number).containers }
     {
-        self.span(number).containers
+        self.totals(number).containers
     }
 
     /// How many entries they have.
     fn entries_on_path(&self, number: Option<usize>) -> usize
-        requires { IsInSomeLine self.now }
-        ensures { result ≡ length (line_at (lines_of self.now.items.items) number).entries }
+        requires { HasSomePaths self.now }
+        ensures { result ≡ length (path_at (paths_of self.now.items.items) number).entries }
     {
-        self.span(number).entries
+        self.totals(number).entries
     }
 
     /// The bit after the last of them.
     pub fn end_of_path(&self, number: Option<usize>) -> u32
-        ensures { (parameters : List ParameterValue) → IsInLine parameters self.now → result ≡ line_end parameters (line_at (lines_of self.now.items.items) number) }
+        ensures { (parameters : List ParameterValue) → HasPaths parameters self.now → result ≡ path_end parameters (path_at (paths_of self.now.items.items) number) }
     {
-        self.span(number).end
+        self.totals(number).end
     }
 
     /// The parameter is an entry of the container or of one above it.
     fn stands_on(&self, number: Option<usize>, parameter: usize) -> bool
         requires { AreEarlier self.now.items.items }
-        ensures { result ≡ stands_on (line_at (lines_of self.now.items.items) number).entries parameter }
+        ensures { result ≡ stands_on (path_at (paths_of self.now.items.items) number).entries parameter }
     {
         let mut at = number;
         'up: loop {
@@ -256,7 +256,7 @@ impl Containers {
     /// The entry's parameter is an entry of the container or of one above it.
     fn is_repeated(&self, number: Option<usize>, entry: Reference) -> bool
         requires { AreEarlier self.now.items.items }
-        ensures { result ≡ is_repeated (line_at (lines_of self.now.items.items) number).entries entry }
+        ensures { result ≡ is_repeated (path_at (paths_of self.now.items.items) number).entries entry }
     {
         match entry {
             Reference::Nothing => false,
@@ -268,7 +268,7 @@ impl Containers {
     /// A parameter is compared that is no entry of the container or of one above it.
     fn compares_other(&self, number: Option<usize>, comparisons: &[Comparison]) -> bool
         requires { AreEarlier self.now.items.items }
-        ensures { result ≡ compares_other (line_at (lines_of self.now.items.items) number).entries comparisons.now }
+        ensures { result ≡ compares_other (path_at (paths_of self.now.items.items) number).entries comparisons.now }
     {
         for comparison in comparisons {
             if !self.stands_on(number, comparison.parameter) {
@@ -293,9 +293,9 @@ impl Containers {
     }
 
     /// The first rule that a row breaks which begins a container below these.
-    fn begun_broken(&self, begun: &Begun) -> Option<u8>
-        requires { IsInSomeLine self.now }
-        ensures { result ≡ first_broken (begun_checks self.now.items.items (line_up self.now.items.items begun.now) begun.now) }
+    fn new_container_broken(&self, begun: &NewContainer) -> Option<u8>
+        requires { HasSomePaths self.now }
+        ensures { result ≡ first_broken (new_container_checks self.now.items.items (path_up self.now.items.items begun.now) begun.now) }
     {
         let name = begun.name.as_bytes();
         if !is_name(name) {
@@ -330,16 +330,16 @@ impl Containers {
     }
 
     /// The first rule that the columns before a row's entry break, below these containers.
-    pub fn head_broken(&self, fields: usize, head: &Head) -> Option<u8>
-        requires { IsInSomeLine self.now }
-        ensures { result ≡ first_broken ((2, not (fields == 6)) ∷ head_checks self.now.items.items head.now) }
+    pub fn columns_broken(&self, fields: usize, columns: &ContainerColumns) -> Option<u8>
+        requires { HasSomePaths self.now }
+        ensures { result ≡ first_broken ((2, not (fields == 6)) ∷ columns_checks self.now.items.items columns.now) }
     {
         if fields != 6 {
             return Some(2);
         }
-        match head {
-            Head::Begins(begun) => self.begun_broken(begun),
-            Head::Continues(says) => {
+        match columns {
+            ContainerColumns::Begins(begun) => self.new_container_broken(begun),
+            ContainerColumns::Continues(says) => {
                 if is_empty(self.items.as_slice()) {
                     return Some(15);
                 }
@@ -352,17 +352,17 @@ impl Containers {
     }
 
     /// Begins a container. After want of memory nothing is known of the containers.
-    pub fn begin(&mut self, alloc: Global, begun: Begun) -> Result<(), AllocError>
-        requires line { IsInSomeLine self.old }
-        requires sound { first_broken (begun_checks self.old.items.items (line_up self.old.items.items begun) begun) ≡ None }
-        ensures added { OnOk result (self.new.items.items ≡ with_head self.old.items.items (BeginsValue begun)) }
-        ensures line { OnOk result (StaysInLine self.old self.new) }
+    pub fn begin(&mut self, alloc: Global, begun: NewContainer) -> Result<(), AllocError>
+        requires path { HasSomePaths self.old }
+        requires sound { first_broken (new_container_checks self.old.items.items (path_up self.old.items.items begun) begun) ≡ None }
+        ensures added { OnOk result (self.new.items.items ≡ with_columns self.old.items.items (BeginsValue begun)) }
+        ensures path { OnOk result (KeepsPaths self.old self.new) }
     {
         let parent = number_of(begun.parent);
-        let up = self.span(parent);
+        let up = self.totals(parent);
         self.names
             .add(Vec::from_slice(alloc, begun.name.as_bytes())?)?;
-        self.spans.push(Span {
+        self.all_totals.push(PathTotals {
             containers: up.containers + 1,
             entries: up.entries,
             end: up.end,
@@ -385,8 +385,8 @@ impl Containers {
         entry: Reference,
         position: Position,
     ) -> Option<u8>
-        requires { IsInLine parameters.now self.now }
-        ensures { result ≡ first_broken (entry_checks parameters.now (last_line self.now.items.items) continuing entry position) }
+        requires { HasPaths parameters.now self.now }
+        ensures { result ≡ first_broken (entry_checks parameters.now (last_path self.now.items.items) continuing entry position) }
     {
         if !is_reference(parameters.len(), entry) {
             return Some(24);
@@ -412,44 +412,44 @@ impl Containers {
 
     /// Adds an entry to the last container. After want of memory nothing is known of the containers.
     pub fn enter(&mut self, parameters: &[Parameter], entry: Entry) -> Result<(), AllocError>
-        requires line { IsInLine parameters.now self.old }
+        requires path { HasPaths parameters.now self.old }
         requires begun { 0 < length self.old.items.items }
-        requires room { length (last_line self.old.items.items).entries < 256 }
+        requires room { length (last_path self.old.items.items).entries < 256 }
         requires near { entry.at + bits_at parameters.now entry.parameter ≤ 524336 }
         ensures added { OnOk result (self.new.items.items ≡ at_last (with_new_entry entry) self.old.items.items) }
-        ensures line { OnOk result (IsInLine parameters.now self.new) }
+        ensures path { OnOk result (HasPaths parameters.now self.new) }
     {
         let last = self.items.len() - 1;
-        let span = &mut self.spans[last];
-        span.entries += 1;
-        span.end = entry.at + bits_at(parameters, entry.parameter) as u32;
+        let totals = &mut self.all_totals[last];
+        totals.entries += 1;
+        totals.end = entry.at + bits_at(parameters, entry.parameter) as u32;
         let container = &mut self.items[last];
         container.entries.push(entry)
     }
 
     /// Takes the columns before a row's entry in, or answers the first rule that they break. After want of memory
     /// nothing is known of the containers.
-    pub fn take_head(
+    pub fn take_columns(
         &mut self,
         alloc: Global,
         fields: usize,
-        head: Head,
+        columns: ContainerColumns,
     ) -> Result<Option<u8>, AllocError>
-        requires { IsInSomeLine self.old }
-        ensures fault { IfOk result (λ rule. rule ≡ first_broken ((2, not (fields == 6)) ∷ head_checks self.old.items.items head)) }
-        ensures added { result ≡ Ok None → self.new.items.items ≡ with_head self.old.items.items head }
-        ensures line { result ≡ Ok None → StaysInLine self.old self.new }
+        requires { HasSomePaths self.old }
+        ensures fault { IfOk result (λ rule. rule ≡ first_broken ((2, not (fields == 6)) ∷ columns_checks self.old.items.items columns)) }
+        ensures added { result ≡ Ok None → self.new.items.items ≡ with_columns self.old.items.items columns }
+        ensures path { result ≡ Ok None → KeepsPaths self.old self.new }
     {
-        let rule = self.head_broken(fields, &head);
+        let rule = self.columns_broken(fields, &columns);
         if rule.is_some() {
             return Ok(rule);
         }
-        match head {
-            Head::Begins(begun) => {
+        match columns {
+            ContainerColumns::Begins(begun) => {
                 self.begin(alloc, begun)?;
                 Ok(None)
             }
-            Head::Continues(_) => Ok(None),
+            ContainerColumns::Continues(_) => Ok(None),
         }
     }
 
@@ -462,11 +462,11 @@ impl Containers {
         entry: Reference,
         position: Position,
     ) -> Result<Option<u8>, AllocError>
-        requires line { IsInLine parameters.now self.old }
+        requires path { HasPaths parameters.now self.old }
         requires begun { 0 < length self.old.items.items }
-        ensures fault { IfOk result (λ rule. rule ≡ first_broken (entry_checks parameters.now (last_line self.old.items.items) continuing entry position)) }
+        ensures fault { IfOk result (λ rule. rule ≡ first_broken (entry_checks parameters.now (last_path self.old.items.items) continuing entry position)) }
         ensures added { result ≡ Ok None → self.new.items.items ≡ with_entry self.old.items.items entry position }
-        ensures line { result ≡ Ok None → IsInLine parameters.now self.new }
+        ensures path { result ≡ Ok None → HasPaths parameters.now self.new }
     {
         let rule = self.entry_broken(parameters, continuing, entry, position);
         if rule.is_some() {

@@ -31,7 +31,7 @@ mod not_mdb;
 mod parameter;
 mod parameter_rows;
 mod reading;
-mod retaking;
+mod rechecking;
 pub(crate) mod rows;
 mod sheet;
 mod sheet_rows;

@@ -4,9 +4,9 @@ ghost use Rattle.std.specs.Prelude.{◌≡◌, ◌<◌, IfOk, Some, is_some, len
 ghost use Rattle.mdb_model.specs.declared.not_mdb.NotMdb.TheVariants.{OutOfMemory};
 ghost use Rattle.mdb_model.specs.Children.{children_of};
 ghost use Rattle.mdb_model.specs.Database.{IsDatabase, limit_passed};
-ghost use Rattle.mdb_model.specs.Given.{AreGiven, GivenCalibrations, GivenContainers, GivenParameters, LimitsGive, database_from};
-ghost use Rattle.mdb_model.specs.Retaking.{ListsRetaken, refusal};
-ghost use Rattle.mdb_model.specs.Sheets.{SheetsGive};
+ghost use Rattle.mdb_model.specs.SheetResults.{AreSpelledLists, IsCalibrationSheetResult, IsContainerSheetResult, IsParameterSheetResult, IsLimitsResult, database_from};
+ghost use Rattle.mdb_model.specs.Rechecking.{ListsRechecked, refusal};
+ghost use Rattle.mdb_model.specs.Sheets.{IsCheckResult};
 ghost use Rattle.mdb_model.specs.Spelling.{database_octets};
 ghost use Rattle.mdb_model.specs.Texts.{place_of};
 ghost use Rattle.octet_fields.specs.Answers.{ReadsEach, ReadsOnly};
@@ -25,7 +25,9 @@ use crate::not_mdb::NotMdb;
 use crate::parameter::Parameter;
 use crate::parameter_rows::Parameters;
 use crate::reading::{ItemLists, item_lists};
-use crate::retaking::{have_rows, retaken_calibrations, retaken_containers, retaken_parameters};
+use crate::rechecking::{
+    have_rows, rechecked_calibrations, rechecked_containers, rechecked_parameters,
+};
 use crate::sheet::{RawMdb, Record};
 use crate::sheet_rows::{is_calibration_header, is_container_header, is_parameter_header};
 use crate::sheets::{calibrations_of, containers_of, parameters_of};
@@ -51,11 +53,11 @@ impl Model for Mdb {
 
     ghost Value = { Database };
 
-    ghost use Rattle.mdb_model.specs.Inside.{database_inside, IsKept};
+    ghost use Rattle.mdb_model.specs.Inside.{database_inside, MdbInvariant};
 
     ghost view = { database_inside };
 
-    ghost invariant = { IsKept };
+    ghost invariant = { MdbInvariant };
 }
 
 /// The refusal of a sheet without its header.
@@ -71,7 +73,7 @@ fn no_header(sheet: MdbSheet) -> MdbFault
 
 /// The calibrations of a sheet.
 fn checked_calibrations(alloc: Global, records: &[Record]) -> Result<Calibrations, MdbFault>
-    ensures { GivenCalibrations records.now result }
+    ensures { IsCalibrationSheetResult records.now result }
 {
     let [header, rows @ ..] = records else {
         return Err(no_header(MdbSheet::Calibrations));
@@ -88,7 +90,7 @@ fn checked_parameters(
     calibrations: &Calibrations,
     records: &[Record],
 ) -> Result<Parameters, MdbFault>
-    ensures { GivenParameters calibrations.now.items.items calibrations.now.names records.now result }
+    ensures { IsParameterSheetResult calibrations.now.items.items calibrations.now.names records.now result }
 {
     let [header, rows @ ..] = records else {
         return Err(no_header(MdbSheet::Parameters));
@@ -106,7 +108,7 @@ fn checked_containers(
     records: &[Record],
 ) -> Result<Containers, MdbFault>
     requires { parameters.now.names ≡ map (λ p. p.name) parameters.now.items.items }
-    ensures { GivenContainers parameters.now.items.items records.now result }
+    ensures { IsContainerSheetResult parameters.now.items.items records.now result }
 {
     let [header, rows @ ..] = records else {
         return Err(no_header(MdbSheet::Containers));
@@ -139,8 +141,8 @@ pub(crate) fn within_limits(
     parameters: Parameters,
     containers: Containers,
 ) -> Result<Mdb, MdbFault>
-    requires { AreGiven calibrations parameters containers }
-    ensures { LimitsGive (database_from calibrations parameters containers) result }
+    requires { AreSpelledLists calibrations parameters containers }
+    ensures { IsLimitsResult (database_from calibrations parameters containers) result }
 {
     if let Some((which, number)) = limit_of(&calibrations, &parameters, &containers) {
         return Err(MdbFault::Limit { which, number });
@@ -159,7 +161,7 @@ pub(crate) fn within_limits(
 impl Mdb {
     /// The database that three sheets spell, or the first rule that they break, or else the first limit that they pass.
     pub fn check(alloc: Global, raw: &RawMdb) -> Result<Mdb, MdbFault>
-        ensures { SheetsGive raw.now result }
+        ensures { IsCheckResult raw.now result }
     {
         let calibrations = checked_calibrations(alloc, raw.calibrations.as_slice())?;
         let parameters = checked_parameters(alloc, &calibrations, raw.parameters.as_slice())?;
@@ -310,7 +312,7 @@ impl Mdb {
     /// The database of decoded lists, whose items are taken in again by the rules of the sheets, once the limits were
     /// asked.
     fn of_lists(alloc: Global, lists: &ItemLists) -> Result<Mdb, DecodeError>
-        ensures { ListsRetaken (record { parameters = lists.now.parameters.items; calibrations = lists.now.calibrations.items; containers = lists.now.containers.items }) result }
+        ensures { ListsRechecked (record { parameters = lists.now.parameters.items; calibrations = lists.now.calibrations.items; containers = lists.now.containers.items }) result }
     {
         if pass_limit(lists) {
             return Err(DecodeError::Malformed);
@@ -321,13 +323,17 @@ impl Mdb {
         if lists.containers.is_empty() {
             return Err(DecodeError::Malformed);
         }
-        let calibrations = retaken_calibrations(alloc, &lists.calibrations)?;
-        let parameters = retaken_parameters(
+        let calibrations = rechecked_calibrations(alloc, &lists.calibrations)?;
+        let parameters = rechecked_parameters(
             alloc,
             calibrations.items.as_slice(),
             &lists.parameters,
         )?;
-        let containers = retaken_containers(alloc, parameters.items.as_slice(), &lists.containers)?;
+        let containers = rechecked_containers(
+            alloc,
+            parameters.items.as_slice(),
+            &lists.containers,
+        )?;
         match within_limits(alloc, calibrations, parameters, containers) {
             Ok(mdb) => Ok(mdb),
             Err(fault) => Err(refusal(fault)),

@@ -18,7 +18,7 @@ pub enum Reference {
 
 /// What the columns kind, x and y of a calibration's row say; None where a text isn't what the kind asks for.
 #[derive(Drop)]
-pub enum Cells {
+pub enum RowValues {
     /// The kind is unknown.
     Unread,
     /// Of `poly`: an exponent and a coefficient in millionths.
@@ -43,7 +43,7 @@ pub struct ParameterRow {
 
 /// What a row that begins a container says of it.
 #[derive(Drop)]
-pub struct Begun {
+pub struct NewContainer {
     pub name: MdbName,
     pub parent: Reference,
     pub condition: Option<Items<Comparison>>,
@@ -52,9 +52,9 @@ pub struct Begun {
 
 /// The columns of a row of the containers sheet before its entry.
 #[derive(Drop)]
-pub enum Head {
+pub enum ContainerColumns {
     /// The row begins a container.
-    Begins(Begun),
+    Begins(NewContainer),
     /// The row continues the last container. True where it has a parent, condition or archive text.
     Continues(bool),
 }

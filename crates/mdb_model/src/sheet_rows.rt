@@ -3,35 +3,35 @@
 ghost use Rattle.std.specs.Prelude.{◌≡◌, ◌||◌, not, map, length, option_map, ◌+◌, ◌<◌, ◌^◌, IfOk};
 ghost use Rattle.mdb_model.specs.ContainerRows.{is_nothing};
 ghost use Rattle.mdb_model.specs.Lists.{is_empty};
-ghost use Rattle.mdb_model.specs.Sheets.{are_texts, is_calibration_header, is_container_header, is_parameter_header, position_from, read_archive, read_calibration, read_cells, read_coding, read_head, read_parameter, read_position, read_reference, reference_from};
+ghost use Rattle.mdb_model.specs.Sheets.{are_texts, is_calibration_header, is_container_header, is_parameter_header, position_from, read_archive, read_calibration, read_row_values, read_coding, read_columns, read_parameter, read_position, read_reference, reference_from};
 ghost use Rattle.mdb_model.specs.Texts.{digits_at_most, field, offset};
 
 use crate::condition::condition;
 use crate::name::MdbName;
 use crate::names::Names;
 use crate::parameter::Coding;
-use crate::rows::{Begun, Cells, Head, ParameterRow, Position, Reference};
+use crate::rows::{ContainerColumns, NewContainer, ParameterRow, Position, Reference, RowValues};
 use crate::sheet::Record;
 use crate::texts::{decimal_number, digits_at_most, offset, small_number, whole_number};
 use std::alloc::{AllocError, Global};
 
 /// What the columns kind, x and y of a calibration say.
-pub(crate) fn read_cells(
+pub(crate) fn read_row_values(
     alloc: Global,
     kind: &[u8],
     x: &[u8],
     y: &[u8],
-) -> Result<Cells, AllocError>
-    ensures { IfOk result (λ cells. cells ≡ read_cells kind.now x.now y.now) }
+) -> Result<RowValues, AllocError>
+    ensures { IfOk result (λ row_values. row_values ≡ read_row_values kind.now x.now y.now) }
 {
     if kind == b"poly".as_slice() {
-        Ok(Cells::Coefficient(small_number(0, 3, x), decimal_number(y)))
+        Ok(RowValues::Coefficient(small_number(0, 3, x), decimal_number(y)))
     } else if kind == b"points".as_slice() {
-        Ok(Cells::Point(whole_number(x), decimal_number(y)))
+        Ok(RowValues::Point(whole_number(x), decimal_number(y)))
     } else if kind == b"enum".as_slice() {
-        Ok(Cells::Label(whole_number(x), MdbName::from_slice(alloc, y)?))
+        Ok(RowValues::Label(whole_number(x), MdbName::from_slice(alloc, y)?))
     } else {
-        Ok(Cells::Unread)
+        Ok(RowValues::Unread)
     }
 }
 
@@ -103,22 +103,24 @@ fn read_archive(text: &[u8]) -> Option<bool>
 }
 
 /// The columns container, parent, condition and archive, below the containers above.
-pub(crate) fn read_head(
+pub(crate) fn read_columns(
     alloc: Global,
     parameters: &Names,
     above: &Names,
     fields: &Record,
-) -> Result<Head, AllocError>
-    ensures { IfOk result (λ head. head ≡ read_head parameters.now above.now (field fields.now 0) (field fields.now 1) (field fields.now 2) (field fields.now 3)) }
+) -> Result<ContainerColumns, AllocError>
+    ensures { IfOk result (λ columns. columns ≡ read_columns parameters.now above.now (field fields.now 0) (field fields.now 1) (field fields.now 2) (field fields.now 3)) }
 {
     let name = fields.field(0);
     let parent = fields.field(1);
     let text = fields.field(2);
     let archive = fields.field(3);
     if name.is_empty() {
-        return Ok(Head::Continues(!parent.is_empty() || !text.is_empty() || !archive.is_empty()));
+        return Ok(ContainerColumns::Continues(
+            !parent.is_empty() || !text.is_empty() || !archive.is_empty(),
+        ));
     }
-    Ok(Head::Begins(Begun {
+    Ok(ContainerColumns::Begins(NewContainer {
         name: MdbName::from_slice(alloc, name)?,
         parent: read_reference(above, parent),
         condition: condition(alloc, parameters, text)?,

@@ -5,8 +5,8 @@ ghost use Rattle.mdb_model.specs.CalibrationRows.{calibration_fault, with_calibr
 ghost use Rattle.mdb_model.specs.ContainerRows.{row_fault, with_container_row};
 ghost use Rattle.mdb_model.specs.ParameterRows.{parameter_fault, parameter_of};
 ghost use Rattle.mdb_model.specs.Sheets.{read_calibration, read_container, read_containers, read_parameter};
-ghost use Rattle.mdb_model.specs.Spans.{IsInLine};
-ghost use Rattle.mdb_model.specs.Steps.{CalibrationsGive, ContainersGive, IsInStep, ParametersGive};
+ghost use Rattle.mdb_model.specs.Totals.{HasPaths};
+ghost use Rattle.mdb_model.specs.Steps.{IsCalibrationsResult, IsContainersResult, IsInStep, IsParametersResult};
 ghost use Rattle.mdb_model.specs.Texts.{field};
 
 use crate::calibration_rows::Calibrations;
@@ -14,7 +14,9 @@ use crate::container_rows::{Containers, is_continuing};
 use crate::fault::{MdbFault, MdbSheet};
 use crate::parameter_rows::Parameters;
 use crate::sheet::Record;
-use crate::sheet_rows::{read_cells, read_head, read_parameter, read_position, read_reference};
+use crate::sheet_rows::{
+    read_columns, read_parameter, read_position, read_reference, read_row_values,
+};
 use std::alloc::{AllocError, Global};
 
 /// The first field of a record, if there is a record.
@@ -48,19 +50,19 @@ fn take_calibration(
 {
     let count = fields.len();
     let name = fields.field(0);
-    let cells = read_cells(alloc, fields.field(1), fields.field(2), fields.field(3))?;
+    let row_values = read_row_values(alloc, fields.field(1), fields.field(2), fields.field(3))?;
     let next = first_field(next);
-    let rule = calibrations.broken(count, name, &cells, next);
+    let rule = calibrations.broken(count, name, &row_values, next);
     if rule.is_some() {
         return Ok(rule);
     }
-    calibrations.add(alloc, count, name, cells, next)?;
+    calibrations.add(alloc, count, name, row_values, next)?;
     Ok(None)
 }
 
 /// The calibrations of the records below the header.
 pub(crate) fn calibrations_of(alloc: Global, records: &[Record]) -> Result<Calibrations, MdbFault>
-    ensures { CalibrationsGive (map read_calibration records.now) result }
+    ensures { IsCalibrationsResult (map read_calibration records.now) result }
 {
     let mut calibrations = Calibrations::new(alloc);
     for (i, fields) in records.iter().enumerate() {
@@ -103,7 +105,7 @@ pub(crate) fn parameters_of(
     calibrations: &Calibrations,
     records: &[Record],
 ) -> Result<Parameters, MdbFault>
-    ensures { ParametersGive calibrations.now.items.items (map (read_parameter calibrations.now.names) records.now) result }
+    ensures { IsParametersResult calibrations.now.items.items (map (read_parameter calibrations.now.names) records.now) result }
 {
     let mut parameters = Parameters::new(alloc);
     for (i, fields) in records.iter().enumerate() {
@@ -125,16 +127,16 @@ fn take_container(
     containers: &mut Containers,
     fields: &Record,
 ) -> Result<Option<u8>, AllocError>
-    requires line { IsInLine parameters.now.items.items containers.old }
+    requires path { HasPaths parameters.now.items.items containers.old }
     requires names { parameters.now.names ≡ map (λ p. p.name) parameters.now.items.items }
     ensures fault { IfOk result (λ rule. rule ≡ row_fault parameters.now.items.items containers.old.items.items (read_container parameters.now.items.items containers.old.items.items fields.now)) }
     ensures added { result ≡ Ok None → containers.new.items.items ≡ with_container_row containers.old.items.items (read_container parameters.now.items.items containers.old.items.items fields.now) }
-    ensures line { result ≡ Ok None → IsInLine parameters.now.items.items containers.new }
+    ensures path { result ≡ Ok None → HasPaths parameters.now.items.items containers.new }
 {
-    let head = read_head(alloc, &parameters.names, &containers.names, fields)?;
-    let continuing = is_continuing(&head);
+    let columns = read_columns(alloc, &parameters.names, &containers.names, fields)?;
+    let continuing = is_continuing(&columns);
     let items = parameters.items.as_slice();
-    let rule = containers.take_head(alloc, fields.len(), head)?;
+    let rule = containers.take_columns(alloc, fields.len(), columns)?;
     if rule.is_some() {
         return Ok(rule);
     }
@@ -152,7 +154,7 @@ pub(crate) fn containers_of(
     records: &[Record],
 ) -> Result<Containers, MdbFault>
     requires { parameters.now.names ≡ map (λ p. p.name) parameters.now.items.items }
-    ensures { ContainersGive parameters.now.items.items (read_containers parameters.now.items.items [] records.now) result }
+    ensures { IsContainersResult parameters.now.items.items (read_containers parameters.now.items.items [] records.now) result }
 {
     if records.is_empty() {
         return Err(MdbFault::Bad {

@@ -2,7 +2,7 @@
 
 ghost use Rattle.std.specs.Prelude.{◌≡◌, ◌≤◌, ◌<◌, ◌^◌, ◌==◌, length, position, None, IfSome, OnSome};
 ghost use Rattle.std.specs.List.{list_all};
-ghost use Rattle.mdb_model.specs.Texts.{decimal_number, digits_at_most, digits_worth, is_digit, is_label, is_name, is_name_octet, is_printable, millionths, millionths_at, millionths_from, offset, small_number, whole_number};
+ghost use Rattle.mdb_model.specs.Texts.{decimal_number, digits_at_most, decimal_value, is_digit, is_label, is_name, is_name_octet, is_printable, millionths, millionths_at, millionths_from, offset, small_number, whole_number};
 
 pub(crate) fn is_name_octet(octet: u8) -> bool
     ensures { result ≡ is_name_octet octet }
@@ -58,14 +58,14 @@ pub(crate) fn digits_at_most(most: usize, text: &[u8]) -> Option<u128>
     if text.is_empty() || text.len() > most {
         return None;
     }
-    let mut worth: u128 = 0;
+    let mut value: u128 = 0;
     for octet in text {
         if !is_digit(*octet) {
             return None;
         }
-        worth = 10 * worth + (*octet - b'0') as u128;
+        value = 10 * value + (*octet - b'0') as u128;
     }
-    Some(worth)
+    Some(value)
 }
 
 /// An optional `-` and 1 to 20 digits, from -2^63 to 2^64 - 1.
@@ -73,16 +73,16 @@ pub(crate) fn whole_number(text: &[u8]) -> Option<i128>
     ensures { result ≡ whole_number text.now }
 {
     if let [b'-', digits @ ..] = text {
-        let worth = digits_at_most(20, digits)?;
-        if worth <= 9223372036854775808 {
-            Some(-(worth as i128))
+        let value = digits_at_most(20, digits)?;
+        if value <= 9223372036854775808 {
+            Some(-(value as i128))
         } else {
             None
         }
     } else {
-        let worth = digits_at_most(20, text)?;
-        if worth <= 18446744073709551615 {
-            Some(worth as i128)
+        let value = digits_at_most(20, text)?;
+        if value <= 18446744073709551615 {
+            Some(value as i128)
         } else {
             None
         }
@@ -166,12 +166,12 @@ pub(crate) fn offset(text: &[u8]) -> Option<u32>
     if text.is_empty() {
         return None;
     }
-    let mut worth: u32 = 0;
+    let mut value: u32 = 0;
     for octet in text {
         if !is_digit(*octet) {
             return None;
         }
-        worth = (10 * worth + (*octet - b'0') as u32).min(524_336);
+        value = (10 * value + (*octet - b'0') as u32).min(524_336);
     }
-    Some(worth)
+    Some(value)
 }

@@ -36,7 +36,7 @@ const EACH_CONTAINER: &str =
 const EACH_OCTETS: &str =
     "00040161000800000162031000010163010800020164020800030003016b000000000200ffffffffff67698001000000000000271001700100000002fffffffffffffffffffffffffffffffe000000000000000000000000000000000000000000000003fffffffffff0bdc00165020000000200000000000000000000000000000000034f46460000000000000000ffffffffffffffff044f4e207e0003015200000000000200000000000500010000001207532e312f782d79000101060000000000000000000000000000000000000100000100000000000000000000000000000002000002000000000000000000000000000000030000030000000000000000000000000000000400000400000000000000000000000000000005000105fffffffffffffffffffffffffffffffa00000154000200000002000200000022000300000064";
 
-// A line is the row that breaks a rule first, the rule, and the sheet. The other two sheets are sound.
+// A path is the row that breaks a rule first, the rule, and the sheet. The other two sheets are sound.
 const BROKEN_CALIBRATIONS: &str = "1#1#name,kind,x
 1#1#name,kind,x,z|k,poly
 2#2#name,kind,x,y|k,poly,0
@@ -173,7 +173,7 @@ fn number(text: Option<&str>) -> u8 {
     text.unwrap_or("").parse().unwrap_or(0)
 }
 
-/// The row and the rule that a line says, and its sheet.
+/// The row and the rule that a path says, and its sheet.
 fn parts_of(line: &str) -> (usize, u8, &str) {
     let mut parts = line.split('#');
     let row = usize::from(number(parts.next()));

@@ -63,10 +63,10 @@ ask_of row = Values (record {
 })
 
 -- the ask of a row that breaks no rule, or the first rule that it breaks
-abbrev pub AskGiven : Fields → Result Ask AskFault → Type 0
-AskGiven row (Ok ask) = (first_broken (ask_checks row) ≡ None) × (ask ≡ ask_of row)
-AskGiven row (Err (fault.Broken rule)) = first_broken (ask_checks row) ≡ Some rule
-AskGiven row (Err fault.OutOfMemory) = Unit {0}
+abbrev pub IsAskResult : Fields → Result Ask AskFault → Type 0
+IsAskResult row (Ok ask) = (first_broken (ask_checks row) ≡ None) × (ask ≡ ask_of row)
+IsAskResult row (Err (fault.Broken rule)) = first_broken (ask_checks row) ≡ Some rule
+IsAskResult row (Err fault.OutOfMemory) = Unit {0}
 
 -- `kind,name,from,to,order,limit,names`
 abbrev pub is_ask_header : Fields → Bool
@@ -85,24 +85,24 @@ sheet_fault [] = Some (1, 1)
 sheet_fault (header ∷ rows) = if is_ask_header header then rows_fault 2 rows else Some (1, 1)
 
 -- the asks of the rows below the header, or the first rule that they break
-abbrev pub RowsGiven : List Fields → Result (List Ask) Refusal → Type 0
-RowsGiven rows (Ok asks) = (rows_fault 2 rows ≡ None) × (asks ≡ map ask_of rows)
-RowsGiven rows (Err (BadSheet name row rule)) = (name ≡ sheet.Asks) × (rows_fault 2 rows ≡ Some (row, rule))
-RowsGiven rows (Err OutOfMemory) = Unit {0}
-RowsGiven rows (Err other) = ⊥
+abbrev pub IsAskRowsResult : List Fields → Result (List Ask) Refusal → Type 0
+IsAskRowsResult rows (Ok asks) = (rows_fault 2 rows ≡ None) × (asks ≡ map ask_of rows)
+IsAskRowsResult rows (Err (BadSheet name row rule)) = (name ≡ sheet.Asks) × (rows_fault 2 rows ≡ Some (row, rule))
+IsAskRowsResult rows (Err OutOfMemory) = Unit {0}
+IsAskRowsResult rows (Err other) = ⊥
 
 -- the asks of a sheet, or the first rule that it breaks, or where none the limit of asks where it has more; for want of memory nothing is said
-abbrev pub AsksGiven : List Fields → Result (List Ask) Refusal → Type 0
-AsksGiven records (Ok asks) = (sheet_fault records ≡ None) × (asks ≡ map ask_of (drop 1 records)) × (length asks ≤ limit_of which.Asks)
-AsksGiven records (Err (BadSheet name row rule)) = (name ≡ sheet.Asks) × (sheet_fault records ≡ Some (row, rule))
-AsksGiven records (Err (Limit quantity number)) =
+abbrev pub IsAsksResult : List Fields → Result (List Ask) Refusal → Type 0
+IsAsksResult records (Ok asks) = (sheet_fault records ≡ None) × (asks ≡ map ask_of (drop 1 records)) × (length asks ≤ limit_of which.Asks)
+IsAsksResult records (Err (BadSheet name row rule)) = (name ≡ sheet.Asks) × (sheet_fault records ≡ Some (row, rule))
+IsAsksResult records (Err (Limit quantity number)) =
     (quantity ≡ which.Asks) × (number ≡ limit_of which.Asks) × (sheet_fault records ≡ None) × (limit_of which.Asks < length (drop 1 records))
-AsksGiven records (Err OutOfMemory) = Unit {0}
-AsksGiven records (Err other) = ⊥
+IsAsksResult records (Err OutOfMemory) = Unit {0}
+IsAsksResult records (Err other) = ⊥
 
 -- the asks of the sheet that a source has left
 abbrev pub AreAsks : Option (List ℕ) → List Ask → Type 0
-AreAsks left asks = IfSome left (λ octets. (length octets ≤ limit_of SheetOctets) × AsksGiven (sheet_of octets) (Ok asks))
+AreAsks left asks = IfSome left (λ octets. (length octets ≤ limit_of SheetOctets) × IsAsksResult (sheet_of octets) (Ok asks))
 
 -- why a sheet of asks isn't read: the source failed, the first rule that it breaks, the limit that it passes, or there was no memory
 abbrev pub IsAsksRefusal : Option (List ℕ) → ℕ → ℕ → Refusal → Type 0

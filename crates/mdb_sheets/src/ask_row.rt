@@ -2,7 +2,7 @@
 
 ghost use Rattle.std.specs.Prelude.{◌≡◌};
 ghost use Rattle.mdb_model.specs.Texts.{digits_at_most, is_digit};
-ghost use Rattle.mdb_sheets.specs.Asks.{AskGiven, descending_of, most_of};
+ghost use Rattle.mdb_sheets.specs.Asks.{IsAskResult, descending_of, most_of};
 
 use arch_types::ask::{Ask, Request};
 use arch_types::name::Name;
@@ -55,14 +55,14 @@ fn number_of(text: &[u8]) -> Option<u64>
     if text.is_empty() || text.len() > 18 {
         return None;
     }
-    let mut worth: u64 = 0;
+    let mut value: u64 = 0;
     for octet in text {
         if !is_digit(*octet) {
             return None;
         }
-        worth = 10 * worth + u64::from(*octet - b'0');
+        value = 10 * value + u64::from(*octet - b'0');
     }
-    Some(worth)
+    Some(value)
 }
 
 /// The limit of an ask, which may be empty.
@@ -81,7 +81,7 @@ fn most_of(text: &[u8]) -> Option<Option<u64>>
 /// The ask of a row.
 #[tactic(auto, unfolding(crate::specs::Asks::ask_checks, crate::specs::Asks::ask_of))]
 pub(crate) fn read_ask(alloc: Global, row: &Record) -> Result<Ask, AskFault>
-    ensures { AskGiven row.now result }
+    ensures { IsAskResult row.now result }
 {
     if row.len() != 7 {
         return Err(AskFault::Broken(2));

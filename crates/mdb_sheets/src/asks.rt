@@ -7,7 +7,7 @@ ghost use Rattle.mdb_model.specs.Sheets.{are_texts};
 ghost use Rattle.std.specs.Result.{result_err};
 ghost use Rattle.outer_traits.specs.Outside.{Stays};
 ghost use Rattle.outer_traits.specs.Whole.{TookAtMost};
-ghost use Rattle.mdb_sheets.specs.Asks.{AreAsks, AsksGiven, IsAsksRefusal, RowsGiven, is_ask_header};
+ghost use Rattle.mdb_sheets.specs.Asks.{AreAsks, IsAsksResult, IsAsksRefusal, IsAskRowsResult, is_ask_header};
 ghost use Rattle.mdb_sheets.specs.Sheets.{ReadsCounted, sheet_of};
 
 use crate::ask_row::{AskFault, read_ask};
@@ -49,7 +49,7 @@ fn broken(row: usize, rule: u8) -> Refusal
 /// The asks of the rows below the header.
 fn asks_below(alloc: Global, rows: &[Record]) -> Result<Asks, Refusal>
     requires { length rows.now + 2 < 2 ^ 64 }
-    ensures { RowsGiven rows.now result }
+    ensures { IsAskRowsResult rows.now result }
 {
     let mut asks = Asks::new(alloc);
     for (i, row) in rows.iter().enumerate() {
@@ -64,7 +64,7 @@ fn asks_below(alloc: Global, rows: &[Record]) -> Result<Asks, Refusal>
 
 /// The asks of a sheet.
 pub(crate) fn asks_of(alloc: Global, sheet: &Sheet) -> Result<Asks, Refusal>
-    ensures { AsksGiven sheet.now result }
+    ensures { IsAsksResult sheet.now result }
 {
     let Some((header, rows)) = sheet.as_slice().split_first() else {
         return Err(broken(1, 1));
@@ -84,7 +84,7 @@ pub(crate) fn asks_of(alloc: Global, sheet: &Sheet) -> Result<Asks, Refusal>
 
 /// The asks of a sheet's octets.
 fn asks_in(alloc: Global, octets: &[u8]) -> Result<Asks, Refusal>
-    ensures { AsksGiven (sheet_of octets.now) result }
+    ensures { IsAsksResult (sheet_of octets.now) result }
 {
     match records(alloc, octets) {
         Ok(sheet) => asks_of(alloc, &sheet),
@@ -101,7 +101,7 @@ pub fn read_asks<S: Source>(alloc: Global, source: &mut S) -> Result<Asks, Refus
     ensures within { IsErrOf result Refusal.ReadFault → TookAtMost (limit_of SheetOctets) (S.left source.old) (S.left source.new) }
     ensures counted { ReadsCounted (result_err result) (S.faults source.old) (S.faults source.new) }
     ensures later { S.faults source.old ≤ S.faults source.new }
-    ensures steady { S.never_fails source.old → S.never_fails source.new × Stays (S.faults source.old) (S.faults source.new) }
+    ensures reliable { S.never_fails source.old → S.never_fails source.new × Stays (S.faults source.old) (S.faults source.new) }
 {
     match read_whole(alloc, source, Which::SheetOctets.limit() as usize) {
         Ok(octets) => asks_in(alloc, octets.as_slice()),

@@ -30,10 +30,10 @@ impl<'a, R> RealDisk<'a, R> {
 
 impl<'a, R: Files<File = File>> Disk for RealDisk<'a, R> {
     ghost use Rattle.std.specs.Prelude.{[], false};
-    ghost use Rattle.arch_disk.specs.Laws.{untold};
+    ghost use Rattle.arch_disk.specs.Laws.{from_opaque};
 
     ghost device = { record {
-      tells = false;
+      is_transparent = false;
       reads = λ _ _. [];
       images = λ _ _. ⊥;
       moment = λ _. 0;
@@ -42,8 +42,8 @@ impl<'a, R: Files<File = File>> Disk for RealDisk<'a, R> {
       failed_writes = λ disk. disk.counts.failed_writes;
       now_counts = λ _ _ _ _ left. left;
       only_now = λ _ _ left. left;
-      reads_as_image = λ _ told. untold told;
-      lengths_fit = λ _ _ told. untold told;
+      reads_as_image = λ _ known. from_opaque known;
+      lengths_fit = λ _ _ known. from_opaque known;
     } };
 
     fn len(&mut self, file: u32) -> Result<u64, Failed> {

@@ -1,4 +1,4 @@
--- What the calls on the outside do, where its content is told, and when they fail.
+-- What the calls on the outside do, where its content is known, and when they fail.
 use Rattle.std.specs.Prelude.{◌≡◌, ℕ, ℤ, pos, ◌+◌, ◌-◌, ◌^◌, min, ◌<◌, ◌≤◌, ◌≤ℤ◌, ◌⊎◌, List, ◌++◌, length, take, drop, Option, Some, None, Result, Err, IsSomeAnd}
 use Rattle.std.specs.Option.{is_some}
 use Rattle.std.specs.Ordering.{nat_cmp}
@@ -28,30 +28,30 @@ one_more count = min (count + 1) (2 ^ 64 - 1)
 abbrev pub IsOneMoreAtMost : ℕ → ℕ → Type 0
 IsOneMoreAtMost before now = (now ≡ before) ⊎ (now ≡ one_more before)
 
--- an object tells after a call exactly where it told before
-abbrev pub SameTelling : {X : Type 0} → Option X → Option X → Type 0
-SameTelling before now = is_some now ≡ is_some before
+-- an object is known after a call exactly where it was known before
+abbrev pub StaysKnown : {X : Type 0} → Option X → Option X → Type 0
+StaysKnown before now = is_some now ≡ is_some before
 
 -- octets by the octets of a name
 abbrev pub Files : Type 0
 Files = FinMap (slice_cmp nat_cmp) (List ℕ)
 
--- the first n octets left were moved to the front of a slice, where they are told
+-- the first n octets left were moved to the front of a slice, where they are known
 abbrev pub Reads : Option (List ℕ) → Option (List ℕ) → ℕ → List ℕ → Type 0
 Reads None new n into = new ≡ None
 Reads (Some octets) new n into = (n ≤ length octets) × (take n into ≡ take n octets) × (new ≡ Some (drop n octets))
 
--- what is left at first is what the files have at the name, where they are told
+-- what is left at first is what the files have at the name, where they are known
 abbrev pub Gives : Option Files → List ℕ → Option (List ℕ) → Type 0
 Gives None name left = left ≡ None
 Gives (Some files) name left = IsSomeAnd (get files name) (λ octets. left ≡ Some octets)
 
--- the first n octets of a piece were appended, where the content is told
+-- the first n octets of a piece were appended, where the content is known
 abbrev pub Writes : Option (List ℕ) → Option (List ℕ) → ℕ → List ℕ → Type 0
 Writes None new n piece = new ≡ None
 Writes (Some octets) new n piece = new ≡ Some (octets ++ take n piece)
 
--- a prefix of a text was appended, where the content is told
+-- a prefix of a text was appended, where the content is known
 abbrev pub WritesSome : Option (List ℕ) → Option (List ℕ) → List ℕ → Type 0
 WritesSome None new text = new ≡ None
 WritesSome (Some octets) new text = (piece : List ℕ) × (more : List ℕ) × (piece ++ more ≡ text) × (new ≡ Some (octets ++ piece))

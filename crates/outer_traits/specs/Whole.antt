@@ -5,20 +5,20 @@ use Rattle.outer_traits.specs.declared.whole.ReadFault.{ReadFault}
 use Rattle.outer_traits.specs.declared.whole.ReadFault.TheVariants.{Missing, Failed, TooLong, OutOfMemory}
 use Rattle.outer_traits.specs.Outside.{Files, HasRisen, IsOneMoreAtMost, Stays, one_more}
 
--- of the octets that were left at first these were taken, and the others are left, where they are told
+-- of the octets that were left at first these were taken, and the others are left, where they are known
 abbrev pub IsTaken : Option (List ℕ) → List ℕ → Option (List ℕ) → Type 0
 IsTaken None taken left = left ≡ None
 IsTaken (Some octets) taken left = (more : List ℕ) × (octets ≡ taken ++ more) × (left ≡ Some more)
 
--- not more octets than the limit were taken of those that were left, where they are told
+-- not more octets than the limit were taken of those that were left, where they are known
 abbrev pub TookAtMost : ℕ → Option (List ℕ) → Option (List ℕ) → Type 0
 TookAtMost limit old new = IfSome old (λ octets. IfSome new (λ more. length octets ≤ limit + length more))
 
--- the named input has these octets, where the inputs are told
+-- the named input has these octets, where the inputs are known
 abbrev pub IsInput : Option Files → List ℕ → List ℕ → Type 0
 IsInput files name octets = IfSome files (λ all. get all name ≡ Some octets)
 
--- there is an input of the name, where the inputs are told
+-- there is an input of the name, where the inputs are known
 abbrev pub IsThere : Option Files → List ℕ → Type 0
 IsThere files name = IfSome files (λ all. IsSome (get all name))
 

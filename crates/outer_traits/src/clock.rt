@@ -1,7 +1,7 @@
 //! A clock.
 
 ghost use Rattle.std.specs.Prelude.{◌≡◌, ℤ, Option, IfSome};
-ghost use Rattle.outer_traits.specs.Outside.{IsMoment, SameTelling};
+ghost use Rattle.outer_traits.specs.Outside.{IsMoment, StaysKnown};
 
 use std::marker::Model;
 
@@ -15,10 +15,10 @@ pub trait Clock {
 
     /// The moment, which lies before the year 10000.
     fn now(&mut self) -> i64
-        ensures told { IfSome (next self.old) (λ moment. result ≡ moment) }
+        ensures known { IfSome (next self.old) (λ moment. result ≡ moment) }
         ensures range { IsMoment result }
-        ensures same { SameTelling (next self.old) (next self.new) }
-        ensures steady { stands self.old → stands self.new × (next self.new ≡ next self.old) };
+        ensures same { StaysKnown (next self.old) (next self.new) }
+        ensures reliable { stands self.old → stands self.new × (next self.new ≡ next self.old) };
 }
 
 /// A clock that stands still.

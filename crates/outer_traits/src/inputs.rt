@@ -12,7 +12,7 @@ use std::alloc::Global;
 pub trait Inputs {
     type Source: Source + Drop;
 
-    /// The octets of each name, where they are told.
+    /// The octets of each name, where they are known.
     ghost files: { Self → Option Files };
 
     /// How often they have failed, a source that had failed when it was closed counted too.
@@ -39,8 +39,8 @@ pub trait Inputs {
         ensures gave { OnOk result (given self.new ≡ one_more (given self.old)) }
         ensures gave_none { OnErr result (given self.new ≡ given self.old) }
         ensures counted { OpeningCounted result (faults self.old) (faults self.new) }
-        ensures steady { never_fails self.old → never_fails self.new × Stays (faults self.old) (faults self.new) }
-        ensures steady_source { never_fails self.old → IfOk result (λ source. Self.Source.never_fails source) };
+        ensures reliable { never_fails self.old → never_fails self.new × Stays (faults self.old) (faults self.new) }
+        ensures reliable_source { never_fails self.old → IfOk result (λ source. Self.Source.never_fails source) };
 
     /// Takes a source back. The count rises exactly where the source's had.
     fn close(&mut self, source: Self::Source)
@@ -50,5 +50,5 @@ pub trait Inputs {
         ensures gave_none { given self.new ≡ given self.old }
         ensures kept { Self.Source.faults source ≡ 0 → Stays (faults self.old) (faults self.new) }
         ensures risen { 0 < Self.Source.faults source → HasRisen (faults self.old) (faults self.new) }
-        ensures steady { never_fails self.old → Self.Source.faults source ≡ 0 → never_fails self.new × Stays (faults self.old) (faults self.new) };
+        ensures reliable { never_fails self.old → Self.Source.faults source ≡ 0 → never_fails self.new × Stays (faults self.old) (faults self.new) };
 }

@@ -95,8 +95,8 @@ impl Source for MemSource {
         ensures kept { OnErr result (drop self.new.at self.new.octets.items ≡ drop self.old.at self.old.octets.items) }
         ensures later { self.old.faults ≤ self.new.faults }
         ensures failed { IsErr result → HasRisen self.old.faults self.new.faults }
-        ensures quiet { OnOk result (Stays self.old.faults self.new.faults) }
-        ensures steady { self.old.calls.items ≡ [] → (self.new.calls.items ≡ []) × Stays self.old.faults self.new.faults }
+        ensures no_fault { OnOk result (Stays self.old.faults self.new.faults) }
+        ensures reliable { self.old.calls.items ≡ [] → (self.new.calls.items ≡ []) × Stays self.old.faults self.new.faults }
     {
         self.reads = self.reads.saturating_add(1);
         if is_listed(self.calls.as_slice(), self.opening, self.reads) {
@@ -165,7 +165,7 @@ impl Inputs for MemInputs {
         ensures listed_fails { is_listed self.old.calls.items self.new.opened 0 ≡ true
             → IsSome (get (files_of self.old.files.items) name.now) → IsErrOf result OpenFault.Failed }
         ensures unlisted_never_fails { is_listed self.old.calls.items self.new.opened 0 ≡ false → IsErrOf result OpenFault.Failed → ⊥ }
-        ensures told { IfOk result (λ source.
+        ensures known { IfOk result (λ source.
             (source.opening ≡ self.new.opened) × (source.calls.items ≡ self.old.calls.items)) }
         ensures unread { IfOk result (λ source. source.reads ≡ 0) }
         ensures same_calls { self.new.calls ≡ self.old.calls }
@@ -180,8 +180,8 @@ impl Inputs for MemInputs {
         ensures gave { OnOk result (self.new.given ≡ one_more self.old.given) }
         ensures gave_none { OnErr result (self.new.given ≡ self.old.given) }
         ensures counted { OpeningCounted result self.old.faults self.new.faults }
-        ensures steady { self.old.calls.items ≡ [] → (self.new.calls.items ≡ []) × Stays self.old.faults self.new.faults }
-        ensures steady_source { self.old.calls.items ≡ [] → IfOk result (λ source. source.calls.items ≡ []) }
+        ensures reliable { self.old.calls.items ≡ [] → (self.new.calls.items ≡ []) × Stays self.old.faults self.new.faults }
+        ensures reliable_source { self.old.calls.items ≡ [] → IfOk result (λ source. source.calls.items ≡ []) }
     {
         self.opened = self.opened.saturating_add(1);
         let Some(i) = find_file(self.files.as_slice(), name) else {
@@ -219,7 +219,7 @@ impl Inputs for MemInputs {
         ensures gave_none { self.new.given ≡ self.old.given }
         ensures kept { source.faults ≡ 0 → Stays self.old.faults self.new.faults }
         ensures risen { 0 < source.faults → HasRisen self.old.faults self.new.faults }
-        ensures steady { self.old.calls.items ≡ [] → source.faults ≡ 0
+        ensures reliable { self.old.calls.items ≡ [] → source.faults ≡ 0
             → (self.new.calls.items ≡ []) × Stays self.old.faults self.new.faults }
     {
         self.held = self.held.saturating_sub(1);

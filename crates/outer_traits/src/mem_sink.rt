@@ -72,8 +72,8 @@ impl Sink for MemSink {
         ensures later { self.old.faults ≤ self.new.faults }
         ensures failed { IsErr result → HasRisen self.old.faults self.new.faults }
         ensures nothing { result ≡ Ok 0 → 0 < length piece.now → HasRisen self.old.faults self.new.faults }
-        ensures quiet { IfOk result (λ n. 0 < n → Stays self.old.faults self.new.faults) }
-        ensures quiet_empty { OnOk result (length piece.now ≡ 0 → Stays self.old.faults self.new.faults) }
+        ensures no_fault { IfOk result (λ n. 0 < n → Stays self.old.faults self.new.faults) }
+        ensures no_fault_empty { OnOk result (length piece.now ≡ 0 → Stays self.old.faults self.new.faults) }
     {
         self.writes = self.writes.saturating_add(1);
         if is_listed(self.calls.as_slice(), self.writes)

@@ -22,6 +22,6 @@ pub trait Sink {
         ensures later { faults self.old ≤ faults self.new }
         ensures failed { IsErr result → HasRisen (faults self.old) (faults self.new) }
         ensures nothing { result ≡ Ok 0 → 0 < length piece.now → HasRisen (faults self.old) (faults self.new) }
-        ensures quiet { IfOk result (λ n. 0 < n → Stays (faults self.old) (faults self.new)) }
-        ensures quiet_empty { OnOk result (length piece.now ≡ 0 → Stays (faults self.old) (faults self.new)) };
+        ensures no_fault { IfOk result (λ n. 0 < n → Stays (faults self.old) (faults self.new)) }
+        ensures no_fault_empty { OnOk result (length piece.now ≡ 0 → Stays (faults self.old) (faults self.new)) };
 }

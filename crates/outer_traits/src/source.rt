@@ -25,6 +25,6 @@ pub trait Source {
         ensures kept { OnErr result (left self.new ≡ left self.old) }
         ensures later { faults self.old ≤ faults self.new }
         ensures failed { IsErr result → HasRisen (faults self.old) (faults self.new) }
-        ensures quiet { OnOk result (Stays (faults self.old) (faults self.new)) }
-        ensures steady { never_fails self.old → never_fails self.new × Stays (faults self.old) (faults self.new) };
+        ensures no_fault { OnOk result (Stays (faults self.old) (faults self.new)) }
+        ensures reliable { never_fails self.old → never_fails self.new × Stays (faults self.old) (faults self.new) };
 }

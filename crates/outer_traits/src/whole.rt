@@ -50,7 +50,7 @@ pub fn read_input<I: Inputs>(
     ensures gave { ReadingGiven result (I.given inputs.old) (I.given inputs.new) }
     ensures counted { ReadingCounted result (I.faults inputs.old) (I.faults inputs.new) }
     ensures later { I.faults inputs.old ≤ I.faults inputs.new }
-    ensures steady { I.never_fails inputs.old → I.never_fails inputs.new × Stays (I.faults inputs.old) (I.faults inputs.new) }
+    ensures reliable { I.never_fails inputs.old → I.never_fails inputs.new × Stays (I.faults inputs.old) (I.faults inputs.new) }
 {
     match inputs.open(alloc, name) {
         Ok(opened) => {
@@ -79,7 +79,7 @@ pub fn read_whole<S: Source>(
     ensures counted { ReadingCounted result (S.faults source.old) (S.faults source.new) }
     ensures not_missing { IsErrOf result ReadFault.Missing → ⊥ }
     ensures later { S.faults source.old ≤ S.faults source.new }
-    ensures steady { S.never_fails source.old → S.never_fails source.new × Stays (S.faults source.old) (S.faults source.new) }
+    ensures reliable { S.never_fails source.old → S.never_fails source.new × Stays (S.faults source.old) (S.faults source.new) }
 {
     let mut octets = Vec::new(alloc);
     let mut piece = zeros(alloc, PIECE)?;

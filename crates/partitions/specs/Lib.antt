@@ -2,5 +2,5 @@ pub mod Partition
 pub mod NamedDay
 pub mod Bounds
 pub mod Names
-pub mod Wanted
+pub mod NameDayFilter
 pub mod Partitions

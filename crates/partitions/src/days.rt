@@ -2,7 +2,7 @@
 
 ghost use Rattle.std.specs.Prelude.{◌≡◌, ℤ, ◌<ℤ◌, ◌≤ℤ◌, ◌↔◌, true};
 ghost use Rattle.partitions.specs.Bounds.{HasTimeOn};
-ghost use Rattle.partitions.specs.Wanted.{is_on};
+ghost use Rattle.partitions.specs.NameDayFilter.{is_on};
 
 use crate::bounds::Bounds;
 use time_text::day_of;

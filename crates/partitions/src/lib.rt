@@ -11,15 +11,15 @@
 // proof: what is given so far, and those of the entries left that are wanted, are together all entries that are wanted
 // (proofs/Leaps.antt); so what a leap passes over has only to be unwanted.
 // To be changed together: the order of `Partition`'s fields and `partition_cmp`; that of `NamedDay`'s, `named_cmp`, and
-// `Wanted::first_from`, which leaps in that order.
+// `NameDayFilter::first_from`, which leaps in that order.
 #![tactic(auto)]
 
 pub mod bounds;
 mod days;
+mod indexes;
 pub mod lists;
+mod name_day_filter;
 mod named_day;
 mod names;
-mod orders;
 pub mod partition;
 pub mod partitions;
-mod wanted;

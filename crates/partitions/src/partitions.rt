@@ -4,17 +4,17 @@ ghost use Rattle.std.specs.Prelude.{◌≡◌, ◌+◌, ◌<◌, ◌≤◌, ◌�
 ghost use Rattle.partitions.specs.Partition.{partition_of};
 ghost use Rattle.partitions.specs.NamedDay.{named_day};
 ghost use Rattle.partitions.specs.Bounds.{MayHold};
-ghost use Rattle.partitions.specs.Wanted.{is_on, is_wanted};
+ghost use Rattle.partitions.specs.NameDayFilter.{is_on, is_name_day_filter};
 ghost use Rattle.partitions.specs.Partitions.{AreRising, IsAdded};
 
 use crate::bounds::Bounds;
 use crate::days::Days;
+use crate::indexes::{of_names, on_days};
 use crate::lists::PartList;
+use crate::name_day_filter::NameDayFilter;
 use crate::named_day::NamedDay;
 use crate::names::SortedNames;
-use crate::orders::{of_names, on_days};
 use crate::partition::{Partition, partition_of};
-use crate::wanted::Wanted;
 use block_map::index::Index;
 use std::alloc::{AllocError, Global};
 use std::marker::Model;
@@ -86,7 +86,7 @@ impl Partitions {
         match &bounds.names {
             Some(names) => {
                 let names = SortedNames::of(self.alloc, names.as_slice())?;
-                self.of_names(&Wanted { days, names })
+                self.of_names(&NameDayFilter { days, names })
             }
             None => self.on_days(&days),
         }
@@ -101,12 +101,12 @@ impl Partitions {
     }
 
     /// The partitions that hold a row and are wanted.
-    fn of_names(&self, wanted: &Wanted) -> Result<PartList, AllocError>
-        requires { wanted.now.days.first ≤ℤ wanted.now.days.last }
-        ensures exactly { IfOk result (λ parts. (p : Partition) → Contains parts p ↔ (Contains self.now.parts p × (is_wanted wanted.now (named_day p) ≡ true))) }
+    fn of_names(&self, name_day_filter: &NameDayFilter) -> Result<PartList, AllocError>
+        requires { name_day_filter.now.days.first ≤ℤ name_day_filter.now.days.last }
+        ensures exactly { IfOk result (λ parts. (p : Partition) → Contains parts p ↔ (Contains self.now.parts p × (is_name_day_filter name_day_filter.now (named_day p) ≡ true))) }
         ensures rising { IfOk result (λ parts. AreRising parts) }
     {
-        let mut parts = of_names(self.alloc, &self.by_name, wanted)?;
+        let mut parts = of_names(self.alloc, &self.by_name, name_day_filter)?;
         parts.sort();
         Ok(parts)
     }

@@ -7,7 +7,7 @@ use Rattle.std.proofs.lemmas.List.Folds.{list_all_at}
 use Rattle.std.proofs.lemmas.List.Sums.{fold_more}
 use Rattle.std.proofs.lemmas.Grind.{pow_more}
 use Rattle.std.proofs.Math.Nat.{pow-le-pow_right}
-use Rattle.time_text.specs.Digits.{is_digit, worth, fits, has_shape, two_digits_of, three_digits_of, four_digits_of}
+use Rattle.time_text.specs.Digits.{is_digit, decimal_value, fits, has_shape, two_digits_of, three_digits_of, four_digits_of}
 
 -- a digit among digits
 pub digit_at : (digits : List ℕ) (i : ℕ) → i < length digits → list_all is_digit digits ≡ true → (48 ≤ get_or digits i 0) × (get_or digits i 0 ≤ 57)
@@ -19,13 +19,13 @@ digit_at digits i within all =
       | inr failed ↦ absurd (both_ways _ (list_all_at is_digit digits i 0 within failed) all)
     ]
 
-pub worth_none : worth [] ≡ 0
-unfolding worth
-worth_none = refl
+pub decimal_value_none : decimal_value [] ≡ 0
+unfolding decimal_value
+decimal_value_none = refl
 
-pub worth_more : (digits : List ℕ) (i : ℕ) → i < length digits → worth (take (i + 1) digits) ≡ 10 * worth (take i digits) + (get_or digits i 0 - 48)
-unfolding worth
-worth_more digits i within = fold_more _ _ digits i 0 within
+pub decimal_value_more : (digits : List ℕ) (i : ℕ) → i < length digits → decimal_value (take (i + 1) digits) ≡ 10 * decimal_value (take i digits) + (get_or digits i 0 - 48)
+unfolding decimal_value
+decimal_value_more digits i within = fold_more _ _ digits i 0 within
 
 -- one place of a shape
 pub has_shape_next : (shape text : List ℕ) (i : ℕ) → i < length shape → i < length text → has_shape (drop i shape) (drop i text) ≡ (fits (get_or shape i 0) (get_or text i 0) && has_shape (drop (i + 1) shape) (drop (i + 1) text))
@@ -112,17 +112,17 @@ fraction_length text h =
     omega (arith, has_shape-length _ text h, length-take (length text) (codes ".000"))
 
 -- what is written with all its digits is the number, and fits their places
-pub worth-two_digits_of : (n : ℕ) → worth (two_digits_of n) ≡ n
-unfolding worth
-worth-two_digits_of n = omega arith
+pub decimal_value-two_digits_of : (n : ℕ) → decimal_value (two_digits_of n) ≡ n
+unfolding decimal_value
+decimal_value-two_digits_of n = omega arith
 
-pub worth-three_digits_of : (n : ℕ) → worth (three_digits_of n) ≡ n
-unfolding worth
-worth-three_digits_of n = omega arith
+pub decimal_value-three_digits_of : (n : ℕ) → decimal_value (three_digits_of n) ≡ n
+unfolding decimal_value
+decimal_value-three_digits_of n = omega arith
 
-pub worth-four_digits_of : (n : ℕ) → worth (four_digits_of n) ≡ n
-unfolding worth
-worth-four_digits_of n = omega arith
+pub decimal_value-four_digits_of : (n : ℕ) → decimal_value (four_digits_of n) ≡ n
+unfolding decimal_value
+decimal_value-four_digits_of n = omega arith
 
 is_digit-of : (n : ℕ) → n < 10 → is_digit (48 + n) ≡ true
 is_digit-of n less = and_from _ _ (le-leb 48 (48 + n) (omega arith)) (le-leb (48 + n) 57 (omega arith))

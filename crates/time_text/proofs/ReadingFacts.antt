@@ -4,7 +4,7 @@ use Rattle.std.specs.Prelude.{codes}
 use Rattle.std.specs.List.{list_all}
 use Rattle.std.proofs.lemmas.Bool.{and_parts, and_left, false_from_ne_true, cond-false, eqb-false, not-true}
 use Rattle.std.proofs.lemmas.Slice.{between_to_end}
-use Rattle.time_text.specs.Digits.{is_digit, worth, has_shape}
+use Rattle.time_text.specs.Digits.{is_digit, decimal_value, has_shape}
 use Rattle.time_text.specs.TimeText.{is_fraction, millis_in, civil_time}
 use Rattle.time_text.proofs.DigitFacts.{has_shape-length, fraction_digits, fraction_length}
 
@@ -31,7 +31,7 @@ is_fraction-long text long =
 pub tail_is : (text : List ℕ) → take (length text - 1) (drop 1 text) ≡ drop 1 text
 tail_is text = between_to_end text 1 (length text) (omega arith)
 
-pub millis_in-product : (text : List ℕ) (digits unit : ℕ) → 1 ≤ length text → digits ≡ worth (drop 1 text) → unit ≡ 10 ^ (3 - (length text - 1)) → digits * unit ≡ millis_in text
+pub millis_in-product : (text : List ℕ) (digits unit : ℕ) → 1 ≤ length text → digits ≡ decimal_value (drop 1 text) → unit ≡ 10 ^ (3 - (length text - 1)) → digits * unit ≡ millis_in text
 unfolding millis_in
 millis_in-product text digits unit some d u =
     let places : 3 - (length text - 1) ≡ 4 - length text = omega arith in

@@ -7,7 +7,7 @@ use Rattle.time_text.specs.Civil.{is_real, millis_of}
 use Rattle.time_text.specs.TimeText.{number_of, is_negative, count_of, without_z, is_fraction, millis_in, has_civil_shape, civil_of, civil_time, time_of}
 use Rattle.time_text.specs.Spelling.{spelled}
 use Rattle.time_text.specs.declared.civil.Civil.{Civil}
-use Rattle.time_text.proofs.DigitFacts.{worth-two_digits_of, worth-three_digits_of, worth-four_digits_of, has_shape-two_digits_of, has_shape-three_digits_of, has_shape-four_digits_of, has_shape-append}
+use Rattle.time_text.proofs.DigitFacts.{decimal_value-two_digits_of, decimal_value-three_digits_of, decimal_value-four_digits_of, has_shape-two_digits_of, has_shape-three_digits_of, has_shape-four_digits_of, has_shape-append}
 
 -- every number has as many digits as its place
 pub record IsWritable (c : Civil) : Type 0 where
@@ -81,12 +81,12 @@ without_z-spelled c = cond-false _ _ _ (ne_eqb (48 + c.milli % 100 % 10) 90 (λ 
 
 millis_in-spelled : (n : ℕ) → millis_in (46 ∷ three_digits_of n) ≡ n
 unfolding millis_in
-millis_in-spelled n = omega (arith, worth-three_digits_of n)
+millis_in-spelled n = omega (arith, decimal_value-three_digits_of n)
 
 civil_of-spelled : (c : Civil) → civil_of (take 19 (spelled c)) (drop 19 (spelled c)) ≡ c
 unfolding civil_of
 civil_of-spelled c =
-    rw (worth-four_digits_of c.year, worth-two_digits_of c.month, worth-two_digits_of c.day, worth-two_digits_of c.hour, worth-two_digits_of c.minute, worth-two_digits_of c.second, millis_in-spelled c.milli) refl
+    rw (decimal_value-four_digits_of c.year, decimal_value-two_digits_of c.month, decimal_value-two_digits_of c.day, decimal_value-two_digits_of c.hour, decimal_value-two_digits_of c.minute, decimal_value-two_digits_of c.second, millis_in-spelled c.milli) refl
 
 has_civil_shape-spelled : (c : Civil) → IsWritable c → has_civil_shape (take 19 (spelled c)) (drop 19 (spelled c)) ≡ true
 unfolding is_fraction

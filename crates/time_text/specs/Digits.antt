@@ -6,8 +6,8 @@ abbrev pub is_digit : ℕ → Bool
 is_digit octet = nat_le 48 octet && nat_le octet 57
 
 -- the number that decimal digits stand for
-unfoldable pub worth : List ℕ → ℕ
-worth digits = fold (λ n digit. 10 * n + (digit - 48)) 0 digits
+unfoldable pub decimal_value : List ℕ → ℕ
+decimal_value digits = fold (λ n digit. 10 * n + (digit - 48)) 0 digits
 
 -- a digit where the shape has 0, else the shape's own octet
 abbrev pub fits : ℕ → ℕ → Bool

@@ -2,14 +2,14 @@
 use Rattle.std.specs.Prelude.{ℕ, ◌-◌, ◌*◌, ◌^◌, ◌==◌, ◌&&◌, Bool, not, List, length, take, drop, codes, slice_index, slice_range, nat_le, Option, Some, None, option_map, ℤ, pos, neg_ℤ, if◌then◌else◌}
 use Rattle.std.specs.List.{list_all}
 use Rattle.std.specs.Option.{option_or}
-use Rattle.time_text.specs.Digits.{is_digit, worth, has_shape}
+use Rattle.time_text.specs.Digits.{is_digit, decimal_value, has_shape}
 use Rattle.time_text.specs.Civil.{moment_of}
 use Rattle.time_text.specs.declared.civil.Civil.{Civil}
 
 -- 1 to 15 digits
 unfoldable pub number_of : List ℕ → Option ℕ
 number_of text =
-    if nat_le 1 (length text) && nat_le (length text) 15 && list_all is_digit text then Some (worth text)
+    if nat_le 1 (length text) && nat_le (length text) 15 && list_all is_digit text then Some (decimal_value text)
     else None
 
 -- the text begins with a minus
@@ -33,17 +33,17 @@ is_fraction text = not (length text == 1) && has_shape (take (length text) (code
 
 -- the milliseconds of a fraction of a second
 unfoldable pub millis_in : List ℕ → ℕ
-millis_in fraction = worth (drop 1 fraction) * 10 ^ (4 - length fraction)
+millis_in fraction = decimal_value (drop 1 fraction) * 10 ^ (4 - length fraction)
 
 -- the numbers that stand in YYYY-MM-DDTHH:MM:SS and in the fraction after it
 unfoldable pub civil_of : List ℕ → List ℕ → Civil
 civil_of text fraction = record {
-  year = worth (slice_range text 0 4);
-  month = worth (slice_range text 5 7);
-  day = worth (slice_range text 8 10);
-  hour = worth (slice_range text 11 13);
-  minute = worth (slice_range text 14 16);
-  second = worth (slice_range text 17 19);
+  year = decimal_value (slice_range text 0 4);
+  month = decimal_value (slice_range text 5 7);
+  day = decimal_value (slice_range text 8 10);
+  hour = decimal_value (slice_range text 11 13);
+  minute = decimal_value (slice_range text 14 16);
+  second = decimal_value (slice_range text 17 19);
   milli = millis_in fraction;
 }
 

@@ -2,7 +2,7 @@
 
 ghost use Rattle.std.specs.Prelude.{◌≡◌, ◌<◌, ◌≤◌, ◌^◌, length, true, IfSome, ◌+◌, ◌/◌, ◌%◌, ◌∷◌, []};
 ghost use Rattle.std.specs.List.{list_all};
-ghost use Rattle.time_text.specs.Digits.{is_digit, worth, fits, has_shape, two_digits_of, three_digits_of, four_digits_of};
+ghost use Rattle.time_text.specs.Digits.{is_digit, decimal_value, fits, has_shape, two_digits_of, three_digits_of, four_digits_of};
 ghost use Rattle.time_text.specs.TimeText.{number_of};
 
 pub(crate) fn is_digit(octet: u8) -> bool
@@ -37,17 +37,17 @@ pub(crate) fn has_shape(shape: &[u8], text: &[u8]) -> bool
 }
 
 /// The number that the digits stand for.
-pub(crate) fn worth(digits: &[u8]) -> u64
+pub(crate) fn decimal_value(digits: &[u8]) -> u64
     requires few { length digits.now ≤ 15 }
     requires digits { list_all is_digit digits.now ≡ true }
-    ensures value { result ≡ worth digits.now }
+    ensures value { result ≡ decimal_value digits.now }
     ensures bound { result < 10 ^ length digits.now }
 {
-    let mut worth = 0;
+    let mut decimal_value = 0;
     for digit in digits {
-        worth = 10 * worth + u64::from(*digit - b'0');
+        decimal_value = 10 * decimal_value + u64::from(*digit - b'0');
     }
-    worth
+    decimal_value
 }
 
 fn are_digits(text: &[u8]) -> bool
@@ -63,7 +63,7 @@ pub(crate) fn number(text: &[u8]) -> Option<u64>
     ensures bound { IfSome result (λ n. n < 1_000_000_000_000_000) }
 {
     if !text.is_empty() && text.len() <= 15 && are_digits(text) {
-        Some(worth(text))
+        Some(decimal_value(text))
     } else {
         None
     }

@@ -4,7 +4,7 @@ ghost use Rattle.std.specs.Prelude.{◌≡◌, IfOk, OnErr, Some, None, true, �
 ghost use Rattle.time_text.specs.TimeText.{time_of, count_of, civil_time, civil_of, without_z, is_fraction, millis_in, has_civil_shape};
 
 use crate::civil::Civil;
-use crate::digits::{has_shape, number, worth};
+use crate::digits::{decimal_value, has_shape, number};
 use thiserror::Error;
 
 /// The text is no time text.
@@ -103,12 +103,12 @@ fn civil(text: &[u8], fraction: &[u8]) -> Civil
     ensures milli { result.milli < 1_000 }
 {
     Civil {
-        year: worth(&text[0..4]) as u16,
-        month: worth(&text[5..7]) as u8,
-        day: worth(&text[8..10]) as u8,
-        hour: worth(&text[11..13]) as u8,
-        minute: worth(&text[14..16]) as u8,
-        second: worth(&text[17..19]) as u8,
+        year: decimal_value(&text[0..4]) as u16,
+        month: decimal_value(&text[5..7]) as u8,
+        day: decimal_value(&text[8..10]) as u8,
+        hour: decimal_value(&text[11..13]) as u8,
+        minute: decimal_value(&text[14..16]) as u8,
+        second: decimal_value(&text[17..19]) as u8,
         milli: millis(fraction),
     }
 }
@@ -122,7 +122,7 @@ fn millis(fraction: &[u8]) -> u16
     if fraction.is_empty() {
         return 0;
     }
-    worth(&fraction[1..]) as u16 * last_place(fraction.len() - 1)
+    decimal_value(&fraction[1..]) as u16 * last_place(fraction.len() - 1)
 }
 
 /// How many milliseconds the last of 1 to 3 digits after the point counts.

@@ -29,7 +29,7 @@ pub record IsIndex (stored : List Stored) (entries : List (Key × ℕ)) : Type 0
 -- an index of the stored rows, with room in their vector for as many more as in the index
 pub record IsTable (stored : Vec Stored) (index : Listing Key ℕ) : Type 0 where
   pub names : IsIndex stored.items index.entries
-  pub roomy : vec_len stored + index.room ≤ vec_capacity stored
+  pub has_room : vec_len stored + index.room ≤ vec_capacity stored
 
 -- entries in the order of their keys, each of which names a stored row of its key
 pub record AreRising (stored : List Stored) (entries : List (Key × ℕ)) : Type 0 where

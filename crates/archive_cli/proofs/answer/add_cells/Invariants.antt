@@ -1,11 +1,11 @@
 use Rattle.std.proofs.Common.{◌≡◌, ◌++◌, drop}
 use Rattle.std.specs.List.{filter_map}
 use Rattle.container_extract.specs.Extraction.{cell_of}
-use Rattle.archive_cli.specs.AnswerText.{at_most}
+use Rattle.archive_cli.specs.AnswerText.{truncated}
 use Rattle.archive_cli.proofs.answer.add_cells.Given as goal
 
 abbrev pub invariant-loop-row : goal.invariant-loop-row
 invariant-loop-row l = record {
-  all : at_most l.limit (l.cells.items ++ filter_map (cell_of l.mdb l.number) (drop l.row-index l.rows)) ≡ at_most l.limit (l.initial.cells.items ++ filter_map (cell_of l.mdb l.number) l.rows);
-  within : at_most l.limit l.cells.items ≡ l.cells.items;
+  all : truncated l.limit (l.cells.items ++ filter_map (cell_of l.mdb l.number) (drop l.row-index l.rows)) ≡ truncated l.limit (l.initial.cells.items ++ filter_map (cell_of l.mdb l.number) l.rows);
+  within : truncated l.limit l.cells.items ≡ l.cells.items;
 }

@@ -4,7 +4,7 @@ use Rattle.std.proofs.lemmas.List.{drop_more}
 use Rattle.archive_store.specs.declared.plan.Part.{Part}
 use Rattle.archive_store.specs.Plans.{rows_of_parts}
 use Rattle.container_extract.specs.Extraction.{cell_of}
-use Rattle.archive_cli.specs.AnswerText.{at_most}
+use Rattle.archive_cli.specs.AnswerText.{truncated}
 use Rattle.archive_cli.proofs.Limited.{next_part}
 use Rattle.archive_cli.proofs.answer.first_cells.Goals as goal
 
@@ -17,8 +17,8 @@ loop-part-preserved c =
     let limit = c.args.limit in
     let cells = c.loop-part.cells.items in
     let step : drop i parts ≡ part ∷ drop (i + 1) parts = drop_more parts i part c.loop-part-test.true ∙ ap (λ (p : Part). p ∷ drop (i + 1) parts) (sym c.part-item.is) in
-    let left : at_most limit (cells ++ filter_map f (part.rows ++ rows_of_parts (drop (i + 1) parts))) ≡ at_most limit (filter_map f (rows_of_parts parts)) =
-    ap (λ (ps : List Part). at_most limit (cells ++ filter_map f (rows_of_parts ps))) (sym step) ∙ c.loop-part.invariant.all in
-    let added : c.add_cells.new.cells.items ≡ at_most limit (cells ++ filter_map f part.rows) = rw c.as_slice.ensures at c.in_ok-add_cells.ensures in
-    let next = next_part f limit cells c.add_cells.new.cells.items part.rows (rows_of_parts (drop (i + 1) parts)) (at_most limit (filter_map f (rows_of_parts parts))) added left in
+    let left : truncated limit (cells ++ filter_map f (part.rows ++ rows_of_parts (drop (i + 1) parts))) ≡ truncated limit (filter_map f (rows_of_parts parts)) =
+    ap (λ (ps : List Part). truncated limit (cells ++ filter_map f (rows_of_parts ps))) (sym step) ∙ c.loop-part.invariant.all in
+    let added : c.add_cells.new.cells.items ≡ truncated limit (cells ++ filter_map f part.rows) = rw c.as_slice.ensures at c.in_ok-add_cells.ensures in
+    let next = next_part f limit cells c.add_cells.new.cells.items part.rows (rows_of_parts (drop (i + 1) parts)) (truncated limit (filter_map f (rows_of_parts parts))) added left in
     record { all = next.0; within = next.1 }

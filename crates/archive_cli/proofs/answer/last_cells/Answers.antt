@@ -4,7 +4,7 @@ use Rattle.std.specs.List.{filter_map}
 use Rattle.std.specs.Slice.Iter.{iter_rest}
 use Rattle.archive_store.specs.Plans.{rows_of_parts}
 use Rattle.container_extract.specs.Extraction.{cell_of}
-use Rattle.archive_cli.specs.AnswerText.{at_most}
+use Rattle.archive_cli.specs.AnswerText.{truncated}
 use Rattle.archive_cli.proofs.Limited.{last_done, next_last_part}
 use Rattle.archive_cli.proofs.answer.last_cells.Goals as goal
 
@@ -17,8 +17,8 @@ loop-part-preserved c =
     let cells = c.loop-part.cells.items in
     let rest = iter_rest (rev_source c.loop-part.part-iterator) in
     let left = iter_rest (rev_source c.next.new.self) in
-    let added : c.add_last_cells.new.cells.items ≡ at_most limit (cells ++ filter_map f (reverse part.rows)) = rw c.as_slice.ensures at c.in_ok-add_last_cells.ensures in
-    let next = next_last_part f limit cells c.add_last_cells.new.cells.items rest left part (at_most limit (filter_map f (reverse (rows_of_parts parts)))) added c.in-Some.ensures.steps c.loop-part.invariant.all in
+    let added : c.add_last_cells.new.cells.items ≡ truncated limit (cells ++ filter_map f (reverse part.rows)) = rw c.as_slice.ensures at c.in_ok-add_last_cells.ensures in
+    let next = next_last_part f limit cells c.add_last_cells.new.cells.items rest left part (truncated limit (filter_map f (reverse (rows_of_parts parts)))) added c.in-Some.ensures.steps c.loop-part.invariant.all in
     record { all = next.0; within = next.1 }
 
 pub returns : goal.returns

@@ -4,12 +4,12 @@ use Rattle.std.specs.List.{filter_map}
 use Rattle.std.specs.Slice.Iter.{iter_rest}
 use Rattle.archive_store.specs.Plans.{rows_of_parts}
 use Rattle.container_extract.specs.Extraction.{cell_of}
-use Rattle.archive_cli.specs.AnswerText.{at_most}
+use Rattle.archive_cli.specs.AnswerText.{truncated}
 use Rattle.archive_cli.proofs.answer.last_cells.Given as goal
 
 abbrev pub invariant-loop-part : goal.invariant-loop-part
 invariant-loop-part l = record {
-  all : at_most l.limit (l.cells.items ++ filter_map (cell_of l.mdb l.number) (reverse (rows_of_parts (iter_rest (rev_source l.part-iterator)))))
-      ≡ at_most l.limit (filter_map (cell_of l.mdb l.number) (reverse (rows_of_parts l.parts)));
-  within : at_most l.limit l.cells.items ≡ l.cells.items;
+  all : truncated l.limit (l.cells.items ++ filter_map (cell_of l.mdb l.number) (reverse (rows_of_parts (iter_rest (rev_source l.part-iterator)))))
+      ≡ truncated l.limit (filter_map (cell_of l.mdb l.number) (reverse (rows_of_parts l.parts)));
+  within : truncated l.limit l.cells.items ≡ l.cells.items;
 }

@@ -2,13 +2,13 @@ use Rattle.std.proofs.Common.{◌++◌, ◌<◌, length, drop}
 use Rattle.std.specs.Prelude.{flat_map, option_copied}
 use Rattle.outer_traits.specs.Outside.{Stays}
 use Rattle.archive_cli.specs.CellText.{cell_line}
-use Rattle.archive_cli.specs.Printing.{HasMoved}
+use Rattle.archive_cli.specs.Printing.{IsBuffered}
 use Rattle.archive_cli.proofs.answer_text.print_cells.Given as goal
 
 abbrev pub invariant-loop-cell : goal.invariant-loop-cell
 invariant-loop-cell g l = record {
-  moved : HasMoved (g.K.Sink.written l.fn.sink) (g.K.Sink.written l.sink) (l.initial.piece ++ flat_map (cell_line (option_copied l.fn.calibration)) l.cells)
-      (l.piece ++ flat_map (cell_line (option_copied l.fn.calibration)) (drop l.cell-index l.cells));
-  room : length l.piece < 65536;
-  quiet : Stays (g.K.Sink.faults l.fn.sink) (g.K.Sink.faults l.sink);
+  buffered : IsBuffered (g.K.Sink.written l.fn.sink) (g.K.Sink.written l.sink) (l.initial.line_buffer ++ flat_map (cell_line (option_copied l.fn.calibration)) l.cells)
+      (l.line_buffer ++ flat_map (cell_line (option_copied l.fn.calibration)) (drop l.cell-index l.cells));
+  room : length l.line_buffer < 65536;
+  no_fault : Stays (g.K.Sink.faults l.fn.sink) (g.K.Sink.faults l.sink);
 }

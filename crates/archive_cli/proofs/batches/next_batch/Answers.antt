@@ -1,7 +1,7 @@
 use Rattle.std.proofs.Common.{◌≡◌, ◌∙◌, w64, slice_range}
 use Rattle.std.proofs.lemmas.Int.{to_z-of_z}
 use Rattle.space_packet.specs.Cut.{IsPart}
-use Rattle.archive_cli.specs.Batches.{arrivals_with, IsTaken}
+use Rattle.archive_cli.specs.Batches.{arrivals_with, IsNextBatch}
 use Rattle.archive_cli.proofs.Batching.{taken_more}
 use Rattle.archive_cli.proofs.batches.next_batch.Goals as goal
 
@@ -9,8 +9,8 @@ pub loop-taken-preserved : goal.loop-taken-preserved
 loop-taken-preserved c =
     let moment = to_z-of_z w64 c.args.moment c.ranges.moment in
     let part : IsPart c.args.dump.now c.in-Some.part.start c.in-Some.part.end = rw c.loop-taken.invariant.dump at c.in-Some.ensures.packet in
-    let had : IsTaken c.args.dump.now c.args.places.now.at c.loop-taken.places.at c.args.head.now c.args.link c.args.moment c.loop-taken.taken = rw moment at c.loop-taken.invariant.taken in
-    let before : IsTaken c.args.dump.now c.args.places.now.at c.in-Some.part.start c.args.head.now c.args.link c.args.moment c.loop-taken.taken = rw c.in-Some.ensures.follows.0 had in
+    let had : IsNextBatch c.args.dump.now c.args.places.now.at c.loop-taken.places.at c.args.head.now c.args.link c.args.moment c.loop-taken.taken = rw moment at c.loop-taken.invariant.taken in
+    let before : IsNextBatch c.args.dump.now c.args.places.now.at c.in-Some.part.start c.args.head.now c.args.link c.args.moment c.loop-taken.taken = rw c.in-Some.ensures.follows.0 had in
     let grown : c.add.new.self.batch.arrivals ≡ arrivals_with c.args.head.now c.args.link c.loop-taken.taken.batch.arrivals (slice_range c.args.dump.now c.in-Some.part.start c.in-Some.part.end) =
     rw c.in_ok-packet.ensures at c.in_ok-add.ensures.arrivals in
     record {

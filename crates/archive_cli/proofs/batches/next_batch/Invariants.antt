@@ -1,11 +1,11 @@
 use Rattle.std.proofs.Common.{◌≡◌, ◌-◌}
-use Rattle.archive_cli.specs.Batches.{IsTaken}
+use Rattle.archive_cli.specs.Batches.{IsNextBatch}
 use Rattle.archive_cli.proofs.batches.next_batch.Given as goal
 
 abbrev pub invariant-loop-taken : goal.invariant-loop-taken
 invariant-loop-taken l = record {
   dump : l.places.dump ≡ l.dump;
-  taken : IsTaken l.dump l.fn.places.at l.places.at l.head l.fn.link l.fn.moment l.taken;
+  taken : IsNextBatch l.dump l.fn.places.at l.places.at l.head l.fn.link l.fn.moment l.taken;
 }
 
 abbrev pub decreases-loop-taken : goal.decreases-loop-taken

@@ -1,7 +1,7 @@
 use Rattle.std.proofs.Common.{refl}
-use Rattle.archive_cli.specs.Asked.{sheet_words_of}
+use Rattle.archive_cli.specs.JobView.{sheet_words_of}
 use Rattle.archive_cli.proofs.Caused.{create_refused_cause}
-use Rattle.archive_cli.proofs.Consulted.{untouched}
+use Rattle.archive_cli.proofs.ReadOnly.{untouched}
 use Rattle.archive_cli.proofs.Created.{create_refused, refused_kind, sheet_disk, sheet_writes}
 use Rattle.archive_cli.proofs.HandedBack.{create_same}
 use Rattle.archive_cli.proofs.Ordered.{created_in_order}
@@ -9,13 +9,13 @@ use Rattle.archive_cli.proofs.Scanned.{call_of}
 use Rattle.archive_cli.proofs.create.create.Goals as goal
 
 pub returns-in-Ok-clause-ended : goal.returns-in-Ok-clause-ended
-returns-in-Ok-clause-ended g c = λ told given moment.
+returns-in-Ok-clause-ended g c = λ known given moment.
     let h = c.in-Ok.ensures.head in
-    c.make.ensures.ended told given (g.I.Inputs.files c.args.inputs.now) moment (g.I.Inputs.faults c.args.inputs.now) (g.I.Inputs.faults c.read_head.new.inputs)
+    c.make.ensures.ended known given (g.I.Inputs.files c.args.inputs.now) moment (g.I.Inputs.faults c.args.inputs.now) (g.I.Inputs.faults c.read_head.new.inputs)
     (sheet_words_of c.args.words) h.0 h.1 h.2
 
 pub returns-in-Err-clause-ended : goal.returns-in-Err-clause-ended
-returns-in-Err-clause-ended g c = λ told given moment.
+returns-in-Err-clause-ended g c = λ known given moment.
     let device = g.D.Disk.device in
     let written = g.K.Sink.written c.args.sink.now in
     let faults = g.K.Sink.faults c.args.sink.now in

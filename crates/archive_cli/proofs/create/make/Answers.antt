@@ -4,10 +4,10 @@ use Rattle.mdb_model.specs.Sheets.{sheets_database}
 use Rattle.arch_disk.specs.Disk.{LeavesOnly}
 use Rattle.disk_journal.specs.Format.{HoldsNone}
 use Rattle.archive_store.specs.declared.head.Head.{Head}
-use Rattle.archive_store.specs.Answers.{IsMaking}
+use Rattle.archive_store.specs.Answers.{IsCreateImage}
 use Rattle.archive_cli.specs.CreateEnding.{IsCreateEnding, IsMade, create_line}
 use Rattle.archive_cli.specs.Printing.{IsFinished}
-use Rattle.archive_cli.proofs.Consulted.{untouched}
+use Rattle.archive_cli.proofs.ReadOnly.{untouched}
 use Rattle.archive_cli.proofs.Caused.{create_made_cause, create_unmade_cause}
 use Rattle.archive_cli.proofs.Created.{create_unbegun, create_unmade, created, fewer_than_two, left_alone, made_store}
 use Rattle.archive_cli.proofs.HandedBack.{create_same, made_back, unmade_back}
@@ -15,7 +15,7 @@ use Rattle.archive_cli.proofs.Scanned.{call_of}
 use Rattle.archive_cli.proofs.create.make.Goals as goal
 
 pub returns-in_default-clause-ended : goal.returns-in_default-clause-ended
-returns-in_default-clause-ended g c = λ told given files moment reads reads' words raw good is.
+returns-in_default-clause-ended g c = λ known given files moment reads reads' words raw good is.
     let device = g.D.Disk.device in
     let written = g.K.Sink.written c.args.sink.now in
     let faults = g.K.Sink.faults c.args.sink.now in
@@ -24,21 +24,21 @@ returns-in_default-clause-ended g c = λ told given files moment reads reads' wo
     (create_unbegun device call words c.args.disk c.args.disk c.unopened.result.report c.unopened.ensures.report refl (untouched device c.args.disk))
 
 pub returns-in-Err-clause-ended : goal.returns-in-Err-clause-ended
-returns-in-Err-clause-ended g c = λ told given files moment reads reads' words raw good is.
+returns-in-Err-clause-ended g c = λ known given files moment reads reads' words raw good is.
     let device = g.D.Disk.device in
     let old = c.args.disk in
     let new = c.in-Err.disk in
     let written = g.K.Sink.written c.args.sink.now in
     let faults = g.K.Sink.faults c.args.sink.now in
     let call = call_of given files moment reads reads' written written faults faults in
-    let images = subst (λ (h : Head). HoldsNone (device.reads old 0) → LeavesOnly device old new (IsMaking (device.images old) h)) is (c.in-Err.ensures.any_moment told) in
+    let images = subst (λ (h : Head). HoldsNone (device.reads old 0) → LeavesOnly device old new (IsCreateImage (device.images old) h)) is (c.in-Err.ensures.any_moment known) in
     rw c.unopened-in-Err.ensures.disk
-    (create_unmade device call words old new raw c.in-Err.refusal c.unopened-in-Err.result.report c.unopened-in-Err.ensures.report good refl (c.in-Err.ensures.refused told)
-    c.in-Err.ensures.cause c.in-Err.ensures.memory (λ one. left_alone device old new (c.in-Err.ensures.kept told one.0 one.1)) images
-    (λ fault none one. c.in-Err.ensures.closed told none fault (fewer_than_two device old new one)))
+    (create_unmade device call words old new raw c.in-Err.refusal c.unopened-in-Err.result.report c.unopened-in-Err.ensures.report good refl (c.in-Err.ensures.refused known)
+    c.in-Err.ensures.cause c.in-Err.ensures.memory (λ one. left_alone device old new (c.in-Err.ensures.kept known one.0 one.1)) images
+    (λ fault none one. c.in-Err.ensures.closed known none fault (fewer_than_two device old new one)))
 
 pub returns-clause-ended : goal.returns-clause-ended
-returns-clause-ended g c = λ told given files moment reads reads' words raw good is.
+returns-clause-ended g c = λ known given files moment reads reads' words raw good is.
     let device = g.D.Disk.device in
     let s = c.in-Ok-create.store in
     let refusal = c.finish-refusal.result in
@@ -47,13 +47,13 @@ returns-clause-ended g c = λ told given files moment reads reads' words raw goo
     let new = g.K.Sink.written c.finish-refusal.new.sink in
     let call = call_of given files moment reads reads' old new (g.K.Sink.faults c.args.sink.now) (g.K.Sink.faults c.finish-refusal.new.sink) in
     let m = c.in-Ok-create.ensures.made in
-    let none = c.in-Ok-create.ensures.none told in
-    let stored = made_store device c.args.disk s c.args.head none m.0 m.1 m.2 m.3 (c.in-Ok-create.ensures.any_moment told none) (c.into_disk.ensures.images told) in
+    let none = c.in-Ok-create.ensures.none known in
+    let stored = made_store device c.args.disk s c.args.head none m.0 m.1 m.2 m.3 (c.in-Ok-create.ensures.any_moment known none) (c.into_disk.ensures.images known) in
     let made = subst (IsMade device c.args.disk s.disk) is stored in
-    let line : c.put_line.new.piece ≡ create_line (sheets_database raw) = c.put_line.ensures ∙ ap (λ (h : Head). create_line h.mdb) is in
+    let line : c.put_line.new.line_buffer ≡ create_line (sheets_database raw) = c.put_line.ensures ∙ ap (λ (h : Head). create_line h.mdb) is in
     let printed = subst (IsFinished refusal old new) line c.finish-refusal.ensures.finished in
     subst (λ (d : g.row.D.Denot). IsCreateEnding device call words c.args.disk d report.refusal report) (sym (c.of.ensures.disk ∙ c.into_disk.ensures.disk))
-    (created device call words c.args.disk s.disk raw refusal report (c.of.ensures.report ∙ c.consulted.ensures) good made printed c.finish-refusal.ensures.counted)
+    (created device call words c.args.disk s.disk raw refusal report (c.of.ensures.report ∙ c.read_only.ensures) good made printed c.finish-refusal.ensures.counted)
 
 pub returns-in_default-clause-caused : goal.returns-in_default-clause-caused
 returns-in_default-clause-caused g c = λ call words raw good.
@@ -65,8 +65,8 @@ returns-in-Err-clause-caused g c = λ call words raw good.
 
 pub returns-clause-caused : goal.returns-clause-caused
 returns-clause-caused g c = λ call words raw good.
-    create_made_cause call words c.finish-refusal.result c.of.result.report 0 (g.K.Sink.written c.args.sink.now) (g.K.Sink.written c.finish-refusal.new.sink) c.put_line.new.piece
-    (c.of.ensures.report ∙ c.consulted.ensures) c.finish-refusal.ensures.finished (raw, good)
+    create_made_cause call words c.finish-refusal.result c.of.result.report 0 (g.K.Sink.written c.args.sink.now) (g.K.Sink.written c.finish-refusal.new.sink) c.put_line.new.line_buffer
+    (c.of.ensures.report ∙ c.read_only.ensures) c.finish-refusal.ensures.finished (raw, good)
 
 pub returns-in_default-clause-handed_back : goal.returns-in_default-clause-handed_back
 returns-in_default-clause-handed_back g c = create_same c.args.disk c.unopened.result.disk c.unopened.result.report.refusal c.unopened.ensures.disk
@@ -78,5 +78,5 @@ returns-in-Err-clause-handed_back g c =
 
 pub returns-clause-handed_back : goal.returns-clause-handed_back
 returns-clause-handed_back g c =
-    made_back c.args.disk c.of.result.disk c.finish-refusal.result c.of.result.report (g.K.Sink.written c.args.sink.now) (g.K.Sink.written c.finish-refusal.new.sink) c.put_line.new.piece
-    (c.of.ensures.report ∙ c.consulted.ensures) c.finish-refusal.ensures.finished
+    made_back c.args.disk c.of.result.disk c.finish-refusal.result c.of.result.report (g.K.Sink.written c.args.sink.now) (g.K.Sink.written c.finish-refusal.new.sink) c.put_line.new.line_buffer
+    (c.of.ensures.report ∙ c.read_only.ensures) c.finish-refusal.ensures.finished

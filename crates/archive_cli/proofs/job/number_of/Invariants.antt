@@ -1,11 +1,11 @@
 use Rattle.std.proofs.Common.{◌≡◌, ◌<◌, ◌^◌, take, true}
 use Rattle.std.specs.List.{list_all}
-use Rattle.mdb_model.specs.Texts.{digits_worth, is_digit}
+use Rattle.mdb_model.specs.Texts.{decimal_value, is_digit}
 use Rattle.archive_cli.proofs.job.number_of.Given as goal
 
 abbrev pub invariant-loop-octet : goal.invariant-loop-octet
 invariant-loop-octet l = record {
-  worth : l.worth ≡ digits_worth (take l.octet-index l.text);
+  value : l.value ≡ decimal_value (take l.octet-index l.text);
   digits : list_all is_digit (take l.octet-index l.text) ≡ true;
-  small : l.worth < 10 ^ l.octet-index;
+  small : l.value < 10 ^ l.octet-index;
 }

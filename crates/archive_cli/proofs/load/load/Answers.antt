@@ -1,10 +1,10 @@
 use Rattle.std.proofs.Common.{◌∙◌, Some, length, refl, sym, subst, arith, rules, w64, SFits}
 use Rattle.std.proofs.lemmas.Int.{to_z-of_z}
-use Rattle.archive_store.specs.Seen.{archive_of}
-use Rattle.archive_cli.specs.Asked.{load_words_of}
-use Rattle.archive_cli.specs.Loading.{IsSession}
+use Rattle.archive_store.specs.StoreView.{archive_of}
+use Rattle.archive_cli.specs.JobView.{load_words_of}
+use Rattle.archive_cli.specs.Loading.{IsLoadRun}
 use Rattle.archive_cli.specs.LoadEnding.{IsLoadEnding}
-use Rattle.archive_cli.proofs.Consulted.{consulted_store}
+use Rattle.archive_cli.proofs.ReadOnly.{read_only_store}
 use Rattle.archive_cli.proofs.Counted.{reads_closed}
 use Rattle.archive_cli.proofs.During.{opened_store}
 use Rattle.archive_cli.proofs.HandedBack.{load_same, load_unread_back, session_back}
@@ -16,7 +16,7 @@ use Rattle.archive_cli.proofs.Sessions.{session_ending, session_report, IsReady}
 use Rattle.archive_cli.proofs.load.load.Goals as goal
 
 pub returns-in-Err-clause-ended : goal.returns-in-Err-clause-ended
-returns-in-Err-clause-ended g c = λ told given.
+returns-in-Err-clause-ended g c = λ known given.
     let written = g.K.Sink.written c.args.sink.now in
     let faults = g.K.Sink.faults c.args.sink.now in
     let call = call_of given (g.I.Inputs.files c.args.inputs.now) (g.C.Clock.next c.args.clock.now) (g.I.Inputs.faults c.args.inputs.now) (g.I.Inputs.faults c.open.new.self) written written faults faults in
@@ -25,7 +25,7 @@ returns-in-Err-clause-ended g c = λ told given.
     c.refusal_of_opening.ensures c.in-Err.ensures.missing c.in-Err.ensures.counted)
 
 pub returns-in-Err-received-clause-ended : goal.returns-in-Err-received-clause-ended
-returns-in-Err-received-clause-ended g c = λ told given.
+returns-in-Err-received-clause-ended g c = λ known given.
     let device = g.D.Disk.device in
     let s = c.in-Ok-open-2.store in
     let unread = c.in-Err-received.unread in
@@ -35,17 +35,17 @@ returns-in-Err-received-clause-ended g c = λ told given.
     let written = g.K.Sink.written c.args.sink.now in
     let faults = g.K.Sink.faults c.args.sink.now in
     let call = call_of given (g.I.Inputs.files c.args.inputs.now) (g.C.Clock.next c.args.clock.now) before now written written faults faults in
-    let opened = c.in-Ok-open-2.ensures.opened told in
-    let given_up = c.nothing_loaded.ensures.given_up in
-    let disk = consulted_store device c.args.disk s opened.0 opened.1 c.in-Ok-open-2.ensures.opening c.in-Ok-open-2.ensures.fills c.in-Ok-open-2.ensures.handed_in (given_up.images told) in
+    let opened = c.in-Ok-open-2.ensures.opened known in
+    let closed_store = c.nothing_loaded.ensures.closed_store in
+    let disk = read_only_store device c.args.disk s opened.0 opened.1 c.in-Ok-open-2.ensures.opening c.in-Ok-open-2.ensures.fills c.in-Ok-open-2.ensures.handed_in (closed_store.images known) in
     let counted = rw c.in-Ok-open.ensures.fresh at c.in-Err-received.ensures.counted in
     let reads = reads_closed (Some unread.refusal) before (g.I.Inputs.faults c.open.new.self) _ now c.in-Ok-open.ensures.counted counted c.close-2.ensures.kept c.close-2.ensures.risen in
-    subst (λ (d : g.row.D.Denot). IsLoadEnding device call (load_words_of c.args.words) c.args.disk d report.refusal report) (sym given_up.disk_is)
+    subst (λ (d : g.row.D.Denot). IsLoadEnding device call (load_words_of c.args.words) c.args.disk d report.refusal report) (sym closed_store.disk_is)
     (not_read device call (load_words_of c.args.words) refl c.args.disk s.disk (archive_of s) _ unread.refusal unread.link report c.nothing_loaded.ensures.report c.in-Ok-open.ensures.found
     c.in-Err-received.ensures.unread disk reads)
 
 pub returns-in-Ok-received-clause-ended : goal.returns-in-Ok-received-clause-ended
-returns-in-Ok-received-clause-ended g c = λ told given.
+returns-in-Ok-received-clause-ended g c = λ known given.
     let device = g.D.Disk.device in
     let s = c.in-Ok-open-2.store in
     let received = c.in-Ok-received.received in
@@ -57,8 +57,8 @@ returns-in-Ok-received-clause-ended g c = λ told given.
     let call = call_of given (g.I.Inputs.files c.args.inputs.now) (g.C.Clock.next c.args.clock.now) (g.I.Inputs.faults c.args.inputs.now) (g.I.Inputs.faults c.close-2.new.self) old new
     (g.K.Sink.faults c.args.sink.now) (g.K.Sink.faults c.load_dump.new.sink) in
     let fits : SFits w64 moment = search rules in
-    let opened = c.in-Ok-open-2.ensures.opened told in
-    let records = c.in-Ok-open-2.ensures.records told in
+    let opened = c.in-Ok-open-2.ensures.opened known in
+    let records = c.in-Ok-open-2.ensures.records known in
     let link = c.in-Ok-received.ensures.link in
     let ready : IsReady device call words c.args.disk s received.dump moment = record {
       opened = opened_store device c.args.disk s opened.0 opened.1 c.in-Ok-open-2.ensures.opening c.in-Ok-open-2.ensures.handed_in records.0 records.1 records.2;
@@ -66,10 +66,10 @@ returns-in-Ok-received-clause-ended g c = λ told given.
       link = omega (arith, link.0, link.1);
       input = gives_input (g.I.Inputs.files c.args.inputs.now) c.args.words.dump.now _ received.dump c.in-Ok-open.ensures.found c.in-Ok-received.ensures.whole;
       short = c.in-Ok-received.ensures.short;
-      clock = moment_of (g.C.Clock.next c.args.clock.now) moment c.now-moment.ensures.told c.now-moment.ensures.range;
+      clock = moment_of (g.C.Clock.next c.args.clock.now) moment c.now-moment.ensures.known c.now-moment.ensures.range;
     } in
-    let session : IsSession device s received.dump words.link moment old new c.load_dump.result.disk report = rw (to_z-of_z w64 moment fits, link.0) at c.load_dump.ensures.session in
-    session_ending device told call words c.args.disk c.load_dump.result.disk s received.dump moment report ready session c.load_dump.ensures.writes_counted
+    let session : IsLoadRun device s received.dump words.link moment old new c.load_dump.result.disk report = rw (to_z-of_z w64 moment fits, link.0) at c.load_dump.ensures.session in
+    session_ending device known call words c.args.disk c.load_dump.result.disk s received.dump moment report ready session c.load_dump.ensures.writes_counted
 
 pub returns-in-Ok-received-clause-report : goal.returns-in-Ok-received-clause-report
 returns-in-Ok-received-clause-report g c =
@@ -82,7 +82,7 @@ returns-in-Ok-received-clause-report g c =
     let new = g.K.Sink.written c.load_dump.new.sink in
     let words = load_words_of c.args.words in
     let fits : SFits w64 moment = search rules in
-    let session : IsSession device s received.dump words.link moment old new c.load_dump.result.disk report =
+    let session : IsLoadRun device s received.dump words.link moment old new c.load_dump.result.disk report =
     rw (to_z-of_z w64 moment fits, c.in-Ok-received.ensures.link.0) at c.load_dump.ensures.session in
     session_report device words s received.dump moment old new c.load_dump.result.disk report session
 
@@ -100,10 +100,10 @@ returns-in-Ok-received-clause-caused g c = λ given.
     let call = call_of given files next (g.I.Inputs.faults c.args.inputs.now) (g.I.Inputs.faults c.close-2.new.self) old new (g.K.Sink.faults c.args.sink.now)
     (g.K.Sink.faults c.load_dump.new.sink) in
     let fits : SFits w64 moment = search rules in
-    let session : IsSession device s received.dump received.link moment old new c.load_dump.result.disk report = rw (to_z-of_z w64 moment fits) at c.load_dump.ensures.session in
+    let session : IsLoadRun device s received.dump received.link moment old new c.load_dump.result.disk report = rw (to_z-of_z w64 moment fits) at c.load_dump.ensures.session in
     let input = gives_input files c.args.words.dump.now _ received.dump c.in-Ok-open.ensures.found c.in-Ok-received.ensures.whole in
     session_cause device call (load_words_of c.args.words) c.load_dump.result.disk s received.dump received.link moment old new report input c.in-Ok-received.ensures.short
-    (moment_of next moment c.now-moment.ensures.told c.now-moment.ensures.range) session
+    (moment_of next moment c.now-moment.ensures.known c.now-moment.ensures.range) session
 
 pub returns-in_default-clause-handed_back : goal.returns-in_default-clause-handed_back
 returns-in_default-clause-handed_back g c = load_same c.args.disk c.unopened.result.disk c.unopened.result.report.opened c.unopened.result.report.refusal c.unopened.ensures.disk

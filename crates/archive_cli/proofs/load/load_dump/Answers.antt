@@ -45,7 +45,7 @@ returns-in-None-clause-session g c =
     let front = c.front-before.ensures.front in
     let whole = rw moment at c.in-Ok.ensures.whole in record {
       new = c.ingest_dump.new.store;
-      let_go = printed_closed g.D.Disk.device c.ingest_dump.new.store c.print.result.report.refusal c.print.result.disk _ _ _ c.print.ensures.finished c.print.ensures.given_up;
+      let_go = printed_closed g.D.Disk.device c.ingest_dump.new.store c.print.result.report.refusal c.print.result.disk _ _ _ c.print.ensures.finished c.print.ensures.closed_store;
       went =
           session_printed c.args.store c.ingest_dump.new.store c.args.received.now.dump c.args.received.now.link c.args.moment (g.K.Sink.written c.args.sink.now) (g.K.Sink.written c.print.new.sink)
           c.print.result.report c.in-Ok.whole whole (sym c.refusal_of_rest.ensures ∙ c.in-None.is) (rw front at c.print.ensures.finished) (rw front at c.print.ensures.report);
@@ -60,7 +60,7 @@ returns-in-Some-clause-session g c =
       new = c.ingest_dump.new.store;
       let_go =
           bad_closed g.D.Disk.device c.ingest_dump.new.store c.in-Ok.whole.why c.in-Ok.whole.at c.in-Some.refusal c.stopped.result.report c.stopped.result.disk
-          (sym c.refusal_of_rest.ensures ∙ c.in-Some.is) (ap (λ (r : Report). r.refusal) c.stopped.ensures.report) c.stopped.ensures.given_up;
+          (sym c.refusal_of_rest.ensures ∙ c.in-Some.is) (ap (λ (r : Report). r.refusal) c.stopped.ensures.report) c.stopped.ensures.closed_store;
       went =
           session_bad c.args.store c.ingest_dump.new.store c.args.received.now.dump c.args.received.now.link c.args.moment written written c.in-Some.refusal c.stopped.result.report c.in-Ok.whole
           whole (sym c.refusal_of_rest.ensures ∙ c.in-Some.is) refl (rw front at c.stopped.ensures.report);

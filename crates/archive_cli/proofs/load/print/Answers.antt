@@ -8,14 +8,14 @@ returns-in-None-clause-finished g c =
     let whole = c.args.whole in
     let is = ap (λ (r : Report). r.refusal) (c.of.ensures.report ∙ c.loaded.ensures) ∙ sym c.in-None.is in
     let line = c.put_line.ensures ∙ line_by whole.packets c.args.before c.front-after.result (length c.args.store.history) whole.idle c.front-after.ensures.front in
-    finished_line c.finish.result c.of.result.report.refusal (g.K.Sink.written c.args.sink.now) (g.K.Sink.written c.finish.new.sink) c.put_line.new.piece _ is line c.finish.ensures.finished
+    finished_line c.finish.result c.of.result.report.refusal (g.K.Sink.written c.args.sink.now) (g.K.Sink.written c.finish.new.sink) c.put_line.new.line_buffer _ is line c.finish.ensures.finished
 
 pub returns-in-Some-clause-finished : goal.returns-in-Some-clause-finished
 returns-in-Some-clause-finished g c =
     let whole = c.args.whole in
     let is = ap (λ (r : Report). r.refusal) c.stopped.ensures.report ∙ sym c.in-Some.is in
     let line = c.put_line.ensures ∙ line_by whole.packets c.args.before c.front-after.result (length c.args.store.history) whole.idle c.front-after.ensures.front in
-    finished_line c.finish.result c.stopped.result.report.refusal (g.K.Sink.written c.args.sink.now) (g.K.Sink.written c.finish.new.sink) c.put_line.new.piece _ is line c.finish.ensures.finished
+    finished_line c.finish.result c.stopped.result.report.refusal (g.K.Sink.written c.args.sink.now) (g.K.Sink.written c.finish.new.sink) c.put_line.new.line_buffer _ is line c.finish.ensures.finished
 
 pub returns-in-None-clause-report : goal.returns-in-None-clause-report
 returns-in-None-clause-report g c =

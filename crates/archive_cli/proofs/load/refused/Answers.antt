@@ -5,5 +5,5 @@ pub returns-clause-let_go : goal.returns-clause-let_go
 returns-clause-let_go g c = record {
   last = c.heal.new.store;
   closed = refused_closed g.D.Disk.device c.args.store c.heal.new.store c.args.refusal c.heal.ensures.same c.heal.ensures.reopened;
-  given_up = c.stopped.ensures.given_up;
+  closed_store = c.stopped.ensures.closed_store;
 }

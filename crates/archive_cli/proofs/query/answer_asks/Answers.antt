@@ -6,5 +6,5 @@ returns-in-Ok-clause-reply g c =
     let db = c.args.store.now.head.mdb in
     let history = c.args.store.now.history in
     finished_reply db history c.args.asks.now c.finish.result (g.K.Sink.written c.args.sink.now) (g.K.Sink.written c.print_asks.new.sink) (g.K.Sink.written c.finish.new.sink)
-    c.print_asks.new.piece (g.K.Sink.faults c.args.sink.now) (g.K.Sink.faults c.print_asks.new.sink) (g.K.Sink.faults c.finish.new.sink)
-    c.requires.known c.in-Ok.ensures.moved c.finish.ensures.finished c.in-Ok.ensures.counted c.finish.ensures.counted
+    c.print_asks.new.line_buffer (g.K.Sink.faults c.args.sink.now) (g.K.Sink.faults c.print_asks.new.sink) (g.K.Sink.faults c.finish.new.sink)
+    c.requires.known c.in-Ok.ensures.buffered c.finish.ensures.finished c.in-Ok.ensures.counted c.finish.ensures.counted

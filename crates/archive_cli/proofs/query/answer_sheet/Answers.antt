@@ -12,7 +12,7 @@ returns-in-Some-clause-reply g c =
     let written = g.K.Sink.written c.args.sink.now in
     let faults = g.K.Sink.faults c.args.sink.now in
     let refusal = c.in-Some.refusal in
-    let told : asks_refusal c.head.result.now.mdb c.as_slice-asks.result.now ≡ Some refusal = sym c.asks_refusal.ensures ∙ c.in-Some.is in
-    let refused : asks_refusal db c.in-Read.asks ≡ Some refusal = rw (c.head.ensures.head, c.as_slice-asks.ensures) at told in
+    let known : asks_refusal c.head.result.now.mdb c.as_slice-asks.result.now ≡ Some refusal = sym c.asks_refusal.ensures ∙ c.in-Some.is in
+    let refused : asks_refusal db c.in-Read.asks ≡ Some refusal = rw (c.head.ensures.head, c.as_slice-asks.ensures) at known in
     subst (λ (sheet : AskSheet). IsSheetReply db history sheet (Some refusal) written written faults faults) (sym c.in-Read.is)
     (refused_reply db history c.in-Read.asks refusal written faults refused)

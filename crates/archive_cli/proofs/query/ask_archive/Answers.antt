@@ -1,17 +1,17 @@
 use Rattle.std.proofs.Common.{◌≡◌, ◌∙◌, length, sym, ap, subst}
 use Rattle.arch_types.specs.declared.refusal.Refusal.TheVariants.{OutOfMemory}
-use Rattle.archive_store.specs.Seen.{Seen, KeepsImages, archive_of}
+use Rattle.archive_store.specs.StoreView.{StoreView, CrashInvariant, archive_of}
 use Rattle.archive_cli.specs.QueryEnding.{IsQueryEnding}
-use Rattle.archive_cli.specs.Report.{consulted}
+use Rattle.archive_cli.specs.Report.{read_only}
 use Rattle.archive_cli.proofs.Caused.{query_replied_cause, query_unopened_cause}
-use Rattle.archive_cli.proofs.Consulted.{consulted_store}
+use Rattle.archive_cli.proofs.ReadOnly.{read_only_store}
 use Rattle.archive_cli.proofs.HandedBack.{ask_unopened_back, query_same, replied_back}
 use Rattle.archive_cli.proofs.Queried.{query_replied}
 use Rattle.archive_cli.proofs.Scanned.{call_of}
 use Rattle.archive_cli.proofs.query.ask_archive.Goals as goal
 
 pub returns-clause-ended : goal.returns-clause-ended
-returns-clause-ended g c = λ told given files moment reads reads' name is.
+returns-clause-ended g c = λ known given files moment reads reads' name is.
     let device = g.D.Disk.device in
     let s = c.in-Ok-open.store in
     let refusal = c.answer_sheet-refusal.result in
@@ -19,12 +19,12 @@ returns-clause-ended g c = λ told given files moment reads reads' name is.
     let old = g.K.Sink.written c.args.sink.now in
     let new = g.K.Sink.written c.answer_sheet-refusal.new.sink in
     let call = call_of given files moment reads reads' old new (g.K.Sink.faults c.args.sink.now) (g.K.Sink.faults c.answer_sheet-refusal.new.sink) in
-    let opened = c.in-Ok-open.ensures.opened told in
+    let opened = c.in-Ok-open.ensures.opened known in
     let same : c.answer_sheet-refusal.new.store ≡ s = c.answer_sheet-refusal.ensures.same in
-    let images = subst (λ (x : Seen g.row.D.Denot). KeepsImages device x) same (c.into_disk.ensures.images told) in
-    let disk = consulted_store device c.args.disk s opened.0 opened.1 c.in-Ok-open.ensures.opening c.in-Ok-open.ensures.fills c.in-Ok-open.ensures.handed_in images in
-    let asked : report ≡ consulted refusal (length s.history) = c.of.ensures.report ∙ c.consulted.ensures ∙ ap (consulted refusal) c.front-rows.ensures.front in
-    let back = c.of.ensures.disk ∙ c.into_disk.ensures.disk ∙ ap (λ (x : Seen g.row.D.Denot). x.disk) same in
+    let images = subst (λ (x : StoreView g.row.D.Denot). CrashInvariant device x) same (c.into_disk.ensures.images known) in
+    let disk = read_only_store device c.args.disk s opened.0 opened.1 c.in-Ok-open.ensures.opening c.in-Ok-open.ensures.fills c.in-Ok-open.ensures.handed_in images in
+    let asked : report ≡ read_only refusal (length s.history) = c.of.ensures.report ∙ c.read_only.ensures ∙ ap (read_only refusal) c.front-rows.ensures.front in
+    let back = c.of.ensures.disk ∙ c.into_disk.ensures.disk ∙ ap (λ (x : StoreView g.row.D.Denot). x.disk) same in
     subst (λ (d : g.row.D.Denot). IsQueryEnding device call name c.args.disk d report.refusal report) (sym back)
     (query_replied device call name c.args.disk s.disk (archive_of s) c.args.sheet refusal report asked is disk c.answer_sheet-refusal.ensures.reply)
 
@@ -40,7 +40,7 @@ pub returns-clause-caused : goal.returns-clause-caused
 returns-clause-caused g c = λ call name asked.
     let s = c.in-Ok-open.store in
     query_replied_cause call name s.head.mdb s.history c.args.sheet c.answer_sheet-refusal.result c.of.result.report c.front-rows.result (g.K.Sink.written c.args.sink.now)
-    (g.K.Sink.written c.answer_sheet-refusal.new.sink) (g.K.Sink.faults c.args.sink.now) (g.K.Sink.faults c.answer_sheet-refusal.new.sink) (c.of.ensures.report ∙ c.consulted.ensures) asked
+    (g.K.Sink.written c.answer_sheet-refusal.new.sink) (g.K.Sink.faults c.args.sink.now) (g.K.Sink.faults c.answer_sheet-refusal.new.sink) (c.of.ensures.report ∙ c.read_only.ensures) asked
     c.answer_sheet-refusal.ensures.reply
 
 pub returns-in_default-clause-handed_back : goal.returns-in_default-clause-handed_back
@@ -54,5 +54,5 @@ pub returns-clause-handed_back : goal.returns-clause-handed_back
 returns-clause-handed_back g c =
     let s = c.in-Ok-open.store in
     replied_back c.args.disk c.of.result.disk s.head.mdb s.history c.args.sheet c.answer_sheet-refusal.result c.of.result.report c.front-rows.result (g.K.Sink.written c.args.sink.now)
-    (g.K.Sink.written c.answer_sheet-refusal.new.sink) (g.K.Sink.faults c.args.sink.now) (g.K.Sink.faults c.answer_sheet-refusal.new.sink) (c.of.ensures.report ∙ c.consulted.ensures) c.requires
+    (g.K.Sink.written c.answer_sheet-refusal.new.sink) (g.K.Sink.faults c.args.sink.now) (g.K.Sink.faults c.answer_sheet-refusal.new.sink) (c.of.ensures.report ∙ c.read_only.ensures) c.requires
     c.answer_sheet-refusal.ensures.reply

@@ -2,11 +2,11 @@ use Rattle.std.proofs.Common.{◌≡◌, ◌∙◌, ◌+◌, ◌++◌, ◌<◌, 
 use Rattle.std.proofs.lemmas.List.{drop_more}
 use Rattle.std.proofs.lemmas.Result.{err_from_is_err_and}
 use Rattle.arch_types.specs.declared.ask.Ask.{Ask}
-use Rattle.archive_store.specs.Seen.{Seen}
+use Rattle.archive_store.specs.StoreView.{StoreView}
 use Rattle.outer_traits.specs.Outside.{WritesSome}
 use Rattle.archive_cli.specs.AnswerText.{ask_text, asks_text}
-use Rattle.archive_cli.specs.Printing.{HasMoved}
-use Rattle.archive_cli.proofs.Pieces.{moved_more, moved_some}
+use Rattle.archive_cli.specs.Printing.{IsBuffered}
+use Rattle.archive_cli.proofs.LineBuffers.{buffered_more, buffered_some}
 use Rattle.archive_cli.proofs.Replies.{first_known, next_text}
 use Rattle.archive_cli.proofs.query.print_asks.Goals as goal
 
@@ -22,18 +22,18 @@ loop-i-preserved g c =
     let now = g.K.Sink.written c.loop-i.sink in
     let new = g.K.Sink.written c.print_ask.new.sink in
     let all = asks_text db history 1 asks in
-    let held = c.loop-i.piece in
-    let last = c.print_ask.new.piece in
+    let held = c.loop-i.line_buffer in
+    let last = c.print_ask.new.line_buffer in
     let lt : i < length asks = omega arith in
     let step : drop i asks ≡ ask ∷ rest = drop_more asks i ask lt ∙ ap (λ (a : Ask). a ∷ rest) (sym c.index-asks-i.is) in
-    let before = next_text db history (i + 1) first now all held (drop i asks) ask rest step c.loop-i.invariant.moved in
-    let put : HasMoved now new (held ++ ask_text db history (i + 1) ask) last =
-    subst (λ (x : Seen g.row.D.Denot). HasMoved now new (held ++ ask_text x.head.mdb x.history (i + 1) ask) last) c.loop-i.invariant.same c.in_ok-print_ask.ensures.moved in
+    let before = next_text db history (i + 1) first now all held (drop i asks) ask rest step c.loop-i.invariant.buffered in
+    let put : IsBuffered now new (held ++ ask_text db history (i + 1) ask) last =
+    subst (λ (x : StoreView g.row.D.Denot). IsBuffered now new (held ++ ask_text x.head.mdb x.history (i + 1) ask) last) c.loop-i.invariant.same c.in_ok-print_ask.ensures.buffered in
     record {
-      moved = moved_more first now new all (held ++ ask_text db history (i + 1) ask) last (asks_text db history (i + 1 + 1) rest) before put;
+      buffered = buffered_more first now new all (held ++ ask_text db history (i + 1) ask) last (asks_text db history (i + 1 + 1) rest) before put;
       room = c.in_ok-print_ask.ensures.room;
       known = (first_known db (drop i asks) ask rest step c.loop-i.invariant.known).1;
-      quiet = c.in_ok-print_ask.ensures.counted ∙ c.loop-i.invariant.quiet;
+      no_fault = c.in_ok-print_ask.ensures.counted ∙ c.loop-i.invariant.no_fault;
       same = c.print_ask.ensures.same ∙ c.loop-i.invariant.same;
     }
 
@@ -49,11 +49,11 @@ returns-in_err-print_ask-clause-some g c =
     let now = g.K.Sink.written c.loop-i.sink in
     let new = g.K.Sink.written c.print_ask.new.sink in
     let all = asks_text db history 1 asks in
-    let held = c.loop-i.piece in
+    let held = c.loop-i.line_buffer in
     let lt : i < length asks = omega arith in
     let step : drop i asks ≡ ask ∷ rest = drop_more asks i ask lt ∙ ap (λ (a : Ask). a ∷ rest) (sym c.index-asks-i.is) in
-    let before = next_text db history (i + 1) first now all held (drop i asks) ask rest step c.loop-i.invariant.moved in
+    let before = next_text db history (i + 1) first now all held (drop i asks) ask rest step c.loop-i.invariant.buffered in
     let some : WritesSome now new (held ++ ask_text db history (i + 1) ask) =
-    subst (λ (x : Seen g.row.D.Denot). WritesSome now new (held ++ ask_text x.head.mdb x.history (i + 1) ask)) c.loop-i.invariant.same c.in_err-print_ask.ensures.some in
+    subst (λ (x : StoreView g.row.D.Denot). WritesSome now new (held ++ ask_text x.head.mdb x.history (i + 1) ask)) c.loop-i.invariant.same c.in_err-print_ask.ensures.some in
     let p = err_from_is_err_and c.from_residual.result c.from_residual.ensures.1 in
-    rw p.1 (moved_some first now new all (held ++ ask_text db history (i + 1) ask) (asks_text db history (i + 1 + 1) rest) before some)
+    rw p.1 (buffered_some first now new all (held ++ ask_text db history (i + 1) ask) (asks_text db history (i + 1 + 1) rest) before some)

@@ -1,17 +1,17 @@
 use Rattle.std.proofs.Common.{◌≡◌, ◌∙◌, length, sym, ap, subst}
 use Rattle.arch_types.specs.declared.refusal.Refusal.TheVariants.{OutOfMemory}
-use Rattle.archive_store.specs.Seen.{archive_of}
+use Rattle.archive_store.specs.StoreView.{archive_of}
 use Rattle.archive_cli.specs.Printing.{IsFinished}
 use Rattle.archive_cli.specs.RecoverEnding.{IsRecoverEnding, recover_line}
-use Rattle.archive_cli.specs.Report.{consulted}
+use Rattle.archive_cli.specs.Report.{read_only}
 use Rattle.archive_cli.proofs.Caused.{not_recovered_cause, recovered_cause}
-use Rattle.archive_cli.proofs.Consulted.{consulted_store}
+use Rattle.archive_cli.proofs.ReadOnly.{read_only_store}
 use Rattle.archive_cli.proofs.Recovered.{recovered}
 use Rattle.archive_cli.proofs.Scanned.{call_of}
 use Rattle.archive_cli.proofs.recover.recover.Goals as goal
 
 pub returns-clause-ended : goal.returns-clause-ended
-returns-clause-ended g c = λ told words files moment reads.
+returns-clause-ended g c = λ known words files moment reads.
     let device = g.D.Disk.device in
     let s = c.in-Ok-open.store in
     let refusal = c.finish-refusal.result in
@@ -19,10 +19,10 @@ returns-clause-ended g c = λ told words files moment reads.
     let old = g.K.Sink.written c.args.sink.now in
     let new = g.K.Sink.written c.finish-refusal.new.sink in
     let call = call_of words files moment reads reads old new (g.K.Sink.faults c.args.sink.now) (g.K.Sink.faults c.finish-refusal.new.sink) in
-    let opened = c.in-Ok-open.ensures.opened told in
-    let disk = consulted_store device c.args.disk s opened.0 opened.1 c.in-Ok-open.ensures.opening c.in-Ok-open.ensures.fills c.in-Ok-open.ensures.handed_in (c.into_disk.ensures.images told) in
-    let is : report ≡ consulted refusal (length s.history) = c.of.ensures.report ∙ c.consulted.ensures ∙ ap (consulted refusal) c.front-rows.ensures.front in
-    let line : c.put_line.new.piece ≡ recover_line (length s.history) = c.put_line.ensures ∙ ap recover_line c.front-rows.ensures.front in
+    let opened = c.in-Ok-open.ensures.opened known in
+    let disk = read_only_store device c.args.disk s opened.0 opened.1 c.in-Ok-open.ensures.opening c.in-Ok-open.ensures.fills c.in-Ok-open.ensures.handed_in (c.into_disk.ensures.images known) in
+    let is : report ≡ read_only refusal (length s.history) = c.of.ensures.report ∙ c.read_only.ensures ∙ ap (read_only refusal) c.front-rows.ensures.front in
+    let line : c.put_line.new.line_buffer ≡ recover_line (length s.history) = c.put_line.ensures ∙ ap recover_line c.front-rows.ensures.front in
     let printed = subst (IsFinished refusal old new) line c.finish-refusal.ensures.finished in
     subst (λ (d : g.row.D.Denot). IsRecoverEnding device call c.args.disk d report.refusal report) (sym (c.of.ensures.disk ∙ c.into_disk.ensures.disk))
     (recovered device call c.args.disk s.disk refusal (archive_of s) report is disk printed c.finish-refusal.ensures.counted)
@@ -35,5 +35,5 @@ returns-in-Err-clause-caused g c = not_recovered_cause c.in-Err.refusal c.unopen
 
 pub returns-clause-caused : goal.returns-clause-caused
 returns-clause-caused g c =
-    recovered_cause c.finish-refusal.result c.of.result.report c.front-rows.result (g.K.Sink.written c.args.sink.now) (g.K.Sink.written c.finish-refusal.new.sink) c.put_line.new.piece
-    (c.of.ensures.report ∙ c.consulted.ensures) c.finish-refusal.ensures.finished
+    recovered_cause c.finish-refusal.result c.of.result.report c.front-rows.result (g.K.Sink.written c.args.sink.now) (g.K.Sink.written c.finish-refusal.new.sink) c.put_line.new.line_buffer
+    (c.of.ensures.report ∙ c.read_only.ensures) c.finish-refusal.ensures.finished

@@ -3,7 +3,7 @@ use Rattle.std.specs.Prelude.{slice_range}
 use Rattle.std.proofs.lemmas.Int.{to_z-of_z}
 use Rattle.arch_types.specs.Packet.{is_idle}
 use Rattle.yarch_table.specs.Stored.{Holding}
-use Rattle.archive_cli.specs.Loaded.{scanned_row}
+use Rattle.archive_cli.specs.DumpTable.{scanned_row}
 use Rattle.archive_cli.proofs.Gathered.{duplicate-is}
 use Rattle.archive_cli.proofs.rows.add_packet.Goals as goal
 

@@ -1,12 +1,12 @@
 use Rattle.std.proofs.Common.{List, Option, Some, map, refl, string_bytes, subst, sym, ℕ}
-use Rattle.archive_cli.specs.Asked.{asked}
+use Rattle.archive_cli.specs.JobView.{job_view}
 use Rattle.archive_cli.specs.HandedBack.{IsHandedBack}
 use Rattle.archive_cli.specs.Order.{IsInOrder}
 use Rattle.archive_cli.specs.Ending.{IsCaused, IsJobEnding}
 use Rattle.archive_cli.specs.Job.{Job, job_of}
 use Rattle.archive_cli.proofs.Answers.{expected}
 use Rattle.archive_cli.proofs.HandedBack.{same_back}
-use Rattle.archive_cli.proofs.Settled.{not_opened, settled_after}
+use Rattle.archive_cli.proofs.Durable.{not_opened, durable_after}
 use Rattle.archive_cli.proofs.Jobless.{jobless, jobless_caused, jobless_order}
 use Rattle.archive_cli.proofs.Scanned.{call_of}
 use Rattle.archive_cli.proofs.run.run.Goals as goal
@@ -49,16 +49,16 @@ returns-in-Err-clause-caused g c =
     let call = call_of words (g.I.Inputs.files c.args.inputs.now) (g.C.Clock.next c.args.clock.now) reads reads written written faults faults in
     rw c.unopened.ensures.report (jobless_caused call (job_of words) c.in-Err.refusal c.in-Err.ensures.none)
 
-pub returns-in-Ok-clause-settled : goal.returns-in-Ok-clause-settled
-returns-in-Ok-clause-settled g c = λ tells opened once.
+pub returns-in-Ok-clause-durable : goal.returns-in-Ok-clause-durable
+returns-in-Ok-clause-durable g c = λ is_transparent opened once.
     let device = g.D.Disk.device in
     let words : List (List ℕ) = map (λ w. string_bytes w) c.args.words.now in
     let call = call_of words (g.I.Inputs.files c.args.inputs.now) (g.C.Clock.next c.args.clock.now) (g.I.Inputs.faults c.args.inputs.now) (g.I.Inputs.faults c.run_job.new.inputs)
     (g.K.Sink.written c.args.sink.now) (g.K.Sink.written c.run_job.new.sink) (g.K.Sink.faults c.args.sink.now) (g.K.Sink.faults c.run_job.new.sink) in
-    settled_after device tells call c.args.disk c.run_job.result.disk (Some (asked c.in-Ok.job)) c.run_job.result.report (c.run_job.ensures.ended words) c.run_job.ensures.report opened once
+    durable_after device is_transparent call c.args.disk c.run_job.result.disk (Some (job_view c.in-Ok.job)) c.run_job.result.report (c.run_job.ensures.ended words) c.run_job.ensures.report opened once
 
-pub returns-in-Err-clause-settled : goal.returns-in-Err-clause-settled
-returns-in-Err-clause-settled g c = λ tells opened once. absurd (not_opened (Some c.in-Err.refusal) c.unopened.result.report c.unopened.ensures.report opened)
+pub returns-in-Err-clause-durable : goal.returns-in-Err-clause-durable
+returns-in-Err-clause-durable g c = λ is_transparent opened once. absurd (not_opened (Some c.in-Err.refusal) c.unopened.result.report c.unopened.ensures.report opened)
 
 pub returns-in-Ok-clause-handed_back : goal.returns-in-Ok-clause-handed_back
 returns-in-Ok-clause-handed_back g c =

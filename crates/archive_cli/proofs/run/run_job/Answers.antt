@@ -4,7 +4,7 @@ use Rattle.arch_types.specs.declared.refusal.Refusal.{Refusal}
 use Rattle.archive_cli.specs.declared.report.Report.{Report}
 use Rattle.archive_cli.specs.Order.{AreInOrder, IsInOrder, scan_inputs, values_inputs}
 use Rattle.archive_cli.specs.declared.job.Job.{Job}
-use Rattle.archive_cli.specs.Asked.{asked, words_of}
+use Rattle.archive_cli.specs.JobView.{job_view, words_of}
 use Rattle.archive_cli.specs.HandedBack.{IsHandedBack}
 use Rattle.archive_cli.specs.Ending.{IsCaused, IsJobEnding}
 use Rattle.archive_cli.specs.ScanEnding.{IsScanEnding}
@@ -19,7 +19,7 @@ returns-in-Scan-clause-ended g c = λ words.
     let call = call_of words (g.I.Inputs.files c.args.inputs.now) (g.C.Clock.next c.args.clock.now) (g.I.Inputs.faults c.args.inputs.now) (g.I.Inputs.faults c.scan.new.inputs)
     (g.K.Sink.written c.args.sink.now) (g.K.Sink.written c.scan.new.sink) (g.K.Sink.faults c.args.sink.now) (g.K.Sink.faults c.scan.new.sink) in
     let ended = subst (IsScanEnding call c.in-Scan.dump.now) (sym c.err.ensures.value) (c.scan.ensures.ended words) in
-    subst (λ (job : Job). IsJobEnding device call c.args.disk c.unopened.result.disk (Some (asked job)) c.unopened.result.report) (sym c.in-Scan.is)
+    subst (λ (job : Job). IsJobEnding device call c.args.disk c.unopened.result.disk (Some (job_view job)) c.unopened.result.report) (sym c.in-Scan.is)
     (scan_job_ended device call c.args.disk c.unopened.result.disk c.in-Scan.dump.now c.err.result c.unopened.result.report c.unopened.ensures.disk c.unopened.ensures.report ended)
 
 pub returns-in-Scan-clause-disk_fault : goal.returns-in-Scan-clause-disk_fault
@@ -35,7 +35,7 @@ returns-in-Values-clause-ended g c = λ words.
     let call = call_of words (g.I.Inputs.files c.args.inputs.now) (g.C.Clock.next c.args.clock.now) (g.I.Inputs.faults c.args.inputs.now) (g.I.Inputs.faults c.values.new.inputs)
     (g.K.Sink.written c.args.sink.now) (g.K.Sink.written c.values.new.sink) (g.K.Sink.faults c.args.sink.now) (g.K.Sink.faults c.values.new.sink) in
     let ended = subst (IsValuesEnding call (words_of c.in-Values.words)) (sym c.err-in-Values.ensures.value) (c.values.ensures.ended words) in
-    subst (λ (job : Job). IsJobEnding device call c.args.disk c.unopened-in-Values.result.disk (Some (asked job)) c.unopened-in-Values.result.report) (sym c.in-Values.is)
+    subst (λ (job : Job). IsJobEnding device call c.args.disk c.unopened-in-Values.result.disk (Some (job_view job)) c.unopened-in-Values.result.report) (sym c.in-Values.is)
     (values_job_ended device call c.args.disk c.unopened-in-Values.result.disk (words_of c.in-Values.words) c.err-in-Values.result c.unopened-in-Values.result.report c.unopened-in-Values.ensures.disk c.unopened-in-Values.ensures.report ended)
 
 pub returns-in-Values-clause-disk_fault : goal.returns-in-Values-clause-disk_fault
@@ -49,45 +49,45 @@ pub returns-in-Create-clause-caused : goal.returns-in-Create-clause-caused
 returns-in-Create-clause-caused g c = λ words.
     let call = call_of words (g.I.Inputs.files c.args.inputs.now) (g.C.Clock.next c.args.clock.now) (g.I.Inputs.faults c.args.inputs.now) (g.I.Inputs.faults c.create.new.inputs)
     (g.K.Sink.written c.args.sink.now) (g.K.Sink.written c.create.new.sink) (g.K.Sink.faults c.args.sink.now) (g.K.Sink.faults c.create.new.sink) in
-    subst (λ (job : Job). IsCaused call (Some (asked job)) c.create.result.report.refusal) (sym c.in-Create.is) (c.create.ensures.caused words (g.C.Clock.next c.args.clock.now))
+    subst (λ (job : Job). IsCaused call (Some (job_view job)) c.create.result.report.refusal) (sym c.in-Create.is) (c.create.ensures.caused words (g.C.Clock.next c.args.clock.now))
 
 pub returns-in-Load-clause-caused : goal.returns-in-Load-clause-caused
 returns-in-Load-clause-caused g c = λ words.
     let call = call_of words (g.I.Inputs.files c.args.inputs.now) (g.C.Clock.next c.args.clock.now) (g.I.Inputs.faults c.args.inputs.now) (g.I.Inputs.faults c.load.new.inputs)
     (g.K.Sink.written c.args.sink.now) (g.K.Sink.written c.load.new.sink) (g.K.Sink.faults c.args.sink.now) (g.K.Sink.faults c.load.new.sink) in
-    subst (λ (job : Job). IsCaused call (Some (asked job)) c.load.result.report.refusal) (sym c.in-Load.is) (c.load.ensures.caused words)
+    subst (λ (job : Job). IsCaused call (Some (job_view job)) c.load.result.report.refusal) (sym c.in-Load.is) (c.load.ensures.caused words)
 
 pub returns-in-Query-clause-caused : goal.returns-in-Query-clause-caused
 returns-in-Query-clause-caused g c = λ words.
     let call = call_of words (g.I.Inputs.files c.args.inputs.now) (g.C.Clock.next c.args.clock.now) (g.I.Inputs.faults c.args.inputs.now) (g.I.Inputs.faults c.query.new.inputs)
     (g.K.Sink.written c.args.sink.now) (g.K.Sink.written c.query.new.sink) (g.K.Sink.faults c.args.sink.now) (g.K.Sink.faults c.query.new.sink) in
-    subst (λ (job : Job). IsCaused call (Some (asked job)) c.query.result.report.refusal) (sym c.in-Query.is) (c.query.ensures.caused words (g.C.Clock.next c.args.clock.now))
+    subst (λ (job : Job). IsCaused call (Some (job_view job)) c.query.result.report.refusal) (sym c.in-Query.is) (c.query.ensures.caused words (g.C.Clock.next c.args.clock.now))
 
 pub returns-in-Create-clause-handed_back : goal.returns-in-Create-clause-handed_back
 returns-in-Create-clause-handed_back g c =
-    subst (λ (job : Job). IsHandedBack (Some (asked job)) c.args.disk c.create.result.disk c.create.result.report) (sym c.in-Create.is) c.create.ensures.handed_back
+    subst (λ (job : Job). IsHandedBack (Some (job_view job)) c.args.disk c.create.result.disk c.create.result.report) (sym c.in-Create.is) c.create.ensures.handed_back
 
 pub returns-in-Load-clause-handed_back : goal.returns-in-Load-clause-handed_back
 returns-in-Load-clause-handed_back g c =
-    subst (λ (job : Job). IsHandedBack (Some (asked job)) c.args.disk c.load.result.disk c.load.result.report) (sym c.in-Load.is) c.load.ensures.handed_back
+    subst (λ (job : Job). IsHandedBack (Some (job_view job)) c.args.disk c.load.result.disk c.load.result.report) (sym c.in-Load.is) c.load.ensures.handed_back
 
 pub returns-in-Query-clause-handed_back : goal.returns-in-Query-clause-handed_back
 returns-in-Query-clause-handed_back g c =
-    subst (λ (job : Job). IsHandedBack (Some (asked job)) c.args.disk c.query.result.disk c.query.result.report) (sym c.in-Query.is) c.query.ensures.handed_back
+    subst (λ (job : Job). IsHandedBack (Some (job_view job)) c.args.disk c.query.result.disk c.query.result.report) (sym c.in-Query.is) c.query.ensures.handed_back
 
 pub returns-in-Create-clause-order : goal.returns-in-Create-clause-order
 returns-in-Create-clause-order g c =
-    subst (λ (job : Job). IsInOrder (g.I.Inputs.files c.args.inputs.now) (Some (asked job)) (g.I.Inputs.given c.args.inputs.now) (g.I.Inputs.given c.create.new.inputs) c.args.disk
+    subst (λ (job : Job). IsInOrder (g.I.Inputs.files c.args.inputs.now) (Some (job_view job)) (g.I.Inputs.given c.args.inputs.now) (g.I.Inputs.given c.create.new.inputs) c.args.disk
     c.create.result.disk c.create.result.report) (sym c.in-Create.is) c.create.ensures.order
 
 pub returns-in-Load-clause-order : goal.returns-in-Load-clause-order
 returns-in-Load-clause-order g c =
-    subst (λ (job : Job). IsInOrder (g.I.Inputs.files c.args.inputs.now) (Some (asked job)) (g.I.Inputs.given c.args.inputs.now) (g.I.Inputs.given c.load.new.inputs) c.args.disk
+    subst (λ (job : Job). IsInOrder (g.I.Inputs.files c.args.inputs.now) (Some (job_view job)) (g.I.Inputs.given c.args.inputs.now) (g.I.Inputs.given c.load.new.inputs) c.args.disk
     c.load.result.disk c.load.result.report) (sym c.in-Load.is) c.load.ensures.order
 
 pub returns-in-Query-clause-order : goal.returns-in-Query-clause-order
 returns-in-Query-clause-order g c =
-    subst (λ (job : Job). IsInOrder (g.I.Inputs.files c.args.inputs.now) (Some (asked job)) (g.I.Inputs.given c.args.inputs.now) (g.I.Inputs.given c.query.new.inputs) c.args.disk
+    subst (λ (job : Job). IsInOrder (g.I.Inputs.files c.args.inputs.now) (Some (job_view job)) (g.I.Inputs.given c.args.inputs.now) (g.I.Inputs.given c.query.new.inputs) c.args.disk
     c.query.result.disk c.query.result.report) (sym c.in-Query.is) c.query.ensures.order
 
 pub returns-in-Scan-clause-order : goal.returns-in-Scan-clause-order
@@ -97,7 +97,7 @@ returns-in-Scan-clause-order g c =
     let given' = g.I.Inputs.given c.scan.new.inputs in
     let ending = c.unopened.result.report.refusal in
     let is : ending ≡ result_err c.scan.result = ap (λ (r : Report). r.refusal) c.unopened.ensures.report ∙ c.err.ensures.value in
-    subst (λ (job : Job). IsInOrder files (Some (asked job)) given given' c.args.disk c.unopened.result.disk c.unopened.result.report) (sym c.in-Scan.is)
+    subst (λ (job : Job). IsInOrder files (Some (job_view job)) given given' c.args.disk c.unopened.result.disk c.unopened.result.report) (sym c.in-Scan.is)
     (subst (λ (o : Option Refusal). AreInOrder files (scan_inputs c.in-Scan.dump.now) given given' o) (sym is) c.scan.ensures.order)
 
 pub returns-in-Values-clause-order : goal.returns-in-Values-clause-order
@@ -107,5 +107,5 @@ returns-in-Values-clause-order g c =
     let given' = g.I.Inputs.given c.values.new.inputs in
     let ending = c.unopened-in-Values.result.report.refusal in
     let is : ending ≡ result_err c.values.result = ap (λ (r : Report). r.refusal) c.unopened-in-Values.ensures.report ∙ c.err-in-Values.ensures.value in
-    subst (λ (job : Job). IsInOrder files (Some (asked job)) given given' c.args.disk c.unopened-in-Values.result.disk c.unopened-in-Values.result.report) (sym c.in-Values.is)
+    subst (λ (job : Job). IsInOrder files (Some (job_view job)) given given' c.args.disk c.unopened-in-Values.result.disk c.unopened-in-Values.result.report) (sym c.in-Values.is)
     (subst (λ (o : Option Refusal). AreInOrder files (values_inputs (words_of c.in-Values.words)) given given' o) (sym is) c.values.ensures.order)

@@ -3,7 +3,7 @@ use Rattle.std.proofs.lemmas.Result.{err_from_is_err_and}
 use Rattle.outer_traits.specs.Outside.{WritesSome}
 use Rattle.archive_cli.specs.Call.{Appends}
 use Rattle.archive_cli.specs.Printing.{lines_of, end_of, text_of_loaded}
-use Rattle.archive_cli.proofs.Pieces.{wrote_front, moved_end, moved_end_some, on_ok, on_err}
+use Rattle.archive_cli.proofs.LineBuffers.{wrote_front, buffered_end, buffered_end_some, on_ok, on_err}
 use Rattle.archive_cli.proofs.scan.print.Goals as goal
 
 pub returns-in_err-print_rows-clause-some : goal.returns-in_err-print_rows-clause-some
@@ -13,14 +13,14 @@ returns-in_err-print_rows-clause-some g c =
 
 pub returns-clause-all : goal.returns-clause-all
 returns-clause-all g c =
-    on_ok c.flush.result (Appends (g.K.Sink.written c.print_rows.new.sink) (g.K.Sink.written c.flush.new.sink) (c.print_rows.new.piece ++ end_of c.args.loaded.now.why c.args.loaded.now.counts))
+    on_ok c.flush.result (Appends (g.K.Sink.written c.print_rows.new.sink) (g.K.Sink.written c.flush.new.sink) (c.print_rows.new.line_buffer ++ end_of c.args.loaded.now.why c.args.loaded.now.counts))
     (Appends (g.K.Sink.written c.args.sink.now) (g.K.Sink.written c.flush.new.sink) (text_of_loaded c.args.loaded.now))
-    (moved_end (g.K.Sink.written c.args.sink.now) (g.K.Sink.written c.print_rows.new.sink) (g.K.Sink.written c.flush.new.sink) (lines_of c.args.loaded.now.table.stored) c.print_rows.new.piece (end_of c.args.loaded.now.why c.args.loaded.now.counts) c.in_ok-print_rows.ensures.moved)
+    (buffered_end (g.K.Sink.written c.args.sink.now) (g.K.Sink.written c.print_rows.new.sink) (g.K.Sink.written c.flush.new.sink) (lines_of c.args.loaded.now.table.stored) c.print_rows.new.line_buffer (end_of c.args.loaded.now.why c.args.loaded.now.counts) c.in_ok-print_rows.ensures.buffered)
     (rw c.put_end.ensures at c.flush.ensures.all)
 
 pub returns-clause-some : goal.returns-clause-some
 returns-clause-some g c =
-    on_err c.flush.result (WritesSome (g.K.Sink.written c.print_rows.new.sink) (g.K.Sink.written c.flush.new.sink) (c.print_rows.new.piece ++ end_of c.args.loaded.now.why c.args.loaded.now.counts))
+    on_err c.flush.result (WritesSome (g.K.Sink.written c.print_rows.new.sink) (g.K.Sink.written c.flush.new.sink) (c.print_rows.new.line_buffer ++ end_of c.args.loaded.now.why c.args.loaded.now.counts))
     (WritesSome (g.K.Sink.written c.args.sink.now) (g.K.Sink.written c.flush.new.sink) (text_of_loaded c.args.loaded.now))
-    (moved_end_some (g.K.Sink.written c.args.sink.now) (g.K.Sink.written c.print_rows.new.sink) (g.K.Sink.written c.flush.new.sink) (lines_of c.args.loaded.now.table.stored) c.print_rows.new.piece (end_of c.args.loaded.now.why c.args.loaded.now.counts) c.in_ok-print_rows.ensures.moved)
+    (buffered_end_some (g.K.Sink.written c.args.sink.now) (g.K.Sink.written c.print_rows.new.sink) (g.K.Sink.written c.flush.new.sink) (lines_of c.args.loaded.now.table.stored) c.print_rows.new.line_buffer (end_of c.args.loaded.now.why c.args.loaded.now.counts) c.in_ok-print_rows.ensures.buffered)
     (rw c.put_end.ensures at c.flush.ensures.some)

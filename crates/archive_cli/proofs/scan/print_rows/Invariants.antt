@@ -2,12 +2,12 @@ use Rattle.std.proofs.Common.{◌<◌, ◌++◌, length}
 use Rattle.std.specs.Prelude.{flat_map}
 use Rattle.outer_traits.specs.Outside.{Stays}
 use Rattle.archive_cli.specs.Text.{row_line}
-use Rattle.archive_cli.specs.Printing.{HasMoved, lines_of}
+use Rattle.archive_cli.specs.Printing.{IsBuffered, lines_of}
 use Rattle.archive_cli.proofs.scan.print_rows.Given as goal
 
 abbrev pub invariant-loop-row : goal.invariant-loop-row
 invariant-loop-row g l = record {
-  moved : HasMoved (g.K.Sink.written l.fn.sink) (g.K.Sink.written l.sink) (lines_of l.table.stored) (l.piece ++ flat_map row_line l.row-iterator);
-  room : length l.piece < 65536;
-  quiet : Stays (g.K.Sink.faults l.fn.sink) (g.K.Sink.faults l.sink);
+  buffered : IsBuffered (g.K.Sink.written l.fn.sink) (g.K.Sink.written l.sink) (lines_of l.table.stored) (l.line_buffer ++ flat_map row_line l.row-iterator);
+  room : length l.line_buffer < 65536;
+  no_fault : Stays (g.K.Sink.faults l.fn.sink) (g.K.Sink.faults l.sink);
 }

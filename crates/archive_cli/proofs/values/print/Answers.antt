@@ -3,7 +3,7 @@ use Rattle.std.proofs.lemmas.Result.{err_from_is_err_and}
 use Rattle.outer_traits.specs.Outside.{WritesSome}
 use Rattle.archive_cli.specs.Call.{Appends}
 use Rattle.archive_cli.specs.ValuesPrinting.{cells_of_stored, end_of_cells, lines_of_cells}
-use Rattle.archive_cli.proofs.Pieces.{moved_end, moved_end_some, wrote_front}
+use Rattle.archive_cli.proofs.LineBuffers.{buffered_end, buffered_end_some, wrote_front}
 use Rattle.archive_cli.proofs.values.print.Goals as goal
 
 pub returns-in_err-count-clause-some : goal.returns-in_err-count-clause-some
@@ -21,10 +21,10 @@ returns-clause-all g c =
     let number = c.args.known.now.number in
     let stored = c.args.loaded.now.table.stored in
     let end = end_of_cells c.args.loaded.now.why (length (cells_of_stored db number stored)) in
-    let wrote : Appends (g.K.Sink.written c.print_cells.new.sink) (g.K.Sink.written c.flush.new.sink) (c.print_cells.new.piece ++ end) =
+    let wrote : Appends (g.K.Sink.written c.print_cells.new.sink) (g.K.Sink.written c.flush.new.sink) (c.print_cells.new.line_buffer ++ end) =
     rw (c.put_end.ensures, c.in_ok-count.ensures.count) at c.in_ok-flush.ensures.all in
-    moved_end (g.K.Sink.written c.args.sink.now) (g.K.Sink.written c.print_cells.new.sink) (g.K.Sink.written c.flush.new.sink) (lines_of_cells db number stored) c.print_cells.new.piece end
-    c.in_ok-count.ensures.moved wrote
+    buffered_end (g.K.Sink.written c.args.sink.now) (g.K.Sink.written c.print_cells.new.sink) (g.K.Sink.written c.flush.new.sink) (lines_of_cells db number stored) c.print_cells.new.line_buffer end
+    c.in_ok-count.ensures.buffered wrote
 
 pub returns-in_err-flush-clause-some : goal.returns-in_err-flush-clause-some
 returns-in_err-flush-clause-some g c =
@@ -32,8 +32,8 @@ returns-in_err-flush-clause-some g c =
     let number = c.args.known.now.number in
     let stored = c.args.loaded.now.table.stored in
     let end = end_of_cells c.args.loaded.now.why (length (cells_of_stored db number stored)) in
-    let some : WritesSome (g.K.Sink.written c.print_cells.new.sink) (g.K.Sink.written c.flush.new.sink) (c.print_cells.new.piece ++ end) =
+    let some : WritesSome (g.K.Sink.written c.print_cells.new.sink) (g.K.Sink.written c.flush.new.sink) (c.print_cells.new.line_buffer ++ end) =
     rw (c.put_end.ensures, c.in_ok-count.ensures.count) at c.in_err-flush.ensures.some in
     let p = err_from_is_err_and c.from_residual-in_err-flush.result c.from_residual-in_err-flush.ensures.1 in
-    rw p.1 (moved_end_some (g.K.Sink.written c.args.sink.now) (g.K.Sink.written c.print_cells.new.sink) (g.K.Sink.written c.flush.new.sink) (lines_of_cells db number stored)
-    c.print_cells.new.piece end c.in_ok-count.ensures.moved some)
+    rw p.1 (buffered_end_some (g.K.Sink.written c.args.sink.now) (g.K.Sink.written c.print_cells.new.sink) (g.K.Sink.written c.flush.new.sink) (lines_of_cells db number stored)
+    c.print_cells.new.line_buffer end c.in_ok-count.ensures.buffered some)

@@ -3,21 +3,21 @@ use Rattle.std.specs.Prelude.{flat_map}
 use Rattle.std.proofs.lemmas.Result.{err_from_is_err_and}
 use Rattle.arch_types.specs.Table.{sorted}
 use Rattle.yarch_table.specs.Stored.{rows_of}
-use Rattle.archive_cli.specs.Printing.{HasMoved}
+use Rattle.archive_cli.specs.Printing.{IsBuffered}
 use Rattle.archive_cli.specs.ValuesPrinting.{line_of, lines_of_cells}
 use Rattle.archive_cli.proofs.CellCounts.{cells_few, count_next}
-use Rattle.archive_cli.proofs.Pieces.{moved_front, moved_more, moved_none, moved_some, regroup}
-use Rattle.archive_cli.proofs.Shown.{seen-all}
+use Rattle.archive_cli.proofs.LineBuffers.{buffered_front, buffered_more, buffered_none, buffered_some, regroup}
+use Rattle.archive_cli.proofs.Visible.{seen-all}
 use Rattle.archive_cli.proofs.values.print_cells.Goals as goal
 
 pub loop-row-init : goal.loop-row-init
 loop-row-init g c =
     let seen = seen-all 18446744073709551615 c.args.table.now.stored (omega arith) c.requires.shown in record {
-      moved = rw (c.requires.empty, c.into_iter-row-iterator.ensures.into_iter_gives, c.rows_at-row-items.ensures, seen)
-          (moved_none (g.K.Sink.written c.args.sink.now) (lines_of_cells c.args.known.now.mdb c.args.known.now.number c.args.table.now.stored));
+      buffered = rw (c.requires.empty, c.into_iter-row-iterator.ensures.into_iter_gives, c.rows_at-row-items.ensures, seen)
+          (buffered_none (g.K.Sink.written c.args.sink.now) (lines_of_cells c.args.known.now.mdb c.args.known.now.number c.args.table.now.stored));
       room = rw c.requires.empty (omega arith);
       counted = rw (c.into_iter-row-iterator.ensures.into_iter_gives, c.rows_at-row-items.ensures, seen) (omega arith);
-      quiet = refl;
+      no_fault = refl;
     }
 
 pub overflow_add-count : goal.overflow_add-count
@@ -37,34 +37,34 @@ loop-row-preserved g c =
     let first = g.K.Sink.written c.args.sink.now in
     let lines = lines_of_cells db number c.args.table.now.stored in
     let step : c.loop-row.row-iterator ≡ c.in-Some.row.now ∷ c.next.new.self = let s = c.in-Some.ensures.steps in cc in
-    let before = regroup (line_of db number) first (g.K.Sink.written c.loop-row.sink) lines c.loop-row.piece c.loop-row.row-iterator c.next.new.self c.in-Some.row.now step c.loop-row.invariant.moved in
-    let poured : HasMoved (g.K.Sink.written c.loop-row.sink) (g.K.Sink.written c.pour.new.sink) (c.loop-row.piece ++ line_of db number c.in-Some.row.now) c.pour.new.self =
-    rw c.in_ok-found.ensures.line at c.in_ok-pour.ensures.moved in
+    let before = regroup (line_of db number) first (g.K.Sink.written c.loop-row.sink) lines c.loop-row.line_buffer c.loop-row.row-iterator c.next.new.self c.in-Some.row.now step c.loop-row.invariant.buffered in
+    let flushed : IsBuffered (g.K.Sink.written c.loop-row.sink) (g.K.Sink.written c.flush_if_full.new.sink) (c.loop-row.line_buffer ++ line_of db number c.in-Some.row.now) c.flush_if_full.new.self =
+    rw c.in_ok-found.ensures.line at c.in_ok-flush_if_full.ensures.buffered in
     let total = rw step at c.loop-row.invariant.counted in
     let next = count_next db number c.in-Some.row.now c.next.new.self in record {
-      moved = moved_more first (g.K.Sink.written c.loop-row.sink) (g.K.Sink.written c.pour.new.sink) lines (c.loop-row.piece ++ line_of db number c.in-Some.row.now) c.pour.new.self
-          (flat_map (line_of db number) c.next.new.self) before poured;
-      room = c.in_ok-pour.ensures.room;
+      buffered = buffered_more first (g.K.Sink.written c.loop-row.sink) (g.K.Sink.written c.flush_if_full.new.sink) lines (c.loop-row.line_buffer ++ line_of db number c.in-Some.row.now) c.flush_if_full.new.self
+          (flat_map (line_of db number) c.next.new.self) before flushed;
+      room = c.in_ok-flush_if_full.ensures.room;
       counted = omega (arith, total, next, c.in_ok-found.ensures.count);
-      quiet = c.in_ok-pour.ensures.quiet ∙ c.loop-row.invariant.quiet;
+      no_fault = c.in_ok-flush_if_full.ensures.no_fault ∙ c.loop-row.invariant.no_fault;
     }
 
 pub returns-in_err-found-clause-some : goal.returns-in_err-found-clause-some
 returns-in_err-found-clause-some g c =
     let lines = lines_of_cells c.args.known.now.mdb c.args.known.now.number c.args.table.now.stored in
     let p = err_from_is_err_and c.from_residual.result c.from_residual.ensures.1 in
-    rw p.1 (moved_front (g.K.Sink.written c.args.sink.now) (g.K.Sink.written c.loop-row.sink) lines
-    (c.loop-row.piece ++ flat_map (line_of c.args.known.now.mdb c.args.known.now.number) c.loop-row.row-iterator) c.loop-row.invariant.moved)
+    rw p.1 (buffered_front (g.K.Sink.written c.args.sink.now) (g.K.Sink.written c.loop-row.sink) lines
+    (c.loop-row.line_buffer ++ flat_map (line_of c.args.known.now.mdb c.args.known.now.number) c.loop-row.row-iterator) c.loop-row.invariant.buffered)
 
-pub returns-in_err-pour-clause-some : goal.returns-in_err-pour-clause-some
-returns-in_err-pour-clause-some g c =
+pub returns-in_err-flush_if_full-clause-some : goal.returns-in_err-flush_if_full-clause-some
+returns-in_err-flush_if_full-clause-some g c =
     let db = c.args.known.now.mdb in
     let number = c.args.known.now.number in
     let first = g.K.Sink.written c.args.sink.now in
     let lines = lines_of_cells db number c.args.table.now.stored in
     let step : c.loop-row.row-iterator ≡ c.in-Some.row.now ∷ c.next.new.self = let s = c.in-Some.ensures.steps in cc in
-    let before = regroup (line_of db number) first (g.K.Sink.written c.loop-row.sink) lines c.loop-row.piece c.loop-row.row-iterator c.next.new.self c.in-Some.row.now step c.loop-row.invariant.moved in
-    let some = rw c.in_ok-found.ensures.line at c.in_err-pour.ensures.some in
-    let p = err_from_is_err_and c.from_residual-in_err-pour.result c.from_residual-in_err-pour.ensures.1 in
-    rw p.1 (moved_some first (g.K.Sink.written c.loop-row.sink) (g.K.Sink.written c.pour.new.sink) lines (c.loop-row.piece ++ line_of db number c.in-Some.row.now)
+    let before = regroup (line_of db number) first (g.K.Sink.written c.loop-row.sink) lines c.loop-row.line_buffer c.loop-row.row-iterator c.next.new.self c.in-Some.row.now step c.loop-row.invariant.buffered in
+    let some = rw c.in_ok-found.ensures.line at c.in_err-flush_if_full.ensures.some in
+    let p = err_from_is_err_and c.from_residual-in_err-flush_if_full.result c.from_residual-in_err-flush_if_full.ensures.1 in
+    rw p.1 (buffered_some first (g.K.Sink.written c.loop-row.sink) (g.K.Sink.written c.flush_if_full.new.sink) lines (c.loop-row.line_buffer ++ line_of db number c.in-Some.row.now)
     (flat_map (line_of db number) c.next.new.self) before some)

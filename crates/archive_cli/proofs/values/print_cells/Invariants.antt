@@ -3,15 +3,15 @@ use Rattle.std.specs.Prelude.{flat_map}
 use Rattle.std.specs.List.{filter_map}
 use Rattle.container_extract.specs.Extraction.{cell_of}
 use Rattle.outer_traits.specs.Outside.{Stays}
-use Rattle.archive_cli.specs.Printing.{HasMoved}
+use Rattle.archive_cli.specs.Printing.{IsBuffered}
 use Rattle.archive_cli.specs.ValuesPrinting.{cells_of_stored, line_of, lines_of_cells}
 use Rattle.archive_cli.proofs.values.print_cells.Given as goal
 
 abbrev pub invariant-loop-row : goal.invariant-loop-row
 invariant-loop-row g l = record {
-  moved : HasMoved (g.K.Sink.written l.fn.sink) (g.K.Sink.written l.sink) (lines_of_cells l.known.mdb l.known.number l.table.stored)
-      (l.piece ++ flat_map (line_of l.known.mdb l.known.number) l.row-iterator);
-  room : length l.piece < 65536;
+  buffered : IsBuffered (g.K.Sink.written l.fn.sink) (g.K.Sink.written l.sink) (lines_of_cells l.known.mdb l.known.number l.table.stored)
+      (l.line_buffer ++ flat_map (line_of l.known.mdb l.known.number) l.row-iterator);
+  room : length l.line_buffer < 65536;
   counted : l.count + length (filter_map (cell_of l.known.mdb l.known.number) l.row-iterator) ≡ length (cells_of_stored l.known.mdb l.known.number l.table.stored);
-  quiet : Stays (g.K.Sink.faults l.fn.sink) (g.K.Sink.faults l.sink);
+  no_fault : Stays (g.K.Sink.faults l.fn.sink) (g.K.Sink.faults l.sink);
 }

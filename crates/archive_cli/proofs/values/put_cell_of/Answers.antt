@@ -13,7 +13,7 @@ returns-in-None-clause-line c =
     let db = c.args.known.now.mdb in
     let number = c.args.known.now.number in
     let none : cell_of db number c.args.row.now ≡ None = sym c.in_ok-cell.ensures ∙ c.in-None.is in
-    sym (ap (λ (o : Option Cell). c.args.piece.now ++ line_if (calibration_numbered db number) o) none ∙ append-nil c.args.piece.now)
+    sym (ap (λ (o : Option Cell). c.args.line_buffer.now ++ line_if (calibration_numbered db number) o) none ∙ append-nil c.args.line_buffer.now)
 
 pub returns-in-None-clause-count : goal.returns-in-None-clause-count
 unfolding count_of
@@ -27,8 +27,8 @@ returns-in-Some-clause-line c =
     let db = c.args.known.now.mdb in
     let number = c.args.known.now.number in
     let some : cell_of db number c.args.row.now ≡ Some c.in-Some.cell = sym c.in_ok-cell.ensures ∙ c.in-Some.is in
-    c.put_cell.ensures ∙ ap (λ (calibration : Option Calibration). c.args.piece.now ++ cell_line calibration c.in-Some.cell) c.calibration_of.ensures.value ∙
-    sym (ap (λ (o : Option Cell). c.args.piece.now ++ line_if (calibration_numbered db number) o) some)
+    c.put_cell.ensures ∙ ap (λ (calibration : Option Calibration). c.args.line_buffer.now ++ cell_line calibration c.in-Some.cell) c.calibration_of.ensures.value ∙
+    sym (ap (λ (o : Option Cell). c.args.line_buffer.now ++ line_if (calibration_numbered db number) o) some)
 
 pub returns-in-Some-clause-count : goal.returns-in-Some-clause-count
 unfolding count_of

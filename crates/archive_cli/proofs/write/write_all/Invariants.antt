@@ -6,8 +6,8 @@ use Rattle.archive_cli.proofs.write.write_all.Given as goal
 abbrev pub invariant-loop-at : goal.invariant-loop-at
 invariant-loop-at g l = record {
   within : l.at ≤ length l.text;
-  told : Appends (g.K.Sink.written l.fn.sink) (g.K.Sink.written l.sink) (take l.at l.text);
-  quiet : Stays (g.K.Sink.faults l.fn.sink) (g.K.Sink.faults l.sink);
+  known : Appends (g.K.Sink.written l.fn.sink) (g.K.Sink.written l.sink) (take l.at l.text);
+  no_fault : Stays (g.K.Sink.faults l.fn.sink) (g.K.Sink.faults l.sink);
 }
 
 abbrev pub decreases-loop-at : goal.decreases-loop-at

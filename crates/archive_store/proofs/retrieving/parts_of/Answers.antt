@@ -7,7 +7,7 @@ use Rattle.arch_types.specs.Interval.{interval_of}
 use Rattle.arch_types.specs.Order.{is_before}
 use Rattle.arch_types.specs.Table.{range_of}
 use Rattle.archive_store.specs.Plans.{rows_of_parts}
-use Rattle.archive_store.proofs.Planning.{bounded, range_sorted, sorted_tail, first_rises, earlier_next}
+use Rattle.archive_store.proofs.Planning.{bounded, range_classified, classified_tail, first_rises, earlier_next}
 use Rattle.archive_store.proofs.retrieving.parts_of.Goals as goal
 
 range_same : {a b c d : ℤ} (items : List Row) → a ≡ b → c ≡ d → range_of 0 a c items ≡ range_of 0 b d items
@@ -19,8 +19,8 @@ loop-row-init c =
     let start = c.into_iter-row-iterator.ensures.into_iter_gives in
     let same = range_same c.args.history.now.items (sym (to_z-of_z w64 c.args.from c.ranges.from)) (sym (to_z-of_z w64 c.args.to c.ranges.to)) in
     let rows = rw (to_z-of_z w64 c.args.from c.ranges.from, to_z-of_z w64 c.args.to c.ranges.to) at c.range-row-items.ensures in
-    let sorted = range_sorted 0 c.args.from c.args.to c.args.history.now.items in
-    rw (none, start, rows) (let d : IsSortedBy is_before (range_of 0 c.args.from c.args.to c.args.history.now.items) = sorted in record { rows = same; each = tt; rising = tt; sorted = d; earlier = λ k e within. tt })
+    let classified = range_classified 0 c.args.from c.args.to c.args.history.now.items in
+    rw (none, start, rows) (let d : IsSortedBy is_before (range_of 0 c.args.from c.args.to c.args.history.now.items) = classified in record { rows = same; each = tt; rising = tt; classified = d; earlier = λ k e within. tt })
 
 pub loop-row-preserved : goal.loop-row-preserved
 loop-row-preserved c =
@@ -29,7 +29,7 @@ loop-row-preserved c =
     let rest : List Row = c.next.new.self in
     let inv = c.loop-row.invariant in
     let parts = c.loop-row.parts.items in
-    let sorted : IsSortedBy is_before (row ∷ rest) = subst (IsSortedBy is_before) step inv.sorted in
+    let classified : IsSortedBy is_before (row ∷ rest) = subst (IsSortedBy is_before) step inv.classified in
     let earlier : (j : ℕ) (e : Row) → j < length (row ∷ rest) → bounded (interval_of (get_or (row ∷ rest) j e).key.time) parts =
     subst (λ (l : List Row). (j : ℕ) (e : Row) → j < length l → bounded (interval_of (get_or l j e).key.time) parts) step inv.earlier in
     let put = c.in_ok-put.ensures in
@@ -37,8 +37,8 @@ loop-row-preserved c =
       rows = ap (λ (l : List Row). l ++ rest) put.rows ∙ append_assoc (rows_of_parts parts) (row ∷ []) rest ∙ ap (λ (l : List Row). rows_of_parts parts ++ l) (sym step) ∙ inv.rows;
       each = put.each inv.each;
       rising = put.rising inv.rising (earlier 0 row (omega arith));
-      sorted = sorted_tail row rest sorted;
-      earlier = λ k d within. put.bounded (interval_of (get_or rest k d).key.time) (earlier_next parts row rest d k earlier within) (first_rises row rest d k sorted within);
+      classified = classified_tail row rest classified;
+      earlier = λ k d within. put.bounded (interval_of (get_or rest k d).key.time) (earlier_next parts row rest d k earlier within) (first_rises row rest d k classified within);
     }
 
 pub returns : goal.returns

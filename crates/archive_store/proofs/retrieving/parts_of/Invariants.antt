@@ -14,6 +14,6 @@ invariant-loop-row l = record {
   rows : rows_of_parts l.parts.items ++ l.row-iterator ≡ range_of 0 l.fn.from l.fn.to l.history.items;
   each : AllByRecursion IsPart l.parts.items;
   rising : AreRising l.parts.items;
-  sorted : IsSortedBy is_before l.row-iterator;
+  classified : IsSortedBy is_before l.row-iterator;
   earlier : (k : ℕ) (d : Row) → k < length l.row-iterator → bounded (interval_of (get_or l.row-iterator k d).key.time) l.parts.items;
 }

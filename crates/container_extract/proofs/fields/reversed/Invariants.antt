@@ -4,6 +4,6 @@ use Rattle.container_extract.proofs.fields.reversed.Given as goal
 
 abbrev pub invariant-loop : goal.invariant-loop
 invariant-loop l = record {
-  below : l.turned < 256 ^ l.counter;
-  left : reversed l.octets l.number ≡ l.turned * 256 ^ (l.octets - l.counter) + reversed (l.octets - l.counter) l.rest;
+  below : l.swapped < 256 ^ l.counter;
+  left : reversed l.octets l.number ≡ l.swapped * 256 ^ (l.octets - l.counter) + reversed (l.octets - l.counter) l.rest;
 }

@@ -2,4 +2,4 @@ use Rattle.disk_journal.proofs.Appending.{some_same}
 use Rattle.disk_journal_tests.proofs.tests.add.Goals as goal
 
 pub append-requires-clause-kept : goal.append-requires-clause-kept
-append-requires-clause-kept g c tells = some_same g.D.Disk.device c.args.journal.now c.reserve.new.self c.args.disk.now c.reserve.ensures.same (c.requires.kept tells)
+append-requires-clause-kept g c is_transparent = some_same g.D.Disk.device c.args.journal.now c.reserve.new.self c.args.disk.now c.reserve.ensures.same (c.requires.kept is_transparent)

@@ -5,12 +5,12 @@ use Rattle.mdb_model.specs.declared.fault.MdbSheet.TheVariants as sheet
 use Rattle.mdb_model.specs.ContainerRows.{container_fault_at, containers_of}
 use Rattle.mdb_model.specs.Sheets.{read_containers}
 use Rattle.mdb_model.proofs.SheetLoops.{container_here, container_more, containers_fault_is, found, length-read_containers, some_row, sound_all, sound_more}
-use Rattle.mdb_model.proofs.SpanSteps.{in_line_at_first}
+use Rattle.mdb_model.proofs.TotalsSteps.{in_path_at_first}
 use Rattle.mdb_model.proofs.sheets.containers_of.Goals as goal
 
 pub loop-i-init : goal.loop-i-init
 loop-i-init c = record {
-  line = in_line_at_first c.args.parameters.now.items.items c.new-containers.result c.new-containers.ensures.none c.new-containers.ensures.names c.new-containers.ensures.spans;
+  path = in_path_at_first c.args.parameters.now.items.items c.new-containers.result c.new-containers.ensures.none c.new-containers.ensures.names c.new-containers.ensures.all_totals;
   items = c.new-containers.ensures.none;
   sound = λ j lt. absurd (omega arith);
 }
@@ -39,7 +39,7 @@ loop-i-preserved c =
     let items = c.loop-i.containers.items.items in
     let here = container_here ps records i row items None at c.loop-i.invariant.items (sym c.in_default.is ∙ c.in_ok-rule.ensures.fault) in
     record {
-      line = c.in_ok-rule.ensures.line (ap (λ (o : Option ℕ). Ok o) c.in_default.is);
+      path = c.in_ok-rule.ensures.path (ap (λ (o : Option ℕ). Ok o) c.in_default.is);
       items = c.in_ok-rule.ensures.added (ap (λ (o : Option ℕ). Ok o) c.in_default.is) ∙ container_more ps records i row items at c.loop-i.invariant.items;
       sound = sound_more (container_fault_at ps (read_containers ps [] records)) i c.loop-i.invariant.sound here;
     }
@@ -54,5 +54,5 @@ returns c =
     let all : take c.loop-i.i rows ≡ rows = take_all c.loop-i.i rows (omega arith) in (
       containers_fault_is ps rows (omega arith) ∙ sound_all sheet.Containers (container_fault_at ps rows) (length rows) (λ j lt. c.loop-i.invariant.sound j (omega arith)),
       c.loop-i.invariant.items ∙ ap containers_of all,
-      c.loop-i.invariant.line,
+      c.loop-i.invariant.path,
     )

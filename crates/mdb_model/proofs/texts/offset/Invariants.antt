@@ -1,10 +1,10 @@
 use Rattle.std.proofs.Common.{◌≡◌, take, true, min}
 use Rattle.std.specs.List.{list_all}
-use Rattle.mdb_model.specs.Texts.{digits_worth, is_digit}
+use Rattle.mdb_model.specs.Texts.{decimal_value, is_digit}
 use Rattle.mdb_model.proofs.texts.offset.Given as goal
 
 abbrev pub invariant-loop-octet : goal.invariant-loop-octet
 invariant-loop-octet l = record {
-  worth : l.worth ≡ min (digits_worth (take l.octet-index l.text)) 524336;
+  value : l.value ≡ min (decimal_value (take l.octet-index l.text)) 524336;
   digits : list_all is_digit (take l.octet-index l.text) ≡ true;
 }

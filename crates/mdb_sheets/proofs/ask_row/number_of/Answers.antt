@@ -2,12 +2,12 @@ use Rattle.std.proofs.Common.{arith}
 use Rattle.mdb_model.proofs.Powers.{digits_small}
 use Rattle.mdb_sheets.proofs.ask_row.number_of.Goals as goal
 
-pub overflow_mul-worth : goal.overflow_mul-worth
-overflow_mul-worth c =
-    let small = digits_small c.loop-octet.worth c.loop-octet.octet-index 17 c.loop-octet.invariant.small (omega arith) in
+pub overflow_mul-value : goal.overflow_mul-value
+overflow_mul-value c =
+    let small = digits_small c.loop-octet.value c.loop-octet.octet-index 17 c.loop-octet.invariant.small (omega arith) in
     omega arith
 
-pub overflow_add-worth : goal.overflow_add-worth
-overflow_add-worth c =
-    let small = digits_small c.loop-octet.worth c.loop-octet.octet-index 17 c.loop-octet.invariant.small (omega arith) in
+pub overflow_add-value : goal.overflow_add-value
+overflow_add-value c =
+    let small = digits_small c.loop-octet.value c.loop-octet.octet-index 17 c.loop-octet.invariant.small (omega arith) in
     omega arith

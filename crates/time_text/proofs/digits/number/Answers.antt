@@ -4,4 +4,4 @@ use Rattle.time_text.proofs.digits.number.Goals as goal
 
 pub returns-then-are_digits-clause-bound : goal.returns-then-are_digits-clause-bound
 returns-then-are_digits-clause-bound c =
-    below_pow c.worth.result (length c.args.text.now) c.worth.ensures.bound (omega arith)
+    below_pow c.decimal_value.result (length c.args.text.now) c.decimal_value.ensures.bound (omega arith)

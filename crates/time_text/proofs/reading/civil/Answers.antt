@@ -12,46 +12,46 @@ shape_of text fraction h = (and_parts _ (is_fraction fraction) h).0
 length_of : (text fraction : List ℕ) → has_civil_shape text fraction ≡ true → 19 ≡ length text
 length_of text fraction h = has_shape-length _ text (shape_of text fraction h)
 
-pub slice_bounds-worth-end : goal.slice_bounds-worth-end
-slice_bounds-worth-end c = omega (arith, length_of c.args.text.now c.args.fraction.now c.requires)
+pub slice_bounds-decimal_value-end : goal.slice_bounds-decimal_value-end
+slice_bounds-decimal_value-end c = omega (arith, length_of c.args.text.now c.args.fraction.now c.requires)
 
-pub slice_bounds-worth-end-2 : goal.slice_bounds-worth-end-2
-slice_bounds-worth-end-2 c = omega (arith, length_of c.args.text.now c.args.fraction.now c.requires)
+pub slice_bounds-decimal_value-end-2 : goal.slice_bounds-decimal_value-end-2
+slice_bounds-decimal_value-end-2 c = omega (arith, length_of c.args.text.now c.args.fraction.now c.requires)
 
-pub slice_bounds-worth-end-3 : goal.slice_bounds-worth-end-3
-slice_bounds-worth-end-3 c = omega (arith, length_of c.args.text.now c.args.fraction.now c.requires)
+pub slice_bounds-decimal_value-end-3 : goal.slice_bounds-decimal_value-end-3
+slice_bounds-decimal_value-end-3 c = omega (arith, length_of c.args.text.now c.args.fraction.now c.requires)
 
-pub slice_bounds-worth-end-4 : goal.slice_bounds-worth-end-4
-slice_bounds-worth-end-4 c = omega (arith, length_of c.args.text.now c.args.fraction.now c.requires)
+pub slice_bounds-decimal_value-end-4 : goal.slice_bounds-decimal_value-end-4
+slice_bounds-decimal_value-end-4 c = omega (arith, length_of c.args.text.now c.args.fraction.now c.requires)
 
-pub slice_bounds-worth-end-5 : goal.slice_bounds-worth-end-5
-slice_bounds-worth-end-5 c = omega (arith, length_of c.args.text.now c.args.fraction.now c.requires)
+pub slice_bounds-decimal_value-end-5 : goal.slice_bounds-decimal_value-end-5
+slice_bounds-decimal_value-end-5 c = omega (arith, length_of c.args.text.now c.args.fraction.now c.requires)
 
-pub slice_bounds-worth-end-6 : goal.slice_bounds-worth-end-6
-slice_bounds-worth-end-6 c = omega (arith, length_of c.args.text.now c.args.fraction.now c.requires)
+pub slice_bounds-decimal_value-end-6 : goal.slice_bounds-decimal_value-end-6
+slice_bounds-decimal_value-end-6 c = omega (arith, length_of c.args.text.now c.args.fraction.now c.requires)
 
-pub worth-requires-clause-digits : goal.worth-requires-clause-digits
-worth-requires-clause-digits c =
+pub decimal_value-requires-clause-digits : goal.decimal_value-requires-clause-digits
+decimal_value-requires-clause-digits c =
     digits_within (codes "0000-00-00T00:00:00") c.args.text.now 0 4 (shape_of _ _ c.requires) refl
 
-pub worth-requires-2-clause-digits : goal.worth-requires-2-clause-digits
-worth-requires-2-clause-digits c =
+pub decimal_value-requires-2-clause-digits : goal.decimal_value-requires-2-clause-digits
+decimal_value-requires-2-clause-digits c =
     digits_within (codes "0000-00-00T00:00:00") c.args.text.now 5 7 (shape_of _ _ c.requires) refl
 
-pub worth-requires-3-clause-digits : goal.worth-requires-3-clause-digits
-worth-requires-3-clause-digits c =
+pub decimal_value-requires-3-clause-digits : goal.decimal_value-requires-3-clause-digits
+decimal_value-requires-3-clause-digits c =
     digits_within (codes "0000-00-00T00:00:00") c.args.text.now 8 10 (shape_of _ _ c.requires) refl
 
-pub worth-requires-4-clause-digits : goal.worth-requires-4-clause-digits
-worth-requires-4-clause-digits c =
+pub decimal_value-requires-4-clause-digits : goal.decimal_value-requires-4-clause-digits
+decimal_value-requires-4-clause-digits c =
     digits_within (codes "0000-00-00T00:00:00") c.args.text.now 11 13 (shape_of _ _ c.requires) refl
 
-pub worth-requires-5-clause-digits : goal.worth-requires-5-clause-digits
-worth-requires-5-clause-digits c =
+pub decimal_value-requires-5-clause-digits : goal.decimal_value-requires-5-clause-digits
+decimal_value-requires-5-clause-digits c =
     digits_within (codes "0000-00-00T00:00:00") c.args.text.now 14 16 (shape_of _ _ c.requires) refl
 
-pub worth-requires-6-clause-digits : goal.worth-requires-6-clause-digits
-worth-requires-6-clause-digits c =
+pub decimal_value-requires-6-clause-digits : goal.decimal_value-requires-6-clause-digits
+decimal_value-requires-6-clause-digits c =
     digits_within (codes "0000-00-00T00:00:00") c.args.text.now 17 19 (shape_of _ _ c.requires) refl
 
 pub millis-requires : goal.millis-requires

@@ -2,7 +2,7 @@ use Rattle.std.proofs.Common.{◌≤◌, ◌∙◌, length, take, reverse, ap, L
 use Rattle.std.proofs.lemmas.List.{length-reverse}
 use Rattle.arch_disk.specs.declared.history.Call.{Call}
 use Rattle.arch_disk.specs.History.{first_calls}
-use Rattle.arch_disk.proofs.Settled.{first_reversed}
+use Rattle.arch_disk.proofs.SyncedFiles.{first_reversed}
 use Rattle.arch_disk.proofs.history.History.first.Goals as goal
 
 pub returns : goal.returns

@@ -1,23 +1,23 @@
 use Rattle.std.proofs.Common.{◌<◌, ◌≤◌, ◌++◌, length, refl, subst, arith, length-append}
 use Rattle.archive_store.specs.Limits.{octets_of}
-use Rattle.archive_store.specs.Shelf.{Shelved}
+use Rattle.archive_store.specs.TableSet.{HistoryView}
 use Rattle.archive_store.proofs.Sums.{octets-append}
 use Rattle.archive_store.proofs.history.History.limit_passed.Goals as goal
 
 pub returns-then-octets_in-limit-clause-first : goal.returns-then-octets_in-limit-clause-first
 returns-then-octets_in-limit-clause-first c =
-    let items = c.self.inside.shelf.items in
+    let items = c.self.inside.table_set.items in
     let rows = c.args.rows.now in
-    subst (λ (s : Shelved). (length (s.items ++ rows) ≤ 4194304) × (2147483648 < octets_of (s.items ++ rows))) c.self.view_is (
+    subst (λ (s : HistoryView). (length (s.items ++ rows) ≤ 4194304) × (2147483648 < octets_of (s.items ++ rows))) c.self.view_is (
       omega (arith, length-append items rows, c.if-rows-limit.false, c.len.ensures, c.limit.ensures, c.self.invariant.within.rows),
       omega (arith, octets-append items rows, c.octets_in.ensures, c.octets.ensures, c.self.invariant.octets, c.if-octets_in-limit.true, c.limit-2.ensures, c.self.invariant.within.octets),
     )
 
 pub returns-then-passes_interval-clause-first : goal.returns-then-passes_interval-clause-first
 returns-then-passes_interval-clause-first c =
-    let items = c.self.inside.shelf.items in
+    let items = c.self.inside.table_set.items in
     let rows = c.args.rows.now in
-    let both = subst (λ (s : Shelved). (length (s.items ++ rows) ≤ 4194304) × (octets_of (s.items ++ rows) ≤ 2147483648)) c.self.view_is (
+    let both = subst (λ (s : HistoryView). (length (s.items ++ rows) ≤ 4194304) × (octets_of (s.items ++ rows) ≤ 2147483648)) c.self.view_is (
       omega (arith, length-append items rows, c.if-rows-limit.false, c.len.ensures, c.limit.ensures, c.self.invariant.within.rows),
       omega (arith, octets-append items rows, c.octets_in.ensures, c.octets.ensures, c.self.invariant.octets, c.if-octets_in-limit.false, c.limit-2.ensures, c.self.invariant.within.octets),
     ) in
@@ -26,9 +26,9 @@ returns-then-passes_interval-clause-first c =
 
 pub returns-clause-none : goal.returns-clause-none
 returns-clause-none c =
-    let items = c.self.inside.shelf.items in
+    let items = c.self.inside.table_set.items in
     let rows = c.args.rows.now in
-    let both = subst (λ (s : Shelved). (length (s.items ++ rows) ≤ 4194304) × (octets_of (s.items ++ rows) ≤ 2147483648)) c.self.view_is (
+    let both = subst (λ (s : HistoryView). (length (s.items ++ rows) ≤ 4194304) × (octets_of (s.items ++ rows) ≤ 2147483648)) c.self.view_is (
       omega (arith, length-append items rows, c.if-rows-limit.false, c.len.ensures, c.limit.ensures, c.self.invariant.within.rows),
       omega (arith, octets-append items rows, c.octets_in.ensures, c.octets.ensures, c.self.invariant.octets, c.if-octets_in-limit.false, c.limit-2.ensures, c.self.invariant.within.octets),
     ) in

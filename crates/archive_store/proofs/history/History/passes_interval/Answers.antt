@@ -3,7 +3,7 @@ use Rattle.std.specs.List.{AllByRecursion}
 use Rattle.std.proofs.lemmas.List.{take_all}
 use Rattle.arch_types.specs.declared.interval.Interval.{Interval}
 use Rattle.archive_store.specs.Limits.{interval_rows, IsWithin}
-use Rattle.archive_store.specs.Shelf.{Shelved}
+use Rattle.archive_store.specs.TableSet.{HistoryView}
 use Rattle.archive_store.proofs.Counting.{together}
 use Rattle.archive_store.proofs.Intervals.{IsCounted, intervals_within}
 use Rattle.archive_store.proofs.Steps.{all_take_more}
@@ -26,7 +26,7 @@ loop-row-preserved c =
           let i = w.interval_of_row-interval.result in
           let here : interval ≡ i = together interval i (same ∙ sym w.interval_of_row-interval.ensures) in
           subst (λ (x : Interval). interval_rows x (items ++ rows) ≤ 262144) (sym here)
-          (omega (arith, interval_rows-append i items rows, c.self.invariant.rows i, w.if-are_too_many.ensures.none refl, ap (λ (s : Shelved). interval_rows i s.items) c.self.view_is))
+          (omega (arith, interval_rows-append i items rows, c.self.invariant.rows i, w.if-are_too_many.ensures.none refl, ap (λ (s : HistoryView). interval_rows i s.items) c.self.view_is))
       | else-row-eq-TM w ↦ λ table interval same. absurd (omega (arith, w.if-row-eq-TM.false, table))
     ])
 
@@ -35,11 +35,11 @@ returns-then-are_too_many-clause-some c is =
     let i = c.interval_of_row-interval.result in
     let items = c.args.self.now.items in
     let rows = c.args.rows.now in
-    (i, omega (arith, interval_rows-append i items rows, c.self.invariant.rows i, c.if-are_too_many.ensures.some refl, ap (λ (s : Shelved). interval_rows i s.items) c.self.view_is))
+    (i, omega (arith, interval_rows-append i items rows, c.self.invariant.rows i, c.if-are_too_many.ensures.some refl, ap (λ (s : HistoryView). interval_rows i s.items) c.self.view_is))
 
 pub returns-clause-none : goal.returns-clause-none
 returns-clause-none c is i =
     let items = c.args.self.now.items in
     let rows = c.args.rows.now in
     let all = subst (AllByRecursion (IsCounted items rows)) (take_all c.loop-row.row-index rows (omega (arith, c.loop-row-test.false))) c.loop-row.invariant in
-    intervals_within items rows (subst (λ (s : Shelved). IsWithin s.items) c.self.view_is c.self.invariant.within) all i
+    intervals_within items rows (subst (λ (s : HistoryView). IsWithin s.items) c.self.view_is c.self.invariant.within) all i

@@ -4,19 +4,19 @@ use Rattle.arch_disk.specs.Disk.{LeavesOnly}
 use Rattle.arch_types.specs.declared.row.Row.{Row}
 use Rattle.arch_types.specs.History.{ingested}
 use Rattle.archive_core.specs.declared.fills.Fill.{Fill}
-use Rattle.archive_core.specs.Fills.{standing}
+use Rattle.archive_core.specs.Fills.{pending_fault_of}
 use Rattle.archive_core.specs.Items.{Item}
 use Rattle.disk_journal.specs.Format.{IsBeforeOrAfter}
-use Rattle.disk_journal.specs.State.{Keeps as JournalKeeps}
-use Rattle.disk_journal.specs.State.{unhealed, faults_of, file_of}
+use Rattle.disk_journal.specs.State.{HasOnDisk as JournalHasOnDisk}
+use Rattle.disk_journal.specs.State.{unhealed_fault, faults_of, file_of}
 use Rattle.disk_journal.specs.declared.fault.JournalFault.{JournalFault}
 use Rattle.disk_journal.specs.declared.fault.JournalFault.TheVariants.{DiskFault, Limit}
 use Rattle.field_codec.specs.declared.entry.Entry.TheVariants as entries
 use Rattle.field_codec.specs.Spelling.{entry_octets}
 use Rattle.std.specs.List.{AllByRecursion}
 use Rattle.archive_store.specs.Entries.{archive, AreAdmitted, IsPlaced}
-use Rattle.archive_store.specs.Inside.{Keeps, view_of}
-use Rattle.archive_store.specs.Seen.{Seen}
+use Rattle.archive_store.specs.Inside.{StoreInvariant, view_of}
+use Rattle.archive_store.specs.StoreView.{StoreView}
 use Rattle.archive_store.specs.Stands.{StandsFor}
 use Rattle.archive_store.proofs.Batching.{placed_tables}
 use Rattle.archive_store.proofs.Kept.{kept_same, kept_ok, kept_err, moments_of, fault, stands_now}
@@ -36,24 +36,24 @@ invariant_of-self-in-Ok-append g c =
     let fresh : List Row = c.args.fresh in
     let mid = c.prepare-prepared.new.journal in
     let body : List ℕ = entry_octets (entries.Rows fresh) in
-    let calm : standing s.fills.items ≡ None = subst (λ (x : Seen g.row.D.Denot). standing x.fills ≡ None) (sym c.self.view_is) c.requires.calm in
-    let ok : AreAdmitted (archive s.head s.history.items) fresh = subst (λ (x : Seen g.row.D.Denot). AreAdmitted (archive x.head x.history) fresh) (sym c.self.view_is) c.requires.admitted in
+    let no_failed_write : pending_fault_of s.fills.items ≡ None = subst (λ (x : StoreView g.row.D.Denot). pending_fault_of x.fills ≡ None) (sym c.self.view_is) c.requires.no_failed_write in
+    let ok : AreAdmitted (archive s.head s.history.items) fresh = subst (λ (x : StoreView g.row.D.Denot). AreAdmitted (archive x.head x.history) fresh) (sym c.self.view_is) c.requires.admitted in
     let frame : c.in-Ok.frame ≡ body = c.in-Ok.ensures.frame.0 in
-    let run = λ (told : IsTrue device.tells) (bodies : List (List ℕ)) (pending : List ℕ) (keeps : JournalKeeps device mid bodies pending s.disk) (healthy : unhealed mid ≡ None).
-    subst (λ (b : List ℕ). LeavesOnly device s.disk c.append.new.disk (λ c'. IsBeforeOrAfter bodies b (c' (file_of mid)))) frame (c.append.ensures.any_moment told bodies pending keeps healthy) in
-    let moments = moments_of device s.disk c.append.new.disk s.opened.value s.journal mid s.head s.history.items fresh s.fills.items s.trouble k ok calm c.prepare-prepared.ensures.journal run in
-    let k_mid = kept_same device s.disk s.opened.value s.journal mid s.head s.history.items s.fills.items s.trouble k c.prepare-prepared.ensures.journal in
-    let keeps = λ (told : IsTrue device.tells) (bodies : List (List ℕ)) (pending : List ℕ) (keeps : JournalKeeps device mid bodies pending s.disk).
-    subst (λ (b : List ℕ). JournalKeeps device c.append.new.self (bodies ++ b ∷ []) pending c.append.new.disk) frame (c.in-Ok-append.ensures.ok told bodies pending keeps) in
-    let done = kept_ok device s.disk c.append.new.disk s.opened.value mid c.append.new.self s.head s.history.items fresh s.fills.items s.trouble k_mid ok calm c.append.ensures.file c.in-Ok-append.ensures.healthy keeps moments c.append.ensures.later c.in-Ok-append.ensures.calm in
+    let run = λ (transparent : IsTrue device.is_transparent) (bodies : List (List ℕ)) (pending : List ℕ) (keeps : JournalHasOnDisk device mid bodies pending s.disk) (no_pending_fault : unhealed_fault mid ≡ None).
+    subst (λ (b : List ℕ). LeavesOnly device s.disk c.append.new.disk (λ c'. IsBeforeOrAfter bodies b (c' (file_of mid)))) frame (c.append.ensures.any_moment transparent bodies pending keeps no_pending_fault) in
+    let moments = moments_of device s.disk c.append.new.disk s.opened.value s.journal mid s.head s.history.items fresh s.fills.items s.pending_fault k ok no_failed_write c.prepare-prepared.ensures.journal run in
+    let k_mid = kept_same device s.disk s.opened.value s.journal mid s.head s.history.items s.fills.items s.pending_fault k c.prepare-prepared.ensures.journal in
+    let keeps = λ (transparent : IsTrue device.is_transparent) (bodies : List (List ℕ)) (pending : List ℕ) (keeps : JournalHasOnDisk device mid bodies pending s.disk).
+    subst (λ (b : List ℕ). JournalHasOnDisk device c.append.new.self (bodies ++ b ∷ []) pending c.append.new.disk) frame (c.in-Ok-append.ensures.ok transparent bodies pending keeps) in
+    let done = kept_ok device s.disk c.append.new.disk s.opened.value mid c.append.new.self s.head s.history.items fresh s.fills.items s.pending_fault k_mid ok no_failed_write c.append.ensures.file c.in-Ok-append.ensures.no_pending_fault keeps moments c.append.ensures.later c.in-Ok-append.ensures.no_failed_write in
     let prepared = c.prepare-prepared.ensures.history in
     let same : c.in-Ok.fresh ≡ fresh = c.in-Ok.ensures.frame.1 in
     let new : ingested c.prepare-prepared.new.history.items c.in-Ok.fresh ≡ c.prepare-prepared.new.history.items ++ c.in-Ok.fresh =
     subst (λ (l : List Item). ingested l c.in-Ok.fresh ≡ l ++ c.in-Ok.fresh) (sym prepared.0) (subst (λ (l : List Row). ingested s.history.items l ≡ s.history.items ++ l) (sym same) ok.fresh) in
     let grown = all_added c.add_all.result (c.add_all.new.self.items ≡ c.prepare-prepared.new.history.items ++ c.in-Ok.fresh) (λ is. (c.add_all.ensures.all is).1) (λ is. c.add_all.ensures.some is new) in
     let items : c.add_all.new.self.items ≡ s.history.items ++ fresh = grown ∙ ap (λ (l : List Item). l ++ c.in-Ok.fresh) prepared.0 ∙ ap (λ (l : List Row). s.history.items ++ l) same in (
-      subst (λ (r : List Item). Keeps device c.append.new.disk s.opened.value c.append.new.self s.head r c.prepare-prepared.new.fills.items s.trouble) (sym items)
-          (subst (λ (f : List Fill). Keeps device c.append.new.disk s.opened.value c.append.new.self s.head (s.history.items ++ fresh) f s.trouble) (sym c.prepare-prepared.ensures.fills.0) done),
+      subst (λ (r : List Item). StoreInvariant device c.append.new.disk s.opened.value c.append.new.self s.head r c.prepare-prepared.new.fills.items s.pending_fault) (sym items)
+          (subst (λ (f : List Fill). StoreInvariant device c.append.new.disk s.opened.value c.append.new.self s.head (s.history.items ++ fresh) f s.pending_fault) (sym c.prepare-prepared.ensures.fills.0) done),
       c.add_all.ensures.tables ∙ prepared.1 ∙ c.self.invariant.1,
       c.self.invariant.2,
     )
@@ -66,13 +66,13 @@ returns-in-Ok-append-clause-any_moment g c =
     let fresh : List Row = c.args.fresh in
     let mid = c.prepare-prepared.new.journal in
     let body : List ℕ = entry_octets (entries.Rows fresh) in
-    let calm : standing s.fills.items ≡ None = subst (λ (x : Seen g.row.D.Denot). standing x.fills ≡ None) (sym c.self.view_is) c.requires.calm in
-    let ok : AreAdmitted (archive s.head s.history.items) fresh = subst (λ (x : Seen g.row.D.Denot). AreAdmitted (archive x.head x.history) fresh) (sym c.self.view_is) c.requires.admitted in
+    let no_failed_write : pending_fault_of s.fills.items ≡ None = subst (λ (x : StoreView g.row.D.Denot). pending_fault_of x.fills ≡ None) (sym c.self.view_is) c.requires.no_failed_write in
+    let ok : AreAdmitted (archive s.head s.history.items) fresh = subst (λ (x : StoreView g.row.D.Denot). AreAdmitted (archive x.head x.history) fresh) (sym c.self.view_is) c.requires.admitted in
     let frame : c.in-Ok.frame ≡ body = c.in-Ok.ensures.frame.0 in
-    let run = λ (told : IsTrue device.tells) (bodies : List (List ℕ)) (pending : List ℕ) (keeps : JournalKeeps device mid bodies pending s.disk) (healthy : unhealed mid ≡ None).
-    subst (λ (b : List ℕ). LeavesOnly device s.disk c.append.new.disk (λ c'. IsBeforeOrAfter bodies b (c' (file_of mid)))) frame (c.append.ensures.any_moment told bodies pending keeps healthy) in
-    let moments = moments_of device s.disk c.append.new.disk s.opened.value s.journal mid s.head s.history.items fresh s.fills.items s.trouble k ok calm c.prepare-prepared.ensures.journal run in
-    subst (λ (x : Seen g.row.D.Denot). IsTrue device.tells → LeavesOnly device x.disk c.append.new.disk (λ c'. StandsFor c' (archive x.head x.history) ⊎ StandsFor c' (archive x.head (x.history ++ fresh)))) c.self.view_is moments
+    let run = λ (transparent : IsTrue device.is_transparent) (bodies : List (List ℕ)) (pending : List ℕ) (keeps : JournalHasOnDisk device mid bodies pending s.disk) (no_pending_fault : unhealed_fault mid ≡ None).
+    subst (λ (b : List ℕ). LeavesOnly device s.disk c.append.new.disk (λ c'. IsBeforeOrAfter bodies b (c' (file_of mid)))) frame (c.append.ensures.any_moment transparent bodies pending keeps no_pending_fault) in
+    let moments = moments_of device s.disk c.append.new.disk s.opened.value s.journal mid s.head s.history.items fresh s.fills.items s.pending_fault k ok no_failed_write c.prepare-prepared.ensures.journal run in
+    subst (λ (x : StoreView g.row.D.Denot). IsTrue device.is_transparent → LeavesOnly device x.disk c.append.new.disk (λ c'. StandsFor c' (archive x.head x.history) ⊎ StandsFor c' (archive x.head (x.history ++ fresh)))) c.self.view_is moments
 
 pub invariant_of-self-in-Err : goal.invariant_of-self-in-Err
 invariant_of-self-in-Err g c =
@@ -82,26 +82,26 @@ invariant_of-self-in-Err g c =
     let fresh : List Row = c.args.fresh in
     let mid = c.prepare-prepared.new.journal in
     let body : List ℕ = entry_octets (entries.Rows fresh) in
-    let calm : standing s.fills.items ≡ None = subst (λ (x : Seen g.row.D.Denot). standing x.fills ≡ None) (sym c.self.view_is) c.requires.calm in
-    let ok : AreAdmitted (archive s.head s.history.items) fresh = subst (λ (x : Seen g.row.D.Denot). AreAdmitted (archive x.head x.history) fresh) (sym c.self.view_is) c.requires.admitted in
+    let no_failed_write : pending_fault_of s.fills.items ≡ None = subst (λ (x : StoreView g.row.D.Denot). pending_fault_of x.fills ≡ None) (sym c.self.view_is) c.requires.no_failed_write in
+    let ok : AreAdmitted (archive s.head s.history.items) fresh = subst (λ (x : StoreView g.row.D.Denot). AreAdmitted (archive x.head x.history) fresh) (sym c.self.view_is) c.requires.admitted in
     let frame : c.in-Ok.frame ≡ body = c.in-Ok.ensures.frame.0 in
-    let run = λ (told : IsTrue device.tells) (bodies : List (List ℕ)) (pending : List ℕ) (keeps : JournalKeeps device mid bodies pending s.disk) (healthy : unhealed mid ≡ None).
-    subst (λ (b : List ℕ). LeavesOnly device s.disk c.append.new.disk (λ c'. IsBeforeOrAfter bodies b (c' (file_of mid)))) frame (c.append.ensures.any_moment told bodies pending keeps healthy) in
-    let moments = moments_of device s.disk c.append.new.disk s.opened.value s.journal mid s.head s.history.items fresh s.fills.items s.trouble k ok calm c.prepare-prepared.ensures.journal run in
-    let k_mid = kept_same device s.disk s.opened.value s.journal mid s.head s.history.items s.fills.items s.trouble k c.prepare-prepared.ensures.journal in
+    let run = λ (transparent : IsTrue device.is_transparent) (bodies : List (List ℕ)) (pending : List ℕ) (keeps : JournalHasOnDisk device mid bodies pending s.disk) (no_pending_fault : unhealed_fault mid ≡ None).
+    subst (λ (b : List ℕ). LeavesOnly device s.disk c.append.new.disk (λ c'. IsBeforeOrAfter bodies b (c' (file_of mid)))) frame (c.append.ensures.any_moment transparent bodies pending keeps no_pending_fault) in
+    let moments = moments_of device s.disk c.append.new.disk s.opened.value s.journal mid s.head s.history.items fresh s.fills.items s.pending_fault k ok no_failed_write c.prepare-prepared.ensures.journal run in
+    let k_mid = kept_same device s.disk s.opened.value s.journal mid s.head s.history.items s.fills.items s.pending_fault k c.prepare-prepared.ensures.journal in
     let e = c.in-Err.field-0 in
     let err : JournalFault → Result ℕ JournalFault = λ x. Err x in
-    let below : e ≡ Limit → ⊥ = λ is. absurd (omega (arith, (c.in-Err.ensures.limit.0 (ap err is)).1, c.requires.records, ap (λ (x : Seen g.row.D.Denot). x.records) c.self.view_is, ap length c.prepare-prepared.ensures.journal.extents)) in
-    let fails : e ≡ DiskFault = only_fault e c.in-Err.ensures.only (c.in-Err.ensures.needs_reopen ∙ ap faults_of c.prepare-prepared.ensures.journal.trouble ∙ k.unhealed_is ∙ calm) below in
+    let below : e ≡ Limit → ⊥ = λ is. absurd (omega (arith, (c.in-Err.ensures.limit.0 (ap err is)).1, c.requires.records, ap (λ (x : StoreView g.row.D.Denot). x.records) c.self.view_is, ap length c.prepare-prepared.ensures.journal.extents)) in
+    let fails : e ≡ DiskFault = only_fault e c.in-Err.ensures.only (c.in-Err.ensures.needs_reopen ∙ ap faults_of c.prepare-prepared.ensures.journal.pending_fault ∙ k.unhealed_fault_is ∙ no_failed_write) below in
     let is : err e ≡ err DiskFault = ap err fails in
-    let keeps = λ (told : IsTrue device.tells) (bodies : List (List ℕ)) (pending : List ℕ) (keeps : JournalKeeps device mid bodies pending s.disk).
-    subst (λ (b : List ℕ). JournalKeeps device c.append.new.self bodies b c.append.new.disk) frame (c.in-Err.ensures.failed told bodies pending keeps is) in
-    let done = kept_err device s.disk c.append.new.disk s.opened.value mid c.append.new.self s.head s.history.items fresh s.fills.items s.trouble c.faults-count.result k_mid ok calm c.append.ensures.file (c.in-Err.ensures.trouble is) c.faults-count.ensures keeps moments (c.in-Err.ensures.cause is) (c.in-Err.ensures.counted is) in
+    let keeps = λ (transparent : IsTrue device.is_transparent) (bodies : List (List ℕ)) (pending : List ℕ) (keeps : JournalHasOnDisk device mid bodies pending s.disk).
+    subst (λ (b : List ℕ). JournalHasOnDisk device c.append.new.self bodies b c.append.new.disk) frame (c.in-Err.ensures.failed transparent bodies pending keeps is) in
+    let done = kept_err device s.disk c.append.new.disk s.opened.value mid c.append.new.self s.head s.history.items fresh s.fills.items s.pending_fault c.faults-count.result k_mid ok no_failed_write c.append.ensures.file (c.in-Err.ensures.pending_fault is) c.faults-count.ensures keeps moments (c.in-Err.ensures.cause is) (c.in-Err.ensures.counted is) in
     let same : c.in-Ok.fresh ≡ fresh = c.in-Ok.ensures.frame.1 in
     let fills : c.push_reserved.new.self.items ≡ s.fills.items ++ fault c.faults-count.result fresh ∷ [] =
     c.push_reserved.ensures.items ∙ ap (λ (l : List Fill). l ++ fault c.faults-count.result c.in-Ok.fresh ∷ []) c.prepare-prepared.ensures.fills.0 ∙ ap (λ (r : List Row). s.fills.items ++ fault c.faults-count.result r ∷ []) same in (
-      subst (λ (r : List Item). Keeps device c.append.new.disk s.opened.value c.append.new.self s.head r c.push_reserved.new.self.items (Some c.faults-count.result)) (sym c.prepare-prepared.ensures.history.0)
-          (subst (λ (f : List Fill). Keeps device c.append.new.disk s.opened.value c.append.new.self s.head s.history.items f (Some c.faults-count.result)) (sym fills) done),
+      subst (λ (r : List Item). StoreInvariant device c.append.new.disk s.opened.value c.append.new.self s.head r c.push_reserved.new.self.items (Some c.faults-count.result)) (sym c.prepare-prepared.ensures.history.0)
+          (subst (λ (f : List Fill). StoreInvariant device c.append.new.disk s.opened.value c.append.new.self s.head s.history.items f (Some c.faults-count.result)) (sym fills) done),
       c.prepare-prepared.ensures.history.1 ∙ c.self.invariant.1,
       c.self.invariant.2,
     )
@@ -114,30 +114,30 @@ returns-clause-any_moment g c =
     let fresh : List Row = c.args.fresh in
     let mid = c.prepare-prepared.new.journal in
     let body : List ℕ = entry_octets (entries.Rows fresh) in
-    let calm : standing s.fills.items ≡ None = subst (λ (x : Seen g.row.D.Denot). standing x.fills ≡ None) (sym c.self.view_is) c.requires.calm in
-    let ok : AreAdmitted (archive s.head s.history.items) fresh = subst (λ (x : Seen g.row.D.Denot). AreAdmitted (archive x.head x.history) fresh) (sym c.self.view_is) c.requires.admitted in
+    let no_failed_write : pending_fault_of s.fills.items ≡ None = subst (λ (x : StoreView g.row.D.Denot). pending_fault_of x.fills ≡ None) (sym c.self.view_is) c.requires.no_failed_write in
+    let ok : AreAdmitted (archive s.head s.history.items) fresh = subst (λ (x : StoreView g.row.D.Denot). AreAdmitted (archive x.head x.history) fresh) (sym c.self.view_is) c.requires.admitted in
     let frame : c.in-Ok.frame ≡ body = c.in-Ok.ensures.frame.0 in
-    let run = λ (told : IsTrue device.tells) (bodies : List (List ℕ)) (pending : List ℕ) (keeps : JournalKeeps device mid bodies pending s.disk) (healthy : unhealed mid ≡ None).
-    subst (λ (b : List ℕ). LeavesOnly device s.disk c.append.new.disk (λ c'. IsBeforeOrAfter bodies b (c' (file_of mid)))) frame (c.append.ensures.any_moment told bodies pending keeps healthy) in
-    let moments = moments_of device s.disk c.append.new.disk s.opened.value s.journal mid s.head s.history.items fresh s.fills.items s.trouble k ok calm c.prepare-prepared.ensures.journal run in
-    subst (λ (x : Seen g.row.D.Denot). IsTrue device.tells → LeavesOnly device x.disk c.append.new.disk (λ c'. StandsFor c' (archive x.head x.history) ⊎ StandsFor c' (archive x.head (x.history ++ fresh)))) c.self.view_is moments
+    let run = λ (transparent : IsTrue device.is_transparent) (bodies : List (List ℕ)) (pending : List ℕ) (keeps : JournalHasOnDisk device mid bodies pending s.disk) (no_pending_fault : unhealed_fault mid ≡ None).
+    subst (λ (b : List ℕ). LeavesOnly device s.disk c.append.new.disk (λ c'. IsBeforeOrAfter bodies b (c' (file_of mid)))) frame (c.append.ensures.any_moment transparent bodies pending keeps no_pending_fault) in
+    let moments = moments_of device s.disk c.append.new.disk s.opened.value s.journal mid s.head s.history.items fresh s.fills.items s.pending_fault k ok no_failed_write c.prepare-prepared.ensures.journal run in
+    subst (λ (x : StoreView g.row.D.Denot). IsTrue device.is_transparent → LeavesOnly device x.disk c.append.new.disk (λ c'. StandsFor c' (archive x.head x.history) ⊎ StandsFor c' (archive x.head (x.history ++ fresh)))) c.self.view_is moments
 
 pub returns-in_default-clause-any_moment : goal.returns-in_default-clause-any_moment
-returns-in_default-clause-any_moment g c told =
+returns-in_default-clause-any_moment g c transparent =
     let device = g.D.Disk.device in
     let s = c.self.inside in
-    let calm : standing s.fills.items ≡ None = subst (λ (x : Seen g.row.D.Denot). standing x.fills ≡ None) (sym c.self.view_is) c.requires.calm in
-    subst (λ (x : Seen g.row.D.Denot). LeavesOnly device x.disk s.disk (λ c'. StandsFor c' (archive x.head x.history) ⊎ StandsFor c' (archive x.head (x.history ++ c.args.fresh)))) c.self.view_is
-    (stands_now device (view_of s.disk s.opened.value s.journal s.head s.history.items s.fills.items) _ (c.self.invariant.0.images told) calm (λ c' stands. inl stands))
+    let no_failed_write : pending_fault_of s.fills.items ≡ None = subst (λ (x : StoreView g.row.D.Denot). pending_fault_of x.fills ≡ None) (sym c.self.view_is) c.requires.no_failed_write in
+    subst (λ (x : StoreView g.row.D.Denot). LeavesOnly device x.disk s.disk (λ c'. StandsFor c' (archive x.head x.history) ⊎ StandsFor c' (archive x.head (x.history ++ c.args.fresh)))) c.self.view_is
+    (stands_now device (view_of s.disk s.opened.value s.journal s.head s.history.items s.fills.items) _ (c.self.invariant.0.images transparent) no_failed_write (λ c' stands. inl stands))
 
 pub add_all-requires-clause-tables : goal.add_all-requires-clause-tables
 add_all-requires-clause-tables g c =
     let s = c.self.inside in
     let same : c.in-Ok.fresh ≡ c.args.fresh = c.in-Ok.ensures.frame.1 in
-    let ok : AreAdmitted (archive s.head s.history.items) c.args.fresh = subst (λ (x : Seen g.row.D.Denot). AreAdmitted (archive x.head x.history) c.args.fresh) (sym c.self.view_is) c.requires.admitted in
+    let ok : AreAdmitted (archive s.head s.history.items) c.args.fresh = subst (λ (x : StoreView g.row.D.Denot). AreAdmitted (archive x.head x.history) c.args.fresh) (sym c.self.view_is) c.requires.admitted in
     let placed = subst (λ (l : List Row). AllByRecursion (IsPlaced s.head) l) (sym same) ok.placed in
     placed_tables s.head c.in-Ok.fresh c.prepare-prepared.new.history.tables (c.prepare-prepared.ensures.history.1 ∙ c.self.invariant.1) placed
 
 pub returns-clause-no_record : goal.returns-clause-no_record
 returns-clause-no_record g c =
-    c.in-Err.ensures.count ∙ ap length c.prepare-prepared.ensures.journal.extents ∙ ap (λ (x : Seen g.row.D.Denot). x.records) c.self.view_is
+    c.in-Err.ensures.count ∙ ap length c.prepare-prepared.ensures.journal.extents ∙ ap (λ (x : StoreView g.row.D.Denot). x.records) c.self.view_is

@@ -5,11 +5,11 @@ use Rattle.arch_disk.proofs.Moments.{weakens, started}
 use Rattle.archive_core.specs.declared.fills.Fill.{Fill}
 use Rattle.archive_core.specs.Items.{Item}
 use Rattle.disk_journal.specs.Format.{HasRecords, HoldsNone}
-use Rattle.disk_journal.specs.State.{Keeps as JournalKeeps}
+use Rattle.disk_journal.specs.State.{HasOnDisk as JournalHasOnDisk}
 use Rattle.archive_store.specs.declared.head.Head.{Head}
 use Rattle.disk_journal.specs.declared.fault.JournalFault.TheVariants.{DiskFault}
-use Rattle.archive_store.specs.Inside.{Keeps}
-use Rattle.archive_store.specs.Made.{making_refusal}
+use Rattle.archive_store.specs.Inside.{StoreInvariant}
+use Rattle.archive_store.specs.PartialArchive.{refusal_of_create}
 use Rattle.archive_store.specs.Answers.{IsCreateAnswer, IsCreateRefusal}
 use Rattle.archive_store.proofs.Opened.{kept_made, making}
 use Rattle.archive_store.proofs.Refusals.{making_answers, making_refused, making_failed, making_wanting}
@@ -20,63 +20,63 @@ invariant_of-result g c =
     let device = g.D.Disk.device in
     let disk = c.create.new.disk in
     let j = c.in-Ok-create.journal in
-    let f = c.in-Ok.founded in
+    let f = c.in-Ok.new_archive in
     let e = c.in-Ok.ensures in
-    let keeps = λ (told : IsTrue device.tells). subst (λ (b : List ℕ). JournalKeeps device j (b ∷ []) [] disk) e.0 (c.in-Ok-create.ensures.ok told) in
-    let done = kept_made device disk j c.args.head c.requires.head c.in-Ok-create.ensures.healthy.0 c.in-Ok-create.ensures.healthy.1 keeps in (
-      subst (λ o. Keeps device disk o j f.head f.history.items c.new.result.items None) (sym c.of-opened.ensures)
-          (subst (λ (l : List Fill). Keeps device disk disk j f.head f.history.items l None) (sym c.new.ensures.items)
-          (subst (λ (l : List Item). Keeps device disk disk j f.head l [] None) (sym e.3)
-          (subst (λ (h : Head). Keeps device disk disk j h [] [] None) (sym e.1) done))),
+    let keeps = λ (transparent : IsTrue device.is_transparent). subst (λ (b : List ℕ). JournalHasOnDisk device j (b ∷ []) [] disk) e.0 (c.in-Ok-create.ensures.ok transparent) in
+    let done = kept_made device disk j c.args.head c.requires.head c.in-Ok-create.ensures.no_pending_fault.0 c.in-Ok-create.ensures.no_pending_fault.1 keeps in (
+      subst (λ o. StoreInvariant device disk o j f.head f.history.items c.new.result.items None) (sym c.of-opened.ensures)
+          (subst (λ (l : List Fill). StoreInvariant device disk disk j f.head f.history.items l None) (sym c.new.ensures.items)
+          (subst (λ (l : List Item). StoreInvariant device disk disk j f.head l [] None) (sym e.3)
+          (subst (λ (h : Head). StoreInvariant device disk disk j h [] [] None) (sym e.1) done))),
       subst (λ (h : Head). f.history.tables ≡ length h.tables) (sym e.1) e.4,
       subst (λ (h : Head). arc_value f.mdb ≡ h.mdb) (sym e.1) e.2,
     )
 
 pub returns-in-Ok-create-clause-any_moment : goal.returns-in-Ok-create-clause-any_moment
-returns-in-Ok-create-clause-any_moment g c told none =
+returns-in-Ok-create-clause-any_moment g c transparent none =
     let device = g.D.Disk.device in
-    weakens device c.args.disk c.create.new.disk _ _ (c.create.ensures.any_moment told none)
+    weakens device c.args.disk c.create.new.disk _ _ (c.create.ensures.any_moment transparent none)
     (λ c' e. making (device.images c.args.disk) c.args.head c' c.requires.head (subst (λ (b : List ℕ). device.images c.args.disk c' ⊎ (HoldsNone (c' 0) ⊎ HasRecords (c' 0) (b ∷ []))) c.in-Ok.ensures.0 e))
 
 pub returns-clause-any_moment : goal.returns-clause-any_moment
-returns-clause-any_moment g c told none =
+returns-clause-any_moment g c transparent none =
     let device = g.D.Disk.device in
-    weakens device c.args.disk c.create.new.disk _ _ (c.create.ensures.any_moment told none)
+    weakens device c.args.disk c.create.new.disk _ _ (c.create.ensures.any_moment transparent none)
     (λ c' e. making (device.images c.args.disk) c.args.head c' c.requires.head (subst (λ (b : List ℕ). device.images c.args.disk c' ⊎ (HoldsNone (c' 0) ⊎ HasRecords (c' 0) (b ∷ []))) c.in-Ok.ensures.0 e))
 
 pub returns-in_default-clause-kept : goal.returns-in_default-clause-kept
-returns-in_default-clause-kept g c told long gate =
+returns-in_default-clause-kept g c transparent long gate =
     let device = g.D.Disk.device in
     record { reads_same = refl; moments = started device c.args.disk (device.images c.args.disk) (λ c' left. left); images = λ c' left. left }
 
 pub returns-in_default-clause-any_moment : goal.returns-in_default-clause-any_moment
-returns-in_default-clause-any_moment g c told none = started g.D.Disk.device c.args.disk _ (λ c' left. inl left)
+returns-in_default-clause-any_moment g c transparent none = started g.D.Disk.device c.args.disk _ (λ c' left. inl left)
 
 pub returns-clause-refused : goal.returns-clause-refused
-returns-clause-refused g c told =
+returns-clause-refused g c transparent =
     let reads = g.D.Disk.device.reads in
-    subst (IsCreateRefusal (reads c.args.disk) (reads c.create.new.disk)) (sym c.making_refusal.ensures)
-    (making_refused (reads c.args.disk) (reads c.create.new.disk) c.in-Err.fault (λ is. c.in-Err.ensures.exists told (cc (is))))
+    subst (IsCreateRefusal (reads c.args.disk) (reads c.create.new.disk)) (sym c.refusal_of_create.ensures)
+    (making_refused (reads c.args.disk) (reads c.create.new.disk) c.in-Err.fault (λ is. c.in-Err.ensures.exists transparent (cc (is))))
 
 pub returns-clause-cause : goal.returns-clause-cause
 returns-clause-cause g c is =
-    let failed = making_failed c.in-Err.fault c.in-Err.ensures.only (sym c.making_refusal.ensures ∙ is) in
+    let failed = making_failed c.in-Err.fault c.in-Err.ensures.only (sym c.refusal_of_create.ensures ∙ is) in
     c.in-Err.ensures.cause (cc (failed))
 
 pub returns-clause-closed : goal.returns-clause-closed
-returns-clause-closed g c told none is =
-    let failed = making_failed c.in-Err.fault c.in-Err.ensures.only (sym c.making_refusal.ensures ∙ is) in
-    c.in-Err.ensures.closed told none (cc (failed))
+returns-clause-closed g c transparent none is =
+    let failed = making_failed c.in-Err.fault c.in-Err.ensures.only (sym c.refusal_of_create.ensures ∙ is) in
+    c.in-Err.ensures.closed transparent none (cc (failed))
 
 pub returns-clause-writes : goal.returns-clause-writes
 returns-clause-writes g c differs =
     let failed : c.in-Err.fault ≡ DiskFault = cc (c.in-Err.ensures.writes differs) in
-    c.making_refusal.ensures ∙ ap making_refusal failed
+    c.refusal_of_create.ensures ∙ ap refusal_of_create failed
 
 pub returns-clause-only : goal.returns-clause-only
-returns-clause-only g c = subst IsCreateAnswer (sym c.making_refusal.ensures) (making_answers c.in-Err.fault)
+returns-clause-only g c = subst IsCreateAnswer (sym c.refusal_of_create.ensures) (making_answers c.in-Err.fault)
 
 pub returns-clause-memory : goal.returns-clause-memory
 returns-clause-memory g c is =
-    let wanting = making_wanting c.in-Err.fault (sym c.making_refusal.ensures ∙ is) in
+    let wanting = making_wanting c.in-Err.fault (sym c.refusal_of_create.ensures ∙ is) in
     c.in-Err.ensures.memory (cc (wanting))

@@ -2,24 +2,24 @@ use Rattle.std.proofs.Common.{◌≡◌, ℕ, ◌^◌, ◌<◌, ◌+◌, [], ◌
 use Rattle.arch_disk.proofs.Moments.{weakens, at_end}
 use Rattle.disk_journal.specs.Format.{framed, written}
 use Rattle.disk_journal.specs.State.{StateIs, extents_from}
-use Rattle.disk_journal.specs.declared.journal.Trouble.{Trouble}
+use Rattle.disk_journal.specs.declared.journal.PendingFault.{PendingFault}
 use Rattle.disk_journal.proofs.Files.{length-framed, length-written, record_inside, sum_is}
 use Rattle.disk_journal.proofs.Reading.{pushed}
-use Rattle.disk_journal.proofs.Appending.{extent, healthy_state, behind_is, first_moments, first_write, first_images, first_done, staged_images, gate_images, second_done, elsewhere_two, append_moments}
+use Rattle.disk_journal.proofs.Appending.{extent, no_pending_fault_state, behind_is, first_moments, first_write, first_images, first_done, staged_images, gate_images, second_done, elsewhere_two, append_moments}
 use Rattle.disk_journal.proofs.journal.Journal.append.Goals as goal
 
 small : (size : ℕ) (body : List ℕ) → size ≡ length body → size < 2 ^ 32 → length body < 2 ^ 32
 small size body is lt = omega arith
 
 pub returns-in-Err-clause-failed : goal.returns-in-Err-clause-failed
-returns-in-Err-clause-failed g c tells bodies pending keeps e =
+returns-in-Err-clause-failed g c is_transparent bodies pending keeps e =
     let device = g.D.Disk.device in
     let now = c.args.self.now in
     let old = c.args.disk.now in
     let mid = c.put.new.disk in
     let n = length c.octets-octets.result.now in
-    let state = healthy_state device now bodies pending old c.in-Healthy.is keeps in
-    let behind = behind_is device now bodies pending old c.saturating_add-behind.result tells c.in-Healthy.is keeps c.saturating_add-behind.ensures in
+    let state = no_pending_fault_state device now bodies pending old c.in-Absent.is keeps in
+    let behind = behind_is device now bodies pending old c.saturating_add-behind.result is_transparent c.in-Absent.is keeps c.saturating_add-behind.ensures in
     let moments = first_moments device old mid now.file c.saturating_add-behind.result now.end n behind c.put.ensures.moments in
     record {
       extents = keeps.extents;
@@ -28,33 +28,33 @@ returns-in-Err-clause-failed g c tells bodies pending keeps e =
     }
 
 pub returns-in-Err-clause-any_moment : goal.returns-in-Err-clause-any_moment
-returns-in-Err-clause-any_moment g c tells bodies pending keeps healthy =
+returns-in-Err-clause-any_moment g c is_transparent bodies pending keeps no_pending_fault =
     let device = g.D.Disk.device in
     let now = c.args.self.now in
     let old = c.args.disk.now in
     let mid = c.put.new.disk in
     let n = length c.octets-octets.result.now in
-    let state = healthy_state device now bodies pending old c.in-Healthy.is keeps in
-    let behind = behind_is device now bodies pending old c.saturating_add-behind.result tells c.in-Healthy.is keeps c.saturating_add-behind.ensures in
+    let state = no_pending_fault_state device now bodies pending old c.in-Absent.is keeps in
+    let behind = behind_is device now bodies pending old c.saturating_add-behind.result is_transparent c.in-Absent.is keeps c.saturating_add-behind.ensures in
     let moments = first_moments device old mid now.file c.saturating_add-behind.result now.end n behind c.put.ensures.moments in
     weakens device old mid _ _ moments (λ c' wrote. inl (first_images device now.file now.end bodies c.args.frame.now keeps.end old n state c' wrote))
 
 pub returns-in-Err-clause-still : goal.returns-in-Err-clause-still
-returns-in-Err-clause-still g c tells =
-    let k = c.requires.kept tells in
-    record { bodies = k.bodies; pending = c.args.frame.now; keeps = returns-in-Err-clause-failed g c tells k.bodies k.pending k.keeps refl }
+returns-in-Err-clause-still g c is_transparent =
+    let k = c.requires.kept is_transparent in
+    record { bodies = k.bodies; pending = c.args.frame.now; keeps = returns-in-Err-clause-failed g c is_transparent k.bodies k.pending k.keeps refl }
 
 pub returns-in-Err-put-clause-failed : goal.returns-in-Err-put-clause-failed
-returns-in-Err-put-clause-failed g c tells bodies pending keeps e =
+returns-in-Err-put-clause-failed g c is_transparent bodies pending keeps e =
     let device = g.D.Disk.device in
     let now = c.args.self.now in
     let old = c.args.disk.now in
     let mid = c.put.new.disk in
     let n = length c.octets-octets.result.now in
-    let state = healthy_state device now bodies pending old c.in-Healthy.is keeps in
-    let behind = behind_is device now bodies pending old c.saturating_add-behind.result tells c.in-Healthy.is keeps c.saturating_add-behind.ensures in
+    let state = no_pending_fault_state device now bodies pending old c.in-Absent.is keeps in
+    let behind = behind_is device now bodies pending old c.saturating_add-behind.result is_transparent c.in-Absent.is keeps c.saturating_add-behind.ensures in
     let moments = first_moments device old mid now.file c.saturating_add-behind.result now.end n behind c.put.ensures.moments in
-    let done = first_write device old mid now.file c.saturating_add-behind.result now.end c.octets-octets.result.now c.args.frame.now behind c.octets-octets.ensures (c.in_default.ensures.written tells) in
+    let done = first_write device old mid now.file c.saturating_add-behind.result now.end c.octets-octets.result.now c.args.frame.now behind c.octets-octets.ensures (c.in_default.ensures.written is_transparent) in
     let staged = first_done device now.file now.end bodies c.args.frame.now keeps.end (device.reads old) (device.reads mid) (small c.len-size.result c.args.frame.now c.len-size.ensures c.len-size.type_inv) state.0 done in
     record {
       extents = keeps.extents;
@@ -65,16 +65,16 @@ returns-in-Err-put-clause-failed g c tells bodies pending keeps e =
     }
 
 pub returns-in-Err-put-clause-any_moment : goal.returns-in-Err-put-clause-any_moment
-returns-in-Err-put-clause-any_moment g c tells bodies pending keeps healthy =
+returns-in-Err-put-clause-any_moment g c is_transparent bodies pending keeps no_pending_fault =
     let device = g.D.Disk.device in
     let now = c.args.self.now in
     let old = c.args.disk.now in
     let mid = c.put.new.disk in
     let n = length c.octets-octets.result.now in
-    let state = healthy_state device now bodies pending old c.in-Healthy.is keeps in
-    let behind = behind_is device now bodies pending old c.saturating_add-behind.result tells c.in-Healthy.is keeps c.saturating_add-behind.ensures in
+    let state = no_pending_fault_state device now bodies pending old c.in-Absent.is keeps in
+    let behind = behind_is device now bodies pending old c.saturating_add-behind.result is_transparent c.in-Absent.is keeps c.saturating_add-behind.ensures in
     let moments = first_moments device old mid now.file c.saturating_add-behind.result now.end n behind c.put.ensures.moments in
-    let done = first_write device old mid now.file c.saturating_add-behind.result now.end c.octets-octets.result.now c.args.frame.now behind c.octets-octets.ensures (c.in_default.ensures.written tells) in
+    let done = first_write device old mid now.file c.saturating_add-behind.result now.end c.octets-octets.result.now c.args.frame.now behind c.octets-octets.ensures (c.in_default.ensures.written is_transparent) in
     let staged = first_done device now.file now.end bodies c.args.frame.now keeps.end (device.reads old) (device.reads mid) (small c.len-size.result c.args.frame.now c.len-size.ensures c.len-size.type_inv) state.0 done in
     append_moments device now.file now.end bodies c.args.frame.now keeps.end old mid c.put-2.new.disk n state staged c.in_default.ensures.durable moments c.put-2.ensures.moments
 
@@ -83,26 +83,26 @@ returns-in-Err-put-clause-elsewhere g c =
     elsewhere_two g.D.Disk.device c.args.disk.now c.put.new.disk c.put-2.new.disk c.args.self.now.file _ _ _ _ c.put.ensures.moments c.put-2.ensures.moments
 
 pub returns-in-Err-put-clause-still : goal.returns-in-Err-put-clause-still
-returns-in-Err-put-clause-still g c tells =
-    let k = c.requires.kept tells in
-    record { bodies = k.bodies; pending = c.args.frame.now; keeps = returns-in-Err-put-clause-failed g c tells k.bodies k.pending k.keeps refl }
+returns-in-Err-put-clause-still g c is_transparent =
+    let k = c.requires.kept is_transparent in
+    record { bodies = k.bodies; pending = c.args.frame.now; keeps = returns-in-Err-put-clause-failed g c is_transparent k.bodies k.pending k.keeps refl }
 
 pub returns-clause-ok : goal.returns-clause-ok
-returns-clause-ok g c tells bodies pending keeps =
+returns-clause-ok g c is_transparent bodies pending keeps =
     let device = g.D.Disk.device in
     let now = c.args.self.now in
     let old = c.args.disk.now in
     let mid = c.put.new.disk in
     let n = length c.octets-octets.result.now in
-    let state = healthy_state device now bodies pending old c.in-Healthy.is keeps in
-    let behind = behind_is device now bodies pending old c.saturating_add-behind.result tells c.in-Healthy.is keeps c.saturating_add-behind.ensures in
+    let state = no_pending_fault_state device now bodies pending old c.in-Absent.is keeps in
+    let behind = behind_is device now bodies pending old c.saturating_add-behind.result is_transparent c.in-Absent.is keeps c.saturating_add-behind.ensures in
     let moments = first_moments device old mid now.file c.saturating_add-behind.result now.end n behind c.put.ensures.moments in
-    let done = first_write device old mid now.file c.saturating_add-behind.result now.end c.octets-octets.result.now c.args.frame.now behind c.octets-octets.ensures (c.in_default.ensures.written tells) in
+    let done = first_write device old mid now.file c.saturating_add-behind.result now.end c.octets-octets.result.now c.args.frame.now behind c.octets-octets.ensures (c.in_default.ensures.written is_transparent) in
     let staged = first_done device now.file now.end bodies c.args.frame.now keeps.end (device.reads old) (device.reads mid) (small c.len-size.result c.args.frame.now c.len-size.ensures c.len-size.type_inv) state.0 done in
     let new = c.put-2.new.disk in
-    let has = second_done device now.file now.end bodies c.args.frame.now keeps.end (device.reads mid) (device.reads new) staged (c.in_default-put.ensures.written tells) in
+    let has = second_done device now.file now.end bodies c.args.frame.now keeps.end (device.reads mid) (device.reads new) staged (c.in_default-put.ensures.written is_transparent) in
     let inside = record_inside (device.reads mid now.file) bodies c.args.frame.now staged in
-    let fit = device.lengths_fit mid now.file tells in
+    let fit = device.lengths_fit mid now.file is_transparent in
     let long : n ≡ 5 + length c.args.frame.now = omega (arith, ap length c.octets-octets.ensures, length-append (framed c.args.frame.now) (0 ∷ []), length-framed c.args.frame.now) in
     let five : c.saturating_add.result ≡ now.end + 5 = sum_is now.end 5 c.saturating_add.result c.saturating_add.ensures (omega (arith, inside, fit, keeps.end)) in
     let extents : c.push_reserved.new.self.items ≡ extents_from 0 (bodies ++ c.args.frame.now ∷ []) =
@@ -112,20 +112,20 @@ returns-clause-ok g c tells bodies pending keeps =
     record {
       extents = extents;
       end = end;
-      state = subst (λ (t : Trouble). StateIs device t now.file (bodies ++ c.args.frame.now ∷ []) pending new) (sym c.in-Healthy.is) (has, c.in_default-put.ensures.durable);
+      state = subst (λ (t : PendingFault). StateIs device t now.file (bodies ++ c.args.frame.now ∷ []) pending new) (sym c.in-Absent.is) (has, c.in_default-put.ensures.durable);
     }
 
 pub returns-clause-any_moment : goal.returns-clause-any_moment
-returns-clause-any_moment g c tells bodies pending keeps healthy =
+returns-clause-any_moment g c is_transparent bodies pending keeps no_pending_fault =
     let device = g.D.Disk.device in
     let now = c.args.self.now in
     let old = c.args.disk.now in
     let mid = c.put.new.disk in
     let n = length c.octets-octets.result.now in
-    let state = healthy_state device now bodies pending old c.in-Healthy.is keeps in
-    let behind = behind_is device now bodies pending old c.saturating_add-behind.result tells c.in-Healthy.is keeps c.saturating_add-behind.ensures in
+    let state = no_pending_fault_state device now bodies pending old c.in-Absent.is keeps in
+    let behind = behind_is device now bodies pending old c.saturating_add-behind.result is_transparent c.in-Absent.is keeps c.saturating_add-behind.ensures in
     let moments = first_moments device old mid now.file c.saturating_add-behind.result now.end n behind c.put.ensures.moments in
-    let done = first_write device old mid now.file c.saturating_add-behind.result now.end c.octets-octets.result.now c.args.frame.now behind c.octets-octets.ensures (c.in_default.ensures.written tells) in
+    let done = first_write device old mid now.file c.saturating_add-behind.result now.end c.octets-octets.result.now c.args.frame.now behind c.octets-octets.ensures (c.in_default.ensures.written is_transparent) in
     let staged = first_done device now.file now.end bodies c.args.frame.now keeps.end (device.reads old) (device.reads mid) (small c.len-size.result c.args.frame.now c.len-size.ensures c.len-size.type_inv) state.0 done in
     append_moments device now.file now.end bodies c.args.frame.now keeps.end old mid c.put-2.new.disk n state staged c.in_default.ensures.durable moments c.put-2.ensures.moments
 
@@ -134,6 +134,6 @@ returns-clause-elsewhere g c =
     elsewhere_two g.D.Disk.device c.args.disk.now c.put.new.disk c.put-2.new.disk c.args.self.now.file _ _ _ _ c.put.ensures.moments c.put-2.ensures.moments
 
 pub returns-clause-still : goal.returns-clause-still
-returns-clause-still g c tells =
-    let k = c.requires.kept tells in
-    record { bodies = k.bodies ++ c.args.frame.now ∷ []; pending = k.pending; keeps = returns-clause-ok g c tells k.bodies k.pending k.keeps }
+returns-clause-still g c is_transparent =
+    let k = c.requires.kept is_transparent in
+    record { bodies = k.bodies ++ c.args.frame.now ∷ []; pending = k.pending; keeps = returns-clause-ok g c is_transparent k.bodies k.pending k.keeps }

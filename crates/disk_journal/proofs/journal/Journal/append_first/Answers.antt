@@ -9,15 +9,15 @@ use Rattle.disk_journal.proofs.Appending.{elsewhere_on}
 use Rattle.disk_journal.proofs.journal.Journal.append_first.Goals as goal
 
 pub returns-in-Err-clause-any_moment : goal.returns-in-Err-clause-any_moment
-returns-in-Err-clause-any_moment g c tells =
+returns-in-Err-clause-any_moment g c is_transparent =
     let device = g.D.Disk.device in
     let mid = c.append.new.disk in
     let first = c.args.first.now in
     let failed : c.append.result ≡ Err DiskFault = search rules in
-    let keeps = c.requires.kept tells in
+    let keeps = c.requires.kept is_transparent in
     joins device c.args.disk.now mid c.heal.new.disk _ _
-    (c.append.ensures.any_moment tells [] [] keeps c.requires.healthy.0)
-    (subst (λ (f : ℕ). LeavesOnly device mid c.heal.new.disk (λ c'. IsBeforeOrAfter [] first (c' f))) c.append.ensures.file (c.heal.ensures.any_moment tells [] first (c.append.ensures.failed tells [] [] keeps failed)))
+    (c.append.ensures.any_moment is_transparent [] [] keeps c.requires.no_pending_fault.0)
+    (subst (λ (f : ℕ). LeavesOnly device mid c.heal.new.disk (λ c'. IsBeforeOrAfter [] first (c' f))) c.append.ensures.file (c.heal.ensures.any_moment is_transparent [] first (c.append.ensures.failed is_transparent [] [] keeps failed)))
     (λ c' has. has)
 
 pub returns-in-Err-clause-elsewhere : goal.returns-in-Err-clause-elsewhere

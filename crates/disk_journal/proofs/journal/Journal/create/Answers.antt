@@ -5,9 +5,9 @@ use Rattle.disk_journal.proofs.Appending.{elsewhere_on, keeps_same}
 use Rattle.disk_journal.proofs.journal.Journal.create.Goals as goal
 
 pub append_first-requires-clause-kept : goal.append_first-requires-clause-kept
-append_first-requires-clause-kept g c tells =
+append_first-requires-clause-kept g c is_transparent =
     let device = g.D.Disk.device in
-    keeps_same device _ c.reserve.new.self [] [] c.prepare.new.disk c.reserve.ensures.same (record { extents = c.new.ensures.items; end = refl; state = c.in_ok-prepare.ensures.ready tells })
+    keeps_same device _ c.reserve.new.self [] [] c.prepare.new.disk c.reserve.ensures.same (record { extents = c.new.ensures.items; end = refl; state = c.in_ok-prepare.ensures.ready is_transparent })
 
 pub returns-in_err-append_first-clause-elsewhere : goal.returns-in_err-append_first-clause-elsewhere
 returns-in_err-append_first-clause-elsewhere g c =

@@ -38,7 +38,7 @@ invariant_of-self c =
       rising = c.replace.ensures.rising;
       times = rw (ap (λ (l : Listing NamedTime ℕ). l.entries) replaced) (AreTimes-changed k (c.in-Some.count + 1) c.self.inside.index.entries (omega arith) (omega (arith, ints, c.ranges.time)) c.self.invariant.times);
       counted = omega (arith, total.0, c.self.invariant.counted);
-      roomy = omega (arith, ap (λ (l : Listing NamedTime ℕ). l.room) replaced, c.self.invariant.roomy);
+      has_room = omega (arith, ap (λ (l : Listing NamedTime ℕ). l.room) replaced, c.self.invariant.has_room);
       small = omega (arith, c.self.invariant.small, ap (λ (m : Counts). m.room) c.self.view_is);
     }
 
@@ -80,7 +80,7 @@ invariant_of-self-in-None c =
       rising = c.insert.ensures.rising;
       times = rw added.0 (AreTimes-changed k 1 c.self.inside.index.entries (omega arith) (omega (arith, ints, c.ranges.time)) c.self.invariant.times);
       counted = omega (arith, total, c.self.invariant.counted);
-      roomy = omega (arith, added.1, c.self.invariant.roomy);
+      has_room = omega (arith, added.1, c.self.invariant.has_room);
       small = omega (arith, c.self.invariant.small, room);
     }
 

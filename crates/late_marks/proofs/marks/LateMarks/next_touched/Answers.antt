@@ -3,7 +3,7 @@ use Rattle.std.specs.Prelude.{slice_get}
 use Rattle.arch_types.specs.declared.interval.Interval.{Interval}
 use Rattle.late_marks.specs.declared.mark.Mark.{Mark}
 use Rattle.late_marks.specs.Marks.{Marks}
-use Rattle.late_marks.proofs.Waiting.{next_from}
+use Rattle.late_marks.proofs.LateFree.{next_from}
 use Rattle.late_marks.proofs.marks.LateMarks.next_touched.Goals as goal
 
 pub returns-in_err-interval : goal.returns-in_err-interval

@@ -1,7 +1,7 @@
 use Rattle.std.proofs.Common.{◌≡◌, ◌∙◌, List, Some, None, true, false, ap, sym}
 use Rattle.std.specs.Prelude.{option_copied, slice_get}
 use Rattle.mdb_model.specs.declared.container.Entry.{Entry}
-use Rattle.mdb_model.specs.Lines.{stands_on}
+use Rattle.mdb_model.specs.Paths.{stands_on}
 use Rattle.mdb_model.proofs.Ancestry.{found_here, found_nothing, goes_up, not_here}
 use Rattle.mdb_model.proofs.container_rows.Containers.stands_on.Goals as goal
 

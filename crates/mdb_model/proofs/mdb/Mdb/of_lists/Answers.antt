@@ -9,7 +9,7 @@ use Rattle.mdb_model.specs.ContainerRows.{containers_of, rows_of_container}
 use Rattle.mdb_model.specs.Database.{Database, IsDatabase, limit_passed, rows_of, table_len}
 use Rattle.octet_fields.specs.declared.fault.DecodeError.{DecodeError}
 use Rattle.mdb_model.specs.ParameterRows.{row_of_parameter}
-use Rattle.mdb_model.specs.Retaking.{HasRows, ListsRetaken, Refused, calibrations_sound, containers_sound, parameters_sound}
+use Rattle.mdb_model.specs.Rechecking.{HasRows, ListsRechecked, Refused, calibrations_sound, containers_sound, parameters_sound}
 use Rattle.mdb_model.proofs.ListsAgain.{all_sound, all_spelled, each_has_rows, refuse_calibrations, refuse_containers, refuse_empty, refuse_limits, refuse_parameters, refuse_passed, refuse_rowless, same_lists, some_item, some_rowless}
 use Rattle.mdb_model.proofs.Outcomes.{at_err}
 use Rattle.mdb_model.proofs.mdb.Mdb.of_lists.Goals as goal
@@ -35,8 +35,8 @@ returns-then-is_empty c =
     let none : length d.containers ≡ 0 = search rules in
     refuse_empty d none
 
-pub retaken_calibrations-requires : goal.retaken_calibrations-requires
-retaken_calibrations-requires c =
+pub rechecked_calibrations-requires : goal.rechecked_calibrations-requires
+rechecked_calibrations-requires c =
     let lists = c.args.lists.now in
     let d : Database = record { parameters = lists.parameters.items; calibrations = lists.calibrations.items; containers = lists.containers.items } in
     let all : list_all (λ k. nat_lt 0 (table_len k.table)) d.calibrations ≡ true = search rules in
@@ -49,7 +49,7 @@ returns-in_err-calibrations c =
     let d : Database = record { parameters = lists.parameters.items; calibrations = lists.calibrations.items; containers = lists.containers.items } in
     let e = c.in_err-calibrations.field-0.0 in
     let P : List Calibration → Type 0 = λ xs. Refused e (calibrations_sound [] (flat_map rows_of_calibration xs) ≡ false) in
-    at_err (λ r. ListsRetaken d r) c.from_residual.result e c.from_residual.ensures.1 (refuse_calibrations d e (subst P c.deref-2.ensures.value c.in_err-calibrations.ensures))
+    at_err (λ r. ListsRechecked d r) c.from_residual.result e c.from_residual.ensures.1 (refuse_calibrations d e (subst P c.deref-2.ensures.value c.in_err-calibrations.ensures))
 
 pub returns-in_err-parameters : goal.returns-in_err-parameters
 returns-in_err-parameters c =
@@ -60,7 +60,7 @@ returns-in_err-parameters c =
     let e = c.in_err-parameters.field-0.0 in
     let P : List Calibration → Type 0 = λ xs. Refused e (parameters_sound xs [] (map row_of_parameter c.deref-3.result.now) ≡ false) in
     let Q : List Parameter → Type 0 = λ xs. Refused e (parameters_sound cs [] (map row_of_parameter xs) ≡ false) in
-    at_err (λ r. ListsRetaken d r) c.from_residual-in_err-parameters.result e c.from_residual-in_err-parameters.ensures.1
+    at_err (λ r. ListsRechecked d r) c.from_residual-in_err-parameters.result e c.from_residual-in_err-parameters.ensures.1
     (refuse_parameters d cs e ec (subst Q c.deref-3.ensures.value (subst P c.as_slice.ensures.value c.in_err-parameters.ensures)))
 
 pub returns-in_err-containers : goal.returns-in_err-containers
@@ -72,7 +72,7 @@ returns-in_err-containers c =
     let e = c.in_err-containers.field-0.0 in
     let P : List Parameter → Type 0 = λ xs. Refused e (containers_sound xs [] (flat_map rows_of_container c.deref-4.result.now) ≡ false) in
     let Q : List Container → Type 0 = λ xs. Refused e (containers_sound ps [] (flat_map rows_of_container xs) ≡ false) in
-    at_err (λ r. ListsRetaken d r) c.from_residual-in_err-containers.result e c.from_residual-in_err-containers.ensures.1
+    at_err (λ r. ListsRechecked d r) c.from_residual-in_err-containers.result e c.from_residual-in_err-containers.ensures.1
     (refuse_containers d ps e ep (subst Q c.deref-4.ensures.value (subst P c.as_slice-2.ensures.value c.in_err-containers.ensures)))
 
 pub within_limits-requires : goal.within_limits-requires

@@ -4,7 +4,7 @@ use Rattle.std.specs.Map.{keys_of}
 use Rattle.std.proofs.lemmas.Result.{IfOk-weaker}
 use Rattle.partitions.specs.declared.partition.Partition.{Partition}
 use Rattle.partitions.specs.Partitions.{AreRising, Holding}
-use Rattle.partitions.specs.Wanted.{is_on, is_on_days}
+use Rattle.partitions.specs.NameDayFilter.{is_on, is_on_days}
 use Rattle.partitions.proofs.Members.{filter_exactly, filter_rises}
 use Rattle.partitions.proofs.partitions.Partitions.on_days.Goals as goal
 

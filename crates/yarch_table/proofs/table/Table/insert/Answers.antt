@@ -39,7 +39,7 @@ invariant_of-self-in-None c =
     let n : c.len.result ≡ length stored = cc in
     record {
       names = rw (c.push_reserved.ensures.items, c.in-None.ensures.absent.0, n) index;
-      roomy = omega (arith, c.push_reserved.ensures.len, c.push_reserved.ensures.capacity, c.in-None.ensures.absent.1, c.self.invariant.roomy);
+      has_room = omega (arith, c.push_reserved.ensures.len, c.push_reserved.ensures.capacity, c.in-None.ensures.absent.1, c.self.invariant.has_room);
     }
 
 pub returns-in-None-clause-inserted : goal.returns-in-None-clause-inserted

@@ -1,0 +1,85 @@
+-- The disk of a call that asks an archive.
+use Rattle.std.proofs.Common.{◌≡◌, inl, inr, ℕ, ◌≤◌, List, [], ◌∷◌, ◌++◌, length, Some, None, refl, sym, ◌∙◌, ap, subst, arith, append-nil, length-append}
+use mathlib.Core.List.{IsPrefix}
+use Rattle.arch_disk.specs.Image.{Image}
+use Rattle.arch_disk.specs.Disk.{Device, LeavesOnly, raised}
+use Rattle.arch_disk.proofs.Moments.{started, weakens}
+use Rattle.arch_types.specs.declared.refusal.Refusal.{Refusal}
+use Rattle.arch_types.specs.declared.refusal.Refusal.TheVariants.{NoArchive, Damaged, DiskFault, OutOfMemory}
+use Rattle.archive_core.specs.declared.fills.Fill.{Fill}
+use Rattle.archive_core.specs.Fills.{rows_of_faults}
+use Rattle.archive_core.specs.Items.{Item}
+use Rattle.archive_store.specs.declared.head.Head.{Head}
+use Rattle.archive_store.specs.Answers.{IsOpenAnswer, IsOpenRefusal}
+use Rattle.archive_store.specs.Entries.{Archive, archive}
+use Rattle.archive_store.specs.StoreView.{StoreView, archive_of, IsNow, IsSince, CrashInvariant, unacknowledged_rows}
+use Rattle.archive_store.specs.Stands.{StandsFor}
+use Rattle.archive_store.proofs.Exact.{stands_once}
+use Rattle.mdb_sheets.specs.Sheets.{ReadsCounted}
+use Rattle.archive_cli.specs.Call.{WritesCounted}
+use Rattle.archive_cli.specs.ReadOnly.{IsReadOnly, IsOpeningRefusal, IsUntouched}
+
+nothing_more : {A : Type 0} (xs ys t : List A) → xs ++ t ≡ ys → (u : List A) → ys ++ u ≡ xs → ys ≡ xs
+nothing_more xs ys [] e u f = sym e ∙ append-nil xs
+nothing_more xs ys (x ∷ t) e u f = absurd (omega (arith, ap length e, length-append xs (x ∷ t), ap length f, length-append ys u))
+
+-- two beginnings of each other are the same
+pub same_prefix : {A : Type 0} (xs ys : List A) → IsPrefix xs ys → IsPrefix ys xs → ys ≡ xs
+same_prefix xs ys p q = nothing_more xs ys p.0 p.1 q.0 q.1
+
+-- no call of the disk was made
+pub untouched : {D : Type 0} (device : Device D) (disk : D) → IsUntouched device disk disk
+untouched device disk = record { reads = refl; images = started device disk (device.images disk) (λ c now. now) }
+
+only_since : (head : Head) (history : List Item) (c : Image) → IsSince head history history [] c → StandsFor c (archive head history)
+only_since head history c i =
+    elim i.stands [
+      | inl stands ↦ subst (λ (h : List Item). StandsFor c (archive head h)) (same_prefix history i.front i.holds i.begins) stands
+      | inr more ↦ absurd (omega (arith, more.1.1))
+    ]
+
+-- a store that was opened, and to which nothing was done
+pub read_only_store : {D : Type 0} (device : Device D) (disk : D) (s : StoreView D) → StandsFor (device.reads disk) (archive_of s) → device.reads s.disk ≡ device.reads disk →
+    device.reads s.opened ≡ device.reads disk → s.fills ≡ [] → LeavesOnly device disk s.opened (device.images disk) → CrashInvariant device s → IsReadOnly device disk s.disk (archive_of s)
+read_only_store device disk s stands same opening fills handed_in keeps =
+    let began : StandsFor (device.reads disk) (archive s.head keeps.before) = subst (λ (image : Image). StandsFor image (archive s.head keeps.before)) opening keeps.opening in
+    let before : keeps.before ≡ s.history = ap (λ (a : Archive). a.history) (stands_once (device.reads disk) (archive s.head keeps.before) (archive s.head s.history) began stands) in
+    let no_failed_write : LeavesOnly device s.opened s.disk (IsSince s.head keeps.before s.history []) =
+    subst (λ (f : List Fill). LeavesOnly device s.opened s.disk (IsSince s.head keeps.before s.history (rows_of_faults f))) fills keeps.since in
+    let since : LeavesOnly device s.opened s.disk (IsSince s.head s.history s.history []) =
+    subst (λ (h : List Item). LeavesOnly device s.opened s.disk (IsSince s.head h s.history [])) before no_failed_write in
+    let now : (c : Image) → device.images s.disk c → IsNow s.head s.history None c =
+    subst (λ (f : List Fill). (c : Image) → device.images s.disk c → IsNow s.head s.history (unacknowledged_rows f) c) fills keeps.now in record {
+      stands = stands;
+      reads = same;
+      images = record {
+        opened = s.opened;
+        before = handed_in;
+        since = weakens device s.opened s.disk (IsSince s.head s.history s.history []) (λ c. StandsFor c (archive_of s)) since (only_since s.head s.history);
+      };
+      now = now;
+    }
+
+-- why an archive wasn't opened
+pub opening_cause : {D : Type 0} (device : Device D) (old new : D) (refusal : Refusal) → IsOpenRefusal (device.reads old) refusal →
+    (refusal ≡ DiskFault → raised (device.fault_count old) ≤ device.fault_count new) → IsOpeningRefusal device old new refusal
+opening_cause device old new NoArchive h cause = h
+opening_cause device old new (Damaged file at) h cause = h
+opening_cause device old new DiskFault h cause = cause refl
+opening_cause device old new OutOfMemory h cause = tt
+opening_cause device old new other h cause = absurd h
+
+-- a refusal of an opening is of no input and of no sink
+pub open_reads : (refusal : Refusal) → IsOpenAnswer refusal → (faults : ℕ) → ReadsCounted (Some refusal) faults faults
+open_reads NoArchive h faults = refl
+open_reads (Damaged file at) h faults = refl
+open_reads DiskFault h faults = refl
+open_reads OutOfMemory h faults = refl
+open_reads other h faults = absurd h
+
+pub open_writes : (refusal : Refusal) → IsOpenAnswer refusal → (faults : ℕ) → WritesCounted (Some refusal) faults faults
+open_writes NoArchive h faults = refl
+open_writes (Damaged file at) h faults = refl
+open_writes DiskFault h faults = refl
+open_writes OutOfMemory h faults = refl
+open_writes other h faults = absurd h

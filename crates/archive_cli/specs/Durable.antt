@@ -1,0 +1,25 @@
+-- A disk that is handed back in order.
+use Rattle.std.specs.Prelude.{◌≡◌, ◌+◌, ◌^◌, ◌<◌, ◌≤◌, ℕ, List, length}
+use Rattle.arch_disk.specs.Image.{Image}
+use Rattle.arch_disk.specs.Disk.{Device}
+use Rattle.archive_core.specs.Items.{Item}
+use Rattle.archive_store.specs.declared.head.Head.{Head}
+use Rattle.archive_store.specs.Entries.{archive}
+use Rattle.archive_store.specs.Stands.{StandsFor}
+
+-- the disk's count of faults stands at most one above its value at entry, and below its last value
+pub record FailedAtMostOnce {D : Type 0} (device : Device D) (old new : D) : Type 0 where
+  pub most : device.fault_count new ≤ device.fault_count old + 1
+  pub below : device.fault_count new + 1 < 2 ^ 64
+
+-- every image that a crash now leaves stands for this history, and so does the disk as it reads
+pub record IsDurableAs {D : Type 0} (device : Device D) (new : D) (head : Head) (history : List Item) : Type 0 where
+  pub reads : StandsFor (device.reads new) (archive head history)
+  pub now : (c : Image) → device.images new c → StandsFor c (archive head history)
+
+-- the same of a history of so many rows
+pub record IsDurableWith {D : Type 0} (device : Device D) (new : D) (rows : ℕ) : Type 0 where
+  pub head : Head
+  pub history : List Item
+  pub durable : IsDurableAs device new head history
+  pub rows_are : length history ≡ rows

@@ -1,0 +1,55 @@
+-- A dump that was received: its packets and its rest.
+use Rattle.std.specs.Prelude.{◌≡◌, ℕ, ℤ, ◌+◌, ◌≤◌, List, [], ◌∷◌, length, Option, Some, None, nat_lt, if◌then◌else◌}
+use Rattle.arch_types.specs.declared.refusal.Refusal.{Refusal}
+use Rattle.arch_types.specs.declared.refusal.Refusal.TheVariants.{BadPacket}
+use Rattle.arch_types.specs.declared.refusal.Which.TheVariants.{DumpOctets}
+use Rattle.arch_types.specs.declared.refusal.BadKind.{BadKind}
+use Rattle.arch_types.specs.declared.refusal.BadKind.TheVariants.{Version, Truncated}
+use Rattle.arch_types.specs.Limits.{limit_of}
+use Rattle.arch_types.specs.Dump.{IsDump}
+use Rattle.outer_traits.specs.Outside.{Files}
+use Rattle.outer_traits.specs.Whole.{IsInput}
+use Rattle.space_packet.specs.declared.dump.Why.{Why}
+use Rattle.space_packet.specs.declared.dump.Why.TheVariants as why
+use Rattle.archive_cli.specs.declared.rows.DumpTable.{DumpTable}
+use Rattle.archive_cli.specs.Call.{Call, IsMomentOf}
+use Rattle.archive_cli.specs.DumpTable.{IsDumpTable}
+
+-- the greatest number of octets of a dump
+abbrev pub dump_limit : ℕ
+dump_limit = limit_of DumpOctets
+
+-- a dump that was read to its end, the moment at which it was received, its packets and its rest
+pub record ReadDump (call : Call) (name : List ℕ) : Type 0 where
+  pub dump : List ℕ
+  pub moment : ℤ
+  pub packets : List (List ℕ)
+  pub rest : List ℕ
+  pub input : IsInput call.files name dump
+  pub short : length dump ≤ dump_limit
+  pub clock : IsMomentOf call.moment moment
+  pub parts : IsDump dump packets rest
+
+-- why octets are no packet: their packet version number isn't 000, or they end inside it
+abbrev pub kind_of : ℕ → BadKind
+kind_of octet = if nat_lt octet 32 then Truncated else Version
+
+-- the rest isn't empty: it begins at an octet, and is no packet for a reason
+abbrev pub IsBadRest : List ℕ → List ℕ → ℕ → BadKind → Type 0
+IsBadRest dump [] at kind = ⊥
+IsBadRest dump (octet ∷ rest) at kind = (at + length (octet ∷ rest) ≡ length dump) × (kind ≡ kind_of octet)
+
+-- the rows of a dump, as the program holds them
+pub record IsDumpRead (files : Option Files) (clock : Option ℤ) (name : List ℕ) (loaded : DumpTable) : Type 0 where
+  pub dump : List ℕ
+  pub moment : ℤ
+  pub input : IsInput files name dump
+  pub short : length dump ≤ dump_limit
+  pub known : IsMomentOf clock moment
+  pub rows : IsDumpTable dump moment loaded
+
+-- the ending by why no packet follows
+abbrev pub ending_of : Why → ℕ → Option Refusal
+ending_of why.End at = None
+ending_of why.Version at = Some (BadPacket at Version)
+ending_of why.Truncated at = Some (BadPacket at Truncated)

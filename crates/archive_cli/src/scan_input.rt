@@ -1,0 +1,90 @@
+//! The rows of a dump that is received now.
+
+ghost use Rattle.std.specs.Prelude.{◌≡◌, ◌+◌, ◌<◌, ◌≤◌, ◌^◌, [], IfOk, IfErr};
+ghost use Rattle.std.specs.Result.{result_err};
+ghost use Rattle.mdb_sheets.specs.Sheets.{ReadsCounted};
+ghost use Rattle.outer_traits.specs.Outside.{Stays};
+ghost use Rattle.archive_cli.specs.Reading.{IsReadRefusal};
+ghost use Rattle.archive_cli.specs.ReadDump.{IsDumpRead, ending_of};
+
+use crate::line_buffer::LineBuffer;
+use crate::read::read_limited;
+use crate::rows::{DumpTable, table_of_dump};
+use arch_types::octets::Octets;
+use arch_types::refusal::{BadKind, Refusal, Which};
+use outer_traits::clock::Clock;
+use outer_traits::inputs::Inputs;
+use space_packet::dump::Why;
+use std::alloc::{AllocError, Global};
+
+/// The rows of a dump that was received, and room for a piece of text.
+#[derive(Drop)]
+pub struct ScanInput {
+    pub loaded: DumpTable,
+    pub line_buffer: LineBuffer,
+}
+
+/// Receives the named dump, which comes when it was read to its end.
+pub fn read_scan_input<I: Inputs, C: Clock>(
+    alloc: Global,
+    inputs: &mut I,
+    name: &str,
+    clock: &mut C,
+) -> Result<ScanInput, Refusal>
+    ensures received { IfOk result (λ scan_input. IsDumpRead (I.files inputs.old) (C.next clock.old) name.now scan_input.loaded) }
+    ensures empty { IfOk result (λ scan_input. scan_input.line_buffer ≡ []) }
+    ensures refused { IfErr result (IsReadRefusal (I.files inputs.old) name.now Which.DumpOctets (I.faults inputs.old) (I.faults inputs.new)) }
+    ensures same { I.files inputs.new ≡ I.files inputs.old }
+    ensures closed { I.open_sources inputs.old + 1 < 2 ^ 64 → I.open_sources inputs.new ≡ I.open_sources inputs.old }
+    ensures gave { I.given inputs.new ≤ I.given inputs.old + 1 }
+    ensures counted { ReadsCounted (result_err result) (I.faults inputs.old) (I.faults inputs.new) }
+    ensures later { I.faults inputs.old ≤ I.faults inputs.new }
+    ensures reliable { I.never_fails inputs.old → I.never_fails inputs.new × Stays (I.faults inputs.old) (I.faults inputs.new) }
+{
+    let dump = read_limited(alloc, inputs, name, Which::DumpOctets)?;
+    let moment = clock.now();
+    match prepare(alloc, dump, moment) {
+        Ok(scan_input) => Ok(scan_input),
+        Err(_) => Err(Refusal::OutOfMemory),
+    }
+}
+
+/// The rows of a dump, and room for a piece of text.
+fn prepare(alloc: Global, dump: Vec<u8>, moment: i64) -> Result<ScanInput, AllocError>
+    requires { vec_len dump ≤ dump_limit }
+    ensures loaded { IfOk result (λ scan_input. IsDumpTable dump.items moment scan_input.loaded) }
+    ensures empty { IfOk result (λ scan_input. scan_input.line_buffer ≡ []) }
+{
+    let dump = Octets::from_vec(alloc, dump)?;
+    let loaded = table_of_dump(alloc, &dump, moment)?;
+    let line_buffer = LineBuffer::new(alloc)?;
+    Ok(ScanInput {
+        loaded,
+        line_buffer,
+    })
+}
+
+ghost use Rattle.std.specs.Prelude.{vec_len};
+ghost use Rattle.archive_cli.specs.DumpTable.{IsDumpTable};
+ghost use Rattle.archive_cli.specs.ReadDump.{dump_limit};
+
+/// How a command ends that printed the rows of a dump.
+pub fn ended(loaded: &DumpTable) -> Result<(), Refusal>
+    ensures { result_err result ≡ ending_of loaded.now.why loaded.now.at }
+{
+    match loaded.why {
+        Why::End => Ok(()),
+        Why::Version => Err(bad_packet(loaded.at, BadKind::Version)),
+        Why::Truncated => Err(bad_packet(loaded.at, BadKind::Truncated)),
+    }
+}
+
+/// The refusal of a dump that has no packet at an octet.
+pub(crate) fn bad_packet(at: usize, kind: BadKind) -> Refusal
+    ensures { result ≡ Refusal.BadPacket at kind }
+{
+    Refusal::BadPacket {
+        at: at as u64,
+        kind,
+    }
+}

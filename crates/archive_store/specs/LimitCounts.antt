@@ -1,0 +1,30 @@
+-- What the limits count.
+use Rattle.std.specs.Prelude.{ℕ, List, Option, Some, None, if◌then◌else◌}
+use Rattle.std.specs.Ordering.{int_cmp}
+use Rattle.std.specs.declared.cmp.Ordering.{Ordering}
+use Rattle.std.specs.Map.{lookup}
+use Rattle.std.specs.BTreeMap.{is_at}
+use Rattle.arch_types.specs.declared.interval.Interval.{Interval}
+use Rattle.archive_core.specs.Fills.{is_same}
+
+-- intervals stand in the order of their numbers
+abbrev pub interval_cmp : Interval → Interval → Ordering
+interval_cmp a b = int_cmp a.0 b.0
+
+-- octets, the rows of each interval that has any, and how many more intervals may come without memory
+pub record LimitCountsView : Type 0 where
+  pub octets : ℕ
+  pub rows : List (Interval × ℕ)
+  pub room : ℕ
+
+abbrev pub or_zero : Option ℕ → ℕ
+or_zero None = 0
+or_zero (Some count) = count
+
+-- how many rows an interval has
+abbrev pub count_of : List (Interval × ℕ) → Interval → ℕ
+count_of rows interval = or_zero (lookup (is_at (interval_cmp interval)) rows)
+
+-- one at this interval, and none at any other
+abbrev pub one_at : Interval → Interval → ℕ
+one_at interval other = if is_same interval other then 1 else 0

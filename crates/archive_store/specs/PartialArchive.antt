@@ -1,0 +1,59 @@
+-- What a reading of an archive gives.
+use Rattle.std.specs.Prelude.{◌≡◌, List, Option, Some, None, ℕ, map, length, option_map}
+use Rattle.arch_types.specs.declared.refusal.Refusal.{Refusal}
+use Rattle.arch_types.specs.declared.refusal.Refusal.TheVariants as refused
+use Rattle.disk_journal.specs.Format.{HasRecords, written}
+use Rattle.disk_journal.specs.State.{extents_from}
+use Rattle.disk_journal.specs.declared.journal.Journal.{Journal}
+use Rattle.disk_journal.specs.declared.fault.JournalFault.{JournalFault}
+use Rattle.disk_journal.specs.declared.fault.JournalFault.TheVariants as faults
+use Rattle.field_codec.specs.declared.entry.Entry.{Entry}
+use Rattle.field_codec.specs.declared.entry.Entry.TheVariants as entries
+use Rattle.field_codec.specs.Entries.{IsEntry}
+use Rattle.field_codec.specs.Spelling.{entry_octets}
+use Rattle.archive_store.specs.declared.reading.PartialArchive.{PartialArchive}
+use Rattle.archive_store.specs.Entries.{Archive, archive, Replays}
+
+-- what the entries so far have made
+abbrev pub archive_made : Option PartialArchive → Option Archive
+archive_made made = option_map (λ m. archive m.head m.history.items) made
+
+-- there are as many tables as the head has names, and the head has a spelling
+abbrev pub HasTables : Option PartialArchive → Type 0
+HasTables None = Unit {0}
+HasTables (Some made) = (made.history.tables ≡ length made.head.tables) × IsEntry (entries.Head made.head.tables made.head.mdb)
+
+-- the octets of a file are records of entries that make this archive, and the journal has their places
+pub record IsReadArchive (content : List ℕ) (journal : Journal) (found : Archive) : Type 0 where
+  pub entries : List Entry
+  pub has : HasRecords content (map entry_octets entries)
+  pub replays : Replays None entries (Some found)
+  pub extents : journal.extents.items ≡ extents_from 0 (map entry_octets entries)
+  pub end : journal.end ≡ length (written (map entry_octets entries))
+
+-- the refusal for a fault of a journal that is read
+abbrev pub read_refusal : JournalFault → Refusal
+read_refusal faults.Exists = refused.DiskFault
+read_refusal faults.NoArchive = refused.NoArchive
+read_refusal (faults.Damaged at) = refused.Damaged 0 at
+read_refusal (faults.NeedsReopen faults) = refused.DiskFault
+read_refusal faults.Limit = refused.DiskFault
+read_refusal faults.DiskFault = refused.DiskFault
+read_refusal faults.OutOfMemory = refused.OutOfMemory
+
+-- the refusal for a fault of a journal that is made
+abbrev pub refusal_of_create : JournalFault → Refusal
+refusal_of_create faults.Exists = refused.Exists
+refusal_of_create faults.NoArchive = refused.DiskFault
+refusal_of_create (faults.Damaged at) = refused.DiskFault
+refusal_of_create (faults.NeedsReopen faults) = refused.DiskFault
+refusal_of_create faults.Limit = refused.DiskFault
+refusal_of_create faults.DiskFault = refused.DiskFault
+refusal_of_create faults.OutOfMemory = refused.OutOfMemory
+
+-- the refusals of reading entries
+abbrev pub IsReadRefusal : Refusal → Type 0
+IsReadRefusal (refused.Damaged file at) = Unit {0}
+IsReadRefusal refused.DiskFault = Unit {0}
+IsReadRefusal refused.OutOfMemory = Unit {0}
+IsReadRefusal _ = ⊥

@@ -1,0 +1,83 @@
+-- What contracts see of a store, and what its type keeps.
+use Rattle.std.specs.Prelude.{◌≡◌, ◌⊎◌, ℕ, ◌^◌, ◌≤◌, ◌-◌, true, false, List, [], ◌∷◌, ◌++◌, min, Contains, Option, Some, None}
+use mathlib.Core.List.{IsPrefix}
+use Rattle.arch_disk.specs.Image.{Image}
+use Rattle.arch_disk.specs.Disk.{Device, LeavesOnly, raised}
+use Rattle.arch_types.specs.declared.row.Row.{Row}
+use Rattle.archive_core.specs.declared.fills.Fill.{Fill}
+use Rattle.archive_core.specs.declared.fills.Fill.TheVariants.{Begun, Done, Freed, Fault}
+use Rattle.archive_core.specs.Items.{Item, items_of}
+use Rattle.archive_core.specs.Fills.{rows_of_faults, pending_fault_of, Rising, above}
+use Rattle.archive_store.specs.declared.head.Head.{Head}
+use Rattle.archive_store.specs.Entries.{Archive, archive}
+use Rattle.archive_store.specs.Stands.{StandsFor}
+
+-- the history and the fill list, the head, how many records the journal has, the disk, and the disk as it was at the opening
+pub record StoreView (D : Type 0) : Type 0 where
+  pub history : List Item
+  pub fills : List Fill
+  pub head : Head
+  pub records : ℕ
+  pub disk : D
+  pub opened : D
+
+-- what a store stands for
+abbrev pub archive_of : {D : Type 0} → StoreView D → Archive
+archive_of store = archive store.head store.history
+
+-- An image stands for a prefix of the history that holds the history of the opening, or for such a prefix followed by the rows that one fault holds.
+pub record IsSince (head : Head) (before history : List Item) (in_faults : List (List Item)) (image : Image) : Type 0 where
+  pub front : List Item
+  pub holds : IsPrefix before front
+  pub begins : IsPrefix front history
+  pub stands : StandsFor image (archive head front) ⊎ ((more : List Item) × Contains in_faults more × StandsFor image (archive head (front ++ more)))
+
+-- the rows of the first fault after whose failed write no reopen has succeeded
+abbrev pub unacknowledged_rows : List Fill → Option (List Item)
+unacknowledged_rows [] = None
+unacknowledged_rows (Begun interval base ∷ fills) = unacknowledged_rows fills
+unacknowledged_rows (Done interval base ∷ fills) = unacknowledged_rows fills
+unacknowledged_rows (Freed interval ∷ fills) = unacknowledged_rows fills
+unacknowledged_rows (Fault count true rows ∷ fills) = Some (items_of rows)
+unacknowledged_rows (Fault count false rows ∷ fills) = unacknowledged_rows fills
+
+-- What a crash now may leave: what stands for the history, and after a failed write also for the history with the unacknowledged rows.
+abbrev pub IsNow : Head → List Item → Option (List Item) → Image → Type 0
+IsNow head history None image = StandsFor image (archive head history)
+IsNow head history (Some more) image = StandsFor image (archive head history) ⊎ StandsFor image (archive head (history ++ more))
+
+-- where the disk is transparent: what a crash now may leave, and what a crash at any moment since the opening's syncs may have left
+pub record CrashInvariant {D : Type 0} (device : Device D) (store : StoreView D) : Type 0 where
+  pub before : List Item
+  pub opening : StandsFor (device.reads store.opened) (archive store.head before)
+  pub begins : IsPrefix before store.history
+  pub now : (c : Image) → device.images store.disk c → IsNow store.head store.history (unacknowledged_rows store.fills) c
+  pub since : LeavesOnly device store.opened store.disk (IsSince store.head before store.history (rows_of_faults store.fills))
+
+-- always: the count of each fault is above the count at the opening and that of each earlier fault, and not above the count now;
+-- one with a failed write is there only where the count of failed writes is above its value at the opening
+pub record FaultInvariant {D : Type 0} (device : Device D) (store : StoreView D) : Type 0 where
+  pub rising : Rising (above (device.fault_count store.opened)) (device.fault_count store.disk) store.fills
+  pub later : device.fault_count store.opened ≤ device.fault_count store.disk
+  pub writes_later : device.failed_writes store.opened ≤ device.failed_writes store.disk
+  pub wrote : (faults : ℕ) → pending_fault_of store.fills ≡ Some faults → raised (device.failed_writes store.opened) ≤ device.failed_writes store.disk
+
+-- a call whose write failed adds one fault, which holds these rows
+pub record AddsFault {D : Type 0} (device : Device D) (old new : StoreView D) (rows : List Row) : Type 0 where
+  pub count : ℕ
+  pub count_is : count ≡ min (device.fault_count new.disk) (2 ^ 64 - 1)
+  pub fills : new.fills ≡ old.fills ++ Fault count true rows ∷ []
+  pub rose : raised (device.fault_count old.disk) ≤ device.fault_count new.disk
+  pub wrote : device.failed_writes new.disk ≡ raised (device.failed_writes old.disk)
+
+-- neither the count of faults nor that of failed writes has fallen
+pub record CountsNeverFall {D : Type 0} (device : Device D) (old new : D) : Type 0 where
+  pub faults : device.fault_count old ≤ device.fault_count new
+  pub writes : device.failed_writes old ≤ device.failed_writes new
+
+-- both lists begin with the old ones, and head and opening stay
+pub record OnlyAppends {D : Type 0} (old new : StoreView D) : Type 0 where
+  pub history : IsPrefix old.history new.history
+  pub fills : IsPrefix old.fills new.fills
+  pub head : new.head ≡ old.head
+  pub opened : new.opened ≡ old.opened

@@ -1,8 +1,0 @@
-use Rattle.std.proofs.Common.{option_copied}
-use Rattle.mdb_model.specs.CalibrationRows.{cells_of}
-use Rattle.mdb_model.specs.Steps.{IsInStep}
-use Rattle.mdb_model.proofs.RowsAgain.{RowsLeft}
-use Rattle.mdb_model.proofs.retaking.retake_rows.Given as goal
-
-abbrev pub invariant-loop-place : goal.invariant-loop-place
-invariant-loop-place l = IsInStep l.calibrations × RowsLeft l.fn.calibrations.items.items l.given.name (option_copied l.next) (cells_of l.given.table) l.calibrations.items.items l.place

@@ -1,6 +1,0 @@
-use Rattle.mdb_model.specs.Steps.{IsInStep}
-use Rattle.mdb_model.proofs.RowsAgain.{CalibrationsLeft}
-use Rattle.mdb_model.proofs.retaking.retaken_calibrations.Given as goal
-
-abbrev pub invariant-loop-i : goal.invariant-loop-i
-invariant-loop-i l = IsInStep l.calibrations × CalibrationsLeft l.given l.calibrations.items.items l.i

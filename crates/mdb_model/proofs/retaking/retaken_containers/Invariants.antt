@@ -1,8 +1,0 @@
-use Rattle.std.proofs.Common.{[]}
-use Rattle.mdb_model.specs.ContainerRows.{rows_of_container}
-use Rattle.mdb_model.specs.Spans.{IsInLine}
-use Rattle.mdb_model.proofs.RowsAgain.{Left}
-use Rattle.mdb_model.proofs.retaking.retaken_containers.Given as goal
-
-abbrev pub invariant-loop-c : goal.invariant-loop-c
-invariant-loop-c l = IsInLine l.parameters l.containers × Left l.parameters rows_of_container [] l.given l.containers.items.items l.c-index

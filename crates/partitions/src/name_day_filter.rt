@@ -1,0 +1,44 @@
+//! The days of listed packet names.
+
+ghost use Rattle.std.specs.Prelude.{◌≡◌, ◌≤ℤ◌};
+ghost use Rattle.partitions.specs.NamedDay.{named_cmp};
+ghost use Rattle.partitions.specs.NameDayFilter.{is_name_day_filter, IsFirstFrom};
+
+use crate::days::Days;
+use crate::named_day::NamedDay;
+use crate::names::SortedNames;
+
+/// Some days of some packet names.
+#[derive(Drop)]
+pub(crate) struct NameDayFilter {
+    pub(crate) days: Days,
+    pub(crate) names: SortedNames,
+}
+
+impl NameDayFilter {
+    /// The first named day that is wanted, from this one on.
+    pub(crate) fn first_from(&self, at: NamedDay) -> Option<NamedDay>
+        requires { self.now.days.first ≤ℤ self.now.days.last }
+        ensures { IsFirstFrom named_cmp (is_name_day_filter self.now) at result }
+    {
+        let pname = self.names.first_from(at.pname)?;
+        if pname > at.pname || at.day < self.days.first {
+            return Some(self.first_of(pname));
+        }
+        if at.day <= self.days.last {
+            return Some(at);
+        }
+        let pname = self.names.first_after(pname)?;
+        Some(self.first_of(pname))
+    }
+
+    /// The first day of a packet name.
+    fn first_of(&self, pname: u16) -> NamedDay
+        ensures { result ≡ record { pname = pname; day = self.now.days.first } }
+    {
+        NamedDay {
+            pname,
+            day: self.days.first,
+        }
+    }
+}
