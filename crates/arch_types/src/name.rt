@@ -1,9 +1,10 @@
 //! Names of tables, parameters, calibrations and containers.
 
-ghost use Rattle.std.specs.Prelude.{◌≡◌, ◌↔◌, length, true, IfOk, IsOk, OnOk, OnErr, OkIff, ◌++◌, [], ◌∷◌, ◌≤◌, option_map, Some, None, if◌then◌else◌};
+ghost use Rattle.std.specs.Prelude.{◌≡◌, ◌↔◌, length, true, IfOk, IsOk, OkIff, ◌≤◌, option_map, Some, None, if◌then◌else◌};
 ghost use Rattle.arch_types.specs.Name.{is_name, is_name_octet};
 
 use crate::octets::Octets;
+use lists::items::{Items, TryClone};
 use std::alloc::{AllocError, Global};
 use std::marker::Model;
 
@@ -74,67 +75,11 @@ impl Name {
     }
 }
 
+impl TryClone for Name {
+    fn try_clone(&self) -> Result<Self, AllocError> {
+        self.copy()
+    }
+}
+
 /// Names in some order.
-#[derive(Debug, Drop)]
-pub struct Names {
-    items: Vec<Name>,
-}
-
-impl Model for Names {
-    ghost use Rattle.std.specs.Prelude.{List, ℕ};
-
-    ghost Value = { List (List ℕ) };
-
-    ghost view = { λ n. n.items.items };
-}
-
-impl Names {
-    /// No name.
-    pub fn new(alloc: Global) -> Self
-        ensures { result ≡ [] }
-    {
-        Names {
-            items: Vec::new(alloc),
-        }
-    }
-
-    /// Takes a vector over.
-    pub fn from_vec(items: Vec<Name>) -> Self
-        ensures { result ≡ items.items }
-    {
-        Names { items }
-    }
-
-    /// The items in a vector.
-    pub fn into_vec(self) -> Vec<Name>
-        ensures { result.items ≡ self }
-    {
-        self.items
-    }
-
-    pub fn as_slice(&self) -> &[Name]
-        ensures { result.now ≡ self.now }
-    {
-        self.items.as_slice()
-    }
-
-    /// Adds a name at the end. Refused, it leaves the list as it was.
-    pub fn push(&mut self, name: Name) -> Result<(), AllocError>
-        ensures ok { OnOk result (self.new ≡ self.old ++ name ∷ []) }
-        ensures err { OnErr result (self.new ≡ self.old) }
-    {
-        self.items.push(name)?;
-        Ok(())
-    }
-
-    /// An equal value.
-    pub fn copy(&self, alloc: Global) -> Result<Self, AllocError>
-        ensures { IfOk result (λ copy. copy ≡ self.now) }
-    {
-        let mut items = Vec::new(alloc);
-        for name in self.items.as_slice() {
-            items.push(name.copy()?)?;
-        }
-        Ok(Names { items })
-    }
-}
+pub type Names = Items<Name>;

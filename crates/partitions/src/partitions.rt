@@ -10,7 +10,7 @@ ghost use Rattle.partitions.specs.Partitions.{AreRising, IsAdded};
 use crate::bounds::Bounds;
 use crate::days::Days;
 use crate::indexes::{of_names, on_days};
-use crate::lists::PartList;
+use crate::lists::{PartList, in_order};
 use crate::name_day_filter::NameDayFilter;
 use crate::named_day::NamedDay;
 use crate::names::SortedNames;
@@ -106,8 +106,6 @@ impl Partitions {
         ensures exactly { IfOk result (λ parts. (p : Partition) → Contains parts p ↔ (Contains self.now.parts p × (is_name_day_filter name_day_filter.now (named_day p) ≡ true))) }
         ensures rising { IfOk result (λ parts. AreRising parts) }
     {
-        let mut parts = of_names(self.alloc, &self.by_name, name_day_filter)?;
-        parts.sort();
-        Ok(parts)
+        Ok(in_order(of_names(self.alloc, &self.by_name, name_day_filter)?))
     }
 }
