@@ -106,6 +106,7 @@ impl Partitions {
         ensures exactly { IfOk result (λ parts. (p : Partition) → Contains parts p ↔ (Contains self.now.parts p × (is_name_day_filter name_day_filter.now (named_day p) ≡ true))) }
         ensures rising { IfOk result (λ parts. AreRising parts) }
     {
-        Ok(in_order(of_names(self.alloc, &self.by_name, name_day_filter)?))
+        let parts = of_names(self.alloc, &self.by_name, name_day_filter)?;
+        Ok(in_order(parts))
     }
 }
