@@ -5,7 +5,6 @@ pub mod Order
 pub mod History
 pub mod Arrivals
 pub mod Table
-pub mod Name
 pub mod Interval
 pub mod Refusal
 pub mod Limits

@@ -1,12 +1,13 @@
 //! Names of tables, parameters, calibrations and containers.
 
 ghost use Rattle.std.specs.Prelude.{◌≡◌, ◌↔◌, length, true, IfOk, IsOk, OkIff, ◌≤◌, option_map, Some, None, if◌then◌else◌};
-ghost use Rattle.arch_types.specs.Name.{is_name, is_name_octet};
+ghost use Rattle.texts.specs.Names.{is_name};
 
 use crate::octets::Octets;
 use lists::items::{Items, TryClone};
 use std::alloc::{AllocError, Global};
 use std::marker::Model;
+use texts::is_name;
 
 /// 1 to 64 octets of letters, digits, `_`, `.`, `/` and `-`.
 #[derive(Debug, Drop)]
@@ -16,7 +17,7 @@ pub struct Name {
 
 impl Model for Name {
     ghost use Rattle.std.specs.Prelude.{◌≡◌, List, ℕ, true};
-    ghost use Rattle.arch_types.specs.Name.{is_name};
+    ghost use Rattle.texts.specs.Names.{is_name};
 
     ghost Value = { List ℕ };
 
@@ -25,34 +26,12 @@ impl Model for Name {
     ghost invariant = { λ n. is_name n.octets ≡ true };
 }
 
-/// Whether octets are a name.
-pub fn is_name_text(octets: &[u8]) -> bool
-    ensures { result ≡ is_name octets.now }
-{
-    if octets.is_empty() || octets.len() > 64 {
-        return false;
-    }
-    for octet in octets {
-        if !is_name_letter(*octet) {
-            return false;
-        }
-    }
-    true
-}
-
-/// Whether an octet may stand in a name.
-fn is_name_letter(octet: u8) -> bool
-    ensures { result ≡ is_name_octet octet }
-{
-    matches!(octet, b'a'..=b'z' | b'A'..=b'Z' | b'-'..=b'9' | b'_')
-}
-
 impl Name {
     /// The name of these octets, or `None` where they are none.
     pub fn of(octets: Octets) -> Option<Name>
         ensures { option_map (λ name. name) result ≡ (if is_name octets then Some octets else None) }
     {
-        if is_name_text(octets.as_slice()) {
+        if is_name(octets.as_slice()) {
             Some(Name { octets })
         } else {
             None

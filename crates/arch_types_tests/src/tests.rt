@@ -3,12 +3,13 @@
 use arch_types::inserted::{Inserted, Outcomes};
 use arch_types::interval::Interval;
 use arch_types::key::Key;
-use arch_types::name::{Name, Names, is_name_text};
+use arch_types::name::{Name, Names};
 use arch_types::octets::Octets;
 use arch_types::refusal::{BadKind, Refusal, Sheet, Which};
 use arch_types::row::{Row, Rows};
 use std::alloc::{AllocError, Global};
 use std::test::Fail;
+use texts::is_name;
 
 const STATUSES: [(Refusal, u8); 15] = [
     (Refusal::Usage, 1),
@@ -73,7 +74,7 @@ const TEXTS: [(&[u8], bool); 8] = [
 /// The answers of both calls for a text.
 fn are_names(alloc: Global, text: &[u8]) -> Result<(bool, bool), AllocError> {
     let octets = Octets::from_slice(alloc, text)?;
-    Ok((is_name_text(text), Name::of(octets).is_some()))
+    Ok((is_name(text), Name::of(octets).is_some()))
 }
 
 #[test]

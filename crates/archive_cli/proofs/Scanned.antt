@@ -8,7 +8,7 @@ use Rattle.arch_types.specs.declared.refusal.BadKind.{BadKind}
 use Rattle.arch_types.specs.declared.refusal.BadKind.TheVariants as bad
 use Rattle.arch_types.specs.History.{firsts}
 use Rattle.arch_types.specs.Table.{table_of}
-use Rattle.outer_traits.specs.Outside.{IsMoment}
+use Rattle.texts.specs.ClockTime.{IsClockTime}
 use Rattle.space_packet.specs.declared.dump.Why.{Why}
 use Rattle.space_packet.specs.declared.dump.Why.TheVariants as why
 use Rattle.space_packet.specs.Rest.{why_of}
@@ -126,6 +126,6 @@ pub scan_some : (call : Call) (name : List ℕ) (loaded : DumpTable) → IsDumpR
     IsScanEnding call name (Some WriteFault)
 scan_some call name loaded r f p = (received_of call name loaded r, f, rw (text_of_received r.dump r.moment loaded r.rows) at p)
 
-pub moment_of : (known : Option ℤ) (moment : ℤ) → IfSome known (λ next. moment ≡ next) → IsMoment moment → IsMomentOf known moment
+pub moment_of : (known : Option ℤ) (moment : ℤ) → IfSome known (λ next. moment ≡ next) → IsClockTime moment → IsMomentOf known moment
 moment_of None moment e m = m
 moment_of (Some next) moment e m = e

@@ -2,7 +2,8 @@
 use Rattle.std.specs.Prelude.{◌≡◌, ℕ, ℤ, List, ◌++◌, Option, Some, None}
 use Rattle.arch_types.specs.declared.refusal.Refusal.{Refusal}
 use Rattle.arch_types.specs.declared.refusal.Refusal.TheVariants.{WriteFault}
-use Rattle.outer_traits.specs.Outside.{Files, HasRisen, IsMoment, Stays, WritesSome}
+use Rattle.outer_traits.specs.Outside.{Files, HasRisen, Stays, WritesSome}
+use Rattle.texts.specs.ClockTime.{IsClockTime}
 
 -- the words, and what the inputs, the clock and the sink tell, before and after
 pub record Call : Type 0 where
@@ -63,5 +64,5 @@ WritesCounted other before now = Stays before now
 
 -- the moment that the clock tells, or some moment
 abbrev pub IsMomentOf : Option ℤ → ℤ → Type 0
-IsMomentOf None moment = IsMoment moment
+IsMomentOf None moment = IsClockTime moment
 IsMomentOf (Some known) moment = moment ≡ known

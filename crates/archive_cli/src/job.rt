@@ -1,7 +1,6 @@
 //! The job that the words of a command line ask.
 
 ghost use Rattle.std.specs.Prelude.{◌≡◌, map, string_bytes, Some, IfOk, IfErr, option_and_then, option_map};
-ghost use Rattle.mdb_model.specs.Texts.{digits_at_most, is_digit};
 ghost use Rattle.archive_cli.specs.Job as spec;
 ghost use Rattle.archive_cli.specs.Job.{job_of, scan_app, scan_of, values_app, values_of, create_app, create_of, load_app, load_of, link_of, query_app, query_of, recover_app, recover_of, IsNoJob};
 ghost use Rattle.archive_cli.specs.JobView.{job_view};
@@ -10,6 +9,7 @@ ghost use Rattle.archive_cli.specs.Words.{rows_of_words};
 use crate::words::{found_option, found_words, found_words_and_option, given_word, word_of};
 use arch_types::refusal::Refusal;
 use std::alloc::Global;
+use texts::number_of;
 
 /// The names of three sheets and of a dump, and the name of a parameter.
 #[derive(Clone, Copy, Debug)]
@@ -177,29 +177,6 @@ fn link_of(word: Option<&str>) -> Option<u64>
     let Some(word) = word else {
         return Some(1);
     };
-    let number = number_of(word.as_bytes())?;
+    let number = number_of(19, word.as_bytes())?;
     if number >= 1 { Some(number) } else { None }
-}
-
-/// The number that 1 to 19 digits spell.
-fn number_of(text: &[u8]) -> Option<u64>
-    ensures { result ≡ digits_at_most 19 text.now }
-{
-    if text.is_empty() || text.len() > 19 {
-        return None;
-    }
-    let mut value: u64 = 0;
-    for octet in text {
-        if !is_digit(*octet) {
-            return None;
-        }
-        value = 10 * value + u64::from(*octet - b'0');
-    }
-    Some(value)
-}
-
-fn is_digit(octet: u8) -> bool
-    ensures { result ≡ is_digit octet }
-{
-    octet >= b'0' && octet <= b'9'
 }

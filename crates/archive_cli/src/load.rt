@@ -2,7 +2,8 @@
 
 ghost use Rattle.std.specs.Prelude.{◌≡◌, ◌≢◌, ◌<◌, ◌≤◌, ◌+◌, ◌-◌, ◌^◌, ℕ, [], IsTrue, IfOk, IfErr, IfSome, MatchResult, None, Some, length};
 ghost use Rattle.arch_disk.specs.Disk.{raised};
-ghost use Rattle.outer_traits.specs.Outside.{IsMoment, Stays};
+ghost use Rattle.outer_traits.specs.Outside.{Stays};
+ghost use Rattle.texts.specs.ClockTime.{IsClockTime};
 ghost use Rattle.mdb_sheets.specs.Sheets.{ReadsCounted};
 ghost use Rattle.archive_cli.specs.JobView.{load_words_of};
 ghost use Rattle.archive_cli.specs.Call.{WritesCounted};
@@ -218,7 +219,7 @@ fn load_dump<D: Disk, K: Sink>(
 ) -> Ended<D>
     requires short { length received.now.dump ≤ dump_limit }
     requires link { (1 ≤ received.now.link) × (received.now.link ≤ 255) }
-    requires moment { IsMoment moment }
+    requires moment { IsClockTime moment }
     requires empty { line_buffer ≡ [] }
     requires no_failed_write { store.fills ≡ [] }
     ensures session { IsLoadRun D.device store received.now.dump received.now.link moment (K.written sink.old) (K.written sink.new) result.disk result.report }

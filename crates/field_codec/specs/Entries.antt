@@ -3,7 +3,8 @@ use Rattle.std.specs.Prelude.{◌≡◌, ◌≢◌, ℕ, ℤ, pos, ◌<◌, ◌�
 use Rattle.std.specs.List.{AllByRecursion}
 use Rattle.arch_types.specs.declared.row.Row.{Row}
 use Rattle.arch_types.specs.GenerationTime.{key_of}
-use Rattle.arch_types.specs.Name.{is_name}
+use Rattle.texts.specs.Names.{is_name}
+use Rattle.texts.specs.ClockTime.{IsClockTime}
 use Rattle.arch_types.specs.Packet.{IsPacket, is_idle}
 use Rattle.mdb_model.specs.Database.{IsDatabase}
 use Rattle.field_codec.specs.declared.entry.Entry.{Entry}
@@ -28,10 +29,6 @@ pub record AreTables (tables : List (List ℕ)) : Type 0 where
   pub distinct : AreDistinct tables
 
 -- ---- rows
-
--- the range of the clock, in milliseconds since 1970
-abbrev pub IsClockTime : ℤ → Type 0
-IsClockTime time = (pos 0 ≤ℤ time) × (time ≤ℤ pos 253402300799999)
 
 -- a whole packet that isn't idle, received within the clock's range by a link from 1 to 255, with the key that it gives then
 pub record IsStored (row : Row) : Type 0 where

@@ -5,7 +5,8 @@ use Rattle.std.specs.List.{list_any}
 use Rattle.std.specs.Str.{bytes_eq}
 use Rattle.arch_types.specs.declared.row.Row.{Row}
 use Rattle.arch_types.specs.GenerationTime.{key_of}
-use Rattle.arch_types.specs.Name.{is_name}
+use Rattle.texts.specs.Names.{is_name}
+use Rattle.texts.specs.ClockTime.{is_clock_time}
 use Rattle.arch_types.specs.Packet.{packet_length, is_idle}
 use Rattle.octet_fields.specs.Reading.{Reader, both_at, counted_at, mapped_at, name_at, number_at, signed_at, tested_at, times_at}
 use Rattle.field_codec.specs.declared.rows.Fields.{Fields as StoredFields}
@@ -74,10 +75,6 @@ seen f packet = (f.table, (f.rectime, (f.link, (f.pname, packet))))
 -- reads the fields of a row: table, reception time, link, packet name, packet
 unfoldable pub fields_at : Reader Fields
 fields_at = both_at (number_at w8) (λ _. both_at (signed_at w64) (λ _. both_at (number_at w8) (λ _. both_at (number_at w16) (λ _. packet_at))))
-
--- the moment is from 1970 to the end of 9999
-unfoldable pub is_clock_time : ℤ → Bool
-is_clock_time time = not (int_lt time (pos 0)) && int_lt time (pos 253402300800000)
 
 -- the fields may stand in an archive: a link from 1 on, a moment of a clock, and no idle packet
 abbrev pub is_stored : Fields → Bool

@@ -10,7 +10,7 @@ ghost use Rattle.octet_fields.specs.Reading.{times_at, whole};
 ghost use Rattle.octet_fields.specs.Spelling.{number};
 ghost use Rattle.field_codec.specs.Entries.{AreStored, IsStored};
 ghost use Rattle.field_codec.specs.Spelling.{row_octets, rows_octets};
-ghost use Rattle.field_codec.specs.Reading.{IsEndOf, fields_at, is_clock_time, packet_at, row_at, rows_at, seen};
+ghost use Rattle.field_codec.specs.Reading.{IsEndOf, fields_at, packet_at, row_at, rows_at, seen};
 
 use arch_types::octets::Octets;
 use arch_types::row::{Row, Rows};
@@ -19,6 +19,7 @@ use space_packet::dump::first_packet;
 use space_packet::header::is_idle_packet;
 use space_packet::key::key_of;
 use std::alloc::{AllocError, Global};
+use texts::is_clock_time;
 
 /// The number of rows that an entry holds at most.
 const MOST_ROWS: u16 = 1024;
@@ -64,13 +65,6 @@ fn fields_at(octets: &[u8]) -> Result<(Fields, &[u8], &[u8]), Short>
         pname,
     };
     Ok((fields, packet, rest))
-}
-
-#[tactic(auto, unfolding(crate::specs::Reading::is_clock_time))]
-fn is_clock_time(time: i64) -> bool
-    ensures { result ≡ is_clock_time time }
-{
-    time >= 0 && time < 253_402_300_800_000
 }
 
 /// The octets of a block that stand before these last ones, as a part of it.

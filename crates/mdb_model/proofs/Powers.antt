@@ -1,14 +1,7 @@
 -- Powers of ten.
 use Rattle.std.proofs.Common.{◌≡◌, ◌∙◌, ◌+◌, ◌-◌, ◌*◌, ◌^◌, ◌<◌, ◌≤◌, ℕ, arith, sym, ap}
-use Rattle.std.proofs.Math.Nat.{pow-le-pow_right, one-le-pow, mul-lt-mul_of_pos_right}
+use Rattle.std.proofs.Math.Nat.{one-le-pow, mul-lt-mul_of_pos_right}
 use Rattle.std.proofs.lemmas.Nat.{pow-add}
-
--- a number of some digits has no more than a number of most digits
-pub digits_small : (n len most : ℕ) → n < 10 ^ len → len ≤ most → n < 10 ^ most
-digits_small n len most less fits =
-    let p : 0 < 10 = omega arith in
-    let up : 10 ^ len ≤ 10 ^ most = pow-le-pow_right {n = 10} p fits in
-    omega arith
 
 -- digits after a point are below one
 pub fraction_small : (f len : ℕ) → f < 10 ^ len → len ≤ 6 → f * 10 ^ (6 - len) < 1000000

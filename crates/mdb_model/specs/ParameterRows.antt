@@ -11,7 +11,8 @@ use Rattle.mdb_model.specs.declared.rows.ParameterRow.{ParameterRow}
 use Rattle.mdb_model.specs.declared.rows.Reference.{Reference}
 use Rattle.mdb_model.specs.declared.rows.Reference.TheVariants.{Nothing, Unknown, Known}
 use Rattle.mdb_model.specs.Checks.{Checks, first_broken}
-use Rattle.mdb_model.specs.Texts.{is_name, place_of}
+use Rattle.mdb_model.specs.Texts.{place_of}
+use Rattle.texts.specs.Names.{is_name}
 
 -- the lowest octet comes first
 abbrev pub is_le : Coding → Bool

@@ -28,7 +28,8 @@ use Rattle.mdb_model.specs.Database.{Broken, Database, Rows, calibrations_fault,
 use Rattle.mdb_model.specs.Paths.{path_end}
 use Rattle.mdb_model.specs.Lists.{is_empty}
 use Rattle.mdb_model.specs.ParameterRows.{parameters_of}
-use Rattle.mdb_model.specs.Texts.{Text, decimal_number, digits_at_most, field, offset, place_of, small_number, whole_number}
+use Rattle.mdb_model.specs.Texts.{Text, decimal_number, field, offset, place_of, small_number, whole_number}
+use Rattle.texts.specs.Digits.{digits_at_most}
 
 -- what the columns kind, x and y say
 abbrev pub read_row_values : Text → Text → Text → RowValues

@@ -2,6 +2,7 @@
 use Rattle.std.specs.Prelude.{ℕ, ◌+◌, ◌*◌, ◌-◌, ◌^◌, ◌==◌, ◌&&◌, ◌||◌, Bool, true, false, List, [], ◌∷◌, length, take, drop, Option, Some, None, if◌then◌else◌, nat_le, slice_get, unwrap_or, position, fold, option_map, ℤ, pos, negsuc, neg_ℤ, min}
 use Rattle.std.specs.List.{list_all}
 use Rattle.std.specs.Str.{bytes_eq}
+use Rattle.texts.specs.Digits.{decimal_value, digits_at_most, is_digit}
 
 -- the octets of a text
 abbrev pub Text : Type 0
@@ -10,14 +11,6 @@ Text = List ℕ
 -- the field of a record at a place, or no octet where the record has none
 abbrev pub field : List Text → ℕ → Text
 field record_ i = unwrap_or (slice_get record_ i) []
-
--- letters, digits, `_`, `.`, `/` and `-`
-abbrev pub is_name_octet : ℕ → Bool
-is_name_octet b = (nat_le 97 b && nat_le b 122) || (nat_le 65 b && nat_le b 90) || (nat_le 48 b && nat_le b 57) || (b == 95) || (b == 46) || (b == 47) || (b == 45)
-
--- a name is 1 to 64 of these octets
-abbrev pub is_name : Text → Bool
-is_name text = nat_le 1 (length text) && nat_le (length text) 64 && list_all is_name_octet text
 
 -- the place of a name among names
 abbrev pub place_of : Text → List Text → Option ℕ
@@ -30,18 +23,6 @@ is_printable b = nat_le 32 b && nat_le b 126
 -- a label is 1 to 64 of these octets
 abbrev pub is_label : Text → Bool
 is_label text = nat_le 1 (length text) && nat_le (length text) 64 && list_all is_printable text
-
--- the octet is a decimal digit, 0 to 9 in ASCII
-abbrev pub is_digit : ℕ → Bool
-is_digit b = nat_le 48 b && nat_le b 57
-
--- the number that digits spell
-abbrev pub decimal_value : Text → ℕ
-decimal_value text = fold (λ n b. 10 * n + (b - 48)) 0 text
-
--- the number that 1 to `most` digits spell
-abbrev pub digits_at_most : ℕ → Text → Option ℕ
-digits_at_most most text = if nat_le 1 (length text) && nat_le (length text) most && list_all is_digit text then Some (decimal_value text) else None
 
 -- the text begins with `-`
 abbrev pub is_minus : Text → Bool

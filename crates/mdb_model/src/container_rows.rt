@@ -20,8 +20,8 @@ use crate::names::Names;
 use crate::parameter::Parameter;
 use crate::parameter_rows::{is_reference, number_of};
 use crate::rows::{ContainerColumns, NewContainer, Position, Reference};
-use crate::texts::is_name;
 use std::alloc::{AllocError, Global};
+use texts::is_name;
 
 /// What the path from the root down to a container comes to.
 #[derive(Drop, Clone, Copy)]

@@ -9,8 +9,8 @@ use crate::calibration::{Calibration, PolyRow, Table};
 use crate::names::Names;
 use crate::parameter::{Coding, Parameter};
 use crate::rows::{ParameterRow, Reference};
-use crate::texts::is_name;
 use std::alloc::{AllocError, Global};
+use texts::is_name;
 
 fn is_le(coding: Coding) -> bool
     ensures { result ≡ is_le coding }

@@ -2,26 +2,10 @@
 
 ghost use Rattle.std.specs.Prelude.{◌≡◌, ◌≤◌, ◌<◌, ◌^◌, ◌==◌, length, position, None, IfSome, OnSome};
 ghost use Rattle.std.specs.List.{list_all};
-ghost use Rattle.mdb_model.specs.Texts.{decimal_number, digits_at_most, decimal_value, is_digit, is_label, is_name, is_name_octet, is_printable, millionths, millionths_at, millionths_from, offset, small_number, whole_number};
+ghost use Rattle.mdb_model.specs.Texts.{decimal_number, is_label, is_printable, millionths, millionths_at, millionths_from, offset, small_number, whole_number};
+ghost use Rattle.texts.specs.Digits.{digits_at_most};
 
-pub(crate) fn is_name_octet(octet: u8) -> bool
-    ensures { result ≡ is_name_octet octet }
-{
-    matches!(octet, b'a'..=b'z' | b'A'..=b'Z' | b'0'..=b'9' | b'_' | b'.' | b'/' | b'-')
-}
-
-fn are_name_octets(text: &[u8]) -> bool
-    ensures { result ≡ list_all is_name_octet text.now }
-{
-    text.iter().all(|b| is_name_octet(*b))
-}
-
-/// The octets are a name: 1 to 64 letters, digits, `_`, `.`, `/` or `-`.
-pub(crate) fn is_name(text: &[u8]) -> bool
-    ensures { result ≡ is_name text.now }
-{
-    !text.is_empty() && text.len() <= 64 && are_name_octets(text)
-}
+use texts::{digits_at_most, is_digit};
 
 fn is_printable(octet: u8) -> bool
     ensures { result ≡ is_printable octet }
@@ -40,32 +24,6 @@ pub(crate) fn is_label(text: &[u8]) -> bool
     ensures { result ≡ is_label text.now }
 {
     !text.is_empty() && text.len() <= 64 && are_printable(text)
-}
-
-fn is_digit(octet: u8) -> bool
-    ensures { result ≡ is_digit octet }
-{
-    octet >= b'0' && octet <= b'9'
-}
-
-/// The number that 1 to `most` digits spell.
-pub(crate) fn digits_at_most(most: usize, text: &[u8]) -> Option<u128>
-    requires { most ≤ 20 }
-    ensures value { result ≡ digits_at_most most text.now }
-    ensures small { IfSome result (λ n. n < 10 ^ length text.now) }
-    ensures short { OnSome result (length text.now ≤ most) }
-{
-    if text.is_empty() || text.len() > most {
-        return None;
-    }
-    let mut value: u128 = 0;
-    for octet in text {
-        if !is_digit(*octet) {
-            return None;
-        }
-        value = 10 * value + (*octet - b'0') as u128;
-    }
-    Some(value)
 }
 
 /// An optional `-` and 1 to 20 digits, from -2^63 to 2^64 - 1.

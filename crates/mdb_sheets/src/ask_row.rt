@@ -1,7 +1,6 @@
 //! One row of the sheet of asks.
 
 ghost use Rattle.std.specs.Prelude.{◌≡◌};
-ghost use Rattle.mdb_model.specs.Texts.{digits_at_most, is_digit};
 ghost use Rattle.mdb_sheets.specs.Asks.{IsAskResult, descending_of, most_of};
 
 use arch_types::ask::{Ask, Request};
@@ -9,6 +8,7 @@ use arch_types::name::Name;
 use arch_types::octets::Octets;
 use mdb_model::Record;
 use std::alloc::{AllocError, Global};
+use texts::number_of;
 use time_text::read_time_octets;
 
 /// Why a row is no ask.
@@ -42,29 +42,6 @@ fn descending_of(text: &[u8]) -> Option<bool>
     }
 }
 
-fn is_digit(octet: u8) -> bool
-    ensures { result ≡ is_digit octet }
-{
-    octet >= b'0' && octet <= b'9'
-}
-
-/// The number that 1 to 18 digits spell.
-fn number_of(text: &[u8]) -> Option<u64>
-    ensures { result ≡ digits_at_most 18 text.now }
-{
-    if text.is_empty() || text.len() > 18 {
-        return None;
-    }
-    let mut value: u64 = 0;
-    for octet in text {
-        if !is_digit(*octet) {
-            return None;
-        }
-        value = 10 * value + u64::from(*octet - b'0');
-    }
-    Some(value)
-}
-
 /// The limit of an ask, which may be empty.
 fn most_of(text: &[u8]) -> Option<Option<u64>>
     ensures { result ≡ most_of text.now }
@@ -72,7 +49,7 @@ fn most_of(text: &[u8]) -> Option<Option<u64>>
     if text.is_empty() {
         return Some(None);
     }
-    match number_of(text) {
+    match number_of(18, text) {
         None => None,
         Some(number) => Some(Some(number)),
     }

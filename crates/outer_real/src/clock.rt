@@ -3,9 +3,7 @@
 use outer_traits::clock::Clock;
 use std::rt::Clock as SystemClock;
 use std::time::{SystemTime, UNIX_EPOCH};
-
-/// The last millisecond of the year 9999.
-const LAST_MOMENT: u128 = 253_402_300_799_999;
+use texts::LAST_CLOCK_TIME;
 
 /// The system's clock, kept to the years 1970 to 9999. Where it can't be read it stands at the first moment.
 #[derive(Drop)]
@@ -31,6 +29,6 @@ impl<'a, R: SystemClock> Clock for RealClock<'a, R> {
         let Ok(since) = now.duration_since(UNIX_EPOCH) else {
             return 0;
         };
-        since.as_millis().min(LAST_MOMENT) as i64
+        since.as_millis().min(LAST_CLOCK_TIME as u128) as i64
     }
 }

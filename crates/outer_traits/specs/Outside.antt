@@ -1,5 +1,5 @@
 -- What the calls on the outside do, where its content is known, and when they fail.
-use Rattle.std.specs.Prelude.{◌≡◌, ℕ, ℤ, pos, ◌+◌, ◌-◌, ◌^◌, min, ◌<◌, ◌≤◌, ◌≤ℤ◌, ◌⊎◌, List, ◌++◌, length, take, drop, Option, Some, None, Result, Err, IsSomeAnd}
+use Rattle.std.specs.Prelude.{◌≡◌, ℕ, ◌+◌, ◌-◌, ◌^◌, min, ◌<◌, ◌≤◌, ◌⊎◌, List, ◌++◌, length, take, drop, Option, Some, None, Result, Err, IsSomeAnd}
 use Rattle.std.specs.Option.{is_some}
 use Rattle.std.specs.Ordering.{nat_cmp}
 use Rattle.std.specs.Cmp.Lexicographic.{slice_cmp}
@@ -55,7 +55,3 @@ Writes (Some octets) new n piece = new ≡ Some (octets ++ take n piece)
 abbrev pub WritesSome : Option (List ℕ) → Option (List ℕ) → List ℕ → Type 0
 WritesSome None new text = new ≡ None
 WritesSome (Some octets) new text = (piece : List ℕ) × (more : List ℕ) × (piece ++ more ≡ text) × (new ≡ Some (octets ++ piece))
-
--- milliseconds from 1970 to the end of 9999
-abbrev pub IsMoment : ℤ → Type 0
-IsMoment moment = (pos 0 ≤ℤ moment) × (moment ≤ℤ pos 253402300799999)

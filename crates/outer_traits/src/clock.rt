@@ -1,7 +1,8 @@
 //! A clock.
 
 ghost use Rattle.std.specs.Prelude.{◌≡◌, ℤ, Option, IfSome};
-ghost use Rattle.outer_traits.specs.Outside.{IsMoment, StaysKnown};
+ghost use Rattle.outer_traits.specs.Outside.{StaysKnown};
+ghost use Rattle.texts.specs.ClockTime.{IsClockTime};
 
 use std::marker::Model;
 
@@ -16,7 +17,7 @@ pub trait Clock {
     /// The moment, which lies before the year 10000.
     fn now(&mut self) -> i64
         ensures known { IfSome (next self.old) (λ moment. result ≡ moment) }
-        ensures range { IsMoment result }
+        ensures range { IsClockTime result }
         ensures same { StaysKnown (next self.old) (next self.new) }
         ensures reliable { stands self.old → stands self.new × (next self.new ≡ next self.old) };
 }
@@ -29,19 +30,19 @@ pub struct FixedClock {
 
 impl Model for FixedClock {
     ghost use Rattle.std.specs.Prelude.{ℤ};
-    ghost use Rattle.outer_traits.specs.Outside.{IsMoment};
+    ghost use Rattle.texts.specs.ClockTime.{IsClockTime};
 
     ghost Value = { ℤ };
 
     ghost view = { λ c. c.moment };
 
-    ghost invariant = { λ c. IsMoment c.moment };
+    ghost invariant = { λ c. IsClockTime c.moment };
 }
 
 impl FixedClock {
     /// A clock that stands at this moment.
     pub fn new(moment: i64) -> Self
-        requires { IsMoment moment }
+        requires { IsClockTime moment }
         ensures { result ≡ moment }
     {
         FixedClock { moment }

@@ -1,7 +1,7 @@
 use Rattle.std.proofs.Common.{◌≡◌, ◌<◌, ◌^◌, take, true}
 use Rattle.std.specs.List.{list_all}
-use Rattle.mdb_model.specs.Texts.{decimal_value, is_digit}
-use Rattle.mdb_sheets.proofs.ask_row.number_of.Given as goal
+use Rattle.texts.specs.Digits.{decimal_value, is_digit}
+use Rattle.texts.proofs.digits.digits_at_most.Given as goal
 
 abbrev pub invariant-loop-octet : goal.invariant-loop-octet
 invariant-loop-octet l = record {

@@ -1,0 +1,3 @@
+pub mod ClockTime
+pub mod Digits
+pub mod Names
