@@ -1,6 +1,6 @@
 //! The commands on an archive in memory: a day of them, what each refuses and in which order, and a load over a disk that fails.
 
-use crate::run::run;
+use archive_cli::run;
 use crate::tests::{fault_of, file_of, words_of};
 use arch_disk::{Crash, Disk, MemDisk};
 use outer_traits::clock::FixedClock;

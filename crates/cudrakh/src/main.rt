@@ -1,55 +1,11 @@
-// The program of the archive: it reads the words of its command line, does what they ask, and says how that ended.
-//
-// `run` is the top call. Its contract has for each job one equation per answer: the cause, what was written, and what became of the disk
-// (specs/Ending.antt), and which answer has to come, where inputs and disk tell what they hold (specs/Expected.antt). specs/Job.antt says which words
-// are a job, by what clap finds in them, and specs/*Text.antt what is printed. A later command adds its case to each of these.
-//
-// The way of a dump: for `scan` and `values` `read_scan_input` takes it in, and `rows` cuts it into packets and keeps the rows of a table that share its octets;
-// for `load` `batches` hands them to the archive's store. The way of an ask: `ask_sheet` reads it, `answer` extracts the cells of the store's plan, and
-// `answer_text` prints them. `line_buffer` gathers lines and writes them in pieces of 64 KiB.
-//
-// The one idea of the proofs: what was sent and what is still buffered, joined, is the text so far (`IsBuffered`), and an archive that was opened is the
-// one that the disk stands for. That the right answer comes follows from the causes of all answers (proofs/Answers.antt).
-//
-// `main` holds the standard streams and makes the objects of the edge to the system (`outer_real`), which tell no contents. The disk is the
-// folder that the environment's `YARCH_HOME` names, or else `yarch`; that it isn't there is met by the first call that wants it.
+//! The program of the archive: it makes the objects of the edge to the system, runs the command of its words, and says on standard
+//! error why that was refused.
+//!
+//! `main` holds the standard streams and makes the objects of the edge to the system (`outer_real`), which tell no contents. The disk is the
+//! folder that the environment's `YARCH_HOME` names, or else `yarch`; that it isn't there is met by the first call that wants it.
 #![tactic(auto)]
 
-mod answer;
-mod answer_text;
-#[cfg(test)]
-mod archive_tests;
-mod ask_sheet;
-mod batches;
-mod cell_text;
-mod cells;
-mod counts;
-mod create;
-mod job;
-mod line_buffer;
-mod load;
-mod parameter;
-mod print_fault;
-mod query;
-mod read;
-mod recover;
-mod report;
-mod rows;
-mod run;
-mod scan;
-mod scan_input;
-#[cfg(test)]
-mod tests;
-mod text;
-mod values;
-#[cfg(test)]
-mod values_tests;
-mod words;
-mod write;
-
-use crate::report::Ended;
-use crate::run::run;
-use crate::text::FaultText;
+use archive_cli::{Ended, FaultText, run};
 use arch_types::refusal::Refusal;
 use outer_real::{RealClock, RealDisk, RealInputs, RealSink, StandardStreams};
 use std::env::{self, VarError};

@@ -1,8 +1,8 @@
 //! The text that `scan` prints, the words, faults of the outside, and the texts of refusals.
 
-use crate::report::Ended;
-use crate::run::run;
-use crate::text::FaultText;
+use archive_cli::Ended;
+use archive_cli::run;
+use archive_cli::FaultText;
 use arch_disk::MemDisk;
 use arch_types::interval::Interval;
 use arch_types::key::Key;
