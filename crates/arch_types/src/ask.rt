@@ -2,7 +2,7 @@
 
 use crate::cell::Cells;
 use crate::name::{Name, Names};
-use lists::items::Items;
+use item_list::Items;
 
 /// The values of a parameter with `from <= time < to`, in milliseconds.
 #[derive(Debug, Drop)]

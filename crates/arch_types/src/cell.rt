@@ -1,7 +1,7 @@
 //! Values of parameters.
 
 use crate::key::Key;
-use lists::items::Items;
+use item_list::Items;
 
 /// A calibrated value.
 #[derive(Clone, Copy, Debug, PartialEq, Eq)]

@@ -1,6 +1,6 @@
 //! What became of rows, and of fills.
 
-use lists::items::Items;
+use item_list::Items;
 
 /// What became of a row, with a position in the history.
 #[derive(Clone, Copy, Debug, PartialEq, Eq)]

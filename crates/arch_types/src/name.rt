@@ -1,13 +1,13 @@
 //! Names of tables, parameters, calibrations and containers.
 
 ghost use Rattle.std.specs.Prelude.{◌≡◌, ◌↔◌, length, true, IfOk, IsOk, OkIff, ◌≤◌, option_map, Some, None, if◌then◌else◌};
-ghost use Rattle.texts.specs.Names.{is_name};
+ghost use Rattle.text_forms.specs.Names.{is_name};
 
 use crate::octets::Octets;
-use lists::items::{Items, TryClone};
+use item_list::{Items, TryClone};
 use std::alloc::{AllocError, Global};
 use std::marker::Model;
-use texts::is_name;
+use text_forms::is_name;
 
 /// 1 to 64 octets of letters, digits, `_`, `.`, `/` and `-`.
 #[derive(Debug, Drop)]
@@ -17,7 +17,7 @@ pub struct Name {
 
 impl Model for Name {
     ghost use Rattle.std.specs.Prelude.{◌≡◌, List, ℕ, true};
-    ghost use Rattle.texts.specs.Names.{is_name};
+    ghost use Rattle.text_forms.specs.Names.{is_name};
 
     ghost Value = { List ℕ };
 

@@ -1,6 +1,6 @@
 //! The records of a histogram.
 
-use lists::items::Items;
+use item_list::Items;
 
 /// Times of one packet name without a gap: the first, the last, in milliseconds, and how many.
 #[derive(Clone, Copy, Debug, PartialEq, Eq)]

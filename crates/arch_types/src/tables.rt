@@ -1,6 +1,6 @@
 //! The tables that a row goes into.
 
-use lists::items::Items;
+use item_list::Items;
 
 /// Numbers of tables, 0 the table `tm`.
 pub type TableList = Items<u8>;

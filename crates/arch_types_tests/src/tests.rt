@@ -9,7 +9,7 @@ use arch_types::refusal::{BadKind, Refusal, Sheet, Which};
 use arch_types::row::{Row, Rows};
 use std::alloc::{AllocError, Global};
 use std::test::Fail;
-use texts::is_name;
+use text_forms::is_name;
 
 const STATUSES: [(Refusal, u8); 15] = [
     (Refusal::Usage, 1),

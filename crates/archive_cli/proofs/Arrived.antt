@@ -12,7 +12,7 @@ use Rattle.mdb_model.specs.declared.container.Container.{Container}
 use Rattle.mdb_model.specs.Database.{Database, IsDatabase}
 use Rattle.mdb_model.proofs.Structure.{structured}
 use Rattle.container_extract.specs.Chain.{has_archive, packet_name_of, chain_of}
-use Rattle.texts.specs.ClockTime.{IsClockTime}
+use Rattle.text_forms.specs.ClockTime.{IsClockTime}
 use Rattle.archive_store.specs.declared.batch.Arrival.{Arrival}
 use Rattle.archive_store.specs.declared.batch.Batch.{Batch}
 use Rattle.archive_store.specs.declared.head.Head.{Head}

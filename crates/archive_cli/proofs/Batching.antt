@@ -20,7 +20,7 @@ use Rattle.archive_core.specs.Fills.{pending_fault_of}
 use Rattle.archive_core.specs.Items.{Item}
 use Rattle.archive_core.specs.Outcomes.{fresh_of}
 use Rattle.archive_core.proofs.Outcomes.{fresh_added, ingested-append}
-use Rattle.texts.specs.ClockTime.{IsClockTime}
+use Rattle.text_forms.specs.ClockTime.{IsClockTime}
 use Rattle.mdb_model.specs.Database.{IsDatabase}
 use Rattle.space_packet.specs.declared.dump.Why.{Why}
 use Rattle.space_packet.specs.Cut.{IsCut, IsPart}

@@ -5,7 +5,7 @@ use Rattle.std.specs.Str.{bytes_eq}
 use Rattle.arch_types.specs.declared.refusal.Refusal.{Refusal}
 use Rattle.arch_types.specs.declared.refusal.Refusal.TheVariants.{Usage, OutOfMemory}
 use Rattle.clap.specs.Walk.{Row, first_of}
-use Rattle.texts.specs.Digits.{digits_at_most}
+use Rattle.text_forms.specs.Digits.{digits_at_most}
 use Rattle.archive_cli.specs.Job.{Job, Scan, Values, Create, Load, Query, Recover, scan_app, scan_of, values_app, values_of, values_words, create_app, create_of, sheet_words, load_app, load_of, load_words, link_of, from_one, query_app, query_of, recover_app, recover_of, job_of, HasLink, IsNoJob}
 use Rattle.archive_cli.specs.Words.{rows_of_words, IsNotFound}
 

@@ -8,7 +8,7 @@ use Rattle.arch_types.specs.declared.refusal.BadKind.{BadKind}
 use Rattle.arch_types.specs.declared.refusal.BadKind.TheVariants as bad
 use Rattle.arch_types.specs.History.{firsts}
 use Rattle.arch_types.specs.Table.{table_of}
-use Rattle.texts.specs.ClockTime.{IsClockTime}
+use Rattle.text_forms.specs.ClockTime.{IsClockTime}
 use Rattle.space_packet.specs.declared.dump.Why.{Why}
 use Rattle.space_packet.specs.declared.dump.Why.TheVariants as why
 use Rattle.space_packet.specs.Rest.{why_of}

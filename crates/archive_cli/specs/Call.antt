@@ -3,7 +3,7 @@ use Rattle.std.specs.Prelude.{◌≡◌, ℕ, ℤ, List, ◌++◌, Option, Some,
 use Rattle.arch_types.specs.declared.refusal.Refusal.{Refusal}
 use Rattle.arch_types.specs.declared.refusal.Refusal.TheVariants.{WriteFault}
 use Rattle.outer_traits.specs.Outside.{Files, HasRisen, Stays, WritesSome}
-use Rattle.texts.specs.ClockTime.{IsClockTime}
+use Rattle.text_forms.specs.ClockTime.{IsClockTime}
 
 -- the words, and what the inputs, the clock and the sink tell, before and after
 pub record Call : Type 0 where

@@ -5,7 +5,7 @@ use Rattle.arch_types.specs.declared.refusal.Refusal.{Refusal}
 use Rattle.arch_types.specs.declared.refusal.Refusal.TheVariants.{Usage, OutOfMemory}
 use Rattle.clap.specs.Walk.{Row, first_of}
 use Rattle.clap.specs.Simple.{App, with_rule}
-use Rattle.texts.specs.Digits.{digits_at_most}
+use Rattle.text_forms.specs.Digits.{digits_at_most}
 use Rattle.archive_cli.specs.Words.{option_rule, plain_app, words_app, rows_of_words}
 
 -- the names of three sheets and of a dump, and the name of a parameter

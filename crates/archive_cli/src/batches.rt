@@ -3,7 +3,7 @@
 ghost use Rattle.std.specs.Prelude.{◌≡◌, ◌+◌, ◌<◌, ◌≤◌, [], drop, length, IfOk, IfErr, OnOk};
 ghost use Rattle.arch_types.specs.Dump.{BeginsWithNoPacket};
 ghost use Rattle.arch_types.specs.Packet.{IsPacket};
-ghost use Rattle.texts.specs.ClockTime.{IsClockTime};
+ghost use Rattle.text_forms.specs.ClockTime.{IsClockTime};
 ghost use Rattle.archive_cli.specs.Batches.{arrival_from, arrivals_with, first_table, IsIngested, IsStopped, IsNextBatch};
 
 use arch_disk::Disk;

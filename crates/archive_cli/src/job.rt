@@ -9,7 +9,7 @@ ghost use Rattle.archive_cli.specs.Words.{rows_of_words};
 use crate::words::{found_option, found_words, found_words_and_option, given_word, word_of};
 use arch_types::refusal::Refusal;
 use std::alloc::Global;
-use texts::number_of;
+use text_forms::number_of;
 
 /// The names of three sheets and of a dump, and the name of a parameter.
 #[derive(Clone, Copy, Debug)]

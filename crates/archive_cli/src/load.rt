@@ -3,7 +3,7 @@
 ghost use Rattle.std.specs.Prelude.{◌≡◌, ◌≢◌, ◌<◌, ◌≤◌, ◌+◌, ◌-◌, ◌^◌, ℕ, [], IsTrue, IfOk, IfErr, IfSome, MatchResult, None, Some, length};
 ghost use Rattle.arch_disk.specs.Disk.{raised};
 ghost use Rattle.outer_traits.specs.Outside.{Stays};
-ghost use Rattle.texts.specs.ClockTime.{IsClockTime};
+ghost use Rattle.text_forms.specs.ClockTime.{IsClockTime};
 ghost use Rattle.mdb_sheets.specs.Sheets.{ReadsCounted};
 ghost use Rattle.archive_cli.specs.JobView.{load_words_of};
 ghost use Rattle.archive_cli.specs.Call.{WritesCounted};

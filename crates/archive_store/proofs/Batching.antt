@@ -11,7 +11,7 @@ use Rattle.archive_core.specs.Outcomes.{answered_new, outcomes_of, fresh_of}
 use Rattle.archive_core.proofs.Outcomes.{fresh_new, length-fresh}
 use Rattle.field_codec.specs.declared.entry.Entry.TheVariants as entries
 use Rattle.field_codec.specs.Entries.{IsStored, IsEntry}
-use Rattle.texts.specs.ClockTime.{IsClockTime}
+use Rattle.text_forms.specs.ClockTime.{IsClockTime}
 use Rattle.archive_store.specs.declared.batch.Arrival.{Arrival}
 use Rattle.archive_store.specs.declared.batch.Batch.{Batch}
 use Rattle.archive_store.specs.declared.head.Head.{Head}

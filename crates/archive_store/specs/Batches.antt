@@ -4,7 +4,7 @@ use Rattle.std.specs.List.{flat_map, AllByRecursion}
 use Rattle.arch_types.specs.declared.row.Row.{Row}
 use Rattle.arch_types.specs.Packet.{IsPacket, is_idle}
 use Rattle.arch_types.specs.Arrivals.{row_of}
-use Rattle.texts.specs.ClockTime.{IsClockTime}
+use Rattle.text_forms.specs.ClockTime.{IsClockTime}
 use Rattle.archive_store.specs.declared.head.Head.{Head}
 use Rattle.archive_store.specs.declared.batch.Arrival.{Arrival}
 use Rattle.archive_store.specs.declared.batch.Batch.{Batch}

@@ -1,6 +1,6 @@
 //! Lists of containers.
 
-use lists::items::Items;
+use item_list::Items;
 
 /// The numbers of containers, from the root on.
 pub type Chain = Items<u16>;

@@ -1,7 +1,7 @@
 //! Values of parameters in one packet.
 
 use arch_types::cell::Eng;
-use lists::items::Items;
+use item_list::Items;
 
 /// A parameter's value in a packet.
 #[derive(Clone, Copy, Debug, PartialEq, Eq)]

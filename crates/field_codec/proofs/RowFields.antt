@@ -18,7 +18,7 @@ use Rattle.octet_fields.specs.Spelling.{counted, number, signed}
 use Rattle.octet_fields.proofs.Exact.{some_is, guard_some, IsExact-both, IsExact-tested, IsExact-mapped, IsExact-times}
 use Rattle.octet_fields.proofs.Numbers.{exact8, exact16, exact_i64}
 use Rattle.field_codec.specs.Entries.{IsStored, AreStored}
-use Rattle.texts.specs.ClockTime.{IsClockTime, is_clock_time}
+use Rattle.text_forms.specs.ClockTime.{IsClockTime, is_clock_time}
 use Rattle.field_codec.specs.Spelling.{row_octets, rows_octets}
 use Rattle.field_codec.specs.Reading.{Fields, IsEndOf, fields_at, is_count, is_stored, packet_at, row_at, row_of, rows_at}
 use Rattle.field_codec.proofs.Ends.{end_behind}

@@ -3,7 +3,7 @@ use Rattle.std.proofs.Common.{◌≡◌, ℕ, true, ◌+◌, ◌*◌, ◌<◌, �
 use Rattle.std.specs.Int.{w8, w64}
 use Rattle.std.specs.List.{AllByRecursion, flat_map}
 use Rattle.arch_types.specs.declared.row.Row.{Row}
-use Rattle.texts.specs.Names.{is_name}
+use Rattle.text_forms.specs.Names.{is_name}
 use Rattle.arch_types.specs.Packet.{IsPacket}
 use Rattle.mdb_model.specs.Database.{Database, IsDatabase}
 use Rattle.mdb_model.specs.Spelling.{database_octets}

@@ -3,8 +3,8 @@ use Rattle.std.specs.Prelude.{◌≡◌, ◌≢◌, ℕ, ℤ, pos, ◌<◌, ◌�
 use Rattle.std.specs.List.{AllByRecursion}
 use Rattle.arch_types.specs.declared.row.Row.{Row}
 use Rattle.arch_types.specs.GenerationTime.{key_of}
-use Rattle.texts.specs.Names.{is_name}
-use Rattle.texts.specs.ClockTime.{IsClockTime}
+use Rattle.text_forms.specs.Names.{is_name}
+use Rattle.text_forms.specs.ClockTime.{IsClockTime}
 use Rattle.arch_types.specs.Packet.{IsPacket, is_idle}
 use Rattle.mdb_model.specs.Database.{IsDatabase}
 use Rattle.field_codec.specs.declared.entry.Entry.{Entry}

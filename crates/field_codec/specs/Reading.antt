@@ -5,8 +5,8 @@ use Rattle.std.specs.List.{list_any}
 use Rattle.std.specs.Str.{bytes_eq}
 use Rattle.arch_types.specs.declared.row.Row.{Row}
 use Rattle.arch_types.specs.GenerationTime.{key_of}
-use Rattle.texts.specs.Names.{is_name}
-use Rattle.texts.specs.ClockTime.{is_clock_time}
+use Rattle.text_forms.specs.Names.{is_name}
+use Rattle.text_forms.specs.ClockTime.{is_clock_time}
 use Rattle.arch_types.specs.Packet.{packet_length, is_idle}
 use Rattle.octet_fields.specs.Reading.{Reader, both_at, counted_at, mapped_at, name_at, number_at, signed_at, tested_at, times_at}
 use Rattle.field_codec.specs.declared.rows.Fields.{Fields as StoredFields}

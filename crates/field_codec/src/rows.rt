@@ -19,7 +19,7 @@ use space_packet::dump::first_packet;
 use space_packet::header::is_idle_packet;
 use space_packet::key::key_of;
 use std::alloc::{AllocError, Global};
-use texts::is_clock_time;
+use text_forms::is_clock_time;
 
 /// The number of rows that an entry holds at most.
 const MOST_ROWS: u16 = 1024;

@@ -28,7 +28,7 @@ use Rattle.mdb_model.specs.Database.{row_count, table_len}
 use Rattle.mdb_model.specs.Rechecking.{HasRows}
 use Rattle.mdb_model.specs.Spelling.{FitsCalibration, FitsEnum, FitsParameter, FitsPoints, FitsPoly, FitsTable, link}
 use Rattle.mdb_model.specs.Texts.{Text, is_label}
-use Rattle.texts.specs.Names.{is_name}
+use Rattle.text_forms.specs.Names.{is_name}
 use Rattle.mdb_model.proofs.Ends.{at_last-push}
 use Rattle.mdb_model.proofs.Passing.{all_pass, each_none, is_true}
 

@@ -12,7 +12,7 @@ use Rattle.mdb_model.specs.Checks.{Checks, first_broken}
 use Rattle.mdb_model.specs.Lists.{at_last, last_of}
 use Rattle.mdb_model.specs.Numbers.{has_number, is_decimal, is_whole_number}
 use Rattle.mdb_model.specs.Texts.{Text, is_label, place_of}
-use Rattle.texts.specs.Names.{is_name}
+use Rattle.text_forms.specs.Names.{is_name}
 
 -- a row: the number of fields of its record, its name, and what its other columns say
 pub record CalibrationRow : Type 0 where

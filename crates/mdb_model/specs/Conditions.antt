@@ -6,7 +6,7 @@ use Rattle.mdb_model.specs.declared.container.Comparison.{Comparison}
 use Rattle.mdb_model.specs.declared.container.Operator.{Operator}
 use Rattle.mdb_model.specs.declared.container.Operator.TheVariants.{Equal, NotEqual, Less, LessOrEqual, Greater, GreaterOrEqual}
 use Rattle.mdb_model.specs.Texts.{Text, place_of, whole_number}
-use Rattle.texts.specs.Names.{is_name_octet}
+use Rattle.text_forms.specs.Names.{is_name_octet}
 
 -- the front of a text, whose octets pass a test, and what comes after it
 abbrev pub front_len : (ℕ → Bool) → Text → ℕ

@@ -19,7 +19,7 @@ use Rattle.mdb_model.specs.Lists.{at_last, is_empty}
 use Rattle.mdb_model.specs.Numbers.{is_in_range}
 use Rattle.mdb_model.specs.ParameterRows.{is_reference, number_of, reference_to}
 use Rattle.mdb_model.specs.Texts.{place_of}
-use Rattle.texts.specs.Names.{is_name}
+use Rattle.text_forms.specs.Names.{is_name}
 
 -- a row: the number of fields of its record, its columns before the entry, and its entry
 pub record ContainerRow : Type 0 where

@@ -12,7 +12,7 @@ use Rattle.mdb_model.specs.declared.rows.Reference.{Reference}
 use Rattle.mdb_model.specs.declared.rows.Reference.TheVariants.{Nothing, Unknown, Known}
 use Rattle.mdb_model.specs.Checks.{Checks, first_broken}
 use Rattle.mdb_model.specs.Texts.{place_of}
-use Rattle.texts.specs.Names.{is_name}
+use Rattle.text_forms.specs.Names.{is_name}
 
 -- the lowest octet comes first
 abbrev pub is_le : Coding → Bool

@@ -29,7 +29,7 @@ use Rattle.mdb_model.specs.Paths.{path_end}
 use Rattle.mdb_model.specs.Lists.{is_empty}
 use Rattle.mdb_model.specs.ParameterRows.{parameters_of}
 use Rattle.mdb_model.specs.Texts.{Text, decimal_number, field, offset, place_of, small_number, whole_number}
-use Rattle.texts.specs.Digits.{digits_at_most}
+use Rattle.text_forms.specs.Digits.{digits_at_most}
 
 -- what the columns kind, x and y say
 abbrev pub read_row_values : Text → Text → Text → RowValues

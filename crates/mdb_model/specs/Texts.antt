@@ -2,7 +2,7 @@
 use Rattle.std.specs.Prelude.{ℕ, ◌+◌, ◌*◌, ◌-◌, ◌^◌, ◌==◌, ◌&&◌, ◌||◌, Bool, true, false, List, [], ◌∷◌, length, take, drop, Option, Some, None, if◌then◌else◌, nat_le, slice_get, unwrap_or, position, fold, option_map, ℤ, pos, negsuc, neg_ℤ, min}
 use Rattle.std.specs.List.{list_all}
 use Rattle.std.specs.Str.{bytes_eq}
-use Rattle.texts.specs.Digits.{decimal_value, digits_at_most, is_digit}
+use Rattle.text_forms.specs.Digits.{decimal_value, digits_at_most, is_digit}
 
 -- the octets of a text
 abbrev pub Text : Type 0

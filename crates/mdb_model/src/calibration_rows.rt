@@ -17,7 +17,7 @@ use crate::names::{Names, Numbers};
 use crate::rows::RowValues;
 use crate::texts::is_label;
 use std::alloc::{AllocError, Global};
-use texts::is_name;
+use text_forms::is_name;
 
 /// The number lies from -2^63 to 2^64 - 1.
 pub(crate) fn is_in_range(number: i128) -> bool

@@ -3,14 +3,14 @@
 ghost use Rattle.std.specs.Prelude.{◌≡◌, ◌≤◌, ◌<◌, ◌==◌, ◌∷◌, not, length, drop, option_copied, IfOk, IfSome};
 ghost use Rattle.std.specs.List.{list_all};
 ghost use Rattle.mdb_model.specs.Conditions.{after, comparison, comparison_named, comparison_of, comparison_with, condition, front, front_len, is_no_semicolon, is_no_space, is_operator_octet, is_space, operator_of, pieces, pieces_after};
-ghost use Rattle.texts.specs.Names.{is_name_octet};
+ghost use Rattle.text_forms.specs.Names.{is_name_octet};
 
 use crate::container::{Comparison, Operator};
 use crate::items::Items;
 use crate::names::Names;
 use crate::texts::whole_number;
 use std::alloc::{AllocError, Global};
-use texts::is_name_octet;
+use text_forms::is_name_octet;
 
 fn is_space(octet: u8) -> bool
     ensures { result ≡ is_space octet }

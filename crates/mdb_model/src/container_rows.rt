@@ -21,7 +21,7 @@ use crate::parameter::Parameter;
 use crate::parameter_rows::{is_reference, number_of};
 use crate::rows::{ContainerColumns, NewContainer, Position, Reference};
 use std::alloc::{AllocError, Global};
-use texts::is_name;
+use text_forms::is_name;
 
 /// What the path from the root down to a container comes to.
 #[derive(Drop, Clone, Copy)]

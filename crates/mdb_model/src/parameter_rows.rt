@@ -10,7 +10,7 @@ use crate::names::Names;
 use crate::parameter::{Coding, Parameter};
 use crate::rows::{ParameterRow, Reference};
 use std::alloc::{AllocError, Global};
-use texts::is_name;
+use text_forms::is_name;
 
 fn is_le(coding: Coding) -> bool
     ensures { result ≡ is_le coding }

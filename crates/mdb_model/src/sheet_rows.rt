@@ -5,7 +5,7 @@ ghost use Rattle.mdb_model.specs.ContainerRows.{is_nothing};
 ghost use Rattle.mdb_model.specs.Lists.{is_empty};
 ghost use Rattle.mdb_model.specs.Sheets.{are_texts, is_calibration_header, is_container_header, is_parameter_header, position_from, read_archive, read_calibration, read_row_values, read_coding, read_columns, read_parameter, read_position, read_reference, reference_from};
 ghost use Rattle.mdb_model.specs.Texts.{field, offset};
-ghost use Rattle.texts.specs.Digits.{digits_at_most};
+ghost use Rattle.text_forms.specs.Digits.{digits_at_most};
 
 use crate::condition::condition;
 use crate::name::MdbName;
@@ -15,7 +15,7 @@ use crate::rows::{ContainerColumns, NewContainer, ParameterRow, Position, Refere
 use crate::sheet::Record;
 use crate::texts::{decimal_number, offset, small_number, whole_number};
 use std::alloc::{AllocError, Global};
-use texts::digits_at_most;
+use text_forms::digits_at_most;
 
 /// What the columns kind, x and y of a calibration say.
 pub(crate) fn read_row_values(

@@ -3,9 +3,9 @@
 ghost use Rattle.std.specs.Prelude.{◌≡◌, ◌≤◌, ◌<◌, ◌^◌, ◌==◌, length, position, None, IfSome, OnSome};
 ghost use Rattle.std.specs.List.{list_all};
 ghost use Rattle.mdb_model.specs.Texts.{decimal_number, is_label, is_printable, millionths, millionths_at, millionths_from, offset, small_number, whole_number};
-ghost use Rattle.texts.specs.Digits.{digits_at_most};
+ghost use Rattle.text_forms.specs.Digits.{digits_at_most};
 
-use texts::{digits_at_most, is_digit};
+use text_forms::{digits_at_most, is_digit};
 
 fn is_printable(octet: u8) -> bool
     ensures { result ≡ is_printable octet }

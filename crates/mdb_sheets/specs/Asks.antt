@@ -9,12 +9,12 @@ use Rattle.arch_types.specs.declared.refusal.Sheet.TheVariants as sheet
 use Rattle.arch_types.specs.declared.refusal.Which.TheVariants.{SheetOctets}
 use Rattle.arch_types.specs.declared.refusal.Which.TheVariants as which
 use Rattle.arch_types.specs.Limits.{limit_of}
-use Rattle.texts.specs.Names.{is_name}
+use Rattle.text_forms.specs.Names.{is_name}
 use Rattle.mdb_model.specs.Checks.{Checks, first_broken, or_else}
 use Rattle.mdb_model.specs.Lists.{is_empty}
 use Rattle.mdb_model.specs.Sheets.{are_texts}
 use Rattle.mdb_model.specs.Texts.{field}
-use Rattle.texts.specs.Digits.{digits_at_most}
+use Rattle.text_forms.specs.Digits.{digits_at_most}
 use Rattle.outer_traits.specs.Outside.{HasRisen}
 use Rattle.time_text.specs.TimeText.{time_of}
 use Rattle.mdb_sheets.specs.declared.ask_row.AskFault.{AskFault}

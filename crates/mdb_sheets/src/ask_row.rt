@@ -8,7 +8,7 @@ use arch_types::name::Name;
 use arch_types::octets::Octets;
 use mdb_model::Record;
 use std::alloc::{AllocError, Global};
-use texts::number_of;
+use text_forms::number_of;
 use time_text::read_time_octets;
 
 /// Why a row is no ask.

@@ -3,7 +3,7 @@
 use outer_traits::clock::Clock;
 use std::rt::Clock as SystemClock;
 use std::time::{SystemTime, UNIX_EPOCH};
-use texts::LAST_CLOCK_TIME;
+use text_forms::LAST_CLOCK_TIME;
 
 /// The system's clock, kept to the years 1970 to 9999. Where it can't be read it stands at the first moment.
 #[derive(Drop)]

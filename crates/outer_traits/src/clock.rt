@@ -2,7 +2,7 @@
 
 ghost use Rattle.std.specs.Prelude.{◌≡◌, ℤ, Option, IfSome};
 ghost use Rattle.outer_traits.specs.Outside.{StaysKnown};
-ghost use Rattle.texts.specs.ClockTime.{IsClockTime};
+ghost use Rattle.text_forms.specs.ClockTime.{IsClockTime};
 
 use std::marker::Model;
 
@@ -30,7 +30,7 @@ pub struct FixedClock {
 
 impl Model for FixedClock {
     ghost use Rattle.std.specs.Prelude.{ℤ};
-    ghost use Rattle.texts.specs.ClockTime.{IsClockTime};
+    ghost use Rattle.text_forms.specs.ClockTime.{IsClockTime};
 
     ghost Value = { ℤ };
 

@@ -4,7 +4,7 @@ ghost use Rattle.std.specs.List.Sorted.{IsPermutation, IsSorted};
 ghost use Rattle.partitions.specs.Partition.{partition_cmp};
 
 use crate::partition::Partition;
-use lists::items::Items;
+use item_list::Items;
 
 /// Numbers of packet names.
 pub type PnameList = Items<u16>;

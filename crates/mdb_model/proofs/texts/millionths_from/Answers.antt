@@ -1,6 +1,6 @@
 use Rattle.std.proofs.Common.{length, arith}
 use Rattle.mdb_model.proofs.Powers.{fraction_small}
-use Rattle.texts.proofs.Powers.{digits_small}
+use Rattle.text_forms.proofs.Powers.{digits_small}
 use Rattle.mdb_model.proofs.texts.millionths_from.Goals as goal
 
 pub overflow_mul-result : goal.overflow_mul-result

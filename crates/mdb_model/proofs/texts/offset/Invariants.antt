@@ -1,6 +1,6 @@
 use Rattle.std.proofs.Common.{◌≡◌, take, true, min}
 use Rattle.std.specs.List.{list_all}
-use Rattle.texts.specs.Digits.{decimal_value, is_digit}
+use Rattle.text_forms.specs.Digits.{decimal_value, is_digit}
 use Rattle.mdb_model.proofs.texts.offset.Given as goal
 
 abbrev pub invariant-loop-octet : goal.invariant-loop-octet

@@ -1,5 +1,5 @@
 use Rattle.std.proofs.Common.{length, arith}
-use Rattle.texts.proofs.Powers.{digits_small}
+use Rattle.text_forms.proofs.Powers.{digits_small}
 use Rattle.mdb_model.proofs.texts.whole_millionths.Goals as goal
 
 pub overflow_mul-result : goal.overflow_mul-result

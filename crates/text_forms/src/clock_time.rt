@@ -1,7 +1,7 @@
 //! The range of a clock.
 
 ghost use Rattle.std.specs.Prelude.{◌≡◌};
-ghost use Rattle.texts.specs.ClockTime.{is_clock_time};
+ghost use Rattle.text_forms.specs.ClockTime.{is_clock_time};
 
 /// 9999-12-31T23:59:59.999 in milliseconds since 1970-01-01T00:00:00.
 pub const LAST_CLOCK_TIME: i64 = 253_402_300_799_999;

@@ -1,5 +1,5 @@
 use Rattle.std.proofs.Common.{◌≡◌, take}
-use Rattle.lists.proofs.items.Items.copy.Given as goal
+use Rattle.item_list.proofs.items.Items.copy.Given as goal
 
 abbrev pub invariant-loop-item : goal.invariant-loop-item
 invariant-loop-item g l = l.list.items ≡ take l.item-index l.self

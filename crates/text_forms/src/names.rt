@@ -2,7 +2,7 @@
 
 ghost use Rattle.std.specs.Prelude.{◌≡◌};
 ghost use Rattle.std.specs.List.{list_all};
-ghost use Rattle.texts.specs.Names.{is_name, is_name_octet};
+ghost use Rattle.text_forms.specs.Names.{is_name, is_name_octet};
 
 /// Whether an octet may stand in a name.
 pub fn is_name_octet(octet: u8) -> bool

@@ -1,7 +1,7 @@
 use Rattle.std.proofs.Common.{◌≡◌, ◌<◌, ◌^◌, take, true}
 use Rattle.std.specs.List.{list_all}
-use Rattle.texts.specs.Digits.{decimal_value, is_digit}
-use Rattle.texts.proofs.digits.digits_at_most.Given as goal
+use Rattle.text_forms.specs.Digits.{decimal_value, is_digit}
+use Rattle.text_forms.proofs.digits.digits_at_most.Given as goal
 
 abbrev pub invariant-loop-octet : goal.invariant-loop-octet
 invariant-loop-octet l = record {

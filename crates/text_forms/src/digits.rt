@@ -1,7 +1,7 @@
 //! Decimal digits, read.
 
 ghost use Rattle.std.specs.Prelude.{◌≡◌, ◌≤◌, ◌<◌, ◌^◌, length, IfSome, OnSome};
-ghost use Rattle.texts.specs.Digits.{digits_at_most, is_digit};
+ghost use Rattle.text_forms.specs.Digits.{digits_at_most, is_digit};
 
 /// Whether an octet is a decimal digit in ASCII.
 pub fn is_digit(octet: u8) -> bool
