@@ -9,7 +9,7 @@ use Rattle.arch_types.specs.Dump.{IsDump}
 use Rattle.outer_traits.specs.Outside.{Files}
 use Rattle.arch_disk.specs.Disk.{Device}
 use Rattle.archive_cli.specs.declared.report.Report.{Report}
-use Rattle.archive_cli.specs.Job.{Job, Scan, Values, Create, Load, Query, Recover, ValuesWords, job_of}
+use Rattle.command_words.specs.Job.{Job, Scan, Values, Create, Load, Query, Recover, ValuesWords, job_of}
 use Rattle.archive_cli.specs.Call.{Call, WritesNothing}
 use Rattle.archive_cli.specs.Ending.{IsJobEnding, IsEnding}
 use Rattle.archive_cli.specs.Expected.{IsJobExpected, IsExpected}

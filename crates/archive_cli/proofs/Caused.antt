@@ -14,8 +14,8 @@ use Rattle.archive_cli.specs.declared.report.Report.{Report}
 use Rattle.archive_cli.specs.Call.{Call}
 use Rattle.archive_cli.specs.Caused.{HasGoodSheets, IsCreateCaused, IsQueryCaused, IsRecoverCaused}
 use Rattle.archive_cli.specs.CreateEnding.{AreRefused}
-use Rattle.archive_cli.specs.Job.{SheetWords}
-use Rattle.archive_cli.specs.Printing.{IsFinished}
+use Rattle.command_words.specs.Job.{SheetWords}
+use Rattle.dump_lines.specs.Output.{IsFinished}
 use Rattle.archive_cli.specs.QueryEnding.{AreAsksOf, AreRefusedAsks, IsAskSheet, IsReply, IsSheetReply}
 use Rattle.archive_cli.specs.Reading.{IsReadRefusal}
 use Rattle.archive_cli.specs.Report.{unopened, read_only}

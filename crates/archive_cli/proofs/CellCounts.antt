@@ -9,8 +9,8 @@ use Rattle.arch_types.specs.Table.{sorted}
 use Rattle.mdb_model.specs.Database.{Database}
 use Rattle.container_extract.specs.Extraction.{cell_of}
 use Rattle.yarch_table.specs.Stored.{rows_of}
-use Rattle.archive_cli.specs.declared.rows.DumpTable.{DumpTable}
-use Rattle.archive_cli.specs.DumpTable.{IsDumpTable}
+use Rattle.dump_lines.specs.declared.rows.DumpTable.{DumpTable}
+use Rattle.dump_lines.specs.DumpTable.{IsDumpTable}
 use Rattle.archive_cli.specs.ReadDump.{dump_limit}
 use Rattle.archive_cli.specs.ValuesPrinting.{count_if, count_of}
 

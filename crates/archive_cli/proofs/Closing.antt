@@ -8,7 +8,7 @@ use Rattle.space_packet.specs.declared.dump.Why.TheVariants as why
 use Rattle.archive_store.specs.StoreView.{StoreView}
 use Rattle.archive_cli.specs.declared.report.Report.{Report}
 use Rattle.archive_cli.specs.Loading.{IsClosed, IsStoreClosed, IsLetGo, IsReopened}
-use Rattle.archive_cli.specs.Printing.{IsFinished}
+use Rattle.dump_lines.specs.Output.{IsFinished}
 use Rattle.archive_cli.specs.ReadDump.{ending_of}
 
 module _ {D : Type 0} (device : Device D) (store : StoreView D) where

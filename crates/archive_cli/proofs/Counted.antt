@@ -12,10 +12,10 @@ use Rattle.mdb_sheets.specs.Sheets.{ReadsCounted}
 use Rattle.outer_traits.specs.Outside.{Files, HasRisen, Stays}
 use Rattle.space_packet.specs.declared.dump.Why.{Why}
 use Rattle.space_packet.specs.declared.dump.Why.TheVariants as why
-use Rattle.archive_cli.specs.declared.print_fault.PrintFault.{PrintFault}
-use Rattle.archive_cli.specs.declared.print_fault.PrintFault.TheVariants as printing
-use Rattle.archive_cli.specs.Call.{WritesCounted}
-use Rattle.archive_cli.specs.Parameter.{IsNoParameter, first_refusal, number_named, parameter_refusal}
+use Rattle.dump_lines.specs.declared.print_fault.PrintFault.{PrintFault}
+use Rattle.dump_lines.specs.declared.print_fault.PrintFault.TheVariants as printing
+use Rattle.dump_lines.specs.Output.{WritesCounted}
+use Rattle.retrieval.specs.Parameter.{IsNoParameter, first_refusal, number_named, parameter_refusal}
 use Rattle.archive_cli.specs.Reading.{IsReadRefusal, IsSheetsRefusal}
 use Rattle.archive_cli.specs.ReadDump.{ending_of}
 use Rattle.archive_cli.specs.ValuesPrinting.{PrintCounted, refusal_of_print}

@@ -16,8 +16,8 @@ use Rattle.archive_cli.specs.ArchiveExpected.{IsCreateExpected, NoDiskFault, cre
 use Rattle.archive_cli.specs.Call.{Call}
 use Rattle.archive_cli.specs.CreateEnding.{AreGood, AreRefused, HoldsOne, IsCreateEnding}
 use Rattle.archive_cli.specs.Expecting.{IsOrMemory, NoFault}
-use Rattle.archive_cli.specs.Job.{SheetWords}
-use Rattle.archive_cli.specs.Parameter.{sheets_refusal}
+use Rattle.command_words.specs.Job.{SheetWords}
+use Rattle.retrieval.specs.Parameter.{sheets_refusal}
 use Rattle.archive_cli.specs.ValuesExpected.{refusal_of_input, known_sheet}
 use Rattle.archive_cli.proofs.Recovered.{not_raised}
 use Rattle.archive_cli.proofs.Known.{not_risen}

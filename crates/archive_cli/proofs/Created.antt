@@ -25,12 +25,12 @@ use Rattle.archive_store.specs.Entries.{archive}
 use Rattle.archive_store.specs.StoreView.{StoreView, IsNow, CrashInvariant, unacknowledged_rows}
 use Rattle.archive_store.specs.Stands.{StandsFor}
 use Rattle.archive_cli.specs.declared.report.Report.{Report}
-use Rattle.archive_cli.specs.Call.{Call, WritesNothing, WritesCounted}
+use Rattle.archive_cli.specs.Call.{Call, WritesNothing}
+use Rattle.dump_lines.specs.Output.{WritesCounted, IsFinished}
 use Rattle.archive_cli.specs.ReadOnly.{IsUntouched}
 use Rattle.archive_cli.specs.CreateEnding.{AreGood, AreRefused, create_line, HoldsOne, IsCreateEnding, IsMade, IsStillNone, new_head}
-use Rattle.archive_cli.specs.Job.{SheetWords}
-use Rattle.archive_cli.specs.Parameter.{broken_rule, passed_limit, refusal_of_sheets, sheets_refusal}
-use Rattle.archive_cli.specs.Printing.{IsFinished}
+use Rattle.command_words.specs.Job.{SheetWords}
+use Rattle.retrieval.specs.Parameter.{broken_rule, passed_limit, refusal_of_sheets, sheets_refusal}
 use Rattle.archive_cli.specs.Durable.{FailedAtMostOnce}
 use Rattle.archive_cli.specs.Report.{unopened, read_only}
 use Rattle.archive_cli.proofs.ReadOnly.{untouched}

@@ -11,8 +11,8 @@ use Rattle.mdb_model.specs.Sheets.{sheets_database, sheets_fault}
 use Rattle.archive_cli.specs.declared.report.Report.{Report}
 use Rattle.archive_cli.specs.Call.{Call}
 use Rattle.archive_cli.specs.Ending.{IsJobEnding}
-use Rattle.archive_cli.specs.Job.{Scan, SheetWords, Values, ValuesWords}
-use Rattle.archive_cli.specs.Parameter.{first_refusal, number_named, parameter_refusal}
+use Rattle.command_words.specs.Job.{Scan, SheetWords, Values, ValuesWords}
+use Rattle.retrieval.specs.Parameter.{first_refusal, number_named, parameter_refusal}
 use Rattle.archive_cli.specs.Report.{unopened}
 use Rattle.archive_cli.specs.ScanEnding.{IsScanEnding}
 use Rattle.archive_cli.specs.ValuesEnding.{IsInputRefused, IsParameterRefused, IsValuesEnding}

@@ -14,7 +14,7 @@ use Rattle.archive_cli.specs.Call.{Call}
 use Rattle.archive_cli.specs.ReadOnly.{IsReadOnly}
 use Rattle.archive_cli.specs.CreateEnding.{IsCreateEnding}
 use Rattle.archive_cli.specs.Ending.{IsJobEnding}
-use Rattle.archive_cli.specs.Job.{Job, LoadWords, SheetWords, Scan, Values, Create, Load, Query, Recover}
+use Rattle.command_words.specs.Job.{Job, LoadWords, SheetWords, Scan, Values, Create, Load, Query, Recover}
 use Rattle.archive_cli.specs.LoadEnding.{IsLoadEnding}
 use Rattle.archive_cli.specs.QueryEnding.{IsQueryEnding}
 use Rattle.archive_cli.specs.RecoverEnding.{IsRecoverEnding}

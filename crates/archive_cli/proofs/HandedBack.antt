@@ -13,9 +13,9 @@ use Rattle.archive_cli.specs.declared.ask_sheet.AskSheet.{AskSheet}
 use Rattle.archive_cli.specs.declared.ask_sheet.AskSheet.TheVariants.{Read, Refused}
 use Rattle.archive_cli.specs.declared.report.Report.{Report}
 use Rattle.archive_cli.specs.HandedBack.{IsCreateBack, IsHandedBack, IsLoadBack, IsQueryBack}
-use Rattle.archive_cli.specs.Job.{Job, Scan, Values, Create, Load, Query, Recover}
+use Rattle.command_words.specs.Job.{Job, Scan, Values, Create, Load, Query, Recover}
 use Rattle.archive_cli.specs.Loading.{IsLoadRun, IsDumpRefusal, IsLoadOutcome}
-use Rattle.archive_cli.specs.Printing.{IsFinished}
+use Rattle.dump_lines.specs.Output.{IsFinished}
 use Rattle.archive_cli.specs.QueryEnding.{IsSheetReply, IsDeferred}
 use Rattle.archive_cli.specs.Report.{unopened, read_only}
 

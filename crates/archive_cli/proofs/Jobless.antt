@@ -7,7 +7,7 @@ use Rattle.archive_cli.specs.declared.report.Report.{Report}
 use Rattle.outer_traits.specs.Outside.{Files}
 use Rattle.archive_cli.specs.Call.{Call, WritesNothing}
 use Rattle.archive_cli.specs.Ending.{IsCaused, IsEnding, IsJobEnding}
-use Rattle.archive_cli.specs.Job.{Job, Scan, Values, Create, Load, Query, Recover, job_of, IsNoJob}
+use Rattle.command_words.specs.Job.{Job, Scan, Values, Create, Load, Query, Recover, job_of, IsNoJob}
 use Rattle.archive_cli.specs.Order.{IsInOrder, create_inputs, query_inputs, scan_inputs, values_inputs}
 use Rattle.archive_cli.specs.Report.{unopened, IsReport}
 use Rattle.archive_cli.proofs.ReadOnly.{untouched}

@@ -1,14 +1,9 @@
-pub mod LineBuffers
 pub mod Reading
 pub mod Counted
-pub mod Jobs
-pub mod Gathered
 pub mod Visible
 pub mod Known
 pub mod Scanned
 pub mod PacketNames
-pub mod Labels
-pub mod Parameters
 pub mod CellCounts
 pub mod Valued
 pub mod ValuesAnswers
@@ -16,7 +11,6 @@ pub mod ReadOnly
 pub mod Recovered
 pub mod Created
 pub mod CreateAnswers
-pub mod Limited
 pub mod Requests
 pub mod Replies
 pub mod Diskless

@@ -34,7 +34,7 @@ use Rattle.archive_cli.specs.ArchiveExpected.{NoDiskFault}
 use Rattle.archive_cli.specs.Batches.{batch_at}
 use Rattle.archive_cli.specs.Call.{Call}
 use Rattle.archive_cli.specs.Expecting.{IsOrEarlier, IsOrMemory, NoFault, ending_of_rest}
-use Rattle.archive_cli.specs.Job.{LoadWords}
+use Rattle.command_words.specs.Job.{LoadWords}
 use Rattle.archive_cli.specs.LoadEnding.{link_rows, history_with, nothing_left, IsLimited, IsLoad, IsLoadEnding, IsNothingLoaded}
 use Rattle.archive_cli.specs.LoadExpected.{IsLoadExpected, HasRoomFor}
 use Rattle.archive_cli.specs.Order.{IsLoadFault}

@@ -11,7 +11,7 @@ use Rattle.outer_traits.specs.Whole.{IsInput, IsThere}
 use Rattle.archive_store.specs.StoreView.{StoreView}
 use Rattle.archive_cli.specs.declared.report.Report.{Report}
 use Rattle.archive_cli.specs.Call.{Call, IsMomentOf}
-use Rattle.archive_cli.specs.Job.{LoadWords}
+use Rattle.command_words.specs.Job.{LoadWords}
 use Rattle.archive_cli.specs.LoadCaused.{IsLoadCaused}
 use Rattle.archive_cli.specs.Loading.{IsLoadRun, IsLoadOutcome}
 use Rattle.archive_cli.specs.ReadDump.{dump_limit, ReadDump}

@@ -14,7 +14,7 @@ use Rattle.archive_cli.specs.declared.report.Report.{Report}
 use Rattle.archive_cli.specs.Batches.{arrived, rows_of_link, HasIngested, IsIngested, IsStopped}
 use Rattle.archive_cli.specs.LoadEnding.{load_line, line_of_load}
 use Rattle.archive_cli.specs.Loading.{printed_report, IsLoadOutcome}
-use Rattle.archive_cli.specs.Printing.{IsFinished}
+use Rattle.dump_lines.specs.Output.{IsFinished}
 use Rattle.archive_cli.specs.ReadDump.{ending_of}
 use Rattle.archive_cli.specs.Report.{loaded}
 use Rattle.archive_cli.proofs.Arrived.{few_rows}

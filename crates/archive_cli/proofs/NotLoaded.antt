@@ -15,7 +15,7 @@ use Rattle.archive_store.specs.Entries.{Archive}
 use Rattle.archive_cli.specs.declared.report.Report.{Report}
 use Rattle.archive_cli.specs.Call.{Call, WritesNothing}
 use Rattle.archive_cli.specs.ReadOnly.{IsReadOnly}
-use Rattle.archive_cli.specs.Job.{LoadWords}
+use Rattle.command_words.specs.Job.{LoadWords}
 use Rattle.archive_cli.specs.LoadEnding.{IsLoadEnding, IsNotBegun, IsNothingLoaded}
 use Rattle.archive_cli.specs.Loading.{IsOpeningFault, IsDumpRefusal}
 use Rattle.archive_cli.specs.Report.{unopened, read_only}

@@ -19,7 +19,7 @@ use Rattle.archive_store.specs.StoreView.{StoreView}
 use Rattle.archive_cli.specs.declared.report.Report.{Report}
 use Rattle.archive_cli.specs.Expecting.{IsOrEarlier}
 use Rattle.archive_cli.specs.Order.{AreInOrder, Input, IsLoadFault, create_inputs, first_unread, unread_at, values_inputs}
-use Rattle.archive_cli.specs.Job.{SheetWords, ValuesWords}
+use Rattle.command_words.specs.Job.{SheetWords, ValuesWords}
 use Rattle.archive_cli.specs.Reading.{IsReadRefusal}
 use Rattle.archive_cli.specs.Loading.{IsLoadRun, IsLoadOutcome}
 use Rattle.archive_cli.specs.Report.{read_only, unopened}

@@ -11,8 +11,8 @@ use Rattle.arch_types.specs.Table.{sorted, table_of}
 use Rattle.mdb_model.specs.Database.{Database}
 use Rattle.container_extract.specs.Chain.{packet_name_of}
 use Rattle.container_extract.specs.Extraction.{cell_of}
-use Rattle.archive_cli.specs.Text.{scanned_rows}
-use Rattle.archive_cli.specs.ValuesText.{named_rows, cells_of}
+use Rattle.dump_lines.specs.Text.{scanned_rows}
+use Rattle.retrieval.specs.ValuesText.{named_rows, cells_of}
 
 -- a row with the packet name 0
 abbrev unnamed : Row → Row

@@ -17,7 +17,8 @@ use Rattle.archive_store.specs.Entries.{Archive}
 use Rattle.archive_cli.specs.declared.ask_sheet.AskSheet.{AskSheet}
 use Rattle.archive_cli.specs.declared.ask_sheet.AskSheet.TheVariants.{Read, Refused}
 use Rattle.archive_cli.specs.declared.report.Report.{Report}
-use Rattle.archive_cli.specs.Call.{Call, WritesNothing, WritesCounted}
+use Rattle.archive_cli.specs.Call.{Call, WritesNothing}
+use Rattle.dump_lines.specs.Output.{WritesCounted}
 use Rattle.archive_cli.specs.ReadOnly.{IsReadOnly, IsOpeningRefusal, IsUntouched}
 use Rattle.archive_cli.specs.QueryEnding.{AreRefusedAsks, IsAskSheet, IsQueryEnding, IsReply, IsSheetReply, IsDeferred, is_deferred}
 use Rattle.archive_cli.specs.Reading.{IsReadRefusal}

@@ -22,7 +22,7 @@ use Rattle.archive_store.specs.Entries.{Archive}
 use Rattle.archive_store.specs.Stands.{StandsFor, IsDamagedAt}
 use Rattle.archive_store.proofs.Exact.{damaged_once, none_not_damaged, none_not_stands, stands_not_damaged, stands_once}
 use Rattle.archive_cli.specs.declared.report.Report.{Report}
-use Rattle.archive_cli.specs.AnswerText.{asks_refusal}
+use Rattle.retrieval.specs.AnswerText.{asks_refusal}
 use Rattle.archive_cli.specs.ArchiveExpected.{IsQueryExpected, NoDiskFault, query_refusal, sheet_refusal}
 use Rattle.archive_cli.specs.Call.{Call}
 use Rattle.archive_cli.specs.Expecting.{IsOrMemory, NoFault}

@@ -16,7 +16,7 @@ use Rattle.archive_store.specs.StoreView.{StoreView, archive_of, IsNow, IsSince,
 use Rattle.archive_store.specs.Stands.{StandsFor}
 use Rattle.archive_store.proofs.Exact.{stands_once}
 use Rattle.mdb_sheets.specs.Sheets.{ReadsCounted}
-use Rattle.archive_cli.specs.Call.{WritesCounted}
+use Rattle.dump_lines.specs.Output.{WritesCounted}
 use Rattle.archive_cli.specs.ReadOnly.{IsReadOnly, IsOpeningRefusal, IsUntouched}
 
 nothing_more : {A : Type 0} (xs ys t : List A) → xs ++ t ≡ ys → (u : List A) → ys ++ u ≡ xs → ys ≡ xs

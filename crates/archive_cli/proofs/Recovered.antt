@@ -10,10 +10,10 @@ use Rattle.archive_store.specs.Stands.{StandsFor, IsDamagedAt}
 use Rattle.archive_store.proofs.Exact.{stands_not_damaged, damaged_once, none_not_damaged, none_not_stands}
 use Rattle.archive_cli.specs.declared.report.Report.{Report}
 use Rattle.archive_cli.specs.ArchiveExpected.{IsRecoverExpected, NoDiskFault}
-use Rattle.archive_cli.specs.Call.{Call, WritesNothing, WritesCounted}
+use Rattle.archive_cli.specs.Call.{Call, WritesNothing}
+use Rattle.dump_lines.specs.Output.{WritesCounted, IsFinished}
 use Rattle.archive_cli.specs.ReadOnly.{DiskFailed, IsReadOnly, IsOpeningRefusal, IsUntouched}
 use Rattle.archive_cli.specs.Expecting.{IsOrMemory, NoFault}
-use Rattle.archive_cli.specs.Printing.{IsFinished}
 use Rattle.archive_cli.specs.RecoverEnding.{IsRecoverEnding, recover_line}
 use Rattle.archive_cli.specs.Report.{unopened, read_only, IsReadOnlyReport}
 use Rattle.archive_cli.proofs.Known.{not_risen}

@@ -10,12 +10,11 @@ use Rattle.archive_core.specs.Items.{Item}
 use Rattle.mdb_model.specs.Checks.{or_else}
 use Rattle.mdb_model.specs.Database.{Database}
 use Rattle.outer_traits.specs.Outside.{WritesSome}
-use Rattle.archive_cli.specs.AnswerText.{ask_refusal, ask_text, asks_refusal, asks_text, request_refusal}
-use Rattle.archive_cli.specs.Call.{WritesCounted}
-use Rattle.archive_cli.specs.Parameter.{number_named}
-use Rattle.archive_cli.specs.Printing.{IsBuffered, IsFinished}
+use Rattle.retrieval.specs.AnswerText.{ask_refusal, ask_text, asks_refusal, asks_text, request_refusal}
+use Rattle.dump_lines.specs.Output.{WritesCounted, IsBuffered, IsFinished}
+use Rattle.retrieval.specs.Parameter.{number_named}
 use Rattle.archive_cli.specs.QueryEnding.{IsReply}
-use Rattle.archive_cli.proofs.LineBuffers.{buffered_all, wrote_then}
+use Rattle.dump_lines.proofs.LineBuffers.{buffered_all, wrote_then}
 
 or_none : (o p : Option Refusal) → or_else o p ≡ None → (o ≡ None) × (p ≡ None)
 or_none None p e = (refl, e)

@@ -20,9 +20,9 @@ use Rattle.container_extract.specs.Extraction.{cell_of}
 use Rattle.archive_store.specs.declared.head.Head.{Head}
 use Rattle.archive_store.specs.declared.plan.Plan.{Plan}
 use Rattle.archive_store.specs.Plans.{IsPlan, IsPlanRefusal, LacksParameter, rows_of_parts}
-use Rattle.archive_cli.specs.declared.answer.ParameterAnswer.{ParameterAnswer}
-use Rattle.archive_cli.specs.AnswerText.{IsParameterAnswer, answer_lines, answered, ask_text, truncated, request_refusal, in_asked_order}
-use Rattle.archive_cli.specs.Parameter.{number_named}
+use Rattle.retrieval.specs.declared.answer.ParameterAnswer.{ParameterAnswer}
+use Rattle.retrieval.specs.AnswerText.{IsParameterAnswer, answer_lines, answered, ask_text, truncated, request_refusal, in_asked_order}
+use Rattle.retrieval.specs.Parameter.{number_named}
 
 -- the number of a parameter is one of the database's
 pub named_within : (db : Database) (name : List ℕ) (number : ℕ) → number_named db name ≡ Some number → number < length db.parameters

@@ -14,15 +14,15 @@ use Rattle.space_packet.specs.declared.dump.Why.TheVariants as why
 use Rattle.space_packet.specs.Rest.{why_of}
 use Rattle.yarch_table.specs.declared.table.Stored.{Stored}
 use Rattle.outer_traits.specs.Whole.{IsInput}
-use Rattle.archive_cli.specs.declared.counts.Counts.{Counts}
-use Rattle.archive_cli.specs.declared.rows.DumpTable.{DumpTable}
-use Rattle.archive_cli.specs.Text.{scanned_rows, row_line, row_lines, counts_line, last_line, scan_text}
+use Rattle.dump_lines.specs.declared.counts.Counts.{Counts}
+use Rattle.dump_lines.specs.declared.rows.DumpTable.{DumpTable}
+use Rattle.dump_lines.specs.Text.{scanned_rows, row_line, row_lines, counts_line, last_line, scan_text}
 use Rattle.archive_cli.specs.Call.{Call, Prints, PrintsSome, WritesFailed, IsMomentOf}
 pub use Rattle.archive_cli.specs.Call.{call_of}
 use Rattle.archive_cli.specs.ReadDump.{dump_limit, ReadDump, IsBadRest, IsDumpRead, ending_of}
 use Rattle.archive_cli.specs.ScanEnding.{IsScanEnding}
-use Rattle.archive_cli.specs.DumpTable.{HasCounts, IsGathered, IsDumpTable}
-use Rattle.archive_cli.specs.Printing.{lines_of, end_of, text_of_loaded}
+use Rattle.dump_lines.specs.DumpTable.{HasCounts, IsGathered, IsDumpTable}
+use Rattle.dump_lines.specs.Printing.{lines_of, end_of, text_of_loaded}
 use Rattle.archive_cli.proofs.Visible.{table-all}
 
 lines_are : (packets : List (List ℕ)) (moment : ℤ) (stored : List Stored) (counts : Counts) → IsGathered packets moment stored counts → lines_of stored ≡ row_lines packets moment

@@ -22,8 +22,9 @@ use Rattle.archive_store.specs.StoreView.{StoreView, archive_of, FaultInvariant,
 use Rattle.archive_store.specs.Stands.{StandsFor}
 use Rattle.archive_cli.specs.declared.report.Report.{Report}
 use Rattle.archive_cli.specs.Batches.{batch_at, rows_of_link, HasIngested, IsStopped}
-use Rattle.archive_cli.specs.Call.{Call, IsMomentOf, WritesCounted}
-use Rattle.archive_cli.specs.Job.{LoadWords}
+use Rattle.archive_cli.specs.Call.{Call, IsMomentOf}
+use Rattle.dump_lines.specs.Output.{WritesCounted}
+use Rattle.command_words.specs.Job.{LoadWords}
 use Rattle.archive_cli.specs.LoadEnding as ending
 use Rattle.archive_cli.specs.LoadEnding.{link_rows, new_rows_at, nothing_left, batch_left, IsLoad, IsLoadEnding, IsWhole}
 use Rattle.archive_cli.specs.Loading.{IsClosed, IsDone, IsReopened, IsLoadRun, IsLoadOutcome}

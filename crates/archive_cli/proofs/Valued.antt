@@ -21,19 +21,19 @@ use Rattle.space_packet.specs.declared.dump.Why.TheVariants as why
 use Rattle.space_packet.specs.Rest.{why_of}
 use Rattle.yarch_table.specs.declared.table.Stored.{Stored}
 use Rattle.yarch_table.specs.Stored.{rows_of}
-use Rattle.archive_cli.specs.declared.counts.Counts.{Counts}
-use Rattle.archive_cli.specs.declared.print_fault.PrintFault.{PrintFault}
-use Rattle.archive_cli.specs.declared.print_fault.PrintFault.TheVariants as printing
-use Rattle.archive_cli.specs.declared.rows.DumpTable.{DumpTable}
+use Rattle.dump_lines.specs.declared.counts.Counts.{Counts}
+use Rattle.dump_lines.specs.declared.print_fault.PrintFault.{PrintFault}
+use Rattle.dump_lines.specs.declared.print_fault.PrintFault.TheVariants as printing
+use Rattle.dump_lines.specs.declared.rows.DumpTable.{DumpTable}
 use Rattle.archive_cli.specs.Call.{Call, WritesNothing, Prints, PrintsSome, WritesFailed}
-use Rattle.archive_cli.specs.CellText.{cell_line}
-use Rattle.archive_cli.specs.Job.{ValuesWords}
-use Rattle.archive_cli.specs.DumpTable.{IsGathered}
-use Rattle.archive_cli.specs.Parameter.{IsNoParameter, IsParameter, first_refusal, number_named, parameter_refusal}
+use Rattle.retrieval.specs.CellText.{cell_line}
+use Rattle.command_words.specs.Job.{ValuesWords}
+use Rattle.dump_lines.specs.DumpTable.{IsGathered}
+use Rattle.retrieval.specs.Parameter.{IsNoParameter, IsParameter, first_refusal, number_named, parameter_refusal}
 use Rattle.archive_cli.specs.ReadDump.{dump_limit, IsDumpRead, ending_of}
 use Rattle.archive_cli.specs.ValuesEnding.{AreSheetsOf, ParameterOverDump, HasDump, IsInputRefused, IsParameterRefused, IsValuesEnding, text_of_asked}
 use Rattle.archive_cli.specs.ValuesPrinting.{cells_of_stored, end_of_cells, line_if, line_of, lines_of_cells, refusal_of_print, text_of_cells}
-use Rattle.archive_cli.specs.ValuesText.{calibration_numbered, cell_lines, cells_of, values_line, values_text}
+use Rattle.retrieval.specs.ValuesText.{calibration_numbered, cell_lines, cells_of, values_line, values_text}
 use Rattle.archive_cli.proofs.PacketNames.{cells_are}
 use Rattle.archive_cli.proofs.Scanned.{bad_rest, rest_is_none, received_of, end_is}
 use Rattle.archive_cli.proofs.Visible.{table-all}

@@ -15,8 +15,8 @@ use Rattle.mdb_sheets.specs.Sheets.{HasSheet, IsSheet, IsSheetRefusal, sheet_of}
 use Rattle.outer_traits.specs.Outside.{Files}
 use Rattle.archive_cli.specs.Call.{Call}
 use Rattle.archive_cli.specs.Expecting.{IsOrMemory, NoFault, ending_of_rest}
-use Rattle.archive_cli.specs.Job.{ValuesWords}
-use Rattle.archive_cli.specs.Parameter.{parameter_refusal}
+use Rattle.command_words.specs.Job.{ValuesWords}
+use Rattle.retrieval.specs.Parameter.{parameter_refusal}
 use Rattle.archive_cli.specs.Reading.{IsReadRefusal}
 use Rattle.archive_cli.specs.ReadDump.{ReadDump}
 use Rattle.archive_cli.specs.ValuesEnding.{AreSheetsOf, ParameterOverDump, HasDump, IsInputRefused, IsParameterRefused, IsValuesEnding}

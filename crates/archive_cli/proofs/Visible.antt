@@ -7,7 +7,7 @@ use Rattle.arch_types.specs.History.{is_in_table}
 use Rattle.arch_types.specs.Table.{sorted, table_of}
 use Rattle.yarch_table.specs.declared.table.Stored.{Stored}
 use Rattle.yarch_table.specs.Stored.{rows_of, seen_at}
-use Rattle.archive_cli.specs.DumpTable.{IsVisible}
+use Rattle.dump_lines.specs.DumpTable.{IsVisible}
 
 -- a filter that all items pass
 filter-all : {X : Type 0} (q : X → Bool) (xs : List X) → AllByRecursion (λ x. q x ≡ true) xs → filter q xs ≡ xs

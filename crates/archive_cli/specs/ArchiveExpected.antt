@@ -17,12 +17,12 @@ use Rattle.mdb_sheets.specs.Sheets.{Fields, sheet_of}
 use Rattle.outer_traits.specs.Outside.{Files}
 use Rattle.archive_store.specs.Entries.{Archive}
 use Rattle.archive_store.specs.Stands.{StandsFor, IsDamagedAt}
-use Rattle.archive_cli.specs.AnswerText.{asks_refusal}
+use Rattle.retrieval.specs.AnswerText.{asks_refusal}
 use Rattle.archive_cli.specs.Call.{Call}
 use Rattle.archive_cli.specs.CreateEnding.{HoldsOne}
 use Rattle.archive_cli.specs.Expecting.{IsOrMemory, NoFault}
-use Rattle.archive_cli.specs.Job.{SheetWords}
-use Rattle.archive_cli.specs.Parameter.{sheets_refusal}
+use Rattle.command_words.specs.Job.{SheetWords}
+use Rattle.retrieval.specs.Parameter.{sheets_refusal}
 use Rattle.archive_cli.specs.ValuesExpected.{refusal_of_input, known_sheet}
 
 -- no call of the disk failed

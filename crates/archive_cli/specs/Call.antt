@@ -1,9 +1,8 @@
 -- All that the contract of `run` speaks of.
 use Rattle.std.specs.Prelude.{◌≡◌, ℕ, ℤ, List, ◌++◌, Option, Some, None}
-use Rattle.arch_types.specs.declared.refusal.Refusal.{Refusal}
-use Rattle.arch_types.specs.declared.refusal.Refusal.TheVariants.{WriteFault}
-use Rattle.outer_traits.specs.Outside.{Files, HasRisen, Stays, WritesSome}
+use Rattle.outer_traits.specs.Outside.{Files, HasRisen, WritesSome}
 use Rattle.text_forms.specs.ClockTime.{IsClockTime}
+use Rattle.dump_lines.specs.Output.{Appends}
 
 -- the words, and what the inputs, the clock and the sink tell, before and after
 pub record Call : Type 0 where
@@ -32,11 +31,6 @@ call_of words files moment reads reads' written written' writes writes' = record
   write_faults' = writes';
 }
 
--- the text was appended, where what was written is known
-abbrev pub Appends : Option (List ℕ) → Option (List ℕ) → List ℕ → Type 0
-Appends None new text = new ≡ None
-Appends (Some before) new text = new ≡ Some (before ++ text)
-
 -- nothing was written
 abbrev pub WritesNothing : Call → Type 0
 WritesNothing call = call.written' ≡ call.written
@@ -56,11 +50,6 @@ ReadsFailed call = HasRisen call.read_faults call.read_faults'
 -- the count of the sink rose
 abbrev pub WritesFailed : Call → Type 0
 WritesFailed call = HasRisen call.write_faults call.write_faults'
-
--- a count of failed writes has risen where the ending is WriteFault, and else is as before
-abbrev pub WritesCounted : Option Refusal → ℕ → ℕ → Type 0
-WritesCounted (Some WriteFault) before now = HasRisen before now
-WritesCounted other before now = Stays before now
 
 -- the moment that the clock tells, or some moment
 abbrev pub IsMomentOf : Option ℤ → ℤ → Type 0

@@ -8,7 +8,7 @@ use Rattle.mdb_model.specs.declared.sheet.RawMdb.{RawMdb}
 use Rattle.mdb_sheets.specs.Sheets.{HasSheet}
 use Rattle.archive_cli.specs.Call.{Call}
 use Rattle.archive_cli.specs.CreateEnding.{AreGood, AreRefused}
-use Rattle.archive_cli.specs.Job.{SheetWords}
+use Rattle.command_words.specs.Job.{SheetWords}
 use Rattle.archive_cli.specs.QueryEnding.{AreAsksOf, AreRefusedAsks}
 use Rattle.archive_cli.specs.Reading.{IsReadRefusal}
 

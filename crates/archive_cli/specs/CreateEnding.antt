@@ -17,8 +17,8 @@ use Rattle.archive_store.specs.Stands.{StandsFor}
 use Rattle.archive_cli.specs.declared.report.Report.{Report}
 use Rattle.archive_cli.specs.Call.{Call, WritesNothing, Prints, PrintsSome, WritesFailed}
 use Rattle.archive_cli.specs.ReadOnly.{IsUntouched, DiskFailed}
-use Rattle.archive_cli.specs.Job.{SheetWords}
-use Rattle.archive_cli.specs.Parameter.{sheets_refusal}
+use Rattle.command_words.specs.Job.{SheetWords}
+use Rattle.retrieval.specs.Parameter.{sheets_refusal}
 use Rattle.archive_cli.specs.Reading.{IsSheetsRefusal}
 use Rattle.archive_cli.specs.Report.{unopened, read_only}
 use Rattle.archive_cli.specs.Durable.{FailedAtMostOnce}

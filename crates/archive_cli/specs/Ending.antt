@@ -5,7 +5,7 @@ use Rattle.arch_types.specs.declared.refusal.Refusal.{Refusal}
 use Rattle.arch_types.specs.declared.refusal.Refusal.TheVariants.{Usage, OutOfMemory}
 use Rattle.archive_cli.specs.declared.report.Report.{Report}
 use Rattle.archive_cli.specs.Call.{Call, WritesNothing}
-use Rattle.archive_cli.specs.Job.{Job, Scan, Values, Create, Load, Query, Recover, job_of}
+use Rattle.command_words.specs.Job.{Job, Scan, Values, Create, Load, Query, Recover, job_of}
 use Rattle.archive_cli.specs.Caused.{IsCreateCaused, IsQueryCaused, IsRecoverCaused}
 use Rattle.archive_cli.specs.CreateEnding.{IsCreateEnding}
 use Rattle.archive_cli.specs.LoadCaused.{IsLoadCaused}

@@ -4,7 +4,7 @@ use Rattle.arch_disk.specs.Disk.{Device}
 use Rattle.arch_types.specs.declared.refusal.Refusal.{Refusal}
 use Rattle.archive_cli.specs.ArchiveExpected.{IsCreateExpected, IsQueryExpected, IsRecoverExpected}
 use Rattle.archive_cli.specs.Call.{Call}
-use Rattle.archive_cli.specs.Job.{Job, Scan, Values, Create, Load, Query, Recover, job_of}
+use Rattle.command_words.specs.Job.{Job, Scan, Values, Create, Load, Query, Recover, job_of}
 use Rattle.archive_cli.specs.LoadExpected.{IsLoadExpected}
 use Rattle.archive_cli.specs.ScanExpected.{IsScanExpected}
 use Rattle.archive_cli.specs.ValuesExpected.{IsValuesExpected}

@@ -4,7 +4,7 @@ use Rattle.arch_types.specs.declared.refusal.Refusal.{Refusal}
 use Rattle.arch_types.specs.declared.refusal.Refusal.TheVariants.{Missing, ReadFault, WriteFault, Exists, DiskFault, Limit}
 use Rattle.arch_types.specs.declared.refusal.Which.TheVariants.{SheetOctets}
 use Rattle.archive_cli.specs.declared.report.Report.{Report}
-use Rattle.archive_cli.specs.Job.{Job, Scan, Values, Create, Load, Query, Recover}
+use Rattle.command_words.specs.Job.{Job, Scan, Values, Create, Load, Query, Recover}
 
 -- `create`: at each refusal of its sheets, and for want of memory
 abbrev pub IsCreateBack : {D : Type 0} → D → D → Option Refusal → Type 0

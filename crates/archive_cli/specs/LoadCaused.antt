@@ -6,7 +6,7 @@ use Rattle.arch_types.specs.declared.refusal.Which.TheVariants.{DumpOctets, Link
 use Rattle.arch_types.specs.Limits.{limit_of}
 use Rattle.outer_traits.specs.Whole.{IsThere}
 use Rattle.archive_cli.specs.Call.{Call, ReadsFailed}
-use Rattle.archive_cli.specs.Job.{LoadWords}
+use Rattle.command_words.specs.Job.{LoadWords}
 use Rattle.archive_cli.specs.LoadEnding.{IsLongDump, IsMissing}
 use Rattle.archive_cli.specs.ReadDump.{ReadDump, IsBadRest}
 

@@ -24,7 +24,7 @@ use Rattle.archive_cli.specs.declared.report.Report.{Report}
 use Rattle.archive_cli.specs.Batches.{arrived, batch_at}
 use Rattle.archive_cli.specs.Call.{Call, WritesNothing, Prints, PrintsSome, ReadsFailed, WritesFailed}
 use Rattle.archive_cli.specs.ReadOnly.{IsUntouched, IsReadOnly, IsOpenedThen, IsOpeningRefusal, DiskFailed}
-use Rattle.archive_cli.specs.Job.{LoadWords}
+use Rattle.command_words.specs.Job.{LoadWords}
 use Rattle.archive_cli.specs.ReadDump.{dump_limit, ReadDump, IsBadRest}
 use Rattle.archive_cli.specs.Report.{unopened, read_only, loaded}
 pub use Rattle.archive_cli.specs.Durable.{FailedAtMostOnce, IsDurableAs}

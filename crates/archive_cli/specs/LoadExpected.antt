@@ -15,7 +15,7 @@ use Rattle.archive_store.specs.Stands.{StandsFor, IsDamagedAt}
 use Rattle.archive_cli.specs.ArchiveExpected.{NoDiskFault}
 use Rattle.archive_cli.specs.Call.{Call, IsMomentOf}
 use Rattle.archive_cli.specs.Expecting.{IsOrEarlier, IsOrMemory, NoFault, ending_of_rest}
-use Rattle.archive_cli.specs.Job.{LoadWords}
+use Rattle.command_words.specs.Job.{LoadWords}
 use Rattle.archive_cli.specs.LoadEnding.{history_with}
 use Rattle.archive_cli.specs.ReadDump.{dump_limit}
 

@@ -13,7 +13,7 @@ use Rattle.archive_store.specs.StoreView.{StoreView, FaultInvariant, CrashInvari
 use Rattle.archive_cli.specs.declared.batches.DumpSummary.{DumpSummary}
 use Rattle.archive_cli.specs.declared.report.Report.{Report}
 use Rattle.archive_cli.specs.Batches.{IsIngested, IsStopped}
-use Rattle.archive_cli.specs.Call.{Appends}
+use Rattle.dump_lines.specs.Output.{Appends}
 use Rattle.archive_cli.specs.LoadEnding.{line_of_load, whole_report}
 pub use Rattle.archive_cli.specs.Reading.{IsOpeningFault}
 use Rattle.archive_cli.specs.ReadDump.{dump_limit, IsBadRest}

@@ -9,7 +9,7 @@ use Rattle.mdb_model.specs.Checks.{or_else}
 use Rattle.outer_traits.specs.Outside.{Files, one_more}
 use Rattle.archive_cli.specs.declared.report.Report.{Report}
 use Rattle.archive_cli.specs.Expecting.{IsOrEarlier}
-use Rattle.archive_cli.specs.Job.{Job, SheetWords, ValuesWords, Scan, Values, Create, Load, Query, Recover}
+use Rattle.command_words.specs.Job.{Job, SheetWords, ValuesWords, Scan, Values, Create, Load, Query, Recover}
 use Rattle.archive_cli.specs.Report.{unopened}
 use Rattle.archive_cli.specs.ValuesExpected.{refusal_of_input}
 

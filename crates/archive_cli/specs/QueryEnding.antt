@@ -15,8 +15,9 @@ use Rattle.archive_store.specs.Entries.{Archive}
 use Rattle.archive_cli.specs.declared.ask_sheet.AskSheet.{AskSheet}
 use Rattle.archive_cli.specs.declared.ask_sheet.AskSheet.TheVariants.{Read, Refused}
 use Rattle.archive_cli.specs.declared.report.Report.{Report}
-use Rattle.archive_cli.specs.AnswerText.{asks_text, asks_refusal}
-use Rattle.archive_cli.specs.Call.{Appends, Call, WritesNothing, Prints, PrintsSome, WritesFailed}
+use Rattle.retrieval.specs.AnswerText.{asks_text, asks_refusal}
+use Rattle.archive_cli.specs.Call.{Call, WritesNothing, Prints, PrintsSome, WritesFailed}
+use Rattle.dump_lines.specs.Output.{Appends}
 use Rattle.archive_cli.specs.ReadOnly.{IsUntouched, IsReadOnly, IsOpeningRefusal}
 use Rattle.archive_cli.specs.Reading.{IsReadRefusal}
 use Rattle.archive_cli.specs.Report.{unopened, read_only}

@@ -11,9 +11,9 @@ use Rattle.outer_traits.specs.Outside.{Files}
 use Rattle.outer_traits.specs.Whole.{IsInput}
 use Rattle.space_packet.specs.declared.dump.Why.{Why}
 use Rattle.space_packet.specs.declared.dump.Why.TheVariants as why
-use Rattle.archive_cli.specs.declared.rows.DumpTable.{DumpTable}
+use Rattle.dump_lines.specs.declared.rows.DumpTable.{DumpTable}
 use Rattle.archive_cli.specs.Call.{Call, IsMomentOf}
-use Rattle.archive_cli.specs.DumpTable.{IsDumpTable}
+use Rattle.dump_lines.specs.DumpTable.{IsDumpTable}
 
 -- the greatest number of octets of a dump
 abbrev pub dump_limit : ℕ

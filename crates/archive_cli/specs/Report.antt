@@ -5,7 +5,7 @@ use Rattle.arch_types.specs.declared.refusal.Refusal.TheVariants.{BadPacket, Lim
 use Rattle.arch_types.specs.declared.refusal.Which.TheVariants.{DumpOctets}
 use Rattle.arch_types.specs.Refusal.{status_of}
 use Rattle.archive_cli.specs.declared.report.Report.{Report}
-use Rattle.archive_cli.specs.Job.{Job, LoadWords, Scan, Values, Create, Load, Query, Recover}
+use Rattle.command_words.specs.Job.{Job, LoadWords, Scan, Values, Create, Load, Query, Recover}
 
 -- the exit status: 0 exactly where there's no refusal
 abbrev pub status_at : Option Refusal → ℕ

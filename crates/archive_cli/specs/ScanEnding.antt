@@ -4,7 +4,7 @@ use Rattle.std.specs.FinMap.{get}
 use Rattle.arch_types.specs.declared.refusal.Refusal.{Refusal}
 use Rattle.arch_types.specs.declared.refusal.Refusal.TheVariants.{Missing, ReadFault, WriteFault, BadPacket, Limit, OutOfMemory}
 use Rattle.arch_types.specs.declared.refusal.Which.TheVariants.{DumpOctets}
-use Rattle.archive_cli.specs.Text.{scan_text}
+use Rattle.dump_lines.specs.Text.{scan_text}
 use Rattle.archive_cli.specs.Call.{Call, WritesNothing, Prints, PrintsSome, ReadsFailed, WritesFailed}
 use Rattle.archive_cli.specs.ReadDump.{dump_limit, ReadDump, IsBadRest}
 

@@ -9,11 +9,11 @@ use Rattle.mdb_model.specs.Database.{Database}
 use Rattle.mdb_sheets.specs.Sheets.{AreSheets}
 use Rattle.outer_traits.specs.Outside.{Files}
 use Rattle.archive_cli.specs.Call.{Call, WritesNothing, Prints, PrintsSome, WritesFailed}
-use Rattle.archive_cli.specs.Job.{ValuesWords}
-use Rattle.archive_cli.specs.Parameter.{IsParameter, parameter_refusal}
+use Rattle.command_words.specs.Job.{ValuesWords}
+use Rattle.retrieval.specs.Parameter.{IsParameter, parameter_refusal}
 use Rattle.archive_cli.specs.Reading.{IsReadRefusal, IsSheetsRefusal}
 use Rattle.archive_cli.specs.ReadDump.{dump_limit, ReadDump, IsBadRest}
-use Rattle.archive_cli.specs.ValuesText.{values_text}
+use Rattle.retrieval.specs.ValuesText.{values_text}
 
 -- the three sheets were read
 abbrev pub AreSheetsOf : Call → ValuesWords → RawMdb → Type 0

@@ -13,8 +13,8 @@ use Rattle.mdb_sheets.specs.Sheets.{sheet_of}
 use Rattle.outer_traits.specs.Outside.{Files}
 use Rattle.archive_cli.specs.Call.{Call}
 use Rattle.archive_cli.specs.Expecting.{IsOrMemory, NoFault, ending_of_rest}
-use Rattle.archive_cli.specs.Job.{ValuesWords}
-use Rattle.archive_cli.specs.Parameter.{parameter_refusal}
+use Rattle.command_words.specs.Job.{ValuesWords}
+use Rattle.retrieval.specs.Parameter.{parameter_refusal}
 
 -- the refusal of a known input: there's none of the name, or it is longer than its limit
 abbrev pub refusal_of_input : Which → List ℕ → Option (List ℕ) → Option Refusal

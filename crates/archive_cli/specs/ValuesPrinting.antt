@@ -15,10 +15,10 @@ use Rattle.space_packet.specs.declared.dump.Why.{Why}
 use Rattle.space_packet.specs.declared.dump.Why.TheVariants.{End, Version, Truncated}
 use Rattle.yarch_table.specs.declared.table.Stored.{Stored}
 use Rattle.yarch_table.specs.Stored.{rows_of}
-use Rattle.archive_cli.specs.declared.print_fault.PrintFault.{PrintFault}
-use Rattle.archive_cli.specs.declared.print_fault.PrintFault.TheVariants.{Write, OutOfMemory}
-use Rattle.archive_cli.specs.CellText.{cell_line}
-use Rattle.archive_cli.specs.ValuesText.{calibration_numbered, values_line}
+use Rattle.dump_lines.specs.declared.print_fault.PrintFault.{PrintFault}
+use Rattle.dump_lines.specs.declared.print_fault.PrintFault.TheVariants.{Write, OutOfMemory}
+use Rattle.retrieval.specs.CellText.{cell_line}
+use Rattle.retrieval.specs.ValuesText.{calibration_numbered, values_line}
 
 -- the line of a cell, where there is one
 abbrev pub line_if : Option Calibration → Option Cell → List ℕ

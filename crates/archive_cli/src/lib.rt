@@ -12,32 +12,18 @@
 //! one that the disk stands for. That the right answer comes follows from the causes of all answers (proofs/Answers.antt).
 #![tactic(auto)]
 
-mod answer;
-mod answer_text;
 mod ask_sheet;
 mod batches;
-mod cell_text;
-mod cells;
-mod counts;
 mod create;
-mod job;
-mod line_buffer;
 mod load;
-mod parameter;
-mod print_fault;
 mod query;
 mod read;
 mod recover;
 pub mod report;
-mod rows;
 pub mod run;
 mod scan;
 mod scan_input;
-pub mod text;
 mod values;
-mod words;
-mod write;
 
 pub use report::{Ended, Report};
 pub use run::run;
-pub use text::FaultText;

@@ -6,21 +6,21 @@ ghost use Rattle.arch_disk.specs.Disk.{raised};
 ghost use Rattle.arch_types.specs.declared.refusal.Refusal.TheVariants.{DiskFault};
 ghost use Rattle.mdb_sheets.specs.Sheets.{ReadsCounted};
 ghost use Rattle.outer_traits.specs.Outside.{Stays, WritesSome};
-ghost use Rattle.archive_cli.specs.AnswerText.{ask_refusal, ask_text, asks_refusal, asks_text};
-ghost use Rattle.archive_cli.specs.Call.{Call, WritesCounted};
+ghost use Rattle.retrieval.specs.AnswerText.{ask_refusal, ask_text, asks_refusal, asks_text};
+ghost use Rattle.archive_cli.specs.Call.{Call};
+ghost use Rattle.dump_lines.specs.Output.{WritesCounted, IsBuffered};
 ghost use Rattle.archive_cli.specs.Caused.{IsQueryCaused};
 ghost use Rattle.archive_cli.specs.HandedBack.{IsQueryBack};
 ghost use Rattle.archive_cli.specs.Order.{AreInOrder, query_inputs};
-ghost use Rattle.archive_cli.specs.Printing.{IsBuffered};
 ghost use Rattle.archive_cli.specs.QueryEnding.{IsAskSheet, IsQueryEnding, IsReply, IsSheetReply};
 ghost use Rattle.archive_cli.specs.Report.{status_at, IsReadOnlyReport};
 ghost use Rattle.archive_cli.specs.ValuesPrinting.{PrintCounted, refusal_of_print};
 
-use crate::answer::{answer_request, number_of};
-use crate::answer_text::print_found;
+use retrieval::answer::{answer_request, number_of};
+use retrieval::answer_text::print_found;
 use crate::ask_sheet::{AskSheet, read_sheet};
-use crate::line_buffer::LineBuffer;
-use crate::print_fault::PrintFault;
+use dump_lines::line_buffer::LineBuffer;
+use dump_lines::print_fault::PrintFault;
 use crate::report::{Ended, Report};
 use arch_disk::Disk;
 use arch_types::ask::{Ask, Request};
@@ -197,8 +197,8 @@ fn range_refusal(request: &Request) -> Option<Refusal>
     None
 }
 
-ghost use Rattle.archive_cli.specs.AnswerText.{range_refusal, request_refusal};
-ghost use Rattle.archive_cli.specs.Parameter.{number_named};
+ghost use Rattle.retrieval.specs.AnswerText.{range_refusal, request_refusal};
+ghost use Rattle.retrieval.specs.Parameter.{number_named};
 ghost use Rattle.archive_cli.specs.QueryEnding.{IsDeferred};
 
 /// Prints the answers to asks, of which none is refused.

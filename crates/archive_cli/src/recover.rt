@@ -3,12 +3,12 @@
 ghost use Rattle.std.specs.Prelude.{◌≡◌, ◌≤◌, ℕ, [], IsTrue, Some};
 ghost use Rattle.arch_disk.specs.Disk.{raised};
 ghost use Rattle.mdb_sheets.specs.Sheets.{ReadsCounted};
-ghost use Rattle.archive_cli.specs.Call.{WritesCounted};
+ghost use Rattle.dump_lines.specs.Output.{WritesCounted};
 ghost use Rattle.archive_cli.specs.Caused.{IsRecoverCaused};
 ghost use Rattle.archive_cli.specs.RecoverEnding.{IsRecoverEnding, recover_line};
 ghost use Rattle.archive_cli.specs.Report.{status_at, IsReadOnlyReport};
 
-use crate::line_buffer::LineBuffer;
+use dump_lines::line_buffer::LineBuffer;
 use crate::report::{Ended, Report};
 use arch_disk::Disk;
 use arch_types::refusal::Refusal;

@@ -4,9 +4,10 @@ ghost use Rattle.std.specs.Prelude.{◌≡◌, IsTrue, map, string_bytes, List, 
 ghost use Rattle.arch_disk.specs.Disk.{raised};
 ghost use Rattle.outer_traits.specs.Outside.{Stays};
 ghost use Rattle.mdb_sheets.specs.Sheets.{ReadsCounted};
-ghost use Rattle.archive_cli.specs.JobView.{job_view};
-ghost use Rattle.archive_cli.specs.Call.{call_of, WritesCounted};
-ghost use Rattle.archive_cli.specs.Job.{job_of, HasLink};
+ghost use Rattle.command_words.specs.JobView.{job_view};
+ghost use Rattle.archive_cli.specs.Call.{call_of};
+ghost use Rattle.dump_lines.specs.Output.{WritesCounted};
+ghost use Rattle.command_words.specs.Job.{job_of, HasLink};
 ghost use Rattle.archive_cli.specs.Ending.{IsCaused, IsEnding, IsJobEnding};
 ghost use Rattle.archive_cli.specs.Expected.{IsExpected};
 ghost use Rattle.archive_cli.specs.HandedBack.{IsHandedBack};
@@ -15,7 +16,7 @@ ghost use Rattle.archive_cli.specs.Report.{status_at, IsReport};
 ghost use Rattle.archive_cli.specs.Durable.{FailedAtMostOnce, IsDurableWith};
 
 use crate::create::create;
-use crate::job::{Job, job_of};
+use command_words::job::{Job, job_of};
 use crate::load::load;
 use crate::query::query;
 use crate::recover::recover;

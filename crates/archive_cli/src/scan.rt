@@ -4,13 +4,13 @@ ghost use Rattle.std.specs.Prelude.{◌≡◌, ◌<◌, ◌≤◌, OnOk, OnErr, 
 ghost use Rattle.std.specs.Result.{result_err};
 ghost use Rattle.outer_traits.specs.Outside.{HasRisen, Stays, WritesSome};
 ghost use Rattle.mdb_sheets.specs.Sheets.{ReadsCounted};
-ghost use Rattle.archive_cli.specs.Call.{Appends, WritesCounted};
+ghost use Rattle.dump_lines.specs.Output.{Appends, WritesCounted};
 ghost use Rattle.archive_cli.specs.Order.{AreInOrder, scan_inputs};
 ghost use Rattle.archive_cli.specs.ScanEnding.{IsScanEnding};
-ghost use Rattle.archive_cli.specs.Printing.{lines_of, end_of, text_of_loaded};
+ghost use Rattle.dump_lines.specs.Printing.{lines_of, end_of, text_of_loaded};
 
-use crate::line_buffer::LineBuffer;
-use crate::rows::DumpTable;
+use dump_lines::line_buffer::LineBuffer;
+use dump_lines::rows::DumpTable;
 use crate::scan_input::{ended, read_scan_input};
 use arch_types::refusal::Refusal;
 use outer_traits::clock::Clock;
@@ -112,5 +112,5 @@ fn print_rows<K: Sink>(
 
 ghost use Rattle.std.specs.Prelude.{[]};
 ghost use Rattle.std.specs.List.{AllByRecursion};
-ghost use Rattle.archive_cli.specs.DumpTable.{IsVisible};
-ghost use Rattle.archive_cli.specs.Printing.{IsBuffered};
+ghost use Rattle.dump_lines.specs.DumpTable.{IsVisible};
+ghost use Rattle.dump_lines.specs.Output.{IsBuffered};

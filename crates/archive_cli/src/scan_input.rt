@@ -7,9 +7,9 @@ ghost use Rattle.outer_traits.specs.Outside.{Stays};
 ghost use Rattle.archive_cli.specs.Reading.{IsReadRefusal};
 ghost use Rattle.archive_cli.specs.ReadDump.{IsDumpRead, ending_of};
 
-use crate::line_buffer::LineBuffer;
+use dump_lines::line_buffer::LineBuffer;
 use crate::read::read_limited;
-use crate::rows::{DumpTable, table_of_dump};
+use dump_lines::rows::{DumpTable, table_of_dump};
 use arch_types::octets::Octets;
 use arch_types::refusal::{BadKind, Refusal, Which};
 use outer_traits::clock::Clock;
@@ -65,7 +65,7 @@ fn prepare(alloc: Global, dump: Vec<u8>, moment: i64) -> Result<ScanInput, Alloc
 }
 
 ghost use Rattle.std.specs.Prelude.{vec_len};
-ghost use Rattle.archive_cli.specs.DumpTable.{IsDumpTable};
+ghost use Rattle.dump_lines.specs.DumpTable.{IsDumpTable};
 ghost use Rattle.archive_cli.specs.ReadDump.{dump_limit};
 
 /// How a command ends that printed the rows of a dump.

@@ -1,5 +1,5 @@
 use Rattle.std.proofs.Common.{refl}
-use Rattle.archive_cli.specs.JobView.{sheet_words_of}
+use Rattle.command_words.specs.JobView.{sheet_words_of}
 use Rattle.archive_cli.proofs.Caused.{create_refused_cause}
 use Rattle.archive_cli.proofs.ReadOnly.{untouched}
 use Rattle.archive_cli.proofs.Created.{create_refused, refused_kind, sheet_disk, sheet_writes}

@@ -6,7 +6,7 @@ use Rattle.disk_journal.specs.Format.{HoldsNone}
 use Rattle.archive_store.specs.declared.head.Head.{Head}
 use Rattle.archive_store.specs.Answers.{IsCreateImage}
 use Rattle.archive_cli.specs.CreateEnding.{IsCreateEnding, IsMade, create_line}
-use Rattle.archive_cli.specs.Printing.{IsFinished}
+use Rattle.dump_lines.specs.Output.{IsFinished}
 use Rattle.archive_cli.proofs.ReadOnly.{untouched}
 use Rattle.archive_cli.proofs.Caused.{create_made_cause, create_unmade_cause}
 use Rattle.archive_cli.proofs.Created.{create_unbegun, create_unmade, created, fewer_than_two, left_alone, made_store}

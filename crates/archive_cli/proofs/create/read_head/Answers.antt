@@ -1,6 +1,6 @@
 use Rattle.std.proofs.Common.{[], inl, refl}
 use Rattle.std.proofs.lemmas.Result.{err_from_is_err_and}
-use Rattle.archive_cli.specs.JobView.{sheet_words_of}
+use Rattle.command_words.specs.JobView.{sheet_words_of}
 use Rattle.archive_cli.proofs.Created.{refused_sheets, sheets_good}
 use Rattle.archive_cli.proofs.Ordered.{created_in_order, sheets_in_order}
 use Rattle.archive_cli.proofs.Reading.{sheets_unread}

@@ -1,7 +1,7 @@
 use Rattle.std.proofs.Common.{◌∙◌, Some, length, refl, sym, subst, arith, rules, w64, SFits}
 use Rattle.std.proofs.lemmas.Int.{to_z-of_z}
 use Rattle.archive_store.specs.StoreView.{archive_of}
-use Rattle.archive_cli.specs.JobView.{load_words_of}
+use Rattle.command_words.specs.JobView.{load_words_of}
 use Rattle.archive_cli.specs.Loading.{IsLoadRun}
 use Rattle.archive_cli.specs.LoadEnding.{IsLoadEnding}
 use Rattle.archive_cli.proofs.ReadOnly.{read_only_store}

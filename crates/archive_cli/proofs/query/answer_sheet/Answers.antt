@@ -1,6 +1,6 @@
 use Rattle.std.proofs.Common.{◌≡◌, ◌∙◌, Some, subst, sym}
 use Rattle.archive_cli.specs.declared.ask_sheet.AskSheet.{AskSheet}
-use Rattle.archive_cli.specs.AnswerText.{asks_refusal}
+use Rattle.retrieval.specs.AnswerText.{asks_refusal}
 use Rattle.archive_cli.specs.QueryEnding.{IsSheetReply}
 use Rattle.archive_cli.proofs.Replies.{refused_reply}
 use Rattle.archive_cli.proofs.query.answer_sheet.Goals as goal

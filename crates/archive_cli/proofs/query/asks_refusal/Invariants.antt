@@ -1,5 +1,5 @@
 use Rattle.std.proofs.Common.{◌≡◌, drop}
-use Rattle.archive_cli.specs.AnswerText.{asks_refusal}
+use Rattle.retrieval.specs.AnswerText.{asks_refusal}
 use Rattle.archive_cli.proofs.query.asks_refusal.Given as goal
 
 abbrev pub invariant-loop-ask : goal.invariant-loop-ask

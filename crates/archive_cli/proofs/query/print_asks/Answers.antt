@@ -4,9 +4,9 @@ use Rattle.std.proofs.lemmas.Result.{err_from_is_err_and}
 use Rattle.arch_types.specs.declared.ask.Ask.{Ask}
 use Rattle.archive_store.specs.StoreView.{StoreView}
 use Rattle.outer_traits.specs.Outside.{WritesSome}
-use Rattle.archive_cli.specs.AnswerText.{ask_text, asks_text}
-use Rattle.archive_cli.specs.Printing.{IsBuffered}
-use Rattle.archive_cli.proofs.LineBuffers.{buffered_more, buffered_some}
+use Rattle.retrieval.specs.AnswerText.{ask_text, asks_text}
+use Rattle.dump_lines.specs.Output.{IsBuffered}
+use Rattle.dump_lines.proofs.LineBuffers.{buffered_more, buffered_some}
 use Rattle.archive_cli.proofs.Replies.{first_known, next_text}
 use Rattle.archive_cli.proofs.query.print_asks.Goals as goal
 

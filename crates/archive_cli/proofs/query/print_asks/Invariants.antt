@@ -1,7 +1,7 @@
 use Rattle.std.proofs.Common.{◌≡◌, ◌+◌, ◌++◌, ◌<◌, None, length, drop}
 use Rattle.outer_traits.specs.Outside.{Stays}
-use Rattle.archive_cli.specs.AnswerText.{asks_refusal, asks_text}
-use Rattle.archive_cli.specs.Printing.{IsBuffered}
+use Rattle.retrieval.specs.AnswerText.{asks_refusal, asks_text}
+use Rattle.dump_lines.specs.Output.{IsBuffered}
 use Rattle.archive_cli.proofs.query.print_asks.Given as goal
 
 abbrev pub invariant-loop-i : goal.invariant-loop-i

@@ -1,7 +1,7 @@
 use Rattle.std.proofs.Common.{◌≡◌, ◌∙◌, length, sym, ap, subst}
 use Rattle.arch_types.specs.declared.refusal.Refusal.TheVariants.{OutOfMemory}
 use Rattle.archive_store.specs.StoreView.{archive_of}
-use Rattle.archive_cli.specs.Printing.{IsFinished}
+use Rattle.dump_lines.specs.Output.{IsFinished}
 use Rattle.archive_cli.specs.RecoverEnding.{IsRecoverEnding, recover_line}
 use Rattle.archive_cli.specs.Report.{read_only}
 use Rattle.archive_cli.proofs.Caused.{not_recovered_cause, recovered_cause}

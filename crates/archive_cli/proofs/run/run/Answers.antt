@@ -1,9 +1,9 @@
 use Rattle.std.proofs.Common.{List, Option, Some, map, refl, string_bytes, subst, sym, ℕ}
-use Rattle.archive_cli.specs.JobView.{job_view}
+use Rattle.command_words.specs.JobView.{job_view}
 use Rattle.archive_cli.specs.HandedBack.{IsHandedBack}
 use Rattle.archive_cli.specs.Order.{IsInOrder}
 use Rattle.archive_cli.specs.Ending.{IsCaused, IsJobEnding}
-use Rattle.archive_cli.specs.Job.{Job, job_of}
+use Rattle.command_words.specs.Job.{Job, job_of}
 use Rattle.archive_cli.proofs.Answers.{expected}
 use Rattle.archive_cli.proofs.HandedBack.{same_back}
 use Rattle.archive_cli.proofs.Durable.{not_opened, durable_after}

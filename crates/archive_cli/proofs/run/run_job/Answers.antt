@@ -3,8 +3,8 @@ use Rattle.std.specs.Result.{result_err}
 use Rattle.arch_types.specs.declared.refusal.Refusal.{Refusal}
 use Rattle.archive_cli.specs.declared.report.Report.{Report}
 use Rattle.archive_cli.specs.Order.{AreInOrder, IsInOrder, scan_inputs, values_inputs}
-use Rattle.archive_cli.specs.declared.job.Job.{Job}
-use Rattle.archive_cli.specs.JobView.{job_view, words_of}
+use Rattle.command_words.specs.declared.job.Job.{Job}
+use Rattle.command_words.specs.JobView.{job_view, words_of}
 use Rattle.archive_cli.specs.HandedBack.{IsHandedBack}
 use Rattle.archive_cli.specs.Ending.{IsCaused, IsJobEnding}
 use Rattle.archive_cli.specs.ScanEnding.{IsScanEnding}

@@ -1,9 +1,9 @@
 use Rattle.std.proofs.Common.{◌++◌}
 use Rattle.std.proofs.lemmas.Result.{err_from_is_err_and}
 use Rattle.outer_traits.specs.Outside.{WritesSome}
-use Rattle.archive_cli.specs.Call.{Appends}
-use Rattle.archive_cli.specs.Printing.{lines_of, end_of, text_of_loaded}
-use Rattle.archive_cli.proofs.LineBuffers.{wrote_front, buffered_end, buffered_end_some, on_ok, on_err}
+use Rattle.dump_lines.specs.Output.{Appends}
+use Rattle.dump_lines.specs.Printing.{lines_of, end_of, text_of_loaded}
+use Rattle.dump_lines.proofs.LineBuffers.{wrote_front, buffered_end, buffered_end_some, on_ok, on_err}
 use Rattle.archive_cli.proofs.scan.print.Goals as goal
 
 pub returns-in_err-print_rows-clause-some : goal.returns-in_err-print_rows-clause-some

@@ -1,9 +1,10 @@
 use Rattle.std.proofs.Common.{◌≡◌, ◌∙◌, ◌++◌, ◌∷◌, arith, refl}
 use Rattle.std.specs.Prelude.{flat_map}
 use Rattle.std.proofs.lemmas.Result.{err_from_is_err_and}
-use Rattle.archive_cli.specs.Text.{row_line}
-use Rattle.archive_cli.specs.Printing.{IsBuffered, lines_of}
-use Rattle.archive_cli.proofs.LineBuffers.{buffered_none, buffered_more, buffered_some, regroup}
+use Rattle.dump_lines.specs.Text.{row_line}
+use Rattle.dump_lines.specs.Printing.{lines_of}
+use Rattle.dump_lines.specs.Output.{IsBuffered}
+use Rattle.dump_lines.proofs.LineBuffers.{buffered_none, buffered_more, buffered_some, regroup}
 use Rattle.archive_cli.proofs.Visible.{seen-all}
 use Rattle.archive_cli.proofs.scan.print_rows.Goals as goal
 

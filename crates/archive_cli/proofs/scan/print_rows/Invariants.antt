@@ -1,8 +1,9 @@
 use Rattle.std.proofs.Common.{◌<◌, ◌++◌, length}
 use Rattle.std.specs.Prelude.{flat_map}
 use Rattle.outer_traits.specs.Outside.{Stays}
-use Rattle.archive_cli.specs.Text.{row_line}
-use Rattle.archive_cli.specs.Printing.{IsBuffered, lines_of}
+use Rattle.dump_lines.specs.Text.{row_line}
+use Rattle.dump_lines.specs.Printing.{lines_of}
+use Rattle.dump_lines.specs.Output.{IsBuffered}
 use Rattle.archive_cli.proofs.scan.print_rows.Given as goal
 
 abbrev pub invariant-loop-row : goal.invariant-loop-row

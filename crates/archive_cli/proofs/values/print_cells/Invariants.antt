@@ -3,7 +3,7 @@ use Rattle.std.specs.Prelude.{flat_map}
 use Rattle.std.specs.List.{filter_map}
 use Rattle.container_extract.specs.Extraction.{cell_of}
 use Rattle.outer_traits.specs.Outside.{Stays}
-use Rattle.archive_cli.specs.Printing.{IsBuffered}
+use Rattle.dump_lines.specs.Output.{IsBuffered}
 use Rattle.archive_cli.specs.ValuesPrinting.{cells_of_stored, line_of, lines_of_cells}
 use Rattle.archive_cli.proofs.values.print_cells.Given as goal
 

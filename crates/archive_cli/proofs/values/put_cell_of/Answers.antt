@@ -2,9 +2,9 @@ use Rattle.std.proofs.Common.{◌≡◌, ◌∙◌, ◌++◌, ap, append-nil, sy
 use Rattle.arch_types.specs.declared.cell.Cell.{Cell}
 use Rattle.mdb_model.specs.declared.calibration.Calibration.{Calibration}
 use Rattle.container_extract.specs.Extraction.{cell_of}
-use Rattle.archive_cli.specs.CellText.{cell_line}
+use Rattle.retrieval.specs.CellText.{cell_line}
 use Rattle.archive_cli.specs.ValuesPrinting.{count_if, count_of, line_if, line_of}
-use Rattle.archive_cli.specs.ValuesText.{calibration_numbered}
+use Rattle.retrieval.specs.ValuesText.{calibration_numbered}
 use Rattle.archive_cli.proofs.values.put_cell_of.Goals as goal
 
 pub returns-in-None-clause-line : goal.returns-in-None-clause-line

@@ -1,12 +1,12 @@
 use Rattle.std.proofs.Common.{◌∙◌, [], ◌∷◌, inl, inr, refl, Some}
 use Rattle.std.proofs.lemmas.Result.{err_from_is_err_and}
 use Rattle.arch_types.specs.declared.refusal.Which.TheVariants.{DumpOctets}
-use Rattle.archive_cli.specs.JobView.{words_of}
+use Rattle.command_words.specs.JobView.{words_of}
 use Rattle.archive_cli.specs.ReadDump.{IsDumpRead, ending_of}
 use Rattle.archive_cli.proofs.CellCounts.{rows_few}
 use Rattle.archive_cli.proofs.Counted.{input_unwritten, parameter_no_fault, print_reads, print_writes, reads_later, reads_no_fault, rest_no_fault, sheets_unwritten, writes_no_fault}
 use Rattle.archive_cli.proofs.Ordered.{sheets_in_order, undumped_in_order, valued_in_order}
-use Rattle.archive_cli.proofs.Parameters.{number_within}
+use Rattle.retrieval.proofs.Parameters.{number_within}
 use Rattle.archive_cli.proofs.Reading.{read_later, sheets_unread}
 use Rattle.archive_cli.proofs.Scanned.{call_of}
 use Rattle.archive_cli.proofs.Valued.{values_ended, values_input, values_unknown, values_unprinted}

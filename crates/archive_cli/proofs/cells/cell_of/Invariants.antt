@@ -1,4 +1,0 @@
-use Rattle.archive_cli.proofs.cells.cell_of.Given as goal
-
-abbrev pub ghosts-extracted : goal.ghosts-extracted
-ghosts-extracted a = record { name = a.blank.name; parts = a.blank.parts }

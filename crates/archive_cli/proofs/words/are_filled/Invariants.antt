@@ -1,6 +1,0 @@
-use Rattle.std.proofs.Common.{◌≡◌, map, string_bytes, drop}
-use Rattle.archive_cli.specs.Words.{are_filled}
-use Rattle.archive_cli.proofs.words.are_filled.Given as goal
-
-abbrev pub invariant-loop-word : goal.invariant-loop-word
-invariant-loop-word l = are_filled (map (λ w. string_bytes w) (drop l.word-index l.words)) ≡ are_filled (map (λ w. string_bytes w) l.words)

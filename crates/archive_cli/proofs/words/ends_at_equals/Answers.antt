@@ -1,6 +1,0 @@
-use Rattle.std.proofs.Common.{ap, ℕ, Option}
-use Rattle.archive_cli.specs.Words.{is_last}
-use Rattle.archive_cli.proofs.words.ends_at_equals.Goals as goal
-
-pub returns-in-Some : goal.returns-in-Some
-returns-in-Some c = ap (λ (o : Option ℕ). is_last o c.args.word.now) c.in-Some.ensures.value

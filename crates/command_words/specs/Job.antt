@@ -1,0 +1,126 @@
+-- What the words of a command line ask.
+use Rattle.std.specs.Prelude.{◌≡◌, ◌≤◌, ℕ, true, false, List, [], ◌∷◌, Option, Some, None, option_map, option_and_then, codes, nat_le, if◌then◌else◌}
+use Rattle.std.specs.Str.{bytes_eq}
+use Rattle.arch_types.specs.declared.refusal.Refusal.{Refusal}
+use Rattle.arch_types.specs.declared.refusal.Refusal.TheVariants.{Usage, OutOfMemory}
+use Rattle.clap.specs.Walk.{Row, first_of}
+use Rattle.clap.specs.Simple.{App, with_rule}
+use Rattle.text_forms.specs.Digits.{digits_at_most}
+use Rattle.command_words.specs.Words.{option_rule, plain_app, words_app, rows_of_words}
+
+-- the names of three sheets and of a dump, and the name of a parameter
+pub record ValuesWords : Type 0 where
+  pub parameters : List ℕ
+  pub calibrations : List ℕ
+  pub containers : List ℕ
+  pub dump : List ℕ
+  pub name : List ℕ
+
+-- the names of three sheets
+pub record SheetWords : Type 0 where
+  pub parameters : List ℕ
+  pub calibrations : List ℕ
+  pub containers : List ℕ
+
+-- the name of a dump, and the number of the link that it came by
+pub record LoadWords : Type 0 where
+  pub dump : List ℕ
+  pub link : ℕ
+
+-- a job of the archive's program, with the words that it was given
+pub data Job : Type 0 where
+  Scan : List ℕ → Job
+  Values : ValuesWords → Job
+  Create : SheetWords → Job
+  Load : LoadWords → Job
+  -- by the name of a sheet of asks
+  Query : List ℕ → Job
+  Recover : Job
+
+-- the words of `scan`
+abbrev pub scan_app : App
+scan_app = words_app (codes "scan") (codes "dump" ∷ [])
+
+abbrev pub scan_of : List Row → Option Job
+scan_of rows = option_map Scan (first_of (codes "dump") rows)
+
+-- the words of `values`
+abbrev pub values_app : App
+values_app = words_app (codes "values") (codes "parameters" ∷ codes "calibrations" ∷ codes "containers" ∷ codes "dump" ∷ codes "name" ∷ [])
+
+abbrev pub values_words : Option (List ℕ) → Option (List ℕ) → Option (List ℕ) → Option (List ℕ) → Option (List ℕ) → Option Job
+values_words (Some parameters) (Some calibrations) (Some containers) (Some dump) (Some name) =
+    Some (Values (record { parameters = parameters; calibrations = calibrations; containers = containers; dump = dump; name = name }))
+values_words parameters calibrations containers dump name = None
+
+abbrev pub values_of : List Row → Option Job
+values_of rows =
+    values_words (first_of (codes "parameters") rows) (first_of (codes "calibrations") rows) (first_of (codes "containers") rows) (first_of (codes "dump") rows) (first_of (codes "name") rows)
+
+-- the words of `create`
+abbrev pub create_app : App
+create_app = words_app (codes "create") (codes "parameters" ∷ codes "calibrations" ∷ codes "containers" ∷ [])
+
+abbrev pub sheet_words : Option (List ℕ) → Option (List ℕ) → Option (List ℕ) → Option Job
+sheet_words (Some parameters) (Some calibrations) (Some containers) = Some (Create (record { parameters = parameters; calibrations = calibrations; containers = containers }))
+sheet_words parameters calibrations containers = None
+
+abbrev pub create_of : List Row → Option Job
+create_of rows = sheet_words (first_of (codes "parameters") rows) (first_of (codes "calibrations") rows) (first_of (codes "containers") rows)
+
+-- the words of `load`: a dump, and an option for the number of its link
+abbrev pub load_app : App
+load_app = with_rule (words_app (codes "load") (codes "dump" ∷ [])) (option_rule (codes "link") false)
+
+-- the numbers from 1 on
+abbrev pub from_one : ℕ → Option ℕ
+from_one n = if nat_le 1 n then Some n else None
+
+-- the number of the link: the one that 1 to 19 digits spell, or 1 where none is given
+abbrev pub link_of : Option (List ℕ) → Option ℕ
+link_of None = Some 1
+link_of (Some word) = option_and_then from_one (digits_at_most 19 word)
+
+abbrev pub load_words : Option (List ℕ) → Option ℕ → Option Job
+load_words (Some dump) (Some link) = Some (Load (record { dump = dump; link = link }))
+load_words dump link = None
+
+abbrev pub load_of : List Row → Option Job
+load_of rows = load_words (first_of (codes "dump") rows) (link_of (first_of (codes "link") rows))
+
+-- the words of `query`: an option for a sheet of asks, which has to come
+abbrev pub query_app : App
+query_app = with_rule (plain_app (codes "query")) (option_rule (codes "ask") true)
+
+abbrev pub query_of : List Row → Option Job
+query_of rows = option_map Query (first_of (codes "ask") rows)
+
+-- `recover` has no words
+abbrev pub recover_app : App
+recover_app = plain_app (codes "recover")
+
+abbrev pub recover_of : List Row → Option Job
+recover_of rows = Some Recover
+
+-- the job of the words, where they are one: the command, and behind it what it wants
+abbrev pub job_of : List (List ℕ) → Option Job
+job_of [] = None
+job_of (command ∷ words) =
+    if bytes_eq command (codes "scan") then option_and_then scan_of (rows_of_words scan_app words)
+    else if bytes_eq command (codes "values") then option_and_then values_of (rows_of_words values_app words)
+    else if bytes_eq command (codes "create") then option_and_then create_of (rows_of_words create_app words)
+    else if bytes_eq command (codes "load") then option_and_then load_of (rows_of_words load_app words)
+    else if bytes_eq command (codes "query") then option_and_then query_of (rows_of_words query_app words)
+    else if bytes_eq command (codes "recover") then option_and_then recover_of (rows_of_words recover_app words)
+    else None
+
+-- where packets are loaded, their link has a number from 1 on
+abbrev pub HasLink : Job → Type 0
+HasLink (Load words) = 1 ≤ words.link
+HasLink other = Unit {0}
+
+-- why there is no job: the words are none, or want of memory
+abbrev pub IsNoJob : Option Job → Refusal → Type 0
+IsNoJob job Usage = job ≡ None
+IsNoJob job OutOfMemory = Unit {0}
+IsNoJob job other = ⊥

@@ -1,0 +1,14 @@
+use Rattle.std.proofs.Common.{◌≤◌, ◌-◌, length, take}
+use Rattle.outer_traits.specs.Outside.{Stays}
+use Rattle.dump_lines.specs.Output.{Appends}
+use Rattle.dump_lines.proofs.write.write_all.Given as goal
+
+abbrev pub invariant-loop-at : goal.invariant-loop-at
+invariant-loop-at g l = record {
+  within : l.at ≤ length l.text;
+  known : Appends (g.K.Sink.written l.fn.sink) (g.K.Sink.written l.sink) (take l.at l.text);
+  no_fault : Stays (g.K.Sink.faults l.fn.sink) (g.K.Sink.faults l.sink);
+}
+
+abbrev pub decreases-loop-at : goal.decreases-loop-at
+decreases-loop-at g l = length l.text - l.at

@@ -1,0 +1,4 @@
+pub mod Output
+pub mod DumpTable
+pub mod Text
+pub mod Printing

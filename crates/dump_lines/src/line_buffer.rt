@@ -1,0 +1,149 @@
+//! Text on its way to a sink, gathered into pieces of about 64 KiB.
+
+ghost use Rattle.std.specs.Prelude.{◌≡◌, ◌+◌, ◌<◌, ◌≤◌, [], ◌++◌, length, IfOk, OnOk, OnErr, IsErr, codes, decimal};
+ghost use Rattle.outer_traits.specs.Outside.{HasRisen, Stays, WritesSome};
+ghost use Rattle.dump_lines.specs.Output.{Appends, WritesCounted, IsBuffered, IsFinished};
+ghost use Rattle.dump_lines.specs.Text.{row_line, counts_line};
+
+use crate::counts::Counts;
+use crate::write::write_all;
+use arch_types::refusal::Refusal;
+use arch_types::row::Row;
+use itoa::{Buffer, Integer};
+use outer_traits::fault::Failed;
+use outer_traits::sink::Sink;
+use std::alloc::{AllocError, Global};
+use std::marker::Model;
+
+/// The octets from which on a piece is written.
+const FULL: usize = 65_536;
+
+/// The octets that the longest line may take.
+const LINE: usize = 256;
+
+/// Text that wasn't written yet. All memory that it takes is taken when it is made.
+#[derive(Drop)]
+pub struct LineBuffer {
+    octets: Vec<u8>,
+}
+
+impl Model for LineBuffer {
+    ghost use Rattle.std.specs.Prelude.{◌≤◌, List, ℕ, vec_capacity};
+
+    ghost Value = { List ℕ };
+
+    ghost view = { λ p. p.octets.items };
+
+    ghost invariant = { λ p. 65792 ≤ vec_capacity p.octets };
+}
+
+impl LineBuffer {
+    /// No text.
+    pub fn new(alloc: Global) -> Result<Self, AllocError>
+        ensures { IfOk result (λ line_buffer. line_buffer ≡ []) }
+    {
+        let octets = Vec::with_capacity(alloc, FULL + LINE)?;
+        Ok(LineBuffer { octets })
+    }
+
+    /// Adds octets for which there's room.
+    pub fn put(&mut self, octets: &[u8])
+        requires { length self.old + length octets.now ≤ 65792 }
+        ensures { self.new ≡ self.old ++ octets.now }
+    {
+        let Ok(()) = self.octets.extend_from_slice(octets) else {
+            unreachable!();
+        };
+    }
+
+    /// Adds a label, and a number after it.
+    pub fn put_number<I: Integer>(&mut self, label: &[u8], number: I)
+        requires { length self.old + length label.now + 40 ≤ 65792 }
+        ensures text { self.new ≡ self.old ++ label.now ++ I.text number }
+        ensures short { length self.new ≤ length self.old + length label.now + 40 }
+    {
+        self.put(label);
+        self.put(Buffer::new().format(number).as_bytes());
+    }
+
+    /// Adds the line of a row.
+    pub fn put_row(&mut self, row: &Row)
+        requires { length self.old < 65536 }
+        ensures { self.new ≡ self.old ++ row_line row.now }
+    {
+        self.put_number(b"row ", row.key.time);
+        self.put_number(b" ", row.key.seq);
+        self.put_number(b" ", row.packet.len());
+        self.put(b"\n");
+    }
+
+    /// Adds the last line.
+    pub fn put_counts(&mut self, counts: Counts)
+        requires { length self.old < 65536 }
+        ensures { self.new ≡ self.old ++ counts_line counts.packets counts.rows counts.duplicates counts.idle }
+    {
+        self.put_kept(counts.packets, counts.rows);
+        self.put_left_out(counts.duplicates, counts.idle);
+    }
+
+    /// Adds the first half of the last line.
+    fn put_kept(&mut self, packets: u64, rows: u64)
+        requires { length self.old < 65536 }
+        ensures text { self.new ≡ self.old ++ codes "scan packets " ++ decimal packets ++ codes " rows " ++ decimal rows }
+        ensures short { length self.new < 65664 }
+    {
+        self.put_number(b"scan packets ", packets);
+        self.put_number(b" rows ", rows);
+    }
+
+    /// Adds the second half of the last line.
+    fn put_left_out(&mut self, duplicates: u64, idle: u64)
+        requires { length self.old < 65664 }
+        ensures { self.new ≡ self.old ++ codes " duplicates " ++ decimal duplicates ++ codes " idle " ++ decimal idle ++ codes "\n" }
+    {
+        self.put_number(b" duplicates ", duplicates);
+        self.put_number(b" idle ", idle);
+        self.put(b"\n");
+    }
+
+    /// Writes the text where it makes a piece.
+    pub fn flush_if_full<K: Sink>(&mut self, sink: &mut K) -> Result<(), Failed>
+        ensures buffered { OnOk result (IsBuffered (K.written sink.old) (K.written sink.new) self.old self.new) }
+        ensures room { OnOk result (length self.new < 65536) }
+        ensures some { OnErr result (WritesSome (K.written sink.old) (K.written sink.new) self.old) }
+        ensures later { K.faults sink.old ≤ K.faults sink.new }
+        ensures failed { IsErr result → HasRisen (K.faults sink.old) (K.faults sink.new) }
+        ensures no_fault { OnOk result (Stays (K.faults sink.old) (K.faults sink.new)) }
+    {
+        if self.octets.len() < FULL {
+            return Ok(());
+        }
+        self.flush(sink)
+    }
+
+    /// Writes the text.
+    pub fn flush<K: Sink>(&mut self, sink: &mut K) -> Result<(), Failed>
+        ensures all { OnOk result (Appends (K.written sink.old) (K.written sink.new) self.old) }
+        ensures empty { OnOk result (self.new ≡ []) }
+        ensures some { OnErr result (WritesSome (K.written sink.old) (K.written sink.new) self.old) }
+        ensures later { K.faults sink.old ≤ K.faults sink.new }
+        ensures failed { IsErr result → HasRisen (K.faults sink.old) (K.faults sink.new) }
+        ensures no_fault { OnOk result (Stays (K.faults sink.old) (K.faults sink.new)) }
+    {
+        write_all(sink, self.octets.as_slice())?;
+        self.octets.clear();
+        Ok(())
+    }
+
+    /// Writes all of the text, and says how a command ends that prints nothing more.
+    pub fn finish<K: Sink>(mut self, sink: &mut K) -> Option<Refusal>
+        ensures finished { IsFinished result (K.written sink.old) (K.written sink.new) self }
+        ensures later { K.faults sink.old ≤ K.faults sink.new }
+        ensures counted { WritesCounted result (K.faults sink.old) (K.faults sink.new) }
+    {
+        match self.flush(sink) {
+            Ok(()) => None,
+            Err(_) => Some(Refusal::WriteFault),
+        }
+    }
+}

@@ -1,0 +1,12 @@
+use Rattle.std.proofs.Common.{◌≡◌, ◌++◌, drop}
+use Rattle.std.specs.List.{filter_map}
+use Rattle.archive_store.specs.Plans.{rows_of_parts}
+use Rattle.container_extract.specs.Extraction.{cell_of}
+use Rattle.retrieval.specs.AnswerText.{truncated}
+use Rattle.retrieval.proofs.answer.first_cells.Given as goal
+
+abbrev pub invariant-loop-part : goal.invariant-loop-part
+invariant-loop-part l = record {
+  all : truncated l.limit (l.cells.items ++ filter_map (cell_of l.mdb l.number) (rows_of_parts (drop l.part-index l.parts))) ≡ truncated l.limit (filter_map (cell_of l.mdb l.number) (rows_of_parts l.parts));
+  within : truncated l.limit l.cells.items ≡ l.cells.items;
+}

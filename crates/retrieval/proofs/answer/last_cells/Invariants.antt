@@ -1,0 +1,15 @@
+use Rattle.std.proofs.Common.{◌≡◌, ◌++◌, reverse}
+use Rattle.std.specs.Iterator.Adapters.{rev_source}
+use Rattle.std.specs.List.{filter_map}
+use Rattle.std.specs.Slice.Iter.{iter_rest}
+use Rattle.archive_store.specs.Plans.{rows_of_parts}
+use Rattle.container_extract.specs.Extraction.{cell_of}
+use Rattle.retrieval.specs.AnswerText.{truncated}
+use Rattle.retrieval.proofs.answer.last_cells.Given as goal
+
+abbrev pub invariant-loop-part : goal.invariant-loop-part
+invariant-loop-part l = record {
+  all : truncated l.limit (l.cells.items ++ filter_map (cell_of l.mdb l.number) (reverse (rows_of_parts (iter_rest (rev_source l.part-iterator)))))
+      ≡ truncated l.limit (filter_map (cell_of l.mdb l.number) (reverse (rows_of_parts l.parts)));
+  within : truncated l.limit l.cells.items ≡ l.cells.items;
+}

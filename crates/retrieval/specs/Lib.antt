@@ -1,0 +1,4 @@
+pub mod Parameter
+pub mod CellText
+pub mod ValuesText
+pub mod AnswerText

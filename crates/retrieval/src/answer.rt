@@ -1,0 +1,195 @@
+//! The answer of an archive to a request.
+
+ghost use Rattle.std.specs.Prelude.{◌≡◌, ◌++◌, IfOk, OnOk, None, reverse, true};
+ghost use Rattle.std.specs.Arc.{arc_value};
+ghost use Rattle.std.specs.List.{filter_map};
+ghost use Rattle.archive_store.specs.Plans.{rows_of_parts};
+ghost use Rattle.container_extract.specs.Extraction.{cell_of};
+ghost use Rattle.retrieval.specs.AnswerText.{IsParameterAnswer, truncated, cell_list, is_full, request_refusal, in_asked_order};
+ghost use Rattle.retrieval.specs.Parameter.{number_named};
+
+use crate::cells::cell_of;
+use arch_disk::Disk;
+use arch_types::ask::{Answer, Request};
+use arch_types::cell::{Cell, Cells};
+use arch_types::name::Name;
+use arch_types::refusal::Refusal;
+use arch_types::row::Row;
+use archive_store::{Part, Plan, Store};
+use mdb_model::Mdb;
+use std::alloc::{AllocError, Global};
+use std::sync::Arc;
+
+/// The answer to a request, with the database and the parameter that it is over.
+#[derive(Drop)]
+pub struct ParameterAnswer {
+    pub mdb: Arc<Mdb, Global>,
+    /// The parameter's number in the database.
+    pub number: u16,
+    pub answer: Answer,
+}
+
+/// The answer to a request over the whole history of a store, whose database has the parameter.
+pub fn answer_request<D: Disk>(
+    alloc: Global,
+    store: &mut Store<D>,
+    request: &Request,
+) -> Result<ParameterAnswer, AllocError>
+    requires { request_refusal (number_named store.old.head.mdb request.now.parameter) request.now ≡ None }
+    ensures found { IfOk result (IsParameterAnswer store.old.head.mdb store.old.history request.now) }
+    ensures same { store.new ≡ store.old }
+{
+    let plan = match store.plan(alloc, request) {
+        Ok(plan) => plan,
+        Err(Refusal::OutOfMemory) => return Err(AllocError),
+        Err(_) => unreachable!(),
+    };
+    let Some(number) = number_of(&plan.mdb, &request.parameter) else {
+        unreachable!();
+    };
+    let cells = plan_cells(alloc, &plan, number, request)?;
+    let Plan {
+        front,
+        mdb,
+        parts: _,
+    } = plan;
+    Ok(ParameterAnswer {
+        mdb,
+        number,
+        answer: Answer { front, cells },
+    })
+}
+
+/// The number of the parameter that has a name.
+pub fn number_of(mdb: &Mdb, name: &Name) -> Option<u16>
+    ensures { result ≡ number_named mdb.now name.now }
+{
+    match str::from_utf8(name.as_slice()) {
+        Ok(text) => mdb.parameter_number(text),
+        Err(_) => unreachable!(),
+    }
+}
+
+/// The cells of a plan's rows: those of the request's parameter in key order, the last first where it is descending, and of these the first
+/// `limit`.
+fn plan_cells(
+    alloc: Global,
+    plan: &Plan,
+    number: u16,
+    request: &Request,
+) -> Result<Cells, AllocError>
+    ensures { IfOk result (λ cells. cells ≡ truncated request.now.limit (in_asked_order request.now.descending (filter_map (cell_of (arc_value plan.now.mdb) number) (rows_of_parts plan.now.parts)))) }
+{
+    let parts = plan.parts.as_slice();
+    if request.descending {
+        let cells = last_cells(alloc, &plan.mdb, number, parts, request.limit)?;
+        return Ok(Cells::from_vec(cells));
+    }
+    let cells = first_cells(alloc, &plan.mdb, number, parts, request.limit)?;
+    Ok(Cells::from_vec(cells))
+}
+
+/// The first cells in key order.
+fn first_cells(
+    alloc: Global,
+    mdb: &Mdb,
+    number: u16,
+    parts: &[Part],
+    limit: Option<u64>,
+) -> Result<Vec<Cell>, AllocError>
+    ensures { IfOk result (λ cells. cells.items ≡ truncated limit (filter_map (cell_of mdb.now number) (rows_of_parts parts.now))) }
+{
+    let mut cells = Vec::new(alloc);
+    for part in parts {
+        add_cells(alloc, mdb, number, part.rows.as_slice(), limit, &mut cells)?;
+    }
+    Ok(cells)
+}
+
+/// The first cells in the opposite order. The last rows are extracted first, and none beyond the limit.
+fn last_cells(
+    alloc: Global,
+    mdb: &Mdb,
+    number: u16,
+    parts: &[Part],
+    limit: Option<u64>,
+) -> Result<Vec<Cell>, AllocError>
+    ensures { IfOk result (λ cells. cells.items ≡ truncated limit (in_asked_order true (filter_map (cell_of mdb.now number) (rows_of_parts parts.now)))) }
+{
+    let mut cells = Vec::new(alloc);
+    for part in parts.iter().rev() {
+        add_last_cells(alloc, mdb, number, part.rows.as_slice(), limit, &mut cells)?;
+    }
+    Ok(cells)
+}
+
+/// Adds the cells of rows, up to a limit of all.
+fn add_cells(
+    alloc: Global,
+    mdb: &Mdb,
+    number: u16,
+    rows: &[Row],
+    limit: Option<u64>,
+    cells: &mut Vec<Cell>,
+) -> Result<(), AllocError>
+    requires { truncated limit cells.old.items ≡ cells.old.items }
+    ensures { OnOk result (cells.new.items ≡ truncated limit (cells.old.items ++ filter_map (cell_of mdb.now number) rows.now)) }
+{
+    for row in rows {
+        if is_full(cells.as_slice(), limit) {
+            return Ok(());
+        }
+        add_cell(alloc, mdb, number, row, cells)?;
+    }
+    Ok(())
+}
+
+/// Adds the cells of rows, those of the last row first, up to a limit of all.
+fn add_last_cells(
+    alloc: Global,
+    mdb: &Mdb,
+    number: u16,
+    rows: &[Row],
+    limit: Option<u64>,
+    cells: &mut Vec<Cell>,
+) -> Result<(), AllocError>
+    requires { truncated limit cells.old.items ≡ cells.old.items }
+    ensures { OnOk result (cells.new.items ≡ truncated limit (cells.old.items ++ filter_map (cell_of mdb.now number) (reverse rows.now))) }
+{
+    for row in rows.iter().rev() {
+        if is_full(cells.as_slice(), limit) {
+            return Ok(());
+        }
+        add_cell(alloc, mdb, number, row, cells)?;
+    }
+    Ok(())
+}
+
+/// Adds the cell of a row, where there is one.
+fn add_cell(
+    alloc: Global,
+    mdb: &Mdb,
+    number: u16,
+    row: &Row,
+    cells: &mut Vec<Cell>,
+) -> Result<(), AllocError>
+    ensures { OnOk result (cells.new.items ≡ cells.old.items ++ cell_list (cell_of mdb.now number row.now)) }
+{
+    match cell_of(alloc, mdb, number, row)? {
+        None => Ok(()),
+        Some(cell) => {
+            cells.push(cell)?;
+            Ok(())
+        }
+    }
+}
+
+/// Whether there are as many cells as the limit says.
+fn is_full(cells: &[Cell], limit: Option<u64>) -> bool
+    ensures { result ≡ is_full limit cells.now }
+{
+    match limit {
+        None => false,
+        Some(limit) => cells.len() as u64 >= limit,
+    }
+}

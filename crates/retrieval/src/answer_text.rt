@@ -1,0 +1,83 @@
+//! The lines of an answer.
+
+ghost use Rattle.std.specs.Prelude.{◌≡◌, ◌+◌, ◌<◌, ◌≤◌, ◌++◌, OnOk, OnErr, IsErr, flat_map, length, option_copied};
+ghost use Rattle.std.specs.Arc.{arc_value};
+ghost use Rattle.outer_traits.specs.Outside.{HasRisen, Stays, WritesSome};
+ghost use Rattle.retrieval.specs.AnswerText.{answer_lines, end_line, front_line};
+ghost use Rattle.retrieval.specs.CellText.{HasShortLabels, cell_line};
+ghost use Rattle.dump_lines.specs.Output.{IsBuffered};
+
+use crate::answer::ParameterAnswer;
+use crate::cells::calibration_of;
+use dump_lines::line_buffer::LineBuffer;
+use arch_types::cell::Cell;
+use mdb_model::Calibration;
+use outer_traits::fault::Failed;
+use outer_traits::sink::Sink;
+
+/// Prints an answer, of which the end may still be buffered.
+pub fn print_found<K: Sink>(
+    k: u64,
+    found: &ParameterAnswer,
+    line_buffer: &mut LineBuffer,
+    sink: &mut K,
+) -> Result<(), Failed>
+    requires room { length line_buffer.old < 65536 }
+    requires number { found.now.number < length (arc_value found.now.mdb).parameters }
+    ensures buffered { OnOk result (IsBuffered (K.written sink.old) (K.written sink.new) (line_buffer.old ++ answer_lines k found.now.answer.front (arc_value found.now.mdb) found.now.number found.now.answer.cells) line_buffer.new) }
+    ensures room { OnOk result (length line_buffer.new < 65536) }
+    ensures some { OnErr result (WritesSome (K.written sink.old) (K.written sink.new) (line_buffer.old ++ answer_lines k found.now.answer.front (arc_value found.now.mdb) found.now.number found.now.answer.cells)) }
+    ensures later { K.faults sink.old ≤ K.faults sink.new }
+    ensures failed { IsErr result → HasRisen (K.faults sink.old) (K.faults sink.new) }
+    ensures no_fault { OnOk result (Stays (K.faults sink.old) (K.faults sink.new)) }
+{
+    let calibration = calibration_of(&found.mdb, found.number);
+    let cells = found.answer.cells.as_slice();
+    put_front(line_buffer, k, found.answer.front);
+    line_buffer.flush_if_full(sink)?;
+    print_cells(cells, calibration, line_buffer, sink)?;
+    put_end(line_buffer, cells.len());
+    line_buffer.flush_if_full(sink)
+}
+
+/// Prints the lines of cells of a parameter with this calibration, of which the last may still be buffered.
+fn print_cells<K: Sink>(
+    cells: &[Cell],
+    calibration: Option<&Calibration>,
+    line_buffer: &mut LineBuffer,
+    sink: &mut K,
+) -> Result<(), Failed>
+    requires room { length line_buffer.old < 65536 }
+    requires labels { HasShortLabels (option_copied calibration) }
+    ensures buffered { OnOk result (IsBuffered (K.written sink.old) (K.written sink.new) (line_buffer.old ++ flat_map (cell_line (option_copied calibration.entry)) cells.now) line_buffer.new) }
+    ensures room { OnOk result (length line_buffer.new < 65536) }
+    ensures some { OnErr result (WritesSome (K.written sink.old) (K.written sink.new) (line_buffer.old ++ flat_map (cell_line (option_copied calibration.entry)) cells.now)) }
+    ensures later { K.faults sink.old ≤ K.faults sink.new }
+    ensures failed { IsErr result → HasRisen (K.faults sink.old) (K.faults sink.new) }
+    ensures no_fault { OnOk result (Stays (K.faults sink.old) (K.faults sink.new)) }
+{
+    for cell in cells {
+        line_buffer.put_cell(*cell, calibration);
+        line_buffer.flush_if_full(sink)?;
+    }
+    Ok(())
+}
+
+/// Adds the first line: the number of the ask, and the front.
+fn put_front(line_buffer: &mut LineBuffer, k: u64, front: u64)
+    requires { length line_buffer.old < 65536 }
+    ensures { line_buffer.new ≡ line_buffer.old ++ front_line k front }
+{
+    line_buffer.put_number(b"ask ", k);
+    line_buffer.put_number(b" front ", front);
+    line_buffer.put(b"\n");
+}
+
+/// Adds the last line: how many cells there are.
+fn put_end(line_buffer: &mut LineBuffer, count: usize)
+    requires { length line_buffer.old < 65536 }
+    ensures { line_buffer.new ≡ line_buffer.old ++ end_line count }
+{
+    line_buffer.put_number(b"end ", count);
+    line_buffer.put(b"\n");
+}
