@@ -13,6 +13,6 @@
 // To be changed together: `is_late_free_mark` in specs/Mark.antt and `Mark::is_late_free`.
 #![tactic(auto)]
 
-mod indexes;
+mod late_free;
 pub mod mark;
 pub mod marks;

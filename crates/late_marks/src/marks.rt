@@ -4,7 +4,7 @@ ghost use Rattle.std.specs.Prelude.{◌≡◌, ℕ, ◌+◌, ◌<◌, ◌≤◌,
 ghost use Rattle.late_marks.specs.Mark.{touched, StandAt, IsLateBy};
 ghost use Rattle.late_marks.specs.Marks.{mark_of, has_rows, last_of, base_of, is_late, is_late_free, Marked, IsLeast};
 
-use crate::indexes::update_late_free;
+use crate::late_free::update_late_free;
 use crate::mark::Mark;
 use arch_types::interval::Interval;
 use block_map::index::Index;

@@ -14,7 +14,8 @@ use Rattle.time_text.specs.Day.{day_of}
 use Rattle.partitions.specs.NamedDay.{named_day}
 use Rattle.partitions.specs.Bounds.{HasTimeOn, MayHold}
 use Rattle.partitions.specs.NameDayFilter.{is_on, is_name_day_filter}
-use Rattle.partitions.proofs.TimesOfDays.{day_is, has_time_on}
+use Rattle.time_text.proofs.DayFacts.{days_rise}
+use Rattle.partitions.proofs.TimesOfDays.{has_time_on}
 use Rattle.partitions.proofs.Firsts.{name_day_filter_is, name_day_filter_from, on_is, on_from}
 
 same_names : (x y : ℕ) → nat_eq x y ≡ true → x ≡ y
@@ -29,7 +30,7 @@ module _ (from to : ℤ) (days : Days) (some : from <ℤ to) (first : days.first
   )
 
   pub days_some : days.first ≤ℤ days.last
-  days_some = let low = day_is from in let high = day_is (to -ℤ pos 1) in omega (arith, ints, first, last, low.begun, high.ending, some)
+  days_some = rw (first, last) (days_rise from (to -ℤ pos 1) (omega (arith, ints, some)))
 
 module _ (bounds : Bounds) (days : Days) (on : (day : ℤ) → (is_on days day ≡ true) ↔ HasTimeOn bounds.from bounds.to day) where
   -- where there is no list, the day decides

@@ -9,6 +9,12 @@ abbrev pub IsAmong : Option (List ℕ) → ℕ → Type 0
 IsAmong None pname = Unit {0}
 IsAmong (Some names) pname = Contains names pname
 
+-- a row's time and packet name lie in the bounds
+pub record IsInBounds (bounds : Bounds) (time : ℤ) (pname : ℕ) : Type 0 where
+  pub from : bounds.from ≤ℤ time
+  pub to : time <ℤ bounds.to
+  pub name : IsAmong bounds.names pname
+
 -- some time with from <= time < to has this day
 abbrev pub HasTimeOn : ℤ → ℤ → ℤ → Type 0
 HasTimeOn from to day = (time : ℤ) × (from ≤ℤ time) × (time <ℤ to) × (day_of time ≡ day)

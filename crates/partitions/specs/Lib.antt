@@ -4,3 +4,4 @@ pub mod Bounds
 pub mod Names
 pub mod NameDayFilter
 pub mod Partitions
+pub mod Laws

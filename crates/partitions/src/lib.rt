@@ -2,7 +2,8 @@
 //
 // A partition is one day and one packet name (specs/Partition.antt). Contracts see `Partitions` as the list of the partitions that hold
 // a row, rising by day and then by the packet name's number, and its room (`Holding`, specs/Partitions.antt). `pruned` gives those of
-// them in which a row may stand that has its time and its packet name in given bounds, so that a reader passes over all others.
+// them in which a row may stand that has its time and its packet name in given bounds, so that a reader passes over all others: the
+// partition of a row in the bounds is never passed over (`RowsMayStand`, specs/Laws.antt).
 // Callers: the store adds each row's partition, replays and scripts ask for the partitions of their bounds.
 //
 // The partitions stand in two indexes, by day and by packet name, which hold the same ones (`AreTheSame`, specs/Partitions.antt). Without
@@ -17,6 +18,7 @@
 pub mod bounds;
 mod days;
 mod indexes;
+pub mod laws;
 pub mod lists;
 mod name_day_filter;
 mod named_day;

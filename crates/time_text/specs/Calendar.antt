@@ -1,5 +1,5 @@
 -- The Gregorian calendar from the year 1970 on, by counting the days of its years and months.
-use Rattle.std.specs.Prelude.{ℕ, zero, suc, ◌+◌, ◌-◌, ◌%◌, ◌==◌, ◌&&◌, ◌||◌, not, Bool, nat_le, if◌then◌else◌}
+use Rattle.std.specs.Prelude.{ℕ, zero, suc, ◌+◌, ◌-◌, ◌%◌, ◌==◌, ◌&&◌, ◌||◌, not, Bool, nat_le, nat_lt, if◌then◌else◌}
 
 -- every fourth year, but of the centuries only every fourth
 abbrev pub is_leap : ℕ → Bool
@@ -34,3 +34,21 @@ is_date year month day =
 unfoldable pub day_number : ℕ → ℕ → ℕ → ℕ
 day_number year month day =
     days_of_years (year - 1970) + days_of_months year (month - 1) + (day - 1)
+
+-- a year, a month from 1 and a day of the month from 1
+pub record CivilDate : Type 0 where
+  pub year : ℕ
+  pub month : ℕ
+  pub day : ℕ
+
+-- the date of the day after: the month's next day, or the first of the year's next month, or the first of the next year
+abbrev pub next_date : CivilDate → CivilDate
+next_date d =
+    if nat_lt d.day (days_in_month d.year d.month) then record { year = d.year; month = d.month; day = d.day + 1 }
+    else (if nat_lt d.month 12 then record { year = d.year; month = d.month + 1; day = 1 }
+    else record { year = d.year + 1; month = 1; day = 1 })
+
+-- the date of a day, counted from 1970-01-01
+unfoldable pub date_of : ℕ → CivilDate
+date_of zero = record { year = 1970; month = 1; day = 1 }
+date_of (suc day) = next_date (date_of day)

@@ -2,7 +2,7 @@
 
 ghost use Rattle.std.specs.Prelude.{◌≡◌, pos, ◌≤ℤ◌, IfOk, unsigned_abs, ◌<◌};
 ghost use Rattle.time_text.specs.Day.{day_of, IsDayName};
-ghost use Rattle.time_text.specs.Spelling.{named};
+ghost use Rattle.time_text.specs.Spelling.{named, day_name_of};
 
 use crate::calendar::date_of;
 use crate::digits::{four_digits, three_digits};
@@ -20,14 +20,23 @@ pub fn day_of(time: i64) -> i64
 }
 
 /// The name `YYYY/DOY` of a day from 0 to 2,932,896: its year, and its place in that year from 001.
+pub fn day_octets(day: i64) -> [u8; 8]
+    requires from { pos 0 ≤ℤ day }
+    requires to { day ≤ℤ pos 2_932_896 }
+    ensures { result ≡ day_name_of day }
+{
+    let date = date_of(day as u64);
+    octets(date.year.unsigned_abs(), date.day_of_year())
+}
+
+/// The same name in memory of its own. The one error is want of memory.
 pub fn day_name(alloc: Global, day: i64) -> Result<Vec<u8>, AllocError>
     requires from { pos 0 ≤ℤ day }
     requires to { day ≤ℤ pos 2_932_896 }
-    ensures { IfOk result (λ name. IsDayName name.items (unsigned_abs day)) }
+    ensures name { IfOk result (λ name. name.items ≡ day_name_of day) }
+    ensures of_day { IfOk result (λ name. IsDayName name.items (unsigned_abs day)) }
 {
-    let date = date_of(day as u64);
-    let name = octets(date.year.unsigned_abs(), date.day_of_year());
-    Vec::from_slice(alloc, &name)
+    Vec::from_slice(alloc, &day_octets(day))
 }
 
 /// The name of the day at a place in a year.

@@ -5,8 +5,9 @@
 //! columns read and write it; partitions and their names take the day of a moment from here.
 //!
 //! The calendar of the definitions counts the days of years and months from 1970 on (`specs/Calendar.antt`). The code
-//! asks jiff for dates, and `proofs/CalendarFacts.antt` shows that both calendars agree. A text is fixed by its shape and
-//! by what is read from it, so that what is written is read back as the same moment.
+//! asks jiff for dates, and `proofs/CalendarFacts.antt` shows that both calendars agree. The text of a moment and the name
+//! of a day are functions (`specs/Spelling.antt`), by the date that counting day by day gives; `specs/Laws.antt` says that
+//! each has its shape and is read back as that moment or day, and which moments a day has.
 //!
 //! A change of a form touches its shape in `specs/TimeText.antt`, the reader and the writer.
 #![tactic(auto)]
@@ -15,9 +16,10 @@ mod calendar;
 mod civil;
 mod day;
 mod digits;
+pub mod laws;
 mod reading;
 mod writing;
 
-pub use day::{day_name, day_of};
+pub use day::{day_name, day_octets, day_of};
 pub use reading::{BadTime, read_time, read_time_octets};
-pub use writing::write_time;
+pub use writing::{time_octets, write_time};

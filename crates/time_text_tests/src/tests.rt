@@ -1,7 +1,7 @@
 //! Vectors from outside: GNU date's seconds and days.
 
 use std::alloc::AllocError;
-use time_text::{BadTime, day_name, day_of, read_time, write_time};
+use time_text::{BadTime, day_name, day_octets, day_of, read_time, time_octets, write_time};
 
 const LAST: i64 = 253_402_300_799_999;
 
@@ -72,6 +72,7 @@ fn times(rt: HostRuntime) -> Result<(), AllocError> {
         if want >= 0 && want <= LAST {
             let octets = write_time(rt.alloc(), want)?;
             assert_eq!(rt; octets.as_slice(), written.as_bytes());
+            assert_eq!(rt; time_octets(want).as_slice(), written.as_bytes());
         }
     }
     for text in BAD {
@@ -102,6 +103,7 @@ fn days(rt: HostRuntime) -> Result<(), AllocError> {
         if day >= 0 && day <= 2_932_896 {
             let name = day_name(rt.alloc(), day)?;
             assert_eq!(rt; name.as_slice(), want.as_bytes());
+            assert_eq!(rt; day_octets(day).as_slice(), want.as_bytes());
         }
     }
     Ok(())

@@ -1,4 +1,6 @@
-use Rattle.std.proofs.Common.{subst}
+use Rattle.std.proofs.Common.{◌≡◌, subst, rules, FitsSigned, w64}
+use Rattle.std.proofs.lemmas.Int.{to_z-of_z}
+use Rattle.partitions.specs.Partition.{partition_of}
 use Rattle.partitions.specs.Partitions.{Holding, AreTheSame, IsAdded}
 use Rattle.partitions.proofs.Members.{held_in, both_added, none_added}
 use Rattle.partitions.proofs.partitions.Partitions.add.Goals as goal
@@ -14,8 +16,14 @@ pub invariant_of-self : goal.invariant_of-self
 invariant_of-self c = (both c).0
 
 pub returns-then-is_none-clause-added : goal.returns-then-is_none-clause-added
-returns-then-is_none-clause-added c = subst (λ (h : Holding). IsAdded h (held_in c.insert.new.self c.insert-then-is_none.new.self) c.partition_of-part.result) c.self.view_is (both c).1
+returns-then-is_none-clause-added c =
+    let fits : FitsSigned w64 c.args.time = search rules in
+    let part : c.partition_of-part.result ≡ partition_of c.args.time c.args.pname = simp to_z-of_z at c.partition_of-part.ensures in
+    rw (← part) (subst (λ (h : Holding). IsAdded h (held_in c.insert.new.self c.insert-then-is_none.new.self) c.partition_of-part.result) c.self.view_is (both c).1)
 
 pub returns-else-is_none-clause-added : goal.returns-else-is_none-clause-added
-returns-else-is_none-clause-added c = subst (λ (h : Holding). IsAdded h (held_in c.insert.new.self c.self.inside.by_name) c.partition_of-part.result) c.self.view_is
-    (none_added c.self.inside.by_day c.insert.new.self c.self.inside.by_name c.partition_of-part.result c.insert.result c.self.invariant c.if-is_none.ensures c.insert.ensures.found c.insert.ensures.present)
+returns-else-is_none-clause-added c =
+    let fits : FitsSigned w64 c.args.time = search rules in
+    let part : c.partition_of-part.result ≡ partition_of c.args.time c.args.pname = simp to_z-of_z at c.partition_of-part.ensures in
+    rw (← part) (subst (λ (h : Holding). IsAdded h (held_in c.insert.new.self c.self.inside.by_name) c.partition_of-part.result) c.self.view_is
+    (none_added c.self.inside.by_day c.insert.new.self c.self.inside.by_name c.partition_of-part.result c.insert.result c.self.invariant c.if-is_none.ensures c.insert.ensures.found c.insert.ensures.present))

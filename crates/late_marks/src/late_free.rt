@@ -1,4 +1,4 @@
-//! The intervals that wait to be filled.
+//! The intervals that are late and that nobody has taken.
 
 ghost use Rattle.std.specs.Prelude.{◌≡◌, ◌+◌, ◌<◌, true, false};
 ghost use Rattle.std.specs.BTreeMap.{is_at};

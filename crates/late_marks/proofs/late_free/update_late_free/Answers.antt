@@ -2,7 +2,7 @@ use Rattle.std.proofs.Common.{◌≡◌, Bool, true, false, None, Some, ◌∙�
 use Rattle.std.specs.Bool.{beq}
 use Rattle.late_marks.specs.MarkIndexes.{some_if, IsUpdatedAt}
 use Rattle.late_marks.proofs.LateFree.{updated_at-insert, updated_at-remove}
-use Rattle.late_marks.proofs.indexes.update_late_free.Goals as goal
+use Rattle.late_marks.proofs.late_free.update_late_free.Goals as goal
 
 other_than : (a b c : Bool) → beq a b ≡ false → b ≡ c → a ≡ beq c false
 other_than true true c ne e = cc
