@@ -9,7 +9,7 @@ use Rattle.partitions.specs.declared.named_day.NamedDay.{NamedDay}
 use Rattle.partitions.specs.declared.days.Days.{Days}
 use Rattle.partitions.specs.declared.name_day_filter.NameDayFilter.{NameDayFilter}
 use Rattle.partitions.specs.Partition.{partition_cmp}
-use Rattle.partitions.specs.NameDayFilter.{is_on, is_on_days, is_name_day_filter}
+use Rattle.partitions.specs.NameDayFilter.{is_on, is_on_days, is_selected}
 use Rattle.partitions.proofs.Order.{IsNoLater, IsBefore, no_later, before_from_less}
 
 pub not_true : (b : Bool) → (b ≡ true → ⊥) → b ≡ false
@@ -60,18 +60,18 @@ module _ (days : Days) where
       by (inr x) is = omega (arith, ints, x.0, past, is.last)
 
 -- what is true of a named day that is wanted
-pub record IsWanted (name_day_filter : NameDayFilter) (at : NamedDay) : Type 0 where
-  pub first : name_day_filter.days.first ≤ℤ at.day
-  pub last : at.day ≤ℤ name_day_filter.days.last
-  pub name : list_any (nat_eq at.pname) name_day_filter.names ≡ true
+pub record IsSelected (filter : NameDayFilter) (at : NamedDay) : Type 0 where
+  pub first : filter.days.first ≤ℤ at.day
+  pub last : at.day ≤ℤ filter.days.last
+  pub name : list_any (nat_eq at.pname) filter.names ≡ true
 
-pub name_day_filter_is : (w : NameDayFilter) (k : NamedDay) → is_name_day_filter w k ≡ true → IsWanted w k
-name_day_filter_is w k h = by (is_on w.days k.day) (list_any (nat_eq k.pname) w.names) refl refl h
+pub selected_is : (w : NameDayFilter) (k : NamedDay) → is_selected w k ≡ true → IsSelected w k
+selected_is w k h = by (is_on w.days k.day) (list_any (nat_eq k.pname) w.names) refl refl h
   where
-    by : (b c : Bool) → is_on w.days k.day ≡ b → list_any (nat_eq k.pname) w.names ≡ c → (b && c) ≡ true → IsWanted w k
+    by : (b c : Bool) → is_on w.days k.day ≡ b → list_any (nat_eq k.pname) w.names ≡ c → (b && c) ≡ true → IsSelected w k
     by true true on name h = let is = on_is w.days k.day on in record { first = is.first; last = is.last; name = name }
     by true false on name h = cc
     by false c on name h = cc
 
-pub name_day_filter_from : (w : NameDayFilter) (k : NamedDay) → IsWanted w k → is_name_day_filter w k ≡ true
-name_day_filter_from w k is = rw (on_from w.days k.day (record { first = is.first; last = is.last }), is.name)
+pub selected_from : (w : NameDayFilter) (k : NamedDay) → IsSelected w k → is_selected w k ≡ true
+selected_from w k is = rw (on_from w.days k.day (record { first = is.first; last = is.last }), is.name)

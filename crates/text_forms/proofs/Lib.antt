@@ -1,1 +1,2 @@
+pub mod DigitFacts
 pub mod Powers

@@ -1,31 +1,11 @@
 -- Digits at their places, and texts of a shape.
-use Rattle.std.proofs.Common.{◌≡◌, ℕ, zero, suc, ◌+◌, ◌-◌, ◌*◌, ◌^◌, ◌/◌, ◌%◌, ◌<◌, ◌≤◌, ◌&&◌, Bool, true, leb, eqb, List, [], ◌∷◌, ◌++◌, length, take, drop, get_or, refl, sym, ap, ◌∙◌, arith, inl, inr, add-one, drop-cons, length-take}
+use Rattle.std.proofs.Common.{◌≡◌, ℕ, zero, suc, ◌+◌, ◌-◌, ◌^◌, ◌/◌, ◌%◌, ◌<◌, ◌≤◌, ◌&&◌, Bool, true, eqb, List, [], ◌∷◌, ◌++◌, length, take, drop, get_or, refl, sym, ap, ◌∙◌, arith, add-one, drop-cons, length-take}
 use Rattle.std.specs.Prelude.{slice_range, codes}
 use Rattle.std.specs.List.{list_all}
-use Rattle.std.proofs.lemmas.Bool.{cases_Bool, and_parts, and_from, leb-true, le-leb, both_ways, cond-true}
-use Rattle.std.proofs.lemmas.List.Folds.{list_all_at}
-use Rattle.std.proofs.lemmas.List.Sums.{fold_more}
-use Rattle.std.proofs.lemmas.Grind.{pow_more}
+use Rattle.std.proofs.lemmas.Bool.{and_parts, and_from, le-leb, cond-true}
 use Rattle.std.proofs.Math.Nat.{pow-le-pow_right}
-use Rattle.time_text.specs.Digits.{is_digit, decimal_value, fits, has_shape, two_digits_of, three_digits_of, four_digits_of}
-
--- a digit among digits
-pub digit_at : (digits : List ℕ) (i : ℕ) → i < length digits → list_all is_digit digits ≡ true → (48 ≤ get_or digits i 0) × (get_or digits i 0 ≤ 57)
-digit_at digits i within all =
-    elim (cases_Bool (is_digit (get_or digits i 0))) [
-      | inl passed ↦
-          let both = and_parts (leb 48 (get_or digits i 0)) (leb (get_or digits i 0) 57) passed in
-          (leb-true _ _ both.0, leb-true _ _ both.1)
-      | inr failed ↦ absurd (both_ways _ (list_all_at is_digit digits i 0 within failed) all)
-    ]
-
-pub decimal_value_none : decimal_value [] ≡ 0
-unfolding decimal_value
-decimal_value_none = refl
-
-pub decimal_value_more : (digits : List ℕ) (i : ℕ) → i < length digits → decimal_value (take (i + 1) digits) ≡ 10 * decimal_value (take i digits) + (get_or digits i 0 - 48)
-unfolding decimal_value
-decimal_value_more digits i within = fold_more _ _ digits i 0 within
+use Rattle.time_text.specs.Digits.{fits, has_shape, two_digits_of, three_digits_of, four_digits_of}
+use Rattle.text_forms.specs.Digits.{is_digit, decimal_value}
 
 -- one place of a shape
 pub has_shape_next : (shape text : List ℕ) (i : ℕ) → i < length shape → i < length text → has_shape (drop i shape) (drop i text) ≡ (fits (get_or shape i 0) (get_or text i 0) && has_shape (drop (i + 1) shape) (drop (i + 1) text))
@@ -50,9 +30,6 @@ pub below_pow : (n i : ℕ) → n < 10 ^ i → i ≤ 15 → n < 1_000_000_000_00
 below_pow n i small few =
     let most : 10 ^ i ≤ 10 ^ 15 = pow-le-pow_right (omega arith) few in
     omega arith
-
-pub pow_next : (i : ℕ) → 10 ^ (i + 1) ≡ 10 * 10 ^ i
-pow_next i = omega (arith, pow_more 10 i)
 
 pub has_shape-take : (shape text : List ℕ) (n : ℕ) → has_shape shape text ≡ true → has_shape (take n shape) (take n text) ≡ true
 unfolding has_shape
@@ -113,15 +90,12 @@ fraction_length text h =
 
 -- what is written with all its digits is the number, and fits their places
 pub decimal_value-two_digits_of : (n : ℕ) → decimal_value (two_digits_of n) ≡ n
-unfolding decimal_value
 decimal_value-two_digits_of n = omega arith
 
 pub decimal_value-three_digits_of : (n : ℕ) → decimal_value (three_digits_of n) ≡ n
-unfolding decimal_value
 decimal_value-three_digits_of n = omega arith
 
 pub decimal_value-four_digits_of : (n : ℕ) → decimal_value (four_digits_of n) ≡ n
-unfolding decimal_value
 decimal_value-four_digits_of n = omega arith
 
 is_digit-of : (n : ℕ) → n < 10 → is_digit (48 + n) ≡ true

@@ -4,7 +4,8 @@ use Rattle.std.specs.Prelude.{codes}
 use Rattle.std.specs.List.{list_all}
 use Rattle.std.proofs.lemmas.Bool.{and_parts, and_left, false_from_ne_true, cond-false, eqb-false, not-true}
 use Rattle.std.proofs.lemmas.Slice.{between_to_end}
-use Rattle.time_text.specs.Digits.{is_digit, decimal_value, has_shape}
+use Rattle.time_text.specs.Digits.{has_shape}
+use Rattle.text_forms.specs.Digits.{is_digit, decimal_value}
 use Rattle.time_text.specs.TimeText.{is_fraction, millis_in, civil_time}
 use Rattle.time_text.proofs.DigitFacts.{has_shape-length, fraction_digits, fraction_length}
 

@@ -2,7 +2,8 @@
 use Rattle.std.specs.Prelude.{◌≡◌, ℕ, ◌+◌, ◌-◌, ◌≤◌, List, codes, slice_range, true, ℤ, pos}
 use Rattle.std.specs.Int.{int_div_euclid}
 use Rattle.time_text.specs.Calendar.{days_of_years, days_in_year}
-use Rattle.time_text.specs.Digits.{decimal_value, has_shape}
+use Rattle.time_text.specs.Digits.{has_shape}
+use Rattle.text_forms.specs.Digits.{decimal_value}
 
 -- the day on which a moment lies: its milliseconds by those of a day, rounded down
 unfoldable pub day_of : ℤ → ℤ

@@ -1,13 +1,6 @@
 -- Decimal digits in ASCII, and texts of a fixed shape.
-use Rattle.std.specs.Prelude.{ℕ, ◌+◌, ◌-◌, ◌*◌, ◌/◌, ◌%◌, ◌++◌, ◌==◌, ◌&&◌, Bool, true, false, List, [], ◌∷◌, nat_le, fold, if◌then◌else◌}
-
--- the octet is a decimal digit, 0 to 9 in ASCII
-abbrev pub is_digit : ℕ → Bool
-is_digit octet = nat_le 48 octet && nat_le octet 57
-
--- the number that decimal digits stand for
-unfoldable pub decimal_value : List ℕ → ℕ
-decimal_value digits = fold (λ n digit. 10 * n + (digit - 48)) 0 digits
+use Rattle.std.specs.Prelude.{ℕ, ◌+◌, ◌/◌, ◌%◌, ◌++◌, ◌==◌, ◌&&◌, Bool, true, false, List, [], ◌∷◌, if◌then◌else◌}
+use Rattle.text_forms.specs.Digits.{is_digit}
 
 -- a digit where the shape has 0, else the shape's own octet
 abbrev pub fits : ℕ → ℕ → Bool

@@ -1,16 +1,14 @@
 -- Time texts and their milliseconds.
-use Rattle.std.specs.Prelude.{ℕ, ◌-◌, ◌*◌, ◌^◌, ◌==◌, ◌&&◌, Bool, not, List, length, take, drop, codes, slice_index, slice_range, nat_le, Option, Some, None, option_map, ℤ, pos, neg_ℤ, if◌then◌else◌}
-use Rattle.std.specs.List.{list_all}
+use Rattle.std.specs.Prelude.{ℕ, ◌-◌, ◌*◌, ◌^◌, ◌==◌, ◌&&◌, Bool, not, List, length, take, drop, codes, slice_index, slice_range, Option, None, option_map, ℤ, pos, neg_ℤ, if◌then◌else◌}
 use Rattle.std.specs.Option.{option_or}
-use Rattle.time_text.specs.Digits.{is_digit, decimal_value, has_shape}
+use Rattle.time_text.specs.Digits.{has_shape}
+use Rattle.text_forms.specs.Digits.{decimal_value, digits_at_most}
 use Rattle.time_text.specs.Civil.{moment_of}
 use Rattle.time_text.specs.declared.civil.Civil.{Civil}
 
 -- 1 to 15 digits
 unfoldable pub number_of : List ℕ → Option ℕ
-number_of text =
-    if nat_le 1 (length text) && nat_le (length text) 15 && list_all is_digit text then Some (decimal_value text)
-    else None
+number_of text = digits_at_most 15 text
 
 -- the text begins with a minus
 abbrev pub is_negative : List ℕ → Bool

@@ -4,7 +4,8 @@ ghost use Rattle.std.specs.Prelude.{◌≡◌, IfOk, OnErr, Some, None, true, �
 ghost use Rattle.time_text.specs.TimeText.{time_of, count_of, civil_time, civil_of, without_z, is_fraction, millis_in, has_civil_shape};
 
 use crate::civil::Civil;
-use crate::digits::{decimal_value, has_shape, number};
+use crate::digits::{has_shape, number};
+use text_forms::digits::decimal_value;
 use thiserror::Error;
 
 /// The text is no time text.

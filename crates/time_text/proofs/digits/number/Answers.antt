@@ -1,7 +1,7 @@
-use Rattle.std.proofs.Common.{length, arith}
+use Rattle.std.proofs.Common.{length}
 use Rattle.time_text.proofs.DigitFacts.{below_pow}
 use Rattle.time_text.proofs.digits.number.Goals as goal
 
-pub returns-then-are_digits-clause-bound : goal.returns-then-are_digits-clause-bound
-returns-then-are_digits-clause-bound c =
-    below_pow c.decimal_value.result (length c.args.text.now) c.decimal_value.ensures.bound (omega arith)
+pub returns-clause-bound : goal.returns-clause-bound
+returns-clause-bound c =
+    below_pow c.in_ok-n.n (length c.args.text.now) (rw c.in_ok-n.was at c.number_of.ensures.small) (rw c.in_ok-n.was at c.number_of.ensures.short)

@@ -1,13 +1,13 @@
 use Rattle.std.proofs.Common.{◌≢◌, sym, ◌<◌, ◌*◌, ◌-◌, length, ap, ◌∙◌, arith, rules, length-drop}
 use Rattle.std.proofs.lemmas.Bool.{eqb-false}
 use Rattle.std.proofs.lemmas.Grind.{common_steps}
-use Rattle.time_text.specs.Digits.{decimal_value}
+use Rattle.text_forms.specs.Digits.{decimal_value}
 use Rattle.time_text.specs.TimeText.{millis_in}
 use Rattle.time_text.proofs.ReadingFacts.{IsFraction-from_test, tail_is, millis_in-product, below_second, below_thousand}
 use Rattle.time_text.proofs.reading.millis.Goals as goal
 
 pub returns-then-is_empty-clause-value : goal.returns-then-is_empty-clause-value
-unfolding millis_in decimal_value
+unfolding millis_in
 returns-then-is_empty-clause-value c = grind (arith, common_steps)
 
 pub decimal_value-requires-clause-few : goal.decimal_value-requires-clause-few
