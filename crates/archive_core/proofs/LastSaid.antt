@@ -1,6 +1,7 @@
 -- What a fold over a fill list gives is what the last item says that says anything.
 use Rattle.std.proofs.Common.{◌≡◌, ◌⊎◌, inl, inr, ⊎_elim, ℕ, zero, suc, ℤ, ◌<◌, List, [], ◌∷◌, Bool, true, false, Option, Some, None, refl, sym, ap, subst, ◌∙◌, arith}
 use Rattle.std.specs.Prelude.{slice_get, fold, if◌then◌else◌, ◌↔◌}
+use Rattle.std.proofs.lemmas.Option.{same_Some}
 use Rattle.std.proofs.lemmas.Bool.{cases_lt}
 use Rattle.std.proofs.lemmas.Bool.Decides.{Decides-int_eq}
 use Rattle.arch_types.specs.declared.interval.Interval.{Interval}
@@ -58,11 +59,8 @@ module _ (says : Fill → Option (Option ℕ)) (after : Option ℕ → Fill → 
   last_decides : (fills : List Fill) (before what : Option ℕ) → SaysLast fills what → fold after before fills ≡ what
   last_decides fills before what s = go (decided fills before)
     where
-      some_is : {A : Type 0} (x y : A) → ◌≡◌ {A = Option A} (Some x) (Some y) → x ≡ y
-      some_is x y e = cc
-
       same_said : (a b : Fill) → a ≡ b → says a ≡ Some what → (x : Option ℕ) → says b ≡ Some x → x ≡ what
-      same_said a b e one x two = some_is x what (sym two ∙ ap says (sym e) ∙ one)
+      same_said a b e one x two = same_Some x what (sym two ∙ ap says (sym e) ∙ one)
 
       order : (m n : ℕ) → (m < n) ⊎ ((m ≡ n) ⊎ (n < m))
       order m n = ⊎_elim (λ lt. inl lt) (λ ge. ⊎_elim (λ lt. inr (inr lt)) (λ le. inr (inl (omega arith))) (cases_lt n m)) (cases_lt m n)
@@ -73,7 +71,7 @@ module _ (says : Fill → Option (Option ℕ)) (after : Option ℕ → Fill → 
         where
           at : (s.place < t.place) ⊎ ((s.place ≡ t.place) ⊎ (t.place < s.place)) → fold after before fills ≡ what
           at (inl lt) = absurd (cc (s.last t.place t.item lt t.there, t.is))
-          at (inr (inl same)) = same_said s.item t.item (some_is s.item t.item (sym s.there ∙ ap (slice_get fills) same ∙ t.there)) s.is (fold after before fills) t.is
+          at (inr (inl same)) = same_said s.item t.item (same_Some s.item t.item (sym s.there ∙ ap (slice_get fills) same ∙ t.there)) s.is (fold after before fills) t.is
           at (inr (inr lt)) = absurd (cc (t.last s.place s.item lt s.there, s.is))
 
 -- ---- one interval

@@ -1,29 +1,25 @@
 -- The last row of an interval decides whether it is late.
 use Rattle.std.proofs.Common.{◌≡◌, ℕ, zero, suc, ◌+◌, ◌≤◌, List, [], ◌∷◌, ◌++◌, length, Bool, true, false, eqb, true≢false, Option, Some, None, refl, sym, ap, subst, ◌∙◌, arith, add-one}
-use Rattle.std.specs.Prelude.{slice_get, if◌then◌else◌, ◌&&◌, ◌↔◌, IsTrue, MatchOption, ⊤}
+use Rattle.std.specs.Prelude.{slice_get, if◌then◌else◌, ◌↔◌, IsTrue, MatchOption, ⊤}
+use Rattle.std.specs.Option.{option_map_or}
 use Rattle.std.specs.Ordering.{int_eq}
-use Rattle.std.proofs.lemmas.Bool.{eqb-true}
+use Rattle.std.proofs.lemmas.Option.{same_Some}
+use Rattle.std.proofs.lemmas.Bool.{eqb-true, and_parts}
 use Rattle.std.proofs.lemmas.Bool.Decides.{Decides-int_eq, nat_tests}
 use Rattle.arch_types.specs.declared.interval.Interval.{Interval}
 use Rattle.arch_types.specs.Interval.{interval_of}
+use Rattle.late_marks.specs.Mark.{is_late_by}
 use Rattle.archive_core.specs.declared.fills.Fill.{Fill}
 use Rattle.archive_core.specs.Items.{Item, is_row_of_interval}
 use Rattle.archive_core.specs.Fills.{base_of}
 use Rattle.archive_core.specs.Places.{last_with}
-use Rattle.archive_core.specs.Late.{StandsIn, IsLate, IsLastIn, last_in, is_late_by, is_late}
+use Rattle.archive_core.specs.Late.{StandsIn, IsLate, IsLastIn, last_in, is_late}
 use Rattle.archive_core.proofs.Places.{last_push}
-
-and_true : (a b : Bool) → (a && b) ≡ true → (a ≡ true) × (b ≡ true)
-and_true true b e = (refl, e)
-and_true false b e = absurd cc
-
-some_is : {A : Type 0} (x y : A) → ◌≡◌ {A = Option A} (Some x) (Some y) → x ≡ y
-some_is x y e = cc
 
 -- an item that passes stands in the interval
 stands_here : (interval : Interval) (history : List Item) (position : ℕ) (item : Item) → slice_get history position ≡ Some item → is_row_of_interval interval item ≡ true → StandsIn interval position history
 stands_here interval history position item at passes =
-    let p = and_true (eqb item.table 0) (int_eq (interval_of item.key.time) interval.0) passes in
+    let p = and_parts (eqb item.table 0) (int_eq (interval_of item.key.time) interval.0) passes in
     record { row = item; there = at; table = eqb-true item.table 0 p.0; time = (Decides-int_eq (interval_of item.key.time) interval.0).0 p.1 }
 
 -- an item that stands in the interval passes
@@ -53,7 +49,7 @@ last_is_greatest interval (x ∷ xs) = go (is_row_of_interval interval x) refl (
 
     nowhere : is_row_of_interval interval x ≡ false → ((position : ℕ) → StandsIn interval position xs → ⊥) → (position : ℕ) → StandsIn interval position (x ∷ xs) → ⊥
     nowhere fails none zero s =
-        let same : x ≡ s.row = some_is x s.row s.there in
+        let same : x ≡ s.row = same_Some x s.row s.there in
         true≢false (sym (ap (is_row_of_interval interval) same ∙ passes_there interval s.row s.table s.time) ∙ fails)
     nowhere fails none (suc position) s = none position (behind interval x xs position s)
 
@@ -69,12 +65,12 @@ last_after_item interval history item = last_push (is_row_of_interval interval) 
 pub late_by_last : (interval : Interval) (history : List Item) (fills : List Fill) → IsTrue (is_late interval history fills) ↔ IsLate interval history fills
 late_by_last interval history fills = (there (last_in interval history) (last_is_greatest interval history) (base_of interval fills) refl, back (last_in interval history) (last_is_greatest interval history) (base_of interval fills) refl)
   where
-    there : (o : Option ℕ) → IsLastIn interval history o → (base : Option ℕ) → base_of interval fills ≡ base → IsTrue (is_late_by o base) → IsLate interval history fills
+    there : (o : Option ℕ) → IsLastIn interval history o → (base : Option ℕ) → base_of interval fills ≡ base → IsTrue (option_map_or (λ last. is_late_by last base) o false) → IsLate interval history fills
     there None is_last base is late = absurd (true≢false (sym late))
     there (Some last) is_last None is late = record { position = last; stands = is_last.0; unseen = subst (λ (o : Option ℕ). MatchOption o ⊤ (λ base. base ≤ last)) (sym is) tt }
     there (Some last) is_last (Some base) is late = record { position = last; stands = is_last.0; unseen = subst (λ (o : Option ℕ). MatchOption o ⊤ (λ base. base ≤ last)) (sym is) (grind arith) }
 
-    back : (o : Option ℕ) → IsLastIn interval history o → (base : Option ℕ) → base_of interval fills ≡ base → IsLate interval history fills → IsTrue (is_late_by o base)
+    back : (o : Option ℕ) → IsLastIn interval history o → (base : Option ℕ) → base_of interval fills ≡ base → IsLate interval history fills → IsTrue (option_map_or (λ last. is_late_by last base) o false)
     back None is_last base is late = absurd (is_last late.position late.stands)
     back (Some last) is_last None is late = refl
     back (Some last) is_last (Some base) is late =

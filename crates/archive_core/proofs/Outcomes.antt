@@ -7,7 +7,8 @@ use Rattle.std.specs.List.{AllByRecursion}
 use Rattle.std.specs.Ordering.{is_eq}
 use Rattle.std.specs.declared.cmp.Ordering.{Ordering}
 use Rattle.std.specs.declared.cmp.Ordering.TheVariants.{Less, Equal, Greater}
-use Rattle.std.proofs.lemmas.Bool.{eqb-true}
+use Rattle.std.proofs.lemmas.Option.{same_Some}
+use Rattle.std.proofs.lemmas.Bool.{eqb-true, and_parts}
 use Rattle.std.proofs.lemmas.Bool.Decides.{nat_tests}
 use Rattle.std.proofs.lemmas.List.Sums.{fold-append}
 use Rattle.arch_types.specs.declared.row.Row.{Row}
@@ -120,10 +121,6 @@ new_in_turn history first second = (there, back)
 
 -- ---- the row that has a table and key is one
 
-and_true : (a b : Bool) → (a && b) ≡ true → (a ≡ true) × (b ≡ true)
-and_true true b e = (refl, e)
-and_true false b e = absurd cc
-
 equal_true : (o : Ordering) → is_eq o ≡ true → o ≡ Equal
 equal_true Less e = absurd cc
 equal_true Equal e = refl
@@ -132,8 +129,8 @@ equal_true Greater e = absurd cc
 -- two rows that have the table and key of a third have each other's
 each_other : (row a b : Row) → is_duplicate_of row a ≡ true → is_duplicate_of row b ≡ true → is_duplicate_of a b ≡ true
 each_other row a b one two =
-    let p = and_true (eqb row.table a.table) (is_eq (key_cmp row.key a.key)) one in
-    let q = and_true (eqb row.table b.table) (is_eq (key_cmp row.key b.key)) two in
+    let p = and_parts (eqb row.table a.table) (is_eq (key_cmp row.key a.key)) one in
+    let q = and_parts (eqb row.table b.table) (is_eq (key_cmp row.key b.key)) two in
     let first : row.table ≡ a.table = eqb-true row.table a.table p.0 in
     let second : row.table ≡ b.table = eqb-true row.table b.table q.0 in
     let table : eqb a.table b.table ≡ true = grind (arith, nat_tests) in
@@ -177,12 +174,9 @@ says_back history row (New position) is says = go (first_place (is_duplicate_of 
     go (Some place) at = absurd (not_longer history row (sym (kept_same history row place at) ∙ says.0))
 says_back history row (Duplicate position) is says = ap (λ (o : Option ℕ). outcome_at o (length history)) (place_is history row says.0 position is says.1 says.2)
 
-some_is : {A : Type 0} (x y : A) → ◌≡◌ {A = Option A} (Some x) (Some y) → x ≡ y
-some_is x y e = cc
-
 says_one : (history : List Item) (row : Row) (outcome : Inserted) → IsHistory history → (◌≡◌ {A = Option Inserted} (Some (outcome_of history row)) (Some outcome)) ↔ Says history row outcome
 says_one history row outcome is = (
-  λ e. subst (Says history row) (some_is (outcome_of history row) outcome e) (says_there history row),
+  λ e. subst (Says history row) (same_Some (outcome_of history row) outcome e) (says_there history row),
   λ says. ap Some (says_back history row outcome is says),
 )
 
@@ -190,6 +184,6 @@ pub outcomes_say : (history : List Item) (rows : List Row) (i : ℕ) (row : Row)
     (slice_get (outcomes_of history rows) i ≡ Some outcome) ↔ Says (ingested history (take i rows)) row outcome
 outcomes_say history [] i row outcome is at = absurd cc
 outcomes_say history (r ∷ rows) zero row outcome is at =
-    let same : r ≡ row = some_is r row at in
+    let same : r ≡ row = same_Some r row at in
     subst (λ (x : Row). (◌≡◌ {A = Option Inserted} (Some (outcome_of history r)) (Some outcome)) ↔ Says history x outcome) same (says_one history r outcome is)
 outcomes_say history (r ∷ rows) (suc i) row outcome is at = outcomes_say (with_row history r) rows i row outcome (keeps_history history (r ∷ []) is) at

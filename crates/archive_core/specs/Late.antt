@@ -1,7 +1,9 @@
 -- Late intervals.
-use Rattle.std.specs.Prelude.{◌≡◌, ℕ, ◌≤◌, List, slice_get, Bool, true, false, Option, Some, None, MatchOption, ⊤, nat_le}
+use Rattle.std.specs.Prelude.{◌≡◌, ℕ, ◌≤◌, List, slice_get, Bool, false, Option, Some, None, MatchOption, ⊤}
+use Rattle.std.specs.Option.{option_map_or}
 use Rattle.arch_types.specs.declared.interval.Interval.{Interval}
 use Rattle.arch_types.specs.Interval.{interval_of}
+use Rattle.late_marks.specs.Mark.{is_late_by}
 use Rattle.archive_core.specs.declared.fills.Fill.{Fill}
 use Rattle.archive_core.specs.Items.{Item, is_row_of_interval}
 use Rattle.archive_core.specs.Fills.{base_of}
@@ -31,12 +33,6 @@ abbrev pub IsLastIn : Interval → List Item → Option ℕ → Type 0
 IsLastIn interval history None = (position : ℕ) → StandsIn interval position history → ⊥
 IsLastIn interval history (Some last) = StandsIn interval last history × ((position : ℕ) → StandsIn interval position history → position ≤ last)
 
--- by the position of the last row, and the base of the last fill
-abbrev pub is_late_by : Option ℕ → Option ℕ → Bool
-is_late_by None base = false
-is_late_by (Some last) None = true
-is_late_by (Some last) (Some base) = nat_le base last
-
--- whether an interval is late
+-- whether an interval is late: it has a row, and is late by the last one
 abbrev pub is_late : Interval → List Item → List Fill → Bool
-is_late interval history fills = is_late_by (last_in interval history) (base_of interval fills)
+is_late interval history fills = option_map_or (λ last. is_late_by last (base_of interval fills)) (last_in interval history) false

@@ -7,3 +7,4 @@ pub mod Lookups
 pub mod Counted
 pub mod Neighbours
 pub mod Removals
+pub mod Pairs

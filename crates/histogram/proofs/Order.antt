@@ -1,9 +1,10 @@
 -- The order of named times.
-use Rattle.std.proofs.Common.{◌≡◌, ℕ, ℤ, ◌<ℤ◌, ◌<◌, ◌⊎◌, inl, inr, sym, ◌∙◌, ap, subst}
-use Rattle.std.specs.Ordering.{nat_cmp, int_cmp, ordering_then, MatchOrdering}
+use Rattle.std.proofs.Common.{◌≡◌, ℕ, ℤ, ◌<ℤ◌, ◌<◌, ◌⊎◌, ◌∙◌, ap}
+use Rattle.std.specs.Ordering.{MatchOrdering}
 use Rattle.std.specs.Cmp.{IsTotalOrder, then_total, on_total, int_cmp_total, nat_cmp_total, int_ranks, ranks}
 use Rattle.std.specs.declared.cmp.Ordering.{Ordering}
-use Rattle.std.specs.declared.cmp.Ordering.TheVariants.{Less, Equal, Greater}
+use Rattle.std.specs.declared.cmp.Ordering.TheVariants.{Equal}
+use Rattle.block_map.proofs.Pairs.{pair_ranks}
 use Rattle.histogram.specs.declared.histogram.NamedTime.{NamedTime}
 use Rattle.histogram.specs.Counts.{named_cmp}
 
@@ -15,19 +16,9 @@ abbrev pub IsBefore : NamedTime → NamedTime → Type 0
 IsBefore a b = (a.pname < b.pname) ⊎ ((a.pname ≡ b.pname) × (a.time <ℤ b.time))
 
 module _ (a b : NamedTime) where
-  ranked_by : (r s : Ordering) → MatchOrdering r (a.pname < b.pname) (a.pname ≡ b.pname) (b.pname < a.pname) → MatchOrdering s (a.time <ℤ b.time) (a.time ≡ b.time) (b.time <ℤ a.time) →
-      MatchOrdering (ordering_then r s) (IsBefore a b) ((a.pname ≡ b.pname) × (a.time ≡ b.time)) (IsBefore b a)
-  ranked_by Less s names times = inl names
-  ranked_by Greater s names times = inl names
-  ranked_by Equal Less names times = inr (names, times)
-  ranked_by Equal Equal names times = (names, times)
-  ranked_by Equal Greater names times = inr (sym names, times)
-
   -- what an answer of the order says
   pub ranked_as : (r : Ordering) → named_cmp a b ≡ r → MatchOrdering r (IsBefore a b) ((a.pname ≡ b.pname) × (a.time ≡ b.time)) (IsBefore b a)
-  ranked_as r e =
-      subst (λ k. MatchOrdering k (IsBefore a b) ((a.pname ≡ b.pname) × (a.time ≡ b.time)) (IsBefore b a)) e
-      (ranked_by (nat_cmp a.pname b.pname) (int_cmp a.time b.time) (ranks a.pname b.pname) (int_ranks a.time b.time))
+  ranked_as = pair_ranks (λ (x y : ℕ). x < y) (λ (x y : ℤ). x <ℤ y) a.pname a.time b.pname b.time _ _ (ranks a.pname b.pname) (int_ranks a.time b.time)
 
   -- named times that compare equal are the same
   pub same_from_equal : named_cmp a b ≡ Equal → a ≡ b

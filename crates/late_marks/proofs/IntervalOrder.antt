@@ -1,9 +1,9 @@
 -- The order of intervals, and look-ups in it.
-use Rattle.std.proofs.Common.{◌≡◌, ◌≢◌, ℤ, ◌≤ℤ◌, ◌<ℤ◌, ◌⊎◌, inl, inr, List, [], ◌∷◌, Bool, true, false, cond, Option, Some, None, refl, sym, ap, subst, arith}
+use Rattle.std.proofs.Common.{◌≡◌, ◌≢◌, ℤ, ◌≤ℤ◌, ◌<ℤ◌, ◌⊎◌, inl, inr, List, [], ◌∷◌, Bool, true, false, cond, Option, Some, None, refl, sym, subst, arith}
 use Rattle.std.specs.Prelude.{slice_get, option_map}
 use Rattle.std.specs.Option.{is_some}
-use Rattle.std.specs.Ordering.{int_cmp, is_eq, is_le, MatchOrdering}
-use Rattle.std.specs.Cmp.{IsTotalOrder, on_total, int_cmp_total, int_ranks, eq_by_cmp_equiv}
+use Rattle.std.specs.Ordering.{int_cmp, is_le, MatchOrdering}
+use Rattle.std.specs.Cmp.{int_ranks, eq_by_cmp_equiv}
 use Rattle.std.specs.declared.cmp.Ordering.{Ordering}
 use Rattle.std.specs.declared.cmp.Ordering.TheVariants.{Less, Equal, Greater}
 use Rattle.std.specs.Map.{lookup}
@@ -11,27 +11,19 @@ use Rattle.std.specs.BTreeMap.{is_at}
 use Rattle.std.specs.BTreeMap.Range.{entries_from}
 use Rattle.std.proofs.lemmas.Bool.{false_from_ne_true}
 use Rattle.std.proofs.lemmas.Int.{ints}
+use Rattle.std.proofs.lemmas.Map.Views.{tells_apart}
 use Rattle.block_map.specs.Rising.{IsRising, IsBelow}
 use Rattle.arch_types.specs.declared.interval.Interval.{Interval}
-use Rattle.late_marks.specs.Marks.{interval_cmp, IsLeast}
-
-pub interval_cmp_total : IsTotalOrder interval_cmp
-interval_cmp_total = on_total (λ (i : Interval). i.0) int_cmp_total
-
-together : (a b : Interval) → a.0 ≡ b.0 → a ≡ b
-together a b numbers = ap (λ (n : ℤ). let i : Interval = record { 0 = n } in i) numbers
+use Rattle.arch_types.specs.Interval.{interval_cmp}
+use Rattle.arch_types.proofs.Ranks.{interval_cmp_total, exact_intervals}
+use Rattle.late_marks.specs.Marks.{IsLeast}
 
 -- what an answer of the order says of two numbers
 ranked_as : (a b : ℤ) (r : Ordering) → int_cmp a b ≡ r → MatchOrdering r (a <ℤ b) (a ≡ b) (b <ℤ a)
 ranked_as a b r e = subst (λ k. MatchOrdering k (a <ℤ b) (a ≡ b) (b <ℤ a)) e (int_ranks a b)
 
-same_from : (a b : ℤ) (r : Ordering) → int_cmp a b ≡ r → is_eq r ≡ true → a ≡ b
-same_from a b Less e same = cc
-same_from a b Equal e same = ranked_as a b Equal e
-same_from a b Greater e same = cc
-
 pub same_at : (a b : Interval) → is_at (interval_cmp a) b ≡ true → a ≡ b
-same_at a b same = together a b (same_from a.0 b.0 (int_cmp a.0 b.0) refl same)
+same_at = tells_apart exact_intervals
 
 pub apart : (a b : Interval) → b ≢ a → is_at (interval_cmp a) b ≡ false
 apart a b ne = false_from_ne_true _ (λ e. ne (sym (same_at a b e)))

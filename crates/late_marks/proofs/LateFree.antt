@@ -17,10 +17,12 @@ use Rattle.block_map.proofs.Rising.{below_all}
 use Rattle.block_map.proofs.KeyedLists.{lookup-insert_entry_same, lookup-insert_entry_other, lookup-remove_entry_same, lookup-remove_entry_other, rising-insert_entry, rising-remove_entry}
 use Rattle.arch_types.specs.declared.interval.Interval.{Interval}
 use Rattle.late_marks.specs.declared.mark.Mark.{Mark}
-use Rattle.late_marks.specs.Mark.{is_late_free_mark}
-use Rattle.late_marks.specs.Marks.{Marks, interval_cmp, mark_in, mark_of, has_rows, is_late_free, Marked, IsLeast}
-use Rattle.late_marks.specs.MarkIndexes.{found_in, some_if, one_if, not_late_free, AreConsistent, IsUpdatedAt}
-use Rattle.late_marks.proofs.IntervalOrder.{Found, interval_cmp_total, same_at, apart, least_first, found_from, from_found, IsLeast-same}
+use Rattle.late_marks.specs.Mark.{is_late_mark, is_late_free_mark}
+use Rattle.arch_types.specs.Interval.{interval_cmp}
+use Rattle.late_marks.specs.Marks.{Marks, mark_in, mark_of, has_rows, is_late_free, Marked, IsLeast, one_if}
+use Rattle.late_marks.specs.MarkIndexes.{found_in, some_if, not_late_free, AreConsistent, IsUpdatedAt}
+use Rattle.arch_types.proofs.Ranks.{interval_cmp_total}
+use Rattle.late_marks.proofs.IntervalOrder.{Found, same_at, apart, least_first, found_from, from_found, IsLeast-same}
 
 -- ---- entries that pass a test of their values
 
@@ -59,6 +61,14 @@ module _ {K V : Type 0} {cmp : K → K → Ordering} (o : IsTotalOrder cmp) (tes
           let value : e.1 ≡ w = cc in
           omega (arith, more (test v) (e.0, v) (filter (λ x. test x.1) es), more (test e.1) e (filter (λ x. test x.1) es), ap (λ (x : V). one_if (test x)) value)
       by Greater above found later = omega (arith, later found, more (test e.1) e (filter (λ x. test x.1) (insert_entry cmp es k v)), more (test e.1) e (filter (λ x. test x.1) es))
+
+  -- an entry put at its key
+  pub count-put : (k : K) (v : V) (es : List (K × V)) → IsRising cmp es → count (insert_entry cmp es k v) + one_if (option_map_or test (lookup (is_at (cmp k)) es) false) ≡ count es + one_if (test v)
+  count-put k v es up = by (lookup (is_at (cmp k)) es) refl
+    where
+      by : (o : Option V) → lookup (is_at (cmp k)) es ≡ o → count (insert_entry cmp es k v) + one_if (option_map_or test o false) ≡ count es + one_if (test v)
+      by None e = omega (arith, count-added k v es e)
+      by (Some w) e = count-changed k v w es up e
 
   -- some entry passes
   pub count-some : (k : K) (w : V) (es : List (K × V)) → lookup (is_at (cmp k)) es ≡ Some w → test w ≡ true → 0 < count es
@@ -173,11 +183,14 @@ none_from (Some x) none = cc
 pub fresh_from : (m : Marks) (marks : List (Interval × Mark)) (interval : Interval) → m.marks ≡ marks → has_rows m interval ≡ false → mark_in marks interval ≡ None
 fresh_from m marks interval same none = rw (← same) (none_from (mark_of m interval) none)
 
-pub Marked-insert : (old new : Marks) (marks : List (Interval × Mark)) (interval : Interval) (mark : Mark) → old.marks ≡ marks → new.marks ≡ insert_entry interval_cmp marks interval mark → Marked old new interval mark
-Marked-insert old new marks interval mark before after = record {
-  set = rw after (lookup-insert_entry_same interval_cmp_total interval mark marks);
-  others = λ other ne. rw (after, before) (lookup-insert_entry_other interval_cmp_total other interval mark marks (apart interval other ne));
-}
+pub Marked-insert : (old new : Marks) (marks : List (Interval × Mark)) (interval : Interval) (mark : Mark) → IsRising interval_cmp marks → old.marks ≡ marks → new.marks ≡ insert_entry interval_cmp marks interval mark → Marked old new interval mark
+Marked-insert old new marks interval mark up before after =
+    let set = lookup-insert_entry_same interval_cmp_total interval mark marks in
+    record {
+      set = rw after set;
+      others = λ other ne. rw (after, before) (lookup-insert_entry_other interval_cmp_total other interval mark marks (apart interval other ne));
+      late = rw (after, before, set) (count-put interval_cmp_total is_late_mark interval mark marks up);
+    }
 
 is_some-some_if : (b : Bool) → is_some (some_if b) ≡ b
 is_some-some_if true = refl

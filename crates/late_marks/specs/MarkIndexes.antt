@@ -1,14 +1,15 @@
 -- The two indexes behind the marks, and how they go together.
-use Rattle.std.specs.Prelude.{◌≡◌, ℕ, ◌+◌, ◌≤◌, List, [], Option, Some, None, Bool, false, not, filter, length, if◌then◌else◌}
+use Rattle.std.specs.Prelude.{◌≡◌, ℕ, ◌+◌, ◌≤◌, List, Option, Some, None, Bool, false, not, filter, length, if◌then◌else◌}
 use Rattle.std.specs.Option.{option_map_or}
 use Rattle.std.specs.Map.{lookup}
 use Rattle.std.specs.BTreeMap.{is_at}
 use Rattle.block_map.specs.Index.{Listing}
 use Rattle.block_map.specs.Rising.{IsRising}
 use Rattle.arch_types.specs.declared.interval.Interval.{Interval}
+use Rattle.arch_types.specs.Interval.{interval_cmp}
 use Rattle.late_marks.specs.declared.mark.Mark.{Mark}
 use Rattle.late_marks.specs.Mark.{is_late_free_mark}
-use Rattle.late_marks.specs.Marks.{mark_in, interval_cmp}
+use Rattle.late_marks.specs.Marks.{mark_in, one_if}
 
 -- an interval among those that are late and free
 abbrev pub found_in : List (Interval × Unit {0}) → Interval → Option (Unit {0})
@@ -21,10 +22,6 @@ some_if b = if b then Some tt else None
 -- how many marks aren't late and free
 abbrev pub not_late_free : List (Interval × Mark) → ℕ
 not_late_free marks = length (filter (λ e. not (is_late_free_mark e.1)) marks)
-
--- one place, or none
-abbrev pub one_if : Bool → ℕ
-one_if b = if b then 1 else 0
 
 -- exactly the late intervals that nobody has taken stand in the second index, and it has room for all that may yet come to it
 pub record AreConsistent (marks : Listing Interval Mark) (late_free : Listing Interval (Unit {0})) : Type 0 where

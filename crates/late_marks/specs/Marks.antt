@@ -1,17 +1,12 @@
 -- What contracts see of the marks.
-use Rattle.std.specs.Prelude.{◌≡◌, ◌≢◌, ℕ, ◌≤ℤ◌, List, Option, Some, None, option_map, option_and_then, Bool, false}
+use Rattle.std.specs.Prelude.{◌≡◌, ◌≢◌, ℕ, ◌+◌, ◌≤ℤ◌, List, length, filter, Option, Some, None, option_map, option_and_then, Bool, false, if◌then◌else◌}
 use Rattle.std.specs.Option.{is_some, option_map_or}
-use Rattle.std.specs.Ordering.{int_cmp}
-use Rattle.std.specs.declared.cmp.Ordering.{Ordering}
 use Rattle.std.specs.Map.{lookup}
 use Rattle.std.specs.BTreeMap.{is_at}
 use Rattle.arch_types.specs.declared.interval.Interval.{Interval}
+use Rattle.arch_types.specs.Interval.{interval_cmp}
 use Rattle.late_marks.specs.declared.mark.Mark.{Mark}
 use Rattle.late_marks.specs.Mark.{is_late_mark, is_late_free_mark}
-
--- intervals stand in the order of their numbers
-abbrev pub interval_cmp : Interval → Interval → Ordering
-interval_cmp a b = int_cmp a.0 b.0
 
 -- the marks of the intervals that have rows, and how many more intervals may come to without memory
 pub record Marks : Type 0 where
@@ -46,10 +41,19 @@ is_late m interval = option_map_or is_late_mark (mark_of m interval) false
 abbrev pub is_late_free : Marks → Interval → Bool
 is_late_free m interval = option_map_or is_late_free_mark (mark_of m interval) false
 
--- one interval has this mark from now on, and all others the mark that they had
+-- one, or none
+abbrev pub one_if : Bool → ℕ
+one_if b = if b then 1 else 0
+
+-- how many intervals are late
+abbrev pub late_of : Marks → ℕ
+late_of m = length (filter (λ e. is_late_mark e.1) m.marks)
+
+-- one interval has this mark from now on, and all others the mark that they had; so the number of late ones changes by this one alone
 pub record Marked (old new : Marks) (interval : Interval) (mark : Mark) : Type 0 where
   pub set : mark_of new interval ≡ Some mark
   pub others : (other : Interval) → other ≢ interval → mark_of new other ≡ mark_of old other
+  pub late : late_of new + one_if (is_late old interval) ≡ late_of old + one_if (is_late new interval)
 
 -- the least interval of which a fact holds, or that it holds of none
 abbrev pub IsLeast : (Interval → Type 0) → Option Interval → Type 0

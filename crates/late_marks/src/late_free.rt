@@ -4,8 +4,9 @@ ghost use Rattle.std.specs.Prelude.{◌≡◌, ◌+◌, ◌<◌, true, false};
 ghost use Rattle.std.specs.BTreeMap.{is_at};
 ghost use Rattle.arch_types.specs.declared.interval.Interval.{Interval as IntervalValue};
 ghost use Rattle.block_map.specs.Rising.{IsRising};
-ghost use Rattle.late_marks.specs.Marks.{interval_cmp};
-ghost use Rattle.late_marks.specs.MarkIndexes.{found_in, some_if, one_if};
+ghost use Rattle.arch_types.specs.Interval.{interval_cmp};
+ghost use Rattle.late_marks.specs.Marks.{one_if};
+ghost use Rattle.late_marks.specs.MarkIndexes.{found_in, some_if};
 
 use arch_types::interval::Interval;
 use block_map::index::Index;

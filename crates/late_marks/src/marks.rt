@@ -1,12 +1,15 @@
 //! The late marks.
 
-ghost use Rattle.std.specs.Prelude.{◌≡◌, ℕ, ◌+◌, ◌<◌, ◌≤◌, ◌≤ℤ◌, ◌↔◌, List, [], ◌∷◌, ◌++◌, max, true, false, Some, IfOk, OnOk, OnErr, IfSome};
+ghost use Rattle.std.specs.Prelude.{◌≡◌, ℕ, ◌+◌, ◌<◌, ◌≤◌, ◌≤ℤ◌, ◌↔◌, List, [], ◌∷◌, ◌++◌, max, true, false, Some, OnOk, OnErr, IfSome, Contains};
+ghost use Rattle.arch_types.specs.Interval.{interval_cmp};
+ghost use Rattle.block_map.specs.Rising.{IsRising};
 ghost use Rattle.late_marks.specs.Mark.{touched, StandAt, IsLateBy};
-ghost use Rattle.late_marks.specs.Marks.{mark_of, has_rows, last_of, base_of, is_late, is_late_free, Marked, IsLeast};
+ghost use Rattle.late_marks.specs.Marks.{mark_of, has_rows, last_of, base_of, is_late, is_late_free, late_of, Marked, IsLeast};
 
 use crate::late_free::update_late_free;
 use crate::mark::Mark;
 use arch_types::interval::Interval;
+use block_map::entries::Entries;
 use block_map::index::Index;
 use std::alloc::{AllocError, Global};
 use std::marker::Model;
@@ -77,6 +80,7 @@ impl LateMarks {
     pub fn filled(&mut self, interval: Interval, base: u64)
         requires { has_rows self.old interval ≡ true }
         ensures marked { IfSome (mark_of self.old interval) (λ m. Marked self.old self.new interval (record m { base = Some base })) }
+        ensures fewer { is_late self.old interval ≡ true → is_late self.new interval ≡ false → late_of self.new + 1 ≡ late_of self.old }
         ensures room { self.new.room ≡ self.old.room }
     {
         if let Some(mark) = self.mark(interval) {
@@ -163,6 +167,28 @@ impl LateMarks {
     {
         let (interval, _) = self.marks.from_key(from).next()?;
         Some(*interval)
+    }
+
+    /// The intervals that have rows and their marks, in the order of the intervals' numbers.
+    pub fn iter(&self) -> Entries<'_, Interval, Mark>
+        ensures marks { result ≡ self.now.marks }
+        ensures rising { IsRising interval_cmp result }
+        ensures each { (i : Interval) (m : Mark) → (mark_of self.now i ≡ Some m) ↔ Contains result (i, m) }
+    {
+        self.marks.iter()
+    }
+
+    /// How many intervals are late. Walks over all that have rows.
+    pub fn late(&self) -> u64
+        ensures { result ≡ late_of self.now }
+    {
+        let mut late = self.marks.len() as u64;
+        for (_, mark) in self.marks.iter() {
+            if !mark.is_late() {
+                late -= 1;
+            }
+        }
+        late
     }
 
     /// The mark of an interval that has rows.

@@ -3,6 +3,7 @@ use Rattle.std.proofs.Common.{◌≡◌, ℤ, ◌≤ℤ◌, ◌<ℤ◌, inl, inr
 use Rattle.std.specs.Prelude.{int_lt, nat_eq}
 use Rattle.std.specs.List.{list_any}
 use Rattle.std.specs.declared.cmp.Ordering.TheVariants.{Less, Greater}
+use Rattle.std.proofs.lemmas.Bool.{false_from_ne_true}
 use Rattle.std.proofs.lemmas.Int.{ints}
 use Rattle.partitions.specs.declared.partition.Partition.{Partition}
 use Rattle.partitions.specs.declared.named_day.NamedDay.{NamedDay}
@@ -11,10 +12,6 @@ use Rattle.partitions.specs.declared.name_day_filter.NameDayFilter.{NameDayFilte
 use Rattle.partitions.specs.Partition.{partition_cmp}
 use Rattle.partitions.specs.NameDayFilter.{is_on, is_on_days, is_selected}
 use Rattle.partitions.proofs.Order.{IsNoLater, IsBefore, no_later, before_from_less}
-
-pub not_true : (b : Bool) → (b ≡ true → ⊥) → b ≡ false
-not_true true never = absurd (never refl)
-not_true false never = refl
 
 -- what is true of a day that is one of those in a row
 pub record IsOn (days : Days) (day : ℤ) : Type 0 where
@@ -37,7 +34,7 @@ on_from days day is = let first = is.first in let last = is.last in
 module _ (days : Days) where
   -- no partition before the first day's first is on one of the days
   pub none_below : (p : Partition) → partition_cmp p (record { day = days.first; pname = 0 }) ≡ Less → is_on_days days p ≡ false
-  none_below p less = not_true (is_on days p.day) (λ yes. by (before_from_less p (record { day = days.first; pname = 0 }) less) (on_is days p.day yes))
+  none_below p less = false_from_ne_true (is_on days p.day) (λ yes. by (before_from_less p (record { day = days.first; pname = 0 }) less) (on_is days p.day yes))
     where
       by : IsBefore p (record { day = days.first; pname = 0 }) → IsOn days p.day → ⊥
       by (inl x) is = omega (arith, ints, x, is.first)
@@ -53,7 +50,7 @@ module _ (days : Days) where
 
   -- nor is one from a partition past the last day on
   pub none_past : (part : Partition) → days.last <ℤ part.day → (p : Partition) → (partition_cmp part p ≡ Greater → ⊥) → is_on_days days p ≡ false
-  none_past part past p up = not_true (is_on days p.day) (λ yes. by (no_later part p up) (on_is days p.day yes))
+  none_past part past p up = false_from_ne_true (is_on days p.day) (λ yes. by (no_later part p up) (on_is days p.day yes))
     where
       by : IsNoLater part p → IsOn days p.day → ⊥
       by (inl x) is = omega (arith, ints, x, past, is.last)

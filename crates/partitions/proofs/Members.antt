@@ -10,6 +10,7 @@ use Rattle.std.specs.Cmp.{IsTotalOrder, eq_by_cmp_equiv}
 use Rattle.std.specs.Ordering.{eq_by_cmp, is_lt, is_eq}
 use Rattle.std.specs.declared.cmp.Ordering.{Ordering}
 use Rattle.std.specs.declared.cmp.Ordering.TheVariants.{Less, Equal, Greater}
+use Rattle.std.proofs.lemmas.Bool.{false_from_ne_true}
 use Rattle.std.proofs.lemmas.List.{length-map}
 use Rattle.std.proofs.Math.ListN.{get_or-map}
 use Rattle.std.proofs.lemmas.List.Elements.{Contains-append_cases, Contains-append_left, Contains-append_right, Contains-push_cases, All-contains, All-filter, All-contains_itself, filter_passes}
@@ -29,7 +30,6 @@ use Rattle.partitions.specs.NamedDay.{named_cmp, named_day}
 use Rattle.partitions.specs.Partitions.{Holding, AreRising, AreTheSame, IsAdded}
 use Rattle.partitions.proofs.Order.{partition_cmp_total, exact_partitions, together}
 use Rattle.partitions.proofs.NamedOrder.{named_cmp_total, exact_named}
-use Rattle.partitions.proofs.Firsts.{not_true}
 
 -- ---- what a filter keeps
 
@@ -171,7 +171,7 @@ module _ (parts : List Partition) where
   unnamed_in p (k, h, e) = (k, rw (length-map parts named_day) at h, named_once (slice_index_or parts k p) p (sym (get_or-map named_day parts k p) ∙ e))
 
 same_named : (p q : Partition) → eq_by_cmp named_cmp (named_day p) (named_day q) ≡ false → eq_by_cmp partition_cmp p q ≡ false
-same_named p q apart = not_true (eq_by_cmp partition_cmp p q) (λ same. (let one = tells_apart exact_partitions p q same in let itself = (eq_by_cmp_equiv named_cmp_total).refl (named_day q) in let no : eq_by_cmp named_cmp (named_day q) (named_day q) ≡ false = rw one at apart in cc))
+same_named p q apart = false_from_ne_true (eq_by_cmp partition_cmp p q) (λ same. (let one = tells_apart exact_partitions p q same in let itself = (eq_by_cmp_equiv named_cmp_total).refl (named_day q) in let no : eq_by_cmp named_cmp (named_day q) (named_day q) ≡ false = rw one at apart in cc))
 
 apart_from_all : (p : Partition) (parts : List Partition) → AllByRecursion (λ y. eq_by_cmp named_cmp (named_day p) y ≡ false) (map named_day parts) → AllByRecursion (λ y. eq_by_cmp partition_cmp p y ≡ false) parts
 apart_from_all p [] all = tt

@@ -1,12 +1,13 @@
 -- The order of named days, in words of numbers and days.
-use Rattle.std.proofs.Common.{◌≡◌, ℕ, ℤ, Bool, true, false, ◌&&◌, nat_eq, ◌<ℤ◌, ◌<◌, ◌⊎◌, inl, inr, refl, subst, sym, ◌∙◌, ap, arith}
-use Rattle.std.specs.Ordering.{nat_cmp, int_cmp, int_eq, ordering_then, MatchOrdering}
+use Rattle.std.proofs.Common.{◌≡◌, ℕ, ℤ, Bool, true, false, ◌&&◌, nat_eq, ◌<ℤ◌, ◌<◌, ◌⊎◌, refl, ◌∙◌, ap, arith}
+use Rattle.std.specs.Ordering.{int_eq, MatchOrdering}
 use Rattle.std.specs.Cmp.{IsTotalOrder, then_total, on_total, int_cmp_total, nat_cmp_total, int_ranks, ranks, signed_Decides, nat_eq_equiv}
 use Rattle.std.specs.declared.cmp.Ordering.{Ordering}
 use Rattle.std.specs.declared.cmp.Ordering.TheVariants.{Less, Equal, Greater}
 use Rattle.std.proofs.lemmas.Bool.Decides.{nat_tests}
 use Rattle.std.proofs.lemmas.Cmp.{int_eq_equiv}
 use Rattle.std.proofs.lemmas.Map.Lookups.{CmpEqualImpliesEq}
+use Rattle.block_map.proofs.Pairs.{pair_ranks}
 use Rattle.partitions.specs.declared.named_day.NamedDay.{NamedDay}
 use Rattle.partitions.specs.NamedDay.{named_cmp}
 
@@ -18,19 +19,8 @@ pub named_cmp_total : IsTotalOrder named_cmp
 named_cmp_total = then_total (on_total (λ (k : NamedDay). k.pname) nat_cmp_total) (on_total (λ (k : NamedDay). k.day) int_cmp_total)
 
 module _ (a b : NamedDay) where
-  ranked_by : (r s : Ordering) → MatchOrdering r (a.pname < b.pname) (a.pname ≡ b.pname) (b.pname < a.pname) → MatchOrdering s (a.day <ℤ b.day) (a.day ≡ b.day) (b.day <ℤ a.day) →
-      MatchOrdering (ordering_then r s) (ComesBefore a b) ((a.pname ≡ b.pname) × (a.day ≡ b.day)) (ComesBefore b a)
-  ranked_by Less s names days = inl names
-  ranked_by Greater s names days = inl names
-  ranked_by Equal Less names days = inr (names, days)
-  ranked_by Equal Equal names days = (names, days)
-  ranked_by Equal Greater names days = inr (sym names, days)
-
-  pub named_ranked : MatchOrdering (named_cmp a b) (ComesBefore a b) ((a.pname ≡ b.pname) × (a.day ≡ b.day)) (ComesBefore b a)
-  named_ranked = ranked_by (nat_cmp a.pname b.pname) (int_cmp a.day b.day) (ranks a.pname b.pname) (int_ranks a.day b.day)
-
   pub named_ranked_as : (r : Ordering) → named_cmp a b ≡ r → MatchOrdering r (ComesBefore a b) ((a.pname ≡ b.pname) × (a.day ≡ b.day)) (ComesBefore b a)
-  named_ranked_as r e = subst (λ k. MatchOrdering k (ComesBefore a b) ((a.pname ≡ b.pname) × (a.day ≡ b.day)) (ComesBefore b a)) e named_ranked
+  named_ranked_as = pair_ranks (λ (x y : ℕ). x < y) (λ (x y : ℤ). x <ℤ y) a.pname a.day b.pname b.day _ _ (ranks a.pname b.pname) (int_ranks a.day b.day)
 
 -- named days of one number and one day are the same
 together : (x y : NamedDay) → x.pname ≡ y.pname → x.day ≡ y.day → x ≡ y

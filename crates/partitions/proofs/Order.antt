@@ -1,10 +1,11 @@
 -- The order of partitions, in words of days and numbers.
-use Rattle.std.proofs.Common.{◌≡◌, ℕ, ℤ, ◌<ℤ◌, ◌<◌, ◌≤◌, ◌⊎◌, inl, inr, refl, subst, sym, ◌∙◌, ap, arith}
-use Rattle.std.specs.Ordering.{nat_cmp, int_cmp, ordering_then, MatchOrdering}
+use Rattle.std.proofs.Common.{◌≡◌, ℕ, ℤ, ◌<ℤ◌, ◌<◌, ◌≤◌, ◌⊎◌, inl, inr, refl, ◌∙◌, ap, arith}
+use Rattle.std.specs.Ordering.{MatchOrdering}
 use Rattle.std.specs.Cmp.{IsTotalOrder, then_total, on_total, int_cmp_total, nat_cmp_total, int_ranks, ranks}
 use Rattle.std.specs.declared.cmp.Ordering.{Ordering}
 use Rattle.std.specs.declared.cmp.Ordering.TheVariants.{Less, Equal, Greater}
 use Rattle.std.proofs.lemmas.Map.Lookups.{CmpEqualImpliesEq}
+use Rattle.block_map.proofs.Pairs.{pair_ranks}
 use Rattle.partitions.specs.declared.partition.Partition.{Partition}
 use Rattle.partitions.specs.Partition.{partition_cmp}
 
@@ -20,19 +21,8 @@ pub partition_cmp_total : IsTotalOrder partition_cmp
 partition_cmp_total = then_total (on_total (λ (p : Partition). p.day) int_cmp_total) (on_total (λ (p : Partition). p.pname) nat_cmp_total)
 
 module _ (a b : Partition) where
-  ranked_by : (r s : Ordering) → MatchOrdering r (a.day <ℤ b.day) (a.day ≡ b.day) (b.day <ℤ a.day) → MatchOrdering s (a.pname < b.pname) (a.pname ≡ b.pname) (b.pname < a.pname) →
-      MatchOrdering (ordering_then r s) (IsBefore a b) ((a.day ≡ b.day) × (a.pname ≡ b.pname)) (IsBefore b a)
-  ranked_by Less s days numbers = inl days
-  ranked_by Greater s days numbers = inl days
-  ranked_by Equal Less days numbers = inr (days, numbers)
-  ranked_by Equal Equal days numbers = (days, numbers)
-  ranked_by Equal Greater days numbers = inr (sym days, numbers)
-
-  pub ranked : MatchOrdering (partition_cmp a b) (IsBefore a b) ((a.day ≡ b.day) × (a.pname ≡ b.pname)) (IsBefore b a)
-  ranked = ranked_by (int_cmp a.day b.day) (nat_cmp a.pname b.pname) (int_ranks a.day b.day) (ranks a.pname b.pname)
-
   pub ranked_as : (r : Ordering) → partition_cmp a b ≡ r → MatchOrdering r (IsBefore a b) ((a.day ≡ b.day) × (a.pname ≡ b.pname)) (IsBefore b a)
-  ranked_as r e = subst (λ k. MatchOrdering k (IsBefore a b) ((a.day ≡ b.day) × (a.pname ≡ b.pname)) (IsBefore b a)) e ranked
+  ranked_as = pair_ranks (λ (x y : ℤ). x <ℤ y) (λ (x y : ℕ). x < y) a.day a.pname b.day b.pname _ _ (int_ranks a.day b.day) (ranks a.pname b.pname)
 
   pub before_from_less : partition_cmp a b ≡ Less → IsBefore a b
   before_from_less less = ranked_as Less less

@@ -1,8 +1,9 @@
 use Rattle.std.proofs.Common.{◌≡◌, ◌+◌, None, false, sym, ◌∙◌, ap, arith}
 use Rattle.std.specs.BTreeMap.{insert_entry}
 use Rattle.late_marks.specs.Mark.{is_late_free_mark}
-use Rattle.late_marks.specs.Marks.{Marks, interval_cmp, mark_in}
-use Rattle.late_marks.specs.MarkIndexes.{some_if, one_if, IsUpdatedAt}
+use Rattle.arch_types.specs.Interval.{interval_cmp}
+use Rattle.late_marks.specs.Marks.{Marks, mark_in, one_if}
+use Rattle.late_marks.specs.MarkIndexes.{some_if, IsUpdatedAt}
 use Rattle.late_marks.proofs.LateFree.{AreConsistent-added, Marked-insert, fresh_from}
 use Rattle.late_marks.proofs.marks.LateMarks.add.Goals as goal
 
@@ -31,4 +32,4 @@ invariant_of-self c =
 
 pub returns-clause-marked : goal.returns-clause-marked
 returns-clause-marked c =
-    Marked-insert c.args.self.now _ c.self.inside.marks.entries c.args.interval c.args.mark (ap (λ (m : Marks). m.marks) (sym c.self.view_is)) (added c).0
+    Marked-insert c.args.self.now _ c.self.inside.marks.entries c.args.interval c.args.mark c.self.invariant.rising (ap (λ (m : Marks). m.marks) (sym c.self.view_is)) (added c).0

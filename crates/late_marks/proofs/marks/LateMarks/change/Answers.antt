@@ -3,8 +3,8 @@ use Rattle.block_map.specs.Index.{Listing}
 use Rattle.arch_types.specs.declared.interval.Interval.{Interval}
 use Rattle.late_marks.specs.declared.mark.Mark.{Mark}
 use Rattle.late_marks.specs.Mark.{is_late_free_mark}
-use Rattle.late_marks.specs.Marks.{Marks}
-use Rattle.late_marks.specs.MarkIndexes.{some_if, one_if, IsUpdatedAt}
+use Rattle.late_marks.specs.Marks.{Marks, one_if}
+use Rattle.late_marks.specs.MarkIndexes.{some_if, IsUpdatedAt}
 use Rattle.late_marks.proofs.LateFree.{AreConsistent-changed, Marked-insert, room-kept}
 use Rattle.late_marks.proofs.marks.LateMarks.change.Goals as goal
 
@@ -28,4 +28,4 @@ invariant_of-self c =
 
 pub returns-in-Some-clause-marked : goal.returns-in-Some-clause-marked
 returns-in-Some-clause-marked c =
-    Marked-insert c.args.self.now _ c.self.inside.marks.entries c.args.interval c.args.mark (ap (λ (m : Marks). m.marks) (sym c.self.view_is)) (ap (λ (l : Listing Interval Mark). l.entries) c.in-Some.ensures.replaced)
+    Marked-insert c.args.self.now _ c.self.inside.marks.entries c.args.interval c.args.mark c.self.invariant.rising (ap (λ (m : Marks). m.marks) (sym c.self.view_is)) (ap (λ (l : Listing Interval Mark). l.entries) c.in-Some.ensures.replaced)
