@@ -42,15 +42,15 @@ pub(crate) fn on_days(
 pub(crate) fn of_names(
     alloc: Global,
     index: &Index<NamedDay, ()>,
-    filter: &NameDayFilter,
+    selection: &NameDayFilter,
 ) -> Result<PartList, AllocError>
-    requires { filter.now.days.first ≤ℤ filter.now.days.last }
-    ensures { IfOk result (λ parts. map named_day parts ≡ filter (is_selected filter.now) (keys_of index.now.entries)) }
+    requires { selection.now.days.first ≤ℤ selection.now.days.last }
+    ensures { IfOk result (λ parts. map named_day parts ≡ filter (is_selected selection.now) (keys_of index.now.entries)) }
 {
     let mut parts = PartList::new(alloc);
     let mut entries = index.iter();
     while let Some(&(at, ())) = entries.next() {
-        match filter.first_from(at) {
+        match selection.first_from(at) {
             Some(next) if next == at => parts.push(at.partition())?,
             Some(next) => entries = index.from_key(next),
             None => break,

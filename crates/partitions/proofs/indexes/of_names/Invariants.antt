@@ -5,7 +5,7 @@ use Rattle.partitions.proofs.Leaps.{IsUnderWay}
 use Rattle.partitions.proofs.indexes.of_names.Given as goal
 
 abbrev pub invariant-loop-at : goal.invariant-loop-at
-invariant-loop-at l = IsUnderWay (is_selected l.filter) l.index.entries l.entries (map named_day l.parts)
+invariant-loop-at l = IsUnderWay (is_selected l.selection) l.index.entries l.entries (map named_day l.parts)
 
 abbrev pub decreases-loop-at : goal.decreases-loop-at
 decreases-loop-at l = length l.entries
