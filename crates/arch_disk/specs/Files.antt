@@ -9,6 +9,7 @@ abbrev pub content_of : List File → Image
 content_of [] f = []
 content_of (file ∷ files) f = if f == file.number then file.octets.items else content_of files f
 
+-- what files hold, as an image: the octets of each by its number
 abbrev pub image_in : Files → Image
 image_in files = content_of files.list.items
 

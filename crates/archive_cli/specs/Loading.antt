@@ -74,6 +74,7 @@ pub record IsDone {D : Type 0} (old new : StoreView D) (dump : List ℕ) (link :
   pub whole : DumpSummary
   pub ingested : IsIngested old new dump link moment whole
 
+-- the octets of the dump behind the packets that were loaded
 abbrev pub rest_of : {D : Type 0} {old new : StoreView D} {dump : List ℕ} {link : ℕ} {moment : ℤ} → IsDone old new dump link moment → List ℕ
 rest_of {dump = dump} done = drop done.whole.at dump
 

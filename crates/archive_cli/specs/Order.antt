@@ -21,13 +21,16 @@ Input = List ℕ × Which
 abbrev pub scan_inputs : List ℕ → List Input
 scan_inputs dump = (dump, DumpOctets) ∷ []
 
+-- the inputs of `values` in the order in which they are read, each with the limit on its octets
 abbrev pub values_inputs : ValuesWords → List Input
 values_inputs words =
     (words.parameters, SheetOctets) ∷ (words.calibrations, SheetOctets) ∷ (words.containers, SheetOctets) ∷ (words.dump, DumpOctets) ∷ []
 
+-- the inputs of `create` in the order in which they are read
 abbrev pub create_inputs : SheetWords → List Input
 create_inputs words = (words.parameters, SheetOctets) ∷ (words.calibrations, SheetOctets) ∷ (words.containers, SheetOctets) ∷ []
 
+-- the one input of `query`
 abbrev pub query_inputs : List ℕ → List Input
 query_inputs asks = (asks, SheetOctets) ∷ []
 

@@ -25,6 +25,7 @@ refusal_of_input which name (Some octets) = if nat_lt (limit_of which) (length o
 abbrev pub known_sheet : Files → List ℕ → List (List (List ℕ))
 known_sheet all name = sheet_of (unwrap_or (get all name) [])
 
+-- the three sheets that files hold under the words of `values`
 abbrev pub known_sheets : Files → ValuesWords → RawMdb
 known_sheets all words = record {
   parameters = known_sheet all words.parameters;

@@ -29,6 +29,7 @@ line_if calibration (Some cell) = cell_line calibration cell
 unfoldable pub line_of : Database → ℕ → Row → List ℕ
 line_of db number row = line_if (calibration_numbered db number) (cell_of db number row)
 
+-- one value, or none
 abbrev pub count_if : Option Cell → ℕ
 count_if None = 0
 count_if (Some cell) = 1

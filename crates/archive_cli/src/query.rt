@@ -6,15 +6,16 @@ ghost use Rattle.arch_disk.specs.Disk.{raised};
 ghost use Rattle.arch_types.specs.declared.refusal.Refusal.TheVariants.{DiskFault};
 ghost use Rattle.mdb_sheets.specs.Sheets.{ReadsCounted};
 ghost use Rattle.outer_traits.specs.Outside.{Stays, WritesSome};
-ghost use Rattle.retrieval.specs.AnswerText.{ask_refusal, ask_text, asks_refusal, asks_text};
+ghost use Rattle.retrieval.specs.AnswerText.{ask_refusal, ask_text, asks_refusal, asks_text, range_refusal, request_refusal};
 ghost use Rattle.archive_cli.specs.Call.{Call};
 ghost use Rattle.dump_lines.specs.Output.{WritesCounted, IsBuffered};
 ghost use Rattle.archive_cli.specs.Caused.{IsQueryCaused};
 ghost use Rattle.archive_cli.specs.HandedBack.{IsQueryBack};
 ghost use Rattle.archive_cli.specs.Order.{AreInOrder, query_inputs};
-ghost use Rattle.archive_cli.specs.QueryEnding.{IsAskSheet, IsQueryEnding, IsReply, IsSheetReply};
+ghost use Rattle.archive_cli.specs.QueryEnding.{IsAskSheet, IsQueryEnding, IsReply, IsSheetReply, IsDeferred};
 ghost use Rattle.archive_cli.specs.Report.{status_at, IsReadOnlyReport};
 ghost use Rattle.archive_cli.specs.ValuesPrinting.{PrintCounted, refusal_of_print};
+ghost use Rattle.retrieval.specs.Parameter.{number_named};
 
 use retrieval::answer::{answer_request, number_of};
 use retrieval::answer_text::print_found;
@@ -196,10 +197,6 @@ fn range_refusal(request: &Request) -> Option<Refusal>
     }
     None
 }
-
-ghost use Rattle.retrieval.specs.AnswerText.{range_refusal, request_refusal};
-ghost use Rattle.retrieval.specs.Parameter.{number_named};
-ghost use Rattle.archive_cli.specs.QueryEnding.{IsDeferred};
 
 /// Prints the answers to asks, of which none is refused.
 fn answer_asks<D: Disk, K: Sink>(

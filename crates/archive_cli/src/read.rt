@@ -1,6 +1,6 @@
 //! Reads an input, and names what went wrong.
 
-ghost use Rattle.std.specs.Prelude.{◌≡◌, ◌+◌, ◌<◌, ◌≤◌, ◌^◌, IfOk, IfErr, vec_len};
+ghost use Rattle.std.specs.Prelude.{◌≡◌, ◌+◌, ◌<◌, ◌≤◌, ◌^◌, IfOk, IfErr, vec_len, ◌⊎◌};
 ghost use Rattle.arch_types.specs.Limits.{limit_of};
 ghost use Rattle.std.specs.Result.{result_err};
 ghost use Rattle.mdb_sheets.specs.Sheets.{ReadsCounted};
@@ -75,4 +75,3 @@ pub fn missing(alloc: Global, name: &str) -> Refusal
     }
 }
 
-ghost use Rattle.std.specs.Prelude.{◌⊎◌};

@@ -1,13 +1,15 @@
 //! The command `scan`: the rows of a dump, as text.
 
-ghost use Rattle.std.specs.Prelude.{◌≡◌, ◌<◌, ◌≤◌, OnOk, OnErr, IsErr, length, ◌++◌, ◌+◌, ◌^◌};
+ghost use Rattle.std.specs.Prelude.{◌≡◌, ◌<◌, ◌≤◌, OnOk, OnErr, IsErr, length, ◌++◌, ◌+◌, ◌^◌, []};
 ghost use Rattle.std.specs.Result.{result_err};
 ghost use Rattle.outer_traits.specs.Outside.{HasRisen, Stays, WritesSome};
 ghost use Rattle.mdb_sheets.specs.Sheets.{ReadsCounted};
-ghost use Rattle.dump_lines.specs.Output.{Appends, WritesCounted};
+ghost use Rattle.dump_lines.specs.Output.{Appends, WritesCounted, IsBuffered};
 ghost use Rattle.archive_cli.specs.Order.{AreInOrder, scan_inputs};
 ghost use Rattle.archive_cli.specs.ScanEnding.{IsScanEnding};
 ghost use Rattle.dump_lines.specs.Printing.{lines_of, end_of, text_of_loaded};
+ghost use Rattle.std.specs.List.{AllByRecursion};
+ghost use Rattle.dump_lines.specs.DumpTable.{IsVisible};
 
 use dump_lines::line_buffer::LineBuffer;
 use dump_lines::rows::DumpTable;
@@ -110,7 +112,3 @@ fn print_rows<K: Sink>(
     Ok(())
 }
 
-ghost use Rattle.std.specs.Prelude.{[]};
-ghost use Rattle.std.specs.List.{AllByRecursion};
-ghost use Rattle.dump_lines.specs.DumpTable.{IsVisible};
-ghost use Rattle.dump_lines.specs.Output.{IsBuffered};

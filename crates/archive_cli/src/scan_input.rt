@@ -1,11 +1,12 @@
 //! The rows of a dump that is received now.
 
-ghost use Rattle.std.specs.Prelude.{◌≡◌, ◌+◌, ◌<◌, ◌≤◌, ◌^◌, [], IfOk, IfErr};
+ghost use Rattle.std.specs.Prelude.{◌≡◌, ◌+◌, ◌<◌, ◌≤◌, ◌^◌, [], IfOk, IfErr, vec_len};
 ghost use Rattle.std.specs.Result.{result_err};
 ghost use Rattle.mdb_sheets.specs.Sheets.{ReadsCounted};
 ghost use Rattle.outer_traits.specs.Outside.{Stays};
 ghost use Rattle.archive_cli.specs.Reading.{IsReadRefusal};
-ghost use Rattle.archive_cli.specs.ReadDump.{IsDumpRead, ending_of};
+ghost use Rattle.archive_cli.specs.ReadDump.{IsDumpRead, ending_of, dump_limit};
+ghost use Rattle.dump_lines.specs.DumpTable.{IsDumpTable};
 
 use dump_lines::line_buffer::LineBuffer;
 use crate::read::read_limited;
@@ -63,10 +64,6 @@ fn prepare(alloc: Global, dump: Vec<u8>, moment: i64) -> Result<ScanInput, Alloc
         line_buffer,
     })
 }
-
-ghost use Rattle.std.specs.Prelude.{vec_len};
-ghost use Rattle.dump_lines.specs.DumpTable.{IsDumpTable};
-ghost use Rattle.archive_cli.specs.ReadDump.{dump_limit};
 
 /// How a command ends that printed the rows of a dump.
 pub fn ended(loaded: &DumpTable) -> Result<(), Refusal>

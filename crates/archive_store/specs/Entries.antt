@@ -15,6 +15,7 @@ pub record Archive : Type 0 where
   pub head : Head
   pub history : List Item
 
+-- an archive of a head and a history
 abbrev pub archive : Head → List Item → Archive
 archive head history = record { head = head; history = history }
 

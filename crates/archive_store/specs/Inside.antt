@@ -16,6 +16,7 @@ use Rattle.archive_store.specs.declared.head.Head.{Head}
 use Rattle.archive_store.specs.Entries.{archive, Replays, AreAdmitted}
 use Rattle.archive_store.specs.StoreView.{StoreView, CrashInvariant, FaultInvariant, unacknowledged_rows}
 
+-- what contracts see of a store: the disk now and as it was opened, the journal's records, the head, the history, the fills
 abbrev pub view_of : {D : Type 0} → D → D → Journal → Head → List Item → List Fill → StoreView D
 view_of disk opened journal head history fills = record { history = history; fills = fills; head = head; records = count_of journal; disk = disk; opened = opened }
 

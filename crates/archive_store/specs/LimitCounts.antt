@@ -17,6 +17,7 @@ pub record LimitCountsView : Type 0 where
   pub rows : List (Interval × ℕ)
   pub room : ℕ
 
+-- a count, 0 where there is none
 abbrev pub or_zero : Option ℕ → ℕ
 or_zero None = 0
 or_zero (Some count) = count

@@ -21,9 +21,11 @@ pub record HistoryView : Type 0 where
 abbrev pub is_at_key : ℕ → Key → Item → Bool
 is_at_key table key item = (table == item.table) && is_eq (key_cmp key item.key)
 
+-- a table without rows or room
 abbrev pub no_table : Holding
 no_table = record { stored = []; room = 0 }
 
+-- what stands behind the last row of a table
 abbrev pub no_row : Stored
 no_row = record { row = record { key = record { time = pos 0; seq = 0 }; rectime = pos 0; packet = []; link = 0; pname = 0; table = 0 }; position = 0 }
 

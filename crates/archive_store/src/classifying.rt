@@ -10,6 +10,7 @@ ghost use Rattle.archive_core.specs.Outcomes.{Says};
 ghost use Rattle.archive_store.specs.TableSet.{is_at_key};
 ghost use Rattle.archive_store.specs.Classifying.{IsClassified, IndexesByKey};
 ghost use Rattle.archive_store.specs.Batches.{arrival_row, arrival_rows, batch_rows};
+ghost use Rattle.arch_types.specs.GenerationTime.{key_of};
 
 use crate::batch::{Arrival, Batch};
 use crate::history::History;
@@ -76,8 +77,6 @@ fn key_at(batch: &Batch, arrival: &Arrival) -> Key
 {
     key_of(arrival.packet.as_slice(), batch.rectime)
 }
-
-ghost use Rattle.arch_types.specs.GenerationTime.{key_of};
 
 /// The row of an arrival of a batch, at its key.
 fn row_at(batch: &Batch, arrival: &Arrival, at: TableKey) -> Result<Row, AllocError>

@@ -1,6 +1,6 @@
 //! Reading an archive, record by record.
 
-ghost use Rattle.std.specs.Prelude.{◌≡◌, ◌<◌, ◌≤◌, ◌⊎◌, ◌++◌, [], ◌∷◌, List, ℕ, None, Some, IsTrue, true, false, length, map, get_or, OnOk, OnErr, IfOk, IfErr, IfSome};
+ghost use Rattle.std.specs.Prelude.{◌≡◌, ◌<◌, ◌≤◌, ◌⊎◌, ◌++◌, [], ◌∷◌, List, ℕ, None, Some, IsTrue, true, false, length, map, get_or, OnOk, OnErr, IfOk, IfErr, IfSome, Err};
 ghost use Rattle.std.specs.List.{AllByRecursion};
 ghost use Rattle.arch_disk.specs.Disk.{OnlyReads, raised};
 ghost use Rattle.disk_journal.specs.State.{unhealed_fault, file_of};
@@ -11,7 +11,7 @@ ghost use Rattle.field_codec.specs.declared.entry.Entry.{Entry as AnEntry};
 ghost use Rattle.field_codec.specs.declared.entry.Entry.TheVariants as entries;
 ghost use Rattle.field_codec.specs.Entries.{IsEntry};
 ghost use Rattle.field_codec.specs.Spelling.{entry_octets};
-ghost use Rattle.archive_store.specs.Entries.{archive, Applies, AreAdmitted, IsPlaced};
+ghost use Rattle.archive_store.specs.Entries.{archive, Applies, AreAdmitted, IsPlaced, Archive};
 ghost use Rattle.archive_store.specs.PartialArchive.{archive_made, HasTables, read_refusal, IsReadRefusal, IsReadArchive};
 ghost use Rattle.archive_store.specs.Stands.{IsDamagedAt, Breaks};
 
@@ -100,8 +100,6 @@ fn take_in(
     }
 }
 
-ghost use Rattle.archive_store.specs.Entries.{Archive};
-
 /// An archive that was read, and its journal.
 #[derive(Drop)]
 pub(crate) struct ReadArchive {
@@ -137,8 +135,6 @@ fn finished(opening: Opening, made: Option<PartialArchive>) -> Result<ReadArchiv
         None => Err(Refusal::Damaged { file: 0, at: 0 }),
     }
 }
-
-ghost use Rattle.std.specs.Prelude.{Err};
 
 /// Reads the records of file 0 to the closed gate that ends them.
 pub(crate) fn read_archive<D: Disk>(

@@ -1,8 +1,14 @@
 //! What a retrieval needs of the store.
 
-ghost use Rattle.std.specs.Prelude.{◌≡◌, ◌≢◌, ℤ, ◌<◌, ◌≤◌, ◌<ℤ◌, ◌≤ℤ◌, ◌++◌, [], ◌∷◌, None, map, OnOk, OnErr, IfOk, IfErr, Err};
+ghost use Rattle.std.specs.Prelude.{◌≡◌, ◌≢◌, ℤ, ◌<◌, ◌≤◌, ◌<ℤ◌, ◌≤ℤ◌, ◌++◌, [], ◌∷◌, None, map, OnOk, OnErr, IfOk, IfErr, Err, length};
 ghost use Rattle.arch_types.specs.declared.refusal.Refusal.TheVariants.{UnknownParameter, BadRange, OutOfMemory};
 ghost use Rattle.mdb_model.specs.Texts.{place_of};
+ghost use Rattle.std.specs.Option.{is_some};
+ghost use Rattle.std.specs.List.{AllByRecursion};
+ghost use Rattle.arch_types.specs.Interval.{interval_of};
+ghost use Rattle.arch_types.specs.Table.{range_of};
+ghost use Rattle.archive_store.specs.Plans.{rows_of_parts, IsPart, AreRising};
+ghost use Rattle.std.specs.Arc.{arc_value};
 
 use crate::history::{History, interval_of_row};
 use crate::plan::{Part, Parts, Plan};
@@ -26,8 +32,6 @@ fn has_parameter(mdb: &Mdb, name: &Name) -> bool
         Err(_) => unreachable!(),
     }
 }
-
-ghost use Rattle.std.specs.Option.{is_some};
 
 /// The names of the containers, in their order.
 fn container_names(alloc: Global, mdb: &Mdb) -> Result<Names, AllocError>
@@ -63,11 +67,6 @@ fn put(alloc: Global, parts: &mut Vec<Part>, row: &Row) -> Result<(), AllocError
     Ok(())
 }
 
-ghost use Rattle.std.specs.List.{AllByRecursion};
-ghost use Rattle.arch_types.specs.Interval.{interval_of};
-ghost use Rattle.arch_types.specs.Table.{range_of};
-ghost use Rattle.archive_store.specs.Plans.{rows_of_parts, IsPart, AreRising};
-
 /// The rows of a range in parts, one for each interval that has any.
 fn parts_of(alloc: Global, history: &History, from: i64, to: i64) -> Result<Parts, AllocError>
     requires { 0 < history.now.tables }
@@ -97,9 +96,6 @@ fn planned(
         parts: parts_of(alloc, history, request.from, request.to)?,
     })
 }
-
-ghost use Rattle.std.specs.Prelude.{length};
-ghost use Rattle.std.specs.Arc.{arc_value};
 
 impl<D: Disk> Store<D> {
     ghost use Rattle.archive_store.specs.Plans.{IsPlan, IsPlanRefusal, IsPlannable};

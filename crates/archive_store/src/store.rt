@@ -14,6 +14,7 @@ ghost use Rattle.archive_store.specs.Entries.{Archive};
 ghost use Rattle.archive_store.specs.Limits.{IsWithin};
 ghost use Rattle.archive_store.specs.PartialArchive.{refusal_of_create};
 ghost use Rattle.archive_store.specs.Stands.{StandsFor, IsDamagedAt};
+ghost use Rattle.std.specs.Arc.{arc_value};
 
 use crate::head::Head;
 use crate::history::History;
@@ -113,8 +114,6 @@ fn prepare_new(alloc: Global, head: Head) -> Result<NewArchive, AllocError>
         history,
     })
 }
-
-ghost use Rattle.std.specs.Arc.{arc_value};
 
 impl<D: Disk> Store<D> {
     ghost use Rattle.archive_store.specs.StoreView.{archive_of, CrashInvariant, FaultInvariant, CountsNeverFall};

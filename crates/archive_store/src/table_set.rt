@@ -1,12 +1,12 @@
 //! The rows of a history, by table.
 
-ghost use Rattle.std.specs.Prelude.{◌≡◌, ◌+◌, ◌<◌, ◌≤◌, ◌^◌, [], false, true, length, IfOk, IfSome, IfNone, OnOk, OnErr, max, slice_get, Some};
+ghost use Rattle.std.specs.Prelude.{◌≡◌, ◌+◌, ◌<◌, ◌≤◌, ◌^◌, [], false, true, length, IfOk, IfSome, IfNone, OnOk, OnErr, max, slice_get, Some, replicate, ℕ, ◌++◌, ◌∷◌};
 ghost use Rattle.std.specs.List.{list_any};
 ghost use Rattle.arch_types.specs.History.{with_row, IsHistory};
 ghost use Rattle.arch_types.specs.Table.{range_of};
 ghost use Rattle.archive_core.specs.Items.{Item};
 ghost use Rattle.archive_core.specs.Outcomes.{Says};
-ghost use Rattle.archive_store.specs.TableSet.{is_at_key};
+ghost use Rattle.archive_store.specs.TableSet.{is_at_key, no_table, table_in};
 
 use arch_types::inserted::Inserted;
 use arch_types::key::Key;
@@ -56,9 +56,6 @@ fn empty_tables(alloc: Global, count: usize) -> Result<Vec<Table>, AllocError>
     Ok(tables)
 }
 
-ghost use Rattle.std.specs.Prelude.{replicate};
-ghost use Rattle.archive_store.specs.TableSet.{no_table, table_in};
-
 /// Makes room in each table for so many more rows.
 fn reserve_tables(tables: &mut Vec<Table>, rows: usize) -> Result<(), AllocError>
     ensures len { length tables.new.items ≡ length tables.old.items }
@@ -71,8 +68,6 @@ fn reserve_tables(tables: &mut Vec<Table>, rows: usize) -> Result<(), AllocError
     }
     Ok(())
 }
-
-ghost use Rattle.std.specs.Prelude.{ℕ};
 
 impl TableSet {
     /// So many tables without rows, and no room. The one error is want of memory.
@@ -149,4 +144,3 @@ impl TableSet {
     }
 }
 
-ghost use Rattle.std.specs.Prelude.{◌++◌, ◌∷◌};

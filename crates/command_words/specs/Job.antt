@@ -41,6 +41,7 @@ pub data Job : Type 0 where
 abbrev pub scan_app : App
 scan_app = words_app (codes "scan") (codes "dump" ∷ [])
 
+-- the job of `scan DUMP`, by the words that clap found
 abbrev pub scan_of : List Row → Option Job
 scan_of rows = option_map Scan (first_of (codes "dump") rows)
 
@@ -48,11 +49,13 @@ scan_of rows = option_map Scan (first_of (codes "dump") rows)
 abbrev pub values_app : App
 values_app = words_app (codes "values") (codes "parameters" ∷ codes "calibrations" ∷ codes "containers" ∷ codes "dump" ∷ codes "name" ∷ [])
 
+-- the job of `values`, where each of its words is there
 abbrev pub values_words : Option (List ℕ) → Option (List ℕ) → Option (List ℕ) → Option (List ℕ) → Option (List ℕ) → Option Job
 values_words (Some parameters) (Some calibrations) (Some containers) (Some dump) (Some name) =
     Some (Values (record { parameters = parameters; calibrations = calibrations; containers = containers; dump = dump; name = name }))
 values_words parameters calibrations containers dump name = None
 
+-- the job of `values PARAMETERS CALIBRATIONS CONTAINERS DUMP NAME`, by the words that clap found
 abbrev pub values_of : List Row → Option Job
 values_of rows =
     values_words (first_of (codes "parameters") rows) (first_of (codes "calibrations") rows) (first_of (codes "containers") rows) (first_of (codes "dump") rows) (first_of (codes "name") rows)
@@ -61,10 +64,12 @@ values_of rows =
 abbrev pub create_app : App
 create_app = words_app (codes "create") (codes "parameters" ∷ codes "calibrations" ∷ codes "containers" ∷ [])
 
+-- the job of `create`, where each of its words is there
 abbrev pub sheet_words : Option (List ℕ) → Option (List ℕ) → Option (List ℕ) → Option Job
 sheet_words (Some parameters) (Some calibrations) (Some containers) = Some (Create (record { parameters = parameters; calibrations = calibrations; containers = containers }))
 sheet_words parameters calibrations containers = None
 
+-- the job of `create PARAMETERS CALIBRATIONS CONTAINERS`, by the words that clap found
 abbrev pub create_of : List Row → Option Job
 create_of rows = sheet_words (first_of (codes "parameters") rows) (first_of (codes "calibrations") rows) (first_of (codes "containers") rows)
 
@@ -81,10 +86,12 @@ abbrev pub link_of : Option (List ℕ) → Option ℕ
 link_of None = Some 1
 link_of (Some word) = option_and_then from_one (digits_at_most 19 word)
 
+-- the job of `load`, where there are a dump and a link
 abbrev pub load_words : Option (List ℕ) → Option ℕ → Option Job
 load_words (Some dump) (Some link) = Some (Load (record { dump = dump; link = link }))
 load_words dump link = None
 
+-- the job of `load [--link N] DUMP`, by the words that clap found
 abbrev pub load_of : List Row → Option Job
 load_of rows = load_words (first_of (codes "dump") rows) (link_of (first_of (codes "link") rows))
 
@@ -92,6 +99,7 @@ load_of rows = load_words (first_of (codes "dump") rows) (link_of (first_of (cod
 abbrev pub query_app : App
 query_app = with_rule (plain_app (codes "query")) (option_rule (codes "ask") true)
 
+-- the job of `query --ask FILE`, by the words that clap found
 abbrev pub query_of : List Row → Option Job
 query_of rows = option_map Query (first_of (codes "ask") rows)
 
@@ -99,6 +107,7 @@ query_of rows = option_map Query (first_of (codes "ask") rows)
 abbrev pub recover_app : App
 recover_app = plain_app (codes "recover")
 
+-- the job of `recover`, which has no words
 abbrev pub recover_of : List Row → Option Job
 recover_of rows = Some Recover
 

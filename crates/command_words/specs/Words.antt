@@ -36,6 +36,7 @@ are_plain words = are_filled words && are_whole words
 abbrev pub plain_shape : Shape → Shape
 plain_shape shape = record shape { no_binary_name = true; disable_help_flag = true; disable_version_flag = true }
 
+-- a command as clap knows it, before its words are added: without help and version
 abbrev pub plain_app : Text → App
 plain_app name = on_top plain_shape (new_app name)
 
@@ -51,10 +52,12 @@ option_rule id wanted = record (new_rule id) { action = Some Set; long = Some id
 abbrev pub words_app : Text → List Text → App
 words_app name ids = fold (λ app id. with_rule app (word_rule id)) (plain_app name) ids
 
+-- clap found no fault in the words
 abbrev pub has_no_fault : Kinds → Bool
 has_no_fault [] = true
 has_no_fault (kind ∷ kinds) = false
 
+-- the words that clap found, where it found no fault
 abbrev pub rows_where : Bool → Kinds → List Row → Option (List Row)
 rows_where plain faults rows = if plain && has_no_fault faults then Some rows else None
 

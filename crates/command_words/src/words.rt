@@ -1,12 +1,13 @@
 //! The words behind a command, read by clap.
 
-ghost use Rattle.std.specs.Prelude.{◌≡◌, ◌≢◌, map, string_bytes, Some, IfOk, IfErr, true, not, nat_eq, codes, ◌&&◌, ◌⊎◌};
+ghost use Rattle.std.specs.Prelude.{◌≡◌, ◌≢◌, map, string_bytes, Some, IfOk, IfErr, true, not, nat_eq, codes, ◌&&◌, ◌⊎◌, false, None, option_map, position, ◌==◌, ◌<◌, length, IfSome};
 ghost use Rattle.std.specs.List.{list_all};
 ghost use Rattle.std.specs.Str.{bytes_eq};
 ghost use Rattle.clap.specs.Words.{app_of, is_simple, rows_of, found_of};
 ghost use Rattle.clap.specs.Faults.{is_simple_and_free};
-ghost use Rattle.clap.specs.Walk.{rule_of, is_empty};
-ghost use Rattle.command_words.specs.Words.{option_rule, are_plain, are_filled, are_whole, is_whole, word_rule, words_app, rows_of_words, IsNotFound};
+ghost use Rattle.clap.specs.Walk.{rule_of, is_empty, first_of};
+ghost use Rattle.command_words.specs.Words.{option_rule, are_plain, are_filled, are_whole, is_whole, word_rule, words_app, rows_of_words, IsNotFound, plain_app, is_last};
+ghost use Rattle.clap.specs.Simple.{with_rule};
 
 use arch_types::refusal::Refusal;
 use clap::error::ErrorKind;
@@ -38,8 +39,6 @@ fn plain_command<'a>(alloc: Global, name: &'a str) -> Command<'a>
         .disable_version_flag(true)
 }
 
-ghost use Rattle.command_words.specs.Words.{plain_app};
-
 /// A word that has to come.
 fn word<'a>(alloc: Global, id: &'a str) -> Arg<'a>
     ensures rule { rule_of result ≡ word_rule id.entry.now }
@@ -47,8 +46,6 @@ fn word<'a>(alloc: Global, id: &'a str) -> Arg<'a>
 {
     Arg::new(alloc, id).action(ArgAction::Set).required(true)
 }
-
-ghost use Rattle.std.specs.Prelude.{false};
 
 /// An option `--name value` or `--name=value`, which may have to come.
 fn option<'a>(alloc: Global, id: &'a str, wanted: bool) -> Arg<'a>
@@ -67,8 +64,6 @@ fn option_command<'a>(alloc: Global, name: &'a str, id: &'a str) -> Result<Comma
 {
     plain_command(alloc, name).arg(option(alloc, id, true))
 }
-
-ghost use Rattle.clap.specs.Simple.{with_rule};
 
 /// A command of one level that wants these words, and takes an option.
 fn words_and_option_command<'a>(
@@ -154,9 +149,6 @@ pub fn given_word<'a>(found: &ArgMatches<'a>, id: &str) -> Option<&'a str>
 {
     found.get_str(id)
 }
-
-ghost use Rattle.std.specs.Prelude.{None, option_map};
-ghost use Rattle.clap.specs.Walk.{first_of};
 
 /// What clap finds in the words, where they are plain.
 fn read_words<'a>(command: Command<'a>, words: &'a [String]) -> Result<ArgMatches<'a>, Refusal>
@@ -244,5 +236,3 @@ fn first_equals(word: &str) -> Option<usize>
     word.as_bytes().iter().position(|octet| *octet == b'=')
 }
 
-ghost use Rattle.std.specs.Prelude.{position, ◌==◌, ◌<◌, length, IfSome};
-ghost use Rattle.command_words.specs.Words.{is_last};

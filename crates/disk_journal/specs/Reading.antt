@@ -7,9 +7,11 @@ use Rattle.disk_journal.specs.declared.journal.Extent.{Extent}
 use Rattle.disk_journal.specs.declared.journal.Journal.{Journal}
 use Rattle.disk_journal.specs.declared.opening.Opening.{Opening}
 
+-- the octet at which the next record's gate stands
 abbrev pub place_of : Opening → ℕ
 place_of opening = opening.at
 
+-- the file that is being opened
 abbrev pub file_read : Opening → ℕ
 file_read opening = opening.file
 

@@ -28,6 +28,7 @@ pub record HasOnDisk {D : Type 0} (device : Device D) (journal : Journal) (bodie
   pub end : journal.end ≡ length (written bodies)
   pub state : StateIs device journal.pending_fault journal.file bodies pending disk
 
+-- the disk's file holds the journal's records, whatever these are
 pub record IsOnDisk {D : Type 0} (device : Device D) (journal : Journal) (disk : D) : Type 0 where
   pub bodies : List (List ℕ)
   pub pending : List ℕ
@@ -50,9 +51,11 @@ pub record IsSame (old new : Journal) : Type 0 where
   pub end : new.end ≡ old.end
   pub pending_fault : new.pending_fault ≡ old.pending_fault
 
+-- the file of a journal
 abbrev pub file_of : Journal → ℕ
 file_of journal = journal.file
 
+-- the number of a journal's records
 abbrev pub count_of : Journal → ℕ
 count_of journal = length journal.extents.items
 
@@ -60,6 +63,7 @@ count_of journal = length journal.extents.items
 abbrev pub HasRoom : Journal → Type 0
 HasRoom journal = vec_len journal.extents < vec_capacity journal.extents
 
+-- the disk's count of failed writes at the fault that wants a heal
 abbrev pub faults_of : PendingFault → Option ℕ
 faults_of Absent = None
 faults_of (GateClosed faults) = Some faults

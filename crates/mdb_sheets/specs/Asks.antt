@@ -25,6 +25,7 @@ use Rattle.mdb_sheets.specs.Sheets.{Fields, sheet_of}
 abbrev pub descending_of : List ℕ → Option Bool
 descending_of text = if is_empty text || bytes_eq text (codes "asc") then Some false else (if bytes_eq text (codes "desc") then Some true else None)
 
+-- a limit of values, by its number
 abbrev pub most_from : Option ℕ → Option (Option ℕ)
 most_from None = None
 most_from (Some n) = Some (Some n)

@@ -31,6 +31,7 @@ abbrev pub is_full : Option ℕ → List Cell → Bool
 is_full None cells = false
 is_full (Some limit) cells = not (nat_lt (length cells) limit)
 
+-- one cell, or none
 abbrev pub cell_list : Option Cell → List Cell
 cell_list None = []
 cell_list (Some cell) = cell ∷ []
@@ -75,6 +76,7 @@ asks_text db history k (ask ∷ asks) = ask_text db history k ask ++ asks_text d
 abbrev pub range_refusal : Request → Option Refusal
 range_refusal request = if int_lt request.to request.from then Some (BadRange request.from request.to) else None
 
+-- why a request can't be answered: its parameter is unknown, or its range is reversed
 abbrev pub request_refusal : Option ℕ → Request → Option Refusal
 request_refusal None request = Some UnknownParameter
 request_refusal (Some number) request = range_refusal request

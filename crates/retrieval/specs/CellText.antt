@@ -10,6 +10,7 @@ use Rattle.mdb_model.specs.declared.calibration.EnumRow.{EnumRow}
 use Rattle.mdb_model.specs.declared.calibration.Table.{Table}
 use Rattle.mdb_model.specs.declared.calibration.Table.TheVariants.{Poly, Points, Enum}
 
+-- `-` before a negative number
 abbrev pub sign_text : ℤ → List ℕ
 sign_text number = if int_lt number (pos 0) then codes "-" else []
 
@@ -28,10 +29,12 @@ rows_of_table (Poly rows) = []
 rows_of_table (Points rows) = []
 rows_of_table (Enum rows) = rows
 
+-- the rows of an enumeration; none of any other calibration
 abbrev pub labels_of : Option Calibration → List EnumRow
 labels_of None = []
 labels_of (Some calibration) = rows_of_table calibration.table
 
+-- a label's text, UNDEF where there is none
 abbrev pub label_text : Option EnumRow → List ℕ
 label_text None = codes "UNDEF"
 label_text (Some row) = row.label
