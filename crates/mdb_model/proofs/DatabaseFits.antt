@@ -37,6 +37,11 @@ pub all_at : {X : Type 0} (P : X → Type 0) (xs : List X) → ((i : ℕ) (x : X
 all_at P [] h = tt
 all_at P (x ∷ xs) h = (h zero x refl, all_at P xs (λ i y e. h (suc i) y e))
 
+pub item_of : {X : Type 0} (P : X → Type 0) (xs : List X) (n : ℕ) (x : X) → AllByRecursion P xs → slice_get xs n ≡ Some x → P x
+item_of P [] n x all is = cc
+item_of P (y ∷ xs) zero x all is = let same : y ≡ x = cc in subst P same all.0
+item_of P (y ∷ xs) (suc n) x all is = item_of P xs n x all.1 is
+
 pub all_split : {X : Type 0} (P : X → Type 0) (xs ys : List X) → AllByRecursion P (xs ++ ys) → AllByRecursion P xs × AllByRecursion P ys
 all_split P [] ys h = (tt, h)
 all_split P (x ∷ xs) ys h = let r = all_split P xs ys h.1 in ((h.0, r.0), r.1)
