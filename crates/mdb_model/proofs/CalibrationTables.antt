@@ -7,6 +7,7 @@ use Rattle.std.proofs.lemmas.Bool.{cases_lt, leb-true}
 use Rattle.std.proofs.lemmas.Cmp.{int_eq_equiv, nat_eq_equiv}
 use Rattle.std.proofs.lemmas.List.{map-append}
 use Rattle.std.proofs.lemmas.Option.{same_Some, slice_get_within}
+use Rattle.arch_types.specs.Name.{is_name}
 use Rattle.mdb_model.specs.declared.calibration.Calibration.{Calibration}
 use Rattle.mdb_model.specs.declared.calibration.EnumRow.{EnumRow}
 use Rattle.mdb_model.specs.declared.calibration.PointsRow.{PointsRow}
@@ -21,7 +22,7 @@ use Rattle.mdb_model.specs.Database.{Database, IsDatabase, table_len}
 use Rattle.mdb_model.specs.Lists.{at_last, last_of}
 use Rattle.mdb_model.specs.Rechecking.{are_sound, calibration_fault_before, calibrations_sound, first_name}
 use Rattle.mdb_model.specs.Structure.{AreDistinctExponents, AreDistinctNames, AreDistinctNumbers, IsCalibration, IsLabelled, IsName, IsPoint, IsRising, IsTable, IsTerm}
-use Rattle.mdb_model.specs.Texts.{Text, is_name, place_of}
+use Rattle.mdb_model.specs.Texts.{Text, place_of}
 use Rattle.mdb_model.proofs.CalibrationSpelling.{last_named, own_kind}
 use Rattle.mdb_model.proofs.ContainersFit.{both_true, none_is}
 use Rattle.mdb_model.proofs.DatabaseFits.{all_join, all_split, item_of}

@@ -8,6 +8,7 @@ use Rattle.std.proofs.lemmas.Bool.{ltb-true, leb-true}
 use Rattle.std.proofs.lemmas.Int.{ints}
 use Rattle.std.proofs.lemmas.List.Sums.{sum_by-cons}
 use Rattle.std.proofs.lemmas.Option.{slice_get-map, slice_get_within}
+use Rattle.arch_types.specs.Name.{is_name}
 use Rattle.mdb_model.specs.declared.calibration.Calibration.{Calibration}
 use Rattle.mdb_model.specs.declared.calibration.EnumRow.{EnumRow}
 use Rattle.mdb_model.specs.declared.calibration.PointsRow.{PointsRow}
@@ -27,7 +28,7 @@ use Rattle.mdb_model.specs.ParameterRows.{fits_coding, is_reference, parameter_c
 use Rattle.mdb_model.specs.Database.{row_count, table_len}
 use Rattle.mdb_model.specs.Rechecking.{HasRows}
 use Rattle.mdb_model.specs.Spelling.{FitsCalibration, FitsEnum, FitsParameter, FitsPoints, FitsPoly, FitsTable, link}
-use Rattle.mdb_model.specs.Texts.{Text, is_label, is_name}
+use Rattle.mdb_model.specs.Texts.{Text, is_label}
 use Rattle.mdb_model.proofs.Ends.{at_last-push}
 use Rattle.mdb_model.proofs.Passing.{all_pass, each_none, is_true}
 

@@ -7,6 +7,7 @@ use Rattle.std.proofs.lemmas.Cmp.{nat_eq_equiv}
 use Rattle.std.proofs.lemmas.List.{append-nil}
 use Rattle.std.proofs.lemmas.List.Sums.{fold-append}
 use Rattle.std.proofs.lemmas.Option.{slice_get-map, slice_get_within}
+use Rattle.arch_types.specs.Name.{is_name}
 use Rattle.mdb_model.specs.declared.calibration.Calibration.{Calibration}
 use Rattle.mdb_model.specs.declared.container.Comparison.{Comparison}
 use Rattle.mdb_model.specs.declared.container.Container.{Container}
@@ -26,7 +27,7 @@ use Rattle.mdb_model.specs.Numbers.{is_in_range}
 use Rattle.mdb_model.specs.ParameterRows.{admits, fits_coding, is_reference, parameter_checks, parameter_fault, parameter_fault_at, parameters_of, reference_to, row_of_parameter, table_at}
 use Rattle.mdb_model.specs.Rechecking.{are_sound, containers_sound, parameters_sound, with_parameter_row}
 use Rattle.mdb_model.specs.Structure.{AreDistinctEntries, AreDistinctNames, IsBelowParent, IsContainer, IsEntry, IsParameter, IsPath, IsStructured, IsWhole}
-use Rattle.mdb_model.specs.Texts.{Text, is_name}
+use Rattle.mdb_model.specs.Texts.{Text}
 use Rattle.mdb_model.proofs.Ancestry.{length-paths_of, paths_extend, paths_of-push}
 use Rattle.mdb_model.proofs.CalibrationTables.{calibrations_are}
 use Rattle.mdb_model.proofs.ContainersFit.{begin_step, new_container_of, both_true, last_path-push, none_is, number_back, with_entries}

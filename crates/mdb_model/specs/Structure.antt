@@ -3,6 +3,7 @@ use Rattle.std.specs.Prelude.{◌≡◌, ◌+◌, ◌<◌, ◌≤◌, ◌<ℤ◌
 use Rattle.std.specs.List.{AllByRecursion, IsDistinct}
 use Rattle.std.specs.Ordering.{int_eq}
 use Rattle.std.specs.Str.{bytes_eq}
+use Rattle.arch_types.specs.Name.{is_name}
 use Rattle.mdb_model.specs.declared.calibration.Calibration.{Calibration}
 use Rattle.mdb_model.specs.declared.calibration.EnumRow.{EnumRow}
 use Rattle.mdb_model.specs.declared.calibration.PointsRow.{PointsRow}
@@ -18,7 +19,7 @@ use Rattle.mdb_model.specs.Database.{Database, IsDatabase, entry_count, row_coun
 use Rattle.mdb_model.specs.Numbers.{is_decimal, is_in_range}
 use Rattle.mdb_model.specs.Paths.{ContainerPath, bits_at, path_at, paths_of}
 use Rattle.mdb_model.specs.ParameterRows.{admits, fits_coding, is_reference, reference_to, table_at}
-use Rattle.mdb_model.specs.Texts.{Text, is_label, is_name}
+use Rattle.mdb_model.specs.Texts.{Text, is_label}
 
 -- ---- texts and numbers
 

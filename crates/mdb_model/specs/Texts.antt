@@ -1,5 +1,5 @@
--- The texts of a sheet's fields: names, labels and numbers.
-use Rattle.std.specs.Prelude.{ℕ, ◌+◌, ◌*◌, ◌-◌, ◌^◌, ◌==◌, ◌&&◌, ◌||◌, Bool, true, false, List, [], ◌∷◌, length, take, drop, Option, Some, None, if◌then◌else◌, nat_le, slice_get, unwrap_or, position, fold, option_map, ℤ, pos, negsuc, neg_ℤ, min}
+-- The texts of a sheet's fields: labels and numbers, and the place of a name. What a name is, arch_types says (specs/Name.antt).
+use Rattle.std.specs.Prelude.{ℕ, ◌+◌, ◌*◌, ◌-◌, ◌^◌, ◌==◌, ◌&&◌, Bool, true, false, List, [], ◌∷◌, length, take, drop, Option, Some, None, if◌then◌else◌, nat_le, slice_get, unwrap_or, position, fold, option_map, ℤ, pos, negsuc, neg_ℤ, min}
 use Rattle.std.specs.List.{list_all}
 use Rattle.std.specs.Str.{bytes_eq}
 
@@ -10,14 +10,6 @@ Text = List ℕ
 -- the field of a record at a place, or no octet where the record has none
 abbrev pub field : List Text → ℕ → Text
 field record_ i = unwrap_or (slice_get record_ i) []
-
--- letters, digits, `_`, `.`, `/` and `-`
-abbrev pub is_name_octet : ℕ → Bool
-is_name_octet b = (nat_le 97 b && nat_le b 122) || (nat_le 65 b && nat_le b 90) || (nat_le 48 b && nat_le b 57) || (b == 95) || (b == 46) || (b == 47) || (b == 45)
-
--- a name is 1 to 64 of these octets
-abbrev pub is_name : Text → Bool
-is_name text = nat_le 1 (length text) && nat_le (length text) 64 && list_all is_name_octet text
 
 -- the place of a name among names
 abbrev pub place_of : Text → List Text → Option ℕ

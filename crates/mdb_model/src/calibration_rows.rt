@@ -15,7 +15,8 @@ use crate::items::Items;
 use crate::name::MdbName;
 use crate::names::{Names, Numbers};
 use crate::rows::RowValues;
-use crate::texts::{is_label, is_name};
+use crate::texts::is_label;
+use arch_types::name::is_name_text;
 use std::alloc::{AllocError, Global};
 
 /// The number lies from -2^63 to 2^64 - 1.
@@ -262,7 +263,7 @@ impl Calibrations {
         if fields != 4 {
             return Some(2);
         }
-        if !is_name(name) {
+        if !is_name_text(name) {
             return Some(3);
         }
         if self.began_before(name) {

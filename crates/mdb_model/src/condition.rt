@@ -3,7 +3,7 @@
 ghost use Rattle.std.specs.Prelude.{◌≡◌, ◌≤◌, ◌<◌, ◌==◌, ◌∷◌, not, length, drop, option_copied, IfOk, IfSome};
 ghost use Rattle.std.specs.List.{list_all};
 ghost use Rattle.mdb_model.specs.Conditions.{after, comparison, comparison_named, comparison_of, comparison_with, condition, front, front_len, is_no_semicolon, is_no_space, is_operator_octet, is_space, operator_of, pieces, pieces_after};
-ghost use Rattle.mdb_model.specs.Texts.{is_name_octet};
+ghost use Rattle.arch_types.specs.Name.{is_name_octet};
 
 use crate::container::{Comparison, Operator};
 use crate::items::Items;

@@ -20,7 +20,7 @@ use crate::names::Names;
 use crate::parameter::Parameter;
 use crate::parameter_rows::{is_reference, number_of};
 use crate::rows::{ContainerColumns, NewContainer, Position, Reference};
-use crate::texts::is_name;
+use arch_types::name::is_name_text;
 use std::alloc::{AllocError, Global};
 
 /// What the path from the root down to a container comes to.
@@ -298,7 +298,7 @@ impl Containers {
         ensures { result ≡ first_broken (new_container_checks self.now.items.items (path_up self.now.items.items begun.now) begun.now) }
     {
         let name = begun.name.as_bytes();
-        if !is_name(name) {
+        if !is_name_text(name) {
             return Some(3);
         }
         if self.names.number(name).is_some() {

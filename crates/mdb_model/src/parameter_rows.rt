@@ -9,7 +9,7 @@ use crate::calibration::{Calibration, PolyRow, Table};
 use crate::names::Names;
 use crate::parameter::{Coding, Parameter};
 use crate::rows::{ParameterRow, Reference};
-use crate::texts::is_name;
+use arch_types::name::is_name_text;
 use std::alloc::{AllocError, Global};
 
 fn is_le(coding: Coding) -> bool
@@ -139,7 +139,7 @@ impl Parameters {
             return Some(2);
         }
         let name = row.name.as_bytes();
-        if !is_name(name) {
+        if !is_name_text(name) {
             return Some(3);
         }
         if self.names.number(name).is_some() {

@@ -2,25 +2,13 @@
 
 ghost use Rattle.std.specs.Prelude.{◌≡◌, ◌≤◌, ◌<◌, ◌^◌, ◌==◌, length, position, None, IfSome, OnSome};
 ghost use Rattle.std.specs.List.{list_all};
-ghost use Rattle.mdb_model.specs.Texts.{decimal_number, digits_at_most, decimal_value, is_digit, is_label, is_name, is_name_octet, is_printable, millionths, millionths_at, millionths_from, offset, small_number, whole_number};
+ghost use Rattle.arch_types.specs.Name.{is_name_octet};
+ghost use Rattle.mdb_model.specs.Texts.{decimal_number, digits_at_most, decimal_value, is_digit, is_label, is_printable, millionths, millionths_at, millionths_from, offset, small_number, whole_number};
 
 pub(crate) fn is_name_octet(octet: u8) -> bool
     ensures { result ≡ is_name_octet octet }
 {
-    matches!(octet, b'a'..=b'z' | b'A'..=b'Z' | b'0'..=b'9' | b'_' | b'.' | b'/' | b'-')
-}
-
-fn are_name_octets(text: &[u8]) -> bool
-    ensures { result ≡ list_all is_name_octet text.now }
-{
-    text.iter().all(|b| is_name_octet(*b))
-}
-
-/// The octets are a name: 1 to 64 letters, digits, `_`, `.`, `/` or `-`.
-pub(crate) fn is_name(text: &[u8]) -> bool
-    ensures { result ≡ is_name text.now }
-{
-    !text.is_empty() && text.len() <= 64 && are_name_octets(text)
+    matches!(octet, b'a'..=b'z' | b'A'..=b'Z' | b'-'..=b'9' | b'_')
 }
 
 fn is_printable(octet: u8) -> bool
