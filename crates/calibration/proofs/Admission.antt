@@ -15,7 +15,8 @@ use Rattle.mdb_model.specs.declared.calibration.Table.TheVariants.{Poly, Points,
 use Rattle.mdb_model.specs.declared.parameter.Coding.{Coding}
 use Rattle.mdb_model.specs.declared.parameter.Coding.TheVariants.{Uint, Int, UintLe, IntLe}
 use Rattle.mdb_model.specs.ParameterRows.{admits, degree, reach}
-use Rattle.calibration.specs.Admitted.{IsAdmitted, IsInWidth, IsPoint, IsRising, IsSigned, IsUnsigned, KeepsRules}
+use Rattle.mdb_model.specs.Structure.{IsPoint, IsRising}
+use Rattle.calibration.specs.Admitted.{IsAdmitted, IsInWidth, IsSigned, IsUnsigned, KeepsRules}
 use Rattle.calibration.specs.Carried.{AreCarried}
 
 left_of_and : (a b : Bool) → (a && b) ≡ true → a ≡ true

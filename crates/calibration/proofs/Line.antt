@@ -8,7 +8,7 @@ use Rattle.std.proofs.lemmas.Int.{ints, fits_signed_from_abs, fits_signed_mul, t
 use Rattle.std.proofs.lemmas.Nat.{mul-le}
 use Rattle.mdb_model.specs.declared.calibration.PointsRow.{PointsRow}
 use Rattle.mdb_model.specs.Numbers.{is_decimal, is_in_range}
-use Rattle.calibration.specs.Admitted.{IsPoint}
+use Rattle.mdb_model.specs.Structure.{IsPoint}
 use Rattle.calibration.specs.Calibrated.{on_line}
 use Rattle.calibration.specs.Carried.{IsBetween}
 use Rattle.calibration.proofs.Bounds.{abs_add, abs_sub, quotient_within}

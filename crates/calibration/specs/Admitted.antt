@@ -1,15 +1,14 @@
 -- The raw numbers for which the rules of the sheets admit a calibration.
-use Rattle.std.specs.Prelude.{◌≡◌, ℕ, ◌-◌, ◌≤◌, ◌^◌, List, [], ◌∷◌, length, true, Option, Some, None, ℤ, pos, neg_ℤ, ◌≤ℤ◌, ◌<ℤ◌}
+use Rattle.std.specs.Prelude.{◌≡◌, ℕ, ◌-◌, ◌≤◌, ◌^◌, length, true, Option, Some, None, ℤ, pos, neg_ℤ, ◌≤ℤ◌, ◌<ℤ◌}
 use Rattle.std.specs.List.{AllByRecursion}
 use Rattle.mdb_model.specs.declared.calibration.Calibration.{Calibration}
-use Rattle.mdb_model.specs.declared.calibration.PointsRow.{PointsRow}
 use Rattle.mdb_model.specs.declared.calibration.Table.{Table}
 use Rattle.mdb_model.specs.declared.calibration.Table.TheVariants.{Poly, Points, Enum}
 use Rattle.mdb_model.specs.declared.parameter.Coding.{Coding}
 use Rattle.mdb_model.specs.declared.parameter.Coding.TheVariants.{Uint, Int, UintLe, IntLe}
 use Rattle.mdb_model.specs.declared.parameter.Parameter.{Parameter}
-use Rattle.mdb_model.specs.Numbers.{is_decimal, is_in_range}
 use Rattle.mdb_model.specs.ParameterRows.{admits, table_of}
+use Rattle.mdb_model.specs.Structure.{IsPoint, IsRising}
 
 -- below 2^bits
 abbrev pub IsUnsigned : ℕ → ℤ → Type 0
@@ -25,15 +24,6 @@ IsInWidth Uint bits raw = IsUnsigned bits raw
 IsInWidth Int bits raw = IsSigned bits raw
 IsInWidth UintLe bits raw = IsUnsigned bits raw
 IsInWidth IntLe bits raw = IsSigned bits raw
-
--- a whole number of the sheets, and a decimal
-abbrev pub IsPoint : PointsRow → Type 0
-IsPoint point = (is_in_range point.x ≡ true) × (is_decimal (Some point.millionths) ≡ true)
-
--- each x is above the ones before it
-abbrev pub IsRising : List PointsRow → Type 0
-IsRising [] = Unit {0}
-IsRising (point ∷ points) = AllByRecursion (λ later. point.x <ℤ later.x) points × IsRising points
 
 -- the rules of a table's own rows: points rise, and a sheet has at most 65,536 rows
 abbrev pub KeepsRules : Option Table → Type 0

@@ -3,7 +3,7 @@ use Rattle.std.specs.Prelude.{ℕ, ◌*◌, ◌^◌, ◌<◌, ◌≤◌, List, O
 use Rattle.mdb_model.specs.declared.calibration.PointsRow.{PointsRow}
 use Rattle.mdb_model.specs.declared.calibration.PolyRow.{PolyRow}
 use Rattle.mdb_model.specs.ParameterRows.{degree, reach}
-use Rattle.calibration.specs.Admitted.{IsPoint}
+use Rattle.mdb_model.specs.Structure.{IsPoint}
 
 -- the raw number has at most so many bits, and the coefficient carries it no further than 2^63 millionths
 pub record IsCarried (raw : ℤ) (row : PolyRow) : Type 0 where

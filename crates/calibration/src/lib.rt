@@ -5,8 +5,8 @@
 //
 // `calibrate` takes no memory and never refuses: the rules of the sheets keep every sum and product within 128 bits and every value
 // within 64 (specs/Admitted.antt says which rules). Among points it finds the raw number's two neighbours by halving, which is right since
-// points rise. proofs/Rules.antt shows that a checked database keeps these rules; a change of a rule of calibrations or parameters in
-// mdb_model touches it and the bounds in proofs/Bounds.antt.
+// points rise. That a checked database keeps these rules is mdb_model's law (`IsStructured`); whoever changes a rule of calibrations or
+// parameters there touches the bounds in proofs/Bounds.antt.
 #![tactic(auto)]
 
 mod calibrated;

@@ -5,12 +5,14 @@ use Rattle.std.specs.List.{list_all, position, position_or_len}
 use Rattle.std.proofs.lemmas.Bool.{eqb-true, ltb-true}
 use Rattle.std.proofs.lemmas.List.Sums.{passes_at_first}
 use Rattle.std.proofs.lemmas.Option.{same_Some}
+use Rattle.mdb_model.specs.declared.container.Container.{Container}
 use Rattle.mdb_model.specs.declared.container.Entry.{Entry}
 use Rattle.mdb_model.specs.Database.{Database, IsDatabase}
+use Rattle.mdb_model.specs.Structure.{IsBelowParent}
+use Rattle.mdb_model.proofs.Structure.{structured}
 use Rattle.container_extract.specs.Chain.{IsChainFrom, IsChain, chain_from, chain_of, entries_at, first_child, if_some, is_number, is_taken, next_of}
 use Rattle.container_extract.specs.Laws.{ChainIsOne}
 use Rattle.container_extract.specs.Values.{fits, holds, value_of}
-use Rattle.container_extract.proofs.Rules.{has_root, sound_container}
 
 cond_some : (b : Bool) (n m : ℕ) → cond b (Some n) None ≡ Some m → (b ≡ true) × (n ≡ m)
 cond_some true n m e = (refl, same_Some n m e)
@@ -44,14 +46,19 @@ is_the_parent : (n : ℕ) (o : Option ℕ) → is_number n o ≡ true → o ≡ 
 is_the_parent n None e = cc
 is_the_parent n (Some m) e = ap (λ (k : ℕ). Some k) (eqb-true m n e)
 
--- a child stands after its parent
-pub next_below : (db : Database) (packet : List ℕ) (entries : List Entry) (n m : ℕ) → IsDatabase db → next_of db packet entries n ≡ Some m → (n < m) × (m < length db.containers)
-next_below db packet entries n m is e =
+-- what comes after a container is a child of it
+pub child_of : (db : Database) (packet : List ℕ) (entries : List Entry) (n m : ℕ) → next_of db packet entries n ≡ Some m → (c : Container) × (slice_get db.containers m ≡ Some c) × (m < length db.containers) × (c.parent ≡ Some n)
+child_of db packet entries n m e =
     let values = map (value_of db packet) entries in
     let both = if_some_is (list_all (fits db packet) (entries_at db n)) (first_child db.containers n values) m e in
     let child = found (is_taken n values) db.containers m both.1 in
-    let parent = is_the_parent n child.0.parent (left_of_and (is_number n child.0.parent) (holds values child.0.condition) child.3) in
-    ((sound_container db m child.0 is child.1).parent n parent, child.2)
+    (child.0, child.1, child.2, is_the_parent n child.0.parent (left_of_and (is_number n child.0.parent) (holds values child.0.condition) child.3))
+
+-- and stands after it
+pub next_below : (db : Database) (packet : List ℕ) (entries : List Entry) (n m : ℕ) → IsDatabase db → next_of db packet entries n ≡ Some m → (n < m) × (m < length db.containers)
+next_below db packet entries n m is e =
+    let child = child_of db packet entries n m e in
+    (subst (IsBelowParent m) child.3 ((structured db is).containers m child.0 child.1).parent, child.2)
 
 -- a container, what comes after it, and so on
 after : (db : Database) (packet : List ℕ) (most : ℕ) (above : List Entry) (n : ℕ) (o : Option ℕ) → IsDatabase db → n < length db.containers → length db.containers ≤ n + suc most
@@ -65,8 +72,8 @@ after db packet (suc most) above n (Some m) is known enough e =
     (e, after db packet most below m (next_of db packet (below ++ entries_at db m) m) is next.1 (omega arith) refl)
 
 chain_from_root : (db : Database) (packet : List ℕ) (most : ℕ) → IsDatabase db → most ≡ length db.containers → IsChain db packet (chain_from db packet most [] 0)
-chain_from_root db packet zero is e = let root = has_root db is in absurd (omega arith)
-chain_from_root db packet (suc most) is e = (refl, after db packet most [] 0 (next_of db packet (entries_at db 0) 0) is (has_root db is) (omega arith) refl)
+chain_from_root db packet zero is e = let root = (structured db is).root in absurd (omega arith)
+chain_from_root db packet (suc most) is e = (refl, after db packet most [] 0 (next_of db packet (entries_at db 0) 0) is (structured db is).root (omega arith) refl)
 
 -- below the same entries the same containers follow
 one_below : (db : Database) (packet : List ℕ) (above : List Entry) (n : ℕ) (xs ys : List ℕ) → IsChainFrom db packet above (n ∷ xs) → IsChainFrom db packet above (n ∷ ys) → xs ≡ ys

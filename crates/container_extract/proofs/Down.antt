@@ -3,7 +3,7 @@ use Rattle.std.proofs.Common.{◌≡◌, ◌∙◌, ◌+◌, ◌-◌, ◌<◌, �
 use Rattle.std.specs.Prelude.{sum_by}
 use Rattle.std.proofs.lemmas.List.{take_all}
 use Rattle.mdb_model.specs.Database.{Database, IsDatabase, entry_count}
-use Rattle.calibration.proofs.Rules.{is_small}
+use Rattle.mdb_model.proofs.Structure.{structured}
 use Rattle.container_extract.specs.declared.values.ParameterValue.{ParameterValue}
 use Rattle.container_extract.specs.Chain.{IsChain, chain_of, entries_at}
 use Rattle.container_extract.specs.Extraction.{extraction, values_along}
@@ -17,7 +17,7 @@ begins db packet chain values is none empty =
 
 -- the numbers of containers have sixteen bits
 pub number_small : (db : Database) (packet chain : List ℕ) (values : List ParameterValue) (n : ℕ) → IsDatabase db → IsWalk db packet chain values n → n < 65536
-number_small db packet chain values n is w = omega (arith, w.known, (is_small db is).containers)
+number_small db packet chain values n is w = omega (arith, w.known, (structured db is).few_containers)
 
 -- the values so far and the entries of the next container are no more than the entries of the database
 pub room : (db : Database) (packet chain : List ℕ) (values : List ParameterValue) (n : ℕ) → IsDatabase db → IsWalk db packet chain values n → length values + length (entries_at db n) ≤ 65536
@@ -25,7 +25,7 @@ room db packet chain values n is w =
     let all = length db.containers in
     let rise = entries_rise db n all w.known w.known in
     let whole : sum_by entry_count (take all db.containers) ≡ sum_by entry_count db.containers = ap (sum_by entry_count) (take_all all db.containers (omega arith)) in
-    omega (arith, w.few, (is_small db is).entries)
+    omega (arith, w.few, (structured db is).few_entries)
 
 pub goes_on : (db : Database) (packet chain pushed : List ℕ) (values more : List ParameterValue) (n m : ℕ) → IsDatabase db → IsWalk db packet chain values n → IsStep db packet values n more (Some m) → pushed ≡ chain ++ n ∷ []
     → IsWalk db packet pushed more m × (n < m) × (m < length db.containers)

@@ -1,7 +1,8 @@
 pub mod Numbers
 pub mod Widths
-pub mod Rules
 pub mod Chains
+pub mod Paths
+pub mod Extracting
 pub mod Walk
 pub mod Taking
 pub mod Down

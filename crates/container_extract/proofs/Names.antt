@@ -6,7 +6,7 @@ use Rattle.std.proofs.lemmas.List.{append-nil}
 use Rattle.std.proofs.lemmas.List.Elements.{filter_more}
 use Rattle.mdb_model.specs.declared.container.Container.{Container}
 use Rattle.mdb_model.specs.Lists.{last_of}
-use Rattle.calibration.proofs.Rules.{last_of-push}
+use Rattle.mdb_model.proofs.Ends.{last_of-push}
 use Rattle.container_extract.specs.Chain.{has_archive, name_along}
 
 abbrev flagged : List Container → ℕ → Bool

@@ -14,15 +14,16 @@ use Rattle.mdb_model.specs.declared.container.Entry.{Entry}
 use Rattle.mdb_model.specs.declared.parameter.Parameter.{Parameter}
 use Rattle.mdb_model.specs.Database.{Database, IsDatabase}
 use Rattle.mdb_model.specs.Paths.{bits_of_parameter}
+use Rattle.mdb_model.specs.Structure.{IsEntry}
+use Rattle.mdb_model.proofs.Structure.{structured}
 use Rattle.calibration.specs.Admitted.{IsAdmitted, IsInWidth}
 use Rattle.calibration.specs.Calibrated.{calibrated, calibration_at}
-use Rattle.calibration.proofs.Rules.{admitted, sound_parameter_at}
+use Rattle.calibration.proofs.Rules.{admitted}
 use Rattle.container_extract.specs.declared.values.ParameterValue.{ParameterValue}
 use Rattle.container_extract.specs.Bits.{bits_at, field_at}
 use Rattle.container_extract.specs.Chain.{entries_at, entries_of, first_child}
 use Rattle.container_extract.specs.Step.{IsStep}
 use Rattle.container_extract.specs.Values.{calibration_of, coding_of, fits, raw_of, value_of}
-use Rattle.container_extract.proofs.Rules.{sound_container}
 use Rattle.container_extract.proofs.Walk.{if_false, if_true}
 use Rattle.container_extract.proofs.Widths.{in_width}
 
@@ -43,7 +44,7 @@ ends_inside db packet e p at is =
 pub raw_admitted : (db : Database) (packet : List ℕ) (e : Entry) (p : Parameter) (raw : ℤ) (cs : List Calibration) (o : Option Calibration) → IsDatabase db → slice_get db.parameters e.parameter ≡ Some p
     → raw ≡ bits_at packet e.at p.bits p.coding → cs ≡ db.calibrations → o ≡ calibration_at cs p.calibration → IsAdmitted o raw
 raw_admitted db packet e p raw cs o is at raw_is same o_is =
-    let width = (sound_parameter_at db e.parameter p is at).width in
+    let width = ((structured db is).parameters e.parameter p at).width in
     let below : field_at packet e.at p.bits < 2 ^ p.bits = mod_below _ (2 ^ p.bits) (pow_pos p.bits) in
     let here : IsInWidth p.coding p.bits raw = subst (IsInWidth p.coding p.bits) (sym raw_is) (in_width p.coding p.bits (field_at packet e.at p.bits) width below) in
     subst (λ (x : Option Calibration). IsAdmitted x raw) (sym (o_is ∙ ap (λ (xs : List Calibration). calibration_at xs p.calibration) same)) (admitted db e.parameter p raw is at here)
@@ -83,7 +84,8 @@ cut_here p (x ∷ xs) (suc i) d lt all isnt =
 -- the entries of a container are of parameters of the database
 pub entries_known : (db : Database) (n : ℕ) (c : Container) (es : List Entry) → IsDatabase db → slice_get db.containers n ≡ Some c → es ≡ c.entries → All (λ (e : Entry). e.parameter < length db.parameters) es
 entries_known db n c es is at same =
-    subst (All (λ (e : Entry). e.parameter < length db.parameters)) (sym same) (All-from_recursion (λ (e : Entry). e.parameter < length db.parameters) c.entries (sound_container db n c is at).entries)
+    let each = All-from_recursion (IsEntry db) c.entries ((structured db is).containers n c at).entries in
+    subst (All (λ (e : Entry). e.parameter < length db.parameters)) (sym same) (λ i d lt. (each i d lt).parameter)
 
 pub entries_are : (db : Database) (n : ℕ) (c : Container) (es : List Entry) → slice_get db.containers n ≡ Some c → es ≡ c.entries → es ≡ entries_at db n
 entries_are db n c es at same = same ∙ ap entries_of (sym at)

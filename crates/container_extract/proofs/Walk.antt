@@ -10,13 +10,13 @@ use Rattle.std.proofs.lemmas.List.Sums.{sum_by-cons, take_while-cons}
 use Rattle.mdb_model.specs.declared.container.Container.{Container}
 use Rattle.mdb_model.specs.declared.container.Entry.{Entry}
 use Rattle.mdb_model.specs.Database.{Database, IsDatabase, entry_count}
+use Rattle.mdb_model.proofs.Structure.{structured}
 use Rattle.container_extract.specs.declared.values.ParameterValue.{ParameterValue}
 use Rattle.container_extract.specs.Chain.{IsChainFrom, IsChain, entries_at, entries_of, first_child, next_of}
 use Rattle.container_extract.specs.Extraction.{values_along}
 use Rattle.container_extract.specs.Step.{IsStep}
 use Rattle.container_extract.specs.Values.{fits, value_of}
 use Rattle.container_extract.proofs.Chains.{item, next_below}
-use Rattle.container_extract.proofs.Rules.{has_root}
 
 take_while_front : {X : Type 0} (p : X → Bool) (xs ys : List X) → list_all p xs ≡ true → take_while p (xs ++ ys) ≡ xs ++ take_while p ys
 take_while_front p [] ys all = refl
@@ -43,7 +43,7 @@ pub record IsWalk (db : Database) (packet : List ℕ) (chain : List ℕ) (values
   pub few : length values ≤ sum_by entry_count (take n db.containers)
 
 pub walk_begins : (db : Database) (packet : List ℕ) → IsDatabase db → IsWalk db packet [] [] 0
-walk_begins db packet is = record { goes = λ rest h. (refl, h); fit = refl; taken = refl; known = has_root db is; few = omega arith }
+walk_begins db packet is = record { goes = λ rest h. (refl, h); fit = refl; taken = refl; known = (structured db is).root; few = omega arith }
 
 -- where all of its entries are taken, its values follow
 values_more : (db : Database) (packet : List ℕ) (chain : List ℕ) (values more : List ParameterValue) (n : ℕ) (next : Option ℕ) → IsWalk db packet chain values n → IsStep db packet values n more next

@@ -53,6 +53,7 @@ pub fn extract<L: Ledger>(
 ) -> Result<Extracted, AllocError>
     ensures step { steps.new ≡ steps.old + 1 }
     ensures chain { IfOk result (λ x. IsChain mdb.now packet.now x.chain) }
+    ensures one { IfOk result (λ x. x.chain ≡ chain_of mdb.now packet.now) }
     ensures values { IfOk result (λ x. x.values ≡ extraction mdb.now packet.now) }
 {
     steps.tick();

@@ -1,8 +1,19 @@
 //! Laws of the definitions, carried by functions that do nothing.
 
-ghost use Rattle.container_extract.specs.Laws.{ChainIsOne};
+ghost use Rattle.container_extract.specs.Laws.{ChainIsOne, ChainIsShort, ExtractionKeepsRules};
 
 /// Each packet, and any other octets, has exactly one chain under a database.
 pub fn chain_is_one()
     ensures { ChainIsOne }
+{}
+
+/// It has at most 32 containers.
+pub fn chain_is_short()
+    ensures { ChainIsShort }
+{}
+
+/// The values of a packet, and of any other octets, are at most 256, no two of one parameter; each is of a parameter of
+/// the database, its raw number has the parameter's width, and its engineering value is the calibrated raw number.
+pub fn extraction_keeps_rules()
+    ensures { ExtractionKeepsRules }
 {}

@@ -6,7 +6,7 @@
 // arrival and `extract` for each packet that it reads, and counts the latter's steps.
 //
 // The idea of the proof: whatever goes on from the containers so far makes a chain (proofs/Walk.antt), so that the walk ends with one.
-// A container's children all stand after it in the sheet, so the walk ends. Who changes the rules of containers in mdb_model touches proofs/Rules.antt.
+// A container's children all stand after it in the sheet, so the walk ends: that and what else is used of a database is mdb_model's law (`IsStructured`).
 #![tactic(auto)]
 
 pub mod chain;

@@ -39,7 +39,7 @@ row_values_row (Enum rows) (Point n m) k x y = cc
 row_values_row (Enum rows) (Label None l) k x y = cc
 row_values_row (Enum rows) (Label (Some n) l) k x y = map-append _ rows _
 
-own_kind : (row_values : RowValues) → is_unread row_values ≡ false → is_other_kind (Some (empty_table row_values)) row_values ≡ false
+pub own_kind : (row_values : RowValues) → is_unread row_values ≡ false → is_other_kind (Some (empty_table row_values)) row_values ≡ false
 own_kind Unread u = cc
 own_kind (Coefficient e m) u = refl
 own_kind (Point n m) u = refl

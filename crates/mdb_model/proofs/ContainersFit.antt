@@ -4,6 +4,7 @@ use Rattle.std.specs.Prelude.{◌&&◌, ◌||◌, ◌==◌, not, nat_le, slice_g
 use Rattle.std.specs.List.{AllByRecursion, list_all}
 use Rattle.std.proofs.lemmas.Bool.{ltb-true, leb-true, leb-false, eqb-true}
 use Rattle.std.proofs.lemmas.List.{append-nil}
+use Rattle.text_forms.specs.Names.{is_name}
 use Rattle.mdb_model.specs.declared.container.Comparison.{Comparison}
 use Rattle.mdb_model.specs.declared.container.Container.{Container}
 use Rattle.mdb_model.specs.declared.container.Entry.{Entry}
@@ -20,7 +21,6 @@ use Rattle.mdb_model.specs.Numbers.{is_in_range}
 use Rattle.mdb_model.specs.ParameterRows.{is_reference, number_of, reference_to}
 use Rattle.mdb_model.specs.Rechecking.{are_sound, containers_sound}
 use Rattle.mdb_model.specs.Spelling.{FitsComparison, FitsContainer, FitsEntry, link}
-use Rattle.text_forms.specs.Names.{is_name}
 use Rattle.mdb_model.proofs.Ancestry.{length-paths_of, paths_of-push}
 use Rattle.mdb_model.proofs.DatabaseFits.{all_join, name_short, range_fits}
 use Rattle.mdb_model.proofs.Ends.{at_last-push, length-push, slice_get-end}

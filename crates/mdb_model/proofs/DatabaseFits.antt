@@ -8,6 +8,7 @@ use Rattle.std.proofs.lemmas.Bool.{ltb-true, leb-true}
 use Rattle.std.proofs.lemmas.Int.{ints}
 use Rattle.std.proofs.lemmas.List.Sums.{sum_by-cons}
 use Rattle.std.proofs.lemmas.Option.{slice_get-map, slice_get_within}
+use Rattle.text_forms.specs.Names.{is_name}
 use Rattle.mdb_model.specs.declared.calibration.Calibration.{Calibration}
 use Rattle.mdb_model.specs.declared.calibration.EnumRow.{EnumRow}
 use Rattle.mdb_model.specs.declared.calibration.PointsRow.{PointsRow}
@@ -28,7 +29,6 @@ use Rattle.mdb_model.specs.Database.{row_count, table_len}
 use Rattle.mdb_model.specs.Rechecking.{HasRows}
 use Rattle.mdb_model.specs.Spelling.{FitsCalibration, FitsEnum, FitsParameter, FitsPoints, FitsPoly, FitsTable, link}
 use Rattle.mdb_model.specs.Texts.{Text, is_label}
-use Rattle.text_forms.specs.Names.{is_name}
 use Rattle.mdb_model.proofs.Ends.{at_last-push}
 use Rattle.mdb_model.proofs.Passing.{all_pass, each_none, is_true}
 
@@ -37,6 +37,11 @@ use Rattle.mdb_model.proofs.Passing.{all_pass, each_none, is_true}
 pub all_at : {X : Type 0} (P : X → Type 0) (xs : List X) → ((i : ℕ) (x : X) → slice_get xs i ≡ Some x → P x) → AllByRecursion P xs
 all_at P [] h = tt
 all_at P (x ∷ xs) h = (h zero x refl, all_at P xs (λ i y e. h (suc i) y e))
+
+pub item_of : {X : Type 0} (P : X → Type 0) (xs : List X) (n : ℕ) (x : X) → AllByRecursion P xs → slice_get xs n ≡ Some x → P x
+item_of P [] n x all is = cc
+item_of P (y ∷ xs) zero x all is = let same : y ≡ x = cc in subst P same all.0
+item_of P (y ∷ xs) (suc n) x all is = item_of P xs n x all.1 is
 
 pub all_split : {X : Type 0} (P : X → Type 0) (xs ys : List X) → AllByRecursion P (xs ++ ys) → AllByRecursion P xs × AllByRecursion P ys
 all_split P [] ys h = (tt, h)

@@ -25,4 +25,6 @@ pub mod DatabaseOctets
 pub mod ListsAgain
 pub mod Counts
 pub mod Families
+pub mod Distinct
+pub mod CalibrationTables
 pub mod Structure

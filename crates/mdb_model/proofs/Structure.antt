@@ -1,12 +1,15 @@
 -- The structure of a database.
 use Rattle.std.proofs.Common.{◌≡◌, ◌∙◌, ◌+◌, ◌<◌, ◌≤◌, ℕ, zero, suc, List, [], ◌∷◌, ◌++◌, length, map, take, Option, Some, None, true, false, refl, ap, sym, arith, subst, append_assoc, length-append}
-use Rattle.std.specs.Prelude.{nat_le, slice_get, option_map, flat_map, fold, is_none, unwrap_or}
-use Rattle.std.specs.List.{AllByRecursion}
+use Rattle.std.specs.Prelude.{◌&&◌, not, nat_le, slice_get, option_map, flat_map, fold, is_none, unwrap_or}
+use Rattle.std.specs.List.{AllByRecursion, IsDistinct, list_all}
 use Rattle.std.proofs.lemmas.Bool.{leb-false, leb-true, ltb-true}
+use Rattle.std.proofs.lemmas.Cmp.{nat_eq_equiv}
 use Rattle.std.proofs.lemmas.List.{append-nil}
 use Rattle.std.proofs.lemmas.List.Sums.{fold-append}
 use Rattle.std.proofs.lemmas.Option.{slice_get-map, slice_get_within}
+use Rattle.text_forms.specs.Names.{is_name}
 use Rattle.mdb_model.specs.declared.calibration.Calibration.{Calibration}
+use Rattle.mdb_model.specs.declared.container.Comparison.{Comparison}
 use Rattle.mdb_model.specs.declared.container.Container.{Container}
 use Rattle.mdb_model.specs.declared.container.Entry.{Entry}
 use Rattle.mdb_model.specs.declared.parameter.Parameter.{Parameter}
@@ -16,19 +19,25 @@ use Rattle.mdb_model.specs.declared.rows.Position.TheVariants as place
 use Rattle.mdb_model.specs.declared.rows.Position.TheVariants.{At}
 use Rattle.mdb_model.specs.declared.rows.Reference.TheVariants.{Nothing, Known}
 use Rattle.mdb_model.specs.Checks.{first_at, first_broken}
-use Rattle.mdb_model.specs.ContainerRows.{ContainerRow, begin_row, new_container_checks, compares_other, entry_checks, entry_row, columns_checks, is_parent, last_path, path_up, row_fault, rows_of_container, with_container_row, with_columns, with_new_entry}
+use Rattle.mdb_model.specs.ContainerRows.{ContainerRow, begin_row, new_container_checks, compares_other, entry_checks, entry_row, columns_checks, is_condition, is_nothing, is_parent, last_path, path_up, row_fault, rows_of_container, with_container_row, with_columns, with_new_entry}
 use Rattle.mdb_model.specs.Database.{Database, IsDatabase, containers_fault}
-use Rattle.mdb_model.specs.Paths.{ContainerPath, bits_at, path_at, path_below, paths_of, no_path, with_path}
+use Rattle.mdb_model.specs.Paths.{ContainerPath, bits_at, path_at, path_below, paths_of, no_path, stands_on, with_path}
+use Rattle.mdb_model.specs.Lists.{is_empty}
+use Rattle.mdb_model.specs.Numbers.{is_in_range}
 use Rattle.mdb_model.specs.ParameterRows.{admits, fits_coding, is_reference, parameter_checks, parameter_fault, parameter_fault_at, parameters_of, reference_to, row_of_parameter, table_at}
-use Rattle.mdb_model.specs.Rechecking.{are_sound, containers_sound}
-use Rattle.mdb_model.specs.Structure.{IsContainer, IsEntry, IsParameter, IsStructured}
+use Rattle.mdb_model.specs.Rechecking.{are_sound, containers_sound, parameters_sound, with_parameter_row}
+use Rattle.mdb_model.specs.Structure.{AreDistinctEntries, AreDistinctNames, IsBelowParent, IsContainer, IsEntry, IsParameter, IsPath, IsStructured, IsWhole}
+use Rattle.mdb_model.specs.Texts.{Text}
 use Rattle.mdb_model.proofs.Ancestry.{length-paths_of, paths_extend, paths_of-push}
+use Rattle.mdb_model.proofs.CalibrationTables.{calibrations_are}
 use Rattle.mdb_model.proofs.ContainersFit.{begin_step, new_container_of, both_true, last_path-push, none_is, number_back, with_entries}
 use Rattle.mdb_model.proofs.Counts.{counts}
 use Rattle.mdb_model.proofs.DatabaseFits.{all_join}
-use Rattle.mdb_model.proofs.DatabaseOctets.{containers_are_sound, containers_first, parts_of}
+use Rattle.mdb_model.proofs.DatabaseOctets.{containers_are_sound, containers_first, parameters_are_sound, parts_of}
+use Rattle.mdb_model.proofs.Distinct.{new_name, text_equiv, with_new, with_other}
 use Rattle.mdb_model.proofs.Ends.{at_last-push, length-push, slice_get-end}
 use Rattle.mdb_model.proofs.Passing.{all_pass, each_none, is_true, or_else-none}
+use Rattle.mdb_model.proofs.RowsAgain.{parameter_back}
 
 -- ---- parameters
 
@@ -44,21 +53,38 @@ parameter_at d n p none at =
     let above = parameters_of (take n rows) in
     let q = all_pass (parameter_checks d.calibrations above (row_of_parameter p)) (parameter_sound d.calibrations above (slice_get rows n) (row_of_parameter p) row here) in
     record {
+      named = is_true (is_name p.name) q.1.0;
       width = is_true (fits_coding (Some p.coding) (Some p.bits)) q.1.1.1.1.0;
       calibration = is_true (is_reference (length d.calibrations) (reference_to p.calibration)) q.1.1.1.1.1.0;
       admitted = is_true (admits p.bits (table_at d.calibrations (reference_to p.calibration))) q.1.1.1.1.1.1.0;
     }
 
+-- rows that are sound add parameters of other names
+names_differ : (cs : List Calibration) (above ps : List Parameter) → parameters_sound cs above (map row_of_parameter ps) ≡ true → AreDistinctNames (map (λ p. p.name) above) → AreDistinctNames (map (λ p. p.name) (above ++ ps))
+unfolding are_sound
+names_differ cs above [] sound distinct = subst (λ (xs : List Parameter). AreDistinctNames (map (λ p. p.name) xs)) (sym (append-nil above)) distinct
+names_differ cs above (p ∷ ps) sound distinct =
+    let name : Parameter → Text = λ x. x.name in
+    let row = row_of_parameter p in
+    let more = map row_of_parameter ps in
+    let b = both_true (is_none (first_broken (parameter_checks cs above row))) (parameters_sound cs (with_parameter_row above row) more) sound in
+    let q = all_pass (parameter_checks cs above row) (none_is (first_broken (parameter_checks cs above row)) b.0) in
+    let next : with_parameter_row above row ≡ above ++ p ∷ [] = ap (λ (x : Parameter). above ++ x ∷ []) (parameter_back p) in
+    let now = with_new text_equiv name above p distinct (new_name p.name (map name above) q.1.1.0) in
+    let rest = names_differ cs (above ++ p ∷ []) ps (ap (λ (xs : List Parameter). parameters_sound cs xs more) (sym next) ∙ b.1) now in
+    subst (λ (xs : List Parameter). AreDistinctNames (map name xs)) (append_assoc above (p ∷ []) ps) rest
+
 -- ---- entries
 
--- a path's entries are at most 256
-abbrev IsShort : ContainerPath → Type 0
-IsShort path = length path.entries ≤ 256
+-- a path's entries are at most 256, and no parameter stands twice
+abbrev AreShort : List Entry → Type 0
+AreShort entries = (length entries ≤ 256) × AreDistinctEntries entries
 
 record EntryIsSound (parameters : List Parameter) (above : List Container) (e : Entry) : Type 0 where
   parameter : e.parameter < length parameters
   near : e.at + bits_at parameters e.parameter ≤ 524336
   room : length (last_path above).entries < 256
+  other : stands_on (last_path above).entries e.parameter ≡ false
 
 entry_is_sound : (parameters : List Parameter) (above : List Container) (e : Entry) → row_fault parameters above (entry_row e) ≡ None → EntryIsSound parameters above e
 entry_is_sound parameters above e sound =
@@ -68,21 +94,22 @@ entry_is_sound parameters above e sound =
       parameter = ltb-true e.parameter (length parameters) (is_true (is_reference (length parameters) (Known e.parameter)) q.0);
       near = leb-true (e.at + bits_at parameters e.parameter) 524336 (is_true (nat_le (e.at + bits_at parameters e.parameter) 524336) q.1.1.1.1.1.0);
       room = leb-false 256 (length (last_path above).entries) q.1.1.1.0;
+      other = q.1.0;
     }
 
 record EntriesPlaced (d : Database) (above : List Container) (c : Container) (front es : List Entry) (more : List ContainerRow) : Type 0 where
   placed : AllByRecursion (IsEntry d) es
-  short : IsShort (path_below (path_at (paths_of above) c.parent) (with_entries c (front ++ es)))
+  short : AreShort ((path_at (paths_of above) c.parent).entries ++ (front ++ es))
   left : containers_sound d.parameters (above ++ with_entries c (front ++ es) ∷ []) more ≡ true
 
-entries_placed : (d : Database) (above : List Container) (c : Container) (front es : List Entry) (more : List ContainerRow) → IsShort (path_below (path_at (paths_of above) c.parent) (with_entries c front))
+entries_placed : (d : Database) (above : List Container) (c : Container) (front es : List Entry) (more : List ContainerRow) → AreShort ((path_at (paths_of above) c.parent).entries ++ front)
     → containers_sound d.parameters (above ++ with_entries c front ∷ []) (map entry_row es ++ more) ≡ true → EntriesPlaced d above c front es more
 unfolding are_sound
 entries_placed d above c front [] more short sound =
     let whole : front ++ [] ≡ front = append-nil front in
     record {
       placed = tt;
-      short = subst (λ (xs : List Entry). IsShort (path_below (path_at (paths_of above) c.parent) (with_entries c xs))) (sym whole) short;
+      short = subst (λ (xs : List Entry). AreShort ((path_at (paths_of above) c.parent).entries ++ xs)) (sym whole) short;
       left = ap (λ (xs : List Entry). containers_sound d.parameters (above ++ with_entries c xs ∷ []) more) whole ∙ sound;
     }
 entries_placed d above c front (e ∷ es) more short sound =
@@ -93,13 +120,16 @@ entries_placed d above c front (e ∷ es) more short sound =
     let p = both_true (is_none (row_fault ps now (entry_row e))) (containers_sound ps (with_container_row now (entry_row e)) (map entry_row es ++ more)) sound in
     let s = entry_is_sound ps now e (none_is (row_fault ps now (entry_row e)) p.0) in
     let path : (last_path now).entries ≡ up.entries ++ front = ap (λ (l : ContainerPath). l.entries) (last_path-push above (with_entries c front)) in
-    let grown : length (up.entries ++ (front ++ e ∷ [])) ≤ 256 = omega (arith, s.room, ap length path, length-append up.entries front, length-append up.entries (front ++ e ∷ []), length-push front e) in
+    let few : length (up.entries ++ (front ++ e ∷ [])) ≤ 256 = omega (arith, s.room, ap length path, length-append up.entries front, length-append up.entries (front ++ e ∷ []), length-push front e) in
+    let other : stands_on (up.entries ++ front) e.parameter ≡ false = ap (λ (xs : List Entry). stands_on xs e.parameter) (sym path) ∙ s.other in
+    let joined : (up.entries ++ front) ++ e ∷ [] ≡ up.entries ++ (front ++ e ∷ []) = append_assoc up.entries front (e ∷ []) in
+    let distinct = subst AreDistinctEntries joined (with_other nat_eq_equiv (λ (x : Entry). x.parameter) (up.entries ++ front) e short.1 other) in
     let step : with_container_row now (entry_row e) ≡ next = at_last-push (with_new_entry e) above (with_entries c front) in
-    let rest = entries_placed d above c (front ++ e ∷ []) es more grown (ap (λ (cs : List Container). containers_sound ps cs (map entry_row es ++ more)) (sym step) ∙ p.1) in
+    let rest = entries_placed d above c (front ++ e ∷ []) es more (few, distinct) (ap (λ (cs : List Container). containers_sound ps cs (map entry_row es ++ more)) (sym step) ∙ p.1) in
     let whole : (front ++ e ∷ []) ++ es ≡ front ++ e ∷ es = append_assoc front (e ∷ []) es in
     record {
       placed = (record { parameter = s.parameter; near = s.near }, rest.placed);
-      short = subst (λ (xs : List Entry). IsShort (path_below up (with_entries c xs))) whole rest.short;
+      short = subst (λ (xs : List Entry). AreShort (up.entries ++ xs)) whole rest.short;
       left = ap (λ (xs : List Entry). containers_sound ps (above ++ with_entries c xs ∷ []) more) (sym whole) ∙ rest.left;
     }
 
@@ -119,14 +149,31 @@ container_at d k (x ∷ cs) (suc n) c all is =
     let at : suc k + n ≡ k + suc n = omega arith in
     subst (λ (j : ℕ). IsContainer d j c) at (container_at d (suc k) cs n c all.1 is)
 
-short_here : (ls : List ContainerPath) (n : ℕ) → AllByRecursion IsShort ls → IsShort (unwrap_or (slice_get ls n) no_path)
-short_here [] n h = omega arith
-short_here (l ∷ ls) zero h = h.0
-short_here (l ∷ ls) (suc n) h = short_here ls n h.1
+nothing_above : IsPath no_path
+unfolding IsDistinct
+nothing_above = record { few_containers = omega arith; few_entries = omega arith; distinct = tt }
 
-short_line : (ls : List ContainerPath) (o : Option ℕ) → AllByRecursion IsShort ls → IsShort (path_at ls o)
-short_line ls None h = omega arith
-short_line ls (Some n) h = short_here ls n h
+path_here : (ls : List ContainerPath) (n : ℕ) → AllByRecursion IsPath ls → IsPath (unwrap_or (slice_get ls n) no_path)
+path_here [] n h = nothing_above
+path_here (l ∷ ls) zero h = h.0
+path_here (l ∷ ls) (suc n) h = path_here ls n h.1
+
+path_of : (ls : List ContainerPath) (o : Option ℕ) → AllByRecursion IsPath ls → IsPath (path_at ls o)
+path_of ls None h = nothing_above
+path_of ls (Some n) h = path_here ls n h
+
+nothing_before : (above : List Container) → is_empty above ≡ true → length above ≡ 0
+nothing_before [] is = refl
+nothing_before (c ∷ cs) is = cc
+
+below_parent : (above : List Container) (o : Option ℕ) → is_parent (length above) (reference_to o) ≡ true → (is_nothing (reference_to o) && not (is_empty above)) ≡ false → IsBelowParent (length above) o
+below_parent above None is one = nothing_before above (is_true (is_empty above) one)
+below_parent above (Some p) is one = ltb-true p (length above) is
+
+-- what a test finds of all numbers
+all_whole : (cs : List Comparison) → list_all (λ c. is_in_range c.number) cs ≡ true → AllByRecursion (λ c. IsWhole c.number) cs
+all_whole [] h = tt
+all_whole (c ∷ cs) h = let p = both_true (is_in_range c.number) (list_all (λ c. is_in_range c.number) cs) h in (p.0, all_whole cs p.1)
 
 parent_before : (count : ℕ) (o : Option ℕ) (p : ℕ) → is_parent count (reference_to o) ≡ true → o ≡ Some p → p < count
 parent_before count None p is e = cc
@@ -152,10 +199,15 @@ last_kept above c cs =
     ap (λ (xs : List Container). path_at (paths_of xs) (Some (length above))) split ∙ there
     ∙ ap (λ (xs : List ContainerPath). path_at xs (Some (length above))) (paths_of-push above c) ∙ ap (λ (o : Option ContainerPath). unwrap_or o no_path) at
 
-containers_placed : (d : Database) (above cs : List Container) → d.containers ≡ above ++ cs → AllByRecursion IsShort (paths_of above) → containers_sound d.parameters above (flat_map rows_of_container cs) ≡ true → AreContainers d (length above) cs
+-- no two containers have one name
+abbrev HaveDistinctNames : List Container → Type 0
+HaveDistinctNames cs = AreDistinctNames (map (λ c. c.name) cs)
+
+containers_placed : (d : Database) (above cs : List Container) → d.containers ≡ above ++ cs → AllByRecursion IsPath (paths_of above) → HaveDistinctNames above → containers_sound d.parameters above (flat_map rows_of_container cs) ≡ true
+    → AreContainers d (length above) cs × HaveDistinctNames (above ++ cs)
 unfolding are_sound
-containers_placed d above [] whole short sound = tt
-containers_placed d above (c ∷ cs) whole short sound =
+containers_placed d above [] whole paths names sound = (tt, subst HaveDistinctNames (sym (append-nil above)) names)
+containers_placed d above (c ∷ cs) whole paths names sound =
     let ps = d.parameters in
     let more = flat_map rows_of_container cs in
     let b = new_container_of c in
@@ -169,36 +221,50 @@ containers_placed d above (c ∷ cs) whole short sound =
     let earlier : (n : ℕ) → c.parent ≡ Some n → n < length above = λ n e. parent_before (length above) c.parent n (is_true (is_parent (length above) (reference_to c.parent)) q.1.1.1.1.0) e in
     let compared : compares_other up.entries c.condition ≡ false = ap (λ (l : ContainerPath). compares_other l.entries c.condition) (sym back) ∙ q.1.1.1.1.1.1.1.0 in
     let started : containers_sound ps (above ++ with_entries c [] ∷ []) (map entry_row c.entries ++ more) ≡ true = ap (λ (xs : List Container). containers_sound ps xs (map entry_row c.entries ++ more)) (sym (begin_step above c)) ∙ p.1 in
-    let up_short : length (up.entries ++ []) ≤ 256 = subst (λ (xs : List Entry). length xs ≤ 256) (sym (append-nil up.entries)) (short_line (paths_of above) c.parent short) in
-    let entries = entries_placed d above c [] c.entries more up_short started in
+    let condition = both_true (nat_le (length c.condition) 255) (list_all (λ k. is_in_range k.number) c.condition) (is_true (is_condition (Some c.condition)) q.1.1.1.1.1.1.0) in
+    let over = path_of (paths_of above) c.parent paths in
+    let entries = entries_placed d above c [] c.entries more (subst AreShort (sym (append-nil up.entries)) (over.few_entries, over.distinct)) started in
+    let path : IsPath (path_below up c) = record { few_containers = omega arith; few_entries = entries.short.0; distinct = entries.short.1 } in
     let kept : path_at (paths_of d.containers) c.parent ≡ up = ap (λ (xs : List Container). path_at (paths_of xs) c.parent) whole ∙ path_kept above (c ∷ cs) c.parent earlier in
     let own : path_at (paths_of d.containers) (Some (length above)) ≡ path_below up c = ap (λ (xs : List Container). path_at (paths_of xs) (Some (length above))) whole ∙ last_kept above c cs in
     let here : IsContainer d (length above) c = record {
-      parent = earlier;
-      compared = ap (λ (l : ContainerPath). compares_other l.entries c.condition) kept ∙ compared;
+      named = is_true (is_name c.name) q.1.0;
+      parent = below_parent above c.parent (is_true (is_parent (length above) (reference_to c.parent)) q.1.1.1.1.0) q.1.1.1.1.1.0;
+      condition = record {
+        few = leb-true (length c.condition) 255 condition.0;
+        whole = all_whole c.condition condition.1;
+        above = ap (λ (l : ContainerPath). compares_other l.entries c.condition) kept ∙ compared;
+      };
       entries = entries.placed;
-      containers_on_path = subst (λ (l : ContainerPath). l.containers ≤ 32) (sym own) (omega arith);
-      entries_on_path = subst (λ (l : ContainerPath). length l.entries ≤ 256) (sym own) entries.short;
+      path = subst IsPath (sym own) path;
     } in
     let now = above ++ c ∷ [] in
-    let shorts : AllByRecursion IsShort (paths_of now) = subst (AllByRecursion IsShort) (sym (paths_of-push above c)) (all_join IsShort (paths_of above) (path_below up c ∷ []) short (entries.short, tt)) in
-    let rest = containers_placed d now cs (whole ∙ sym (append_assoc above (c ∷ []) cs)) shorts entries.left in
-    (here, subst (λ (k : ℕ). AreContainers d k cs) (length-push above c) rest)
+    let name : Container → Text = λ k. k.name in
+    let split = append_assoc above (c ∷ []) cs in
+    let more_paths : AllByRecursion IsPath (paths_of now) = subst (AllByRecursion IsPath) (sym (paths_of-push above c)) (all_join IsPath (paths_of above) (path_below up c ∷ []) paths (path, tt)) in
+    let more_names : HaveDistinctNames now = with_new text_equiv name above c names (new_name c.name (map name above) q.1.1.0) in
+    let rest = containers_placed d now cs (whole ∙ sym split) more_paths more_names entries.left in
+    ((here, subst (λ (k : ℕ). AreContainers d k cs) (length-push above c) rest.0), subst HaveDistinctNames split rest.1)
 
 some_container : (ps : List Parameter) (cs : List Container) → containers_fault ps (flat_map rows_of_container cs) ≡ None → 0 < length cs
 some_container ps [] none = cc
 some_container ps (c ∷ cs) none = omega arith
 
-no_paths : AllByRecursion IsShort (paths_of [])
+no_paths : AllByRecursion IsPath (paths_of [])
 unfolding paths_of
 no_paths = tt
+
+no_names : AreDistinctNames []
+unfolding IsDistinct
+no_names = tt
 
 pub structured : (d : Database) → IsDatabase d → IsStructured d
 structured d is =
     let p = parts_of d is in
     let few = counts d is.small in
     let rows = flat_map rows_of_container d.containers in
-    let all = containers_placed d [] d.containers refl no_paths (containers_are_sound d.parameters rows (containers_first d.parameters rows p.containers_none)) in
+    let calibrations = calibrations_are d is in
+    let containers = containers_placed d [] d.containers refl no_paths no_names (containers_are_sound d.parameters rows (containers_first d.parameters rows p.containers_none)) in
     record {
       few_calibrations = few.calibrations;
       few_rows = few.rows;
@@ -206,6 +272,10 @@ structured d is =
       few_containers = few.containers;
       few_entries = few.entries;
       root = some_container d.parameters d.containers p.containers_none;
+      calibration_names = calibrations.names;
+      parameter_names = names_differ d.calibrations [] d.parameters (parameters_are_sound d.calibrations (map row_of_parameter d.parameters) p.parameters_none) no_names;
+      container_names = containers.1;
+      calibrations = calibrations.each;
       parameters = λ n x at. parameter_at d n x p.parameters_none at;
-      containers = λ n c at. let same : 0 + n ≡ n = omega arith in subst (λ (k : ℕ). IsContainer d k c) same (container_at d 0 d.containers n c all at);
+      containers = λ n c at. let same : 0 + n ≡ n = omega arith in subst (λ (k : ℕ). IsContainer d k c) same (container_at d 0 d.containers n c containers.0 at);
     }

@@ -2,6 +2,7 @@
 use Rattle.std.specs.Prelude.{◌≡◌, ℕ, ◌+◌, ◌==◌, ◌&&◌, not, Bool, true, false, List, [], ◌∷◌, ◌++◌, map, take, fold, slice_get, Option, Some, None, is_some, option_map, if◌then◌else◌, nat_le, ℤ, int_lt}
 use Rattle.std.specs.List.{list_any}
 use Rattle.std.specs.Str.{bytes_eq}
+use Rattle.text_forms.specs.Names.{is_name}
 use Rattle.mdb_model.specs.declared.calibration.PointsRow.{PointsRow}
 use Rattle.mdb_model.specs.declared.calibration.Table.{Table}
 use Rattle.mdb_model.specs.declared.calibration.Table.TheVariants.{Poly, Points, Enum}
@@ -12,7 +13,6 @@ use Rattle.mdb_model.specs.Checks.{Checks, first_broken}
 use Rattle.mdb_model.specs.Lists.{at_last, last_of}
 use Rattle.mdb_model.specs.Numbers.{has_number, is_decimal, is_whole_number}
 use Rattle.mdb_model.specs.Texts.{Text, is_label, place_of}
-use Rattle.text_forms.specs.Names.{is_name}
 
 -- a row: the number of fields of its record, its name, and what its other columns say
 pub record CalibrationRow : Type 0 where

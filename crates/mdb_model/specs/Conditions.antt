@@ -2,11 +2,11 @@
 use Rattle.std.specs.Prelude.{ℕ, ◌==◌, ◌||◌, not, Bool, List, [], ◌∷◌, length, take, drop, take_while, map, Option, Some, None, if◌then◌else◌, codes, ℤ}
 use Rattle.std.specs.List.{list_all}
 use Rattle.std.specs.Str.{bytes_eq}
+use Rattle.text_forms.specs.Names.{is_name_octet}
 use Rattle.mdb_model.specs.declared.container.Comparison.{Comparison}
 use Rattle.mdb_model.specs.declared.container.Operator.{Operator}
 use Rattle.mdb_model.specs.declared.container.Operator.TheVariants.{Equal, NotEqual, Less, LessOrEqual, Greater, GreaterOrEqual}
 use Rattle.mdb_model.specs.Texts.{Text, place_of, whole_number}
-use Rattle.text_forms.specs.Names.{is_name_octet}
 
 -- the front of a text, whose octets pass a test, and what comes after it
 abbrev pub front_len : (ℕ → Bool) → Text → ℕ

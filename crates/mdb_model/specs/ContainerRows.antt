@@ -1,6 +1,7 @@
 -- The containers sheet: a row with a name begins a container, one without a name continues the last with one more entry.
 use Rattle.std.specs.Prelude.{ℕ, ◌+◌, ◌==◌, ◌&&◌, not, Bool, true, false, List, [], ◌∷◌, ◌++◌, length, map, take, fold, slice_get, Option, Some, None, is_some, unwrap_or, nat_le, nat_lt}
 use Rattle.std.specs.List.{list_any, list_all}
+use Rattle.text_forms.specs.Names.{is_name}
 use Rattle.mdb_model.specs.declared.container.Comparison.{Comparison}
 use Rattle.mdb_model.specs.declared.container.Container.{Container}
 use Rattle.mdb_model.specs.declared.container.Entry.{Entry}
@@ -19,7 +20,6 @@ use Rattle.mdb_model.specs.Lists.{at_last, is_empty}
 use Rattle.mdb_model.specs.Numbers.{is_in_range}
 use Rattle.mdb_model.specs.ParameterRows.{is_reference, number_of, reference_to}
 use Rattle.mdb_model.specs.Texts.{place_of}
-use Rattle.text_forms.specs.Names.{is_name}
 
 -- a row: the number of fields of its record, its columns before the entry, and its entry
 pub record ContainerRow : Type 0 where

@@ -1,5 +1,6 @@
 -- The parameters sheet: one row a parameter.
 use Rattle.std.specs.Prelude.{ℕ, ◌*◌, ◌^◌, ◌%◌, ◌==◌, ◌&&◌, ◌||◌, not, Bool, true, false, List, [], ◌∷◌, length, map, take, fold, max, sum_by, slice_get, Option, Some, None, is_some, unwrap_or, nat_le, nat_lt, unsigned_abs}
+use Rattle.text_forms.specs.Names.{is_name}
 use Rattle.mdb_model.specs.declared.calibration.PolyRow.{PolyRow}
 use Rattle.mdb_model.specs.declared.calibration.Table.{Table}
 use Rattle.mdb_model.specs.declared.calibration.Table.TheVariants.{Poly, Points, Enum}
@@ -12,7 +13,6 @@ use Rattle.mdb_model.specs.declared.rows.Reference.{Reference}
 use Rattle.mdb_model.specs.declared.rows.Reference.TheVariants.{Nothing, Unknown, Known}
 use Rattle.mdb_model.specs.Checks.{Checks, first_broken}
 use Rattle.mdb_model.specs.Texts.{place_of}
-use Rattle.text_forms.specs.Names.{is_name}
 
 -- the lowest octet comes first
 abbrev pub is_le : Coding → Bool

@@ -4,7 +4,7 @@ use Rattle.std.specs.Prelude.{ℤ, option_copied}
 use Rattle.std.specs.Int.{w128}
 use Rattle.std.proofs.lemmas.Int.{to_z-of_z}
 use Rattle.calibration.specs.Admitted.{IsAdmitted}
-use Rattle.calibration.proofs.Rules.{sound_parameter_at}
+use Rattle.mdb_model.proofs.Structure.{structured}
 use Rattle.container_extract.proofs.Taking.{ends_inside, item_is, raw_admitted, value_is}
 use Rattle.container_extract.proofs.entries.value_of.Goals as goal
 
@@ -13,7 +13,7 @@ bits-raw-requires-clause-width c =
     let db = c.args.mdb.now in
     let p = c.index-parameter_list-entry.result in
     let at = item_is c.parameter_list.result.now db.parameters c.args.entry.parameter p c.parameter_list.ensures.value c.requires.known c.index-parameter_list-entry.is in
-    (sound_parameter_at db c.args.entry.parameter p c.parameter_list.ensures.sound at).width
+    ((structured db c.parameter_list.ensures.sound).parameters c.args.entry.parameter p at).width
 
 pub bits-raw-requires-clause-inside : goal.bits-raw-requires-clause-inside
 bits-raw-requires-clause-inside c =

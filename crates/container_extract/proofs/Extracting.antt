@@ -1,0 +1,64 @@
+-- The values of an extraction are sound, and no two are of one parameter.
+use Rattle.std.proofs.Common.{◌≡◌, ◌<◌, ◌^◌, ℕ, zero, suc, List, [], ◌∷◌, false, map, take, Option, Some, refl, ap, sym, arith, subst, length-take}
+use Rattle.std.specs.Prelude.{flat_map, nat_eq, slice_get}
+use Rattle.std.specs.List.{AllByRecursion, IsDistinct, prefix_len}
+use Rattle.std.proofs.lemmas.List.{length-map}
+use Rattle.std.proofs.lemmas.Nat.{mod_below, pow_pos}
+use Rattle.mdb_model.specs.declared.container.Entry.{Entry}
+use Rattle.mdb_model.specs.declared.parameter.Parameter.{Parameter}
+use Rattle.mdb_model.specs.Database.{Database, IsDatabase}
+use Rattle.mdb_model.specs.Paths.{bits_of_parameter}
+use Rattle.mdb_model.specs.Structure.{AreDistinctEntries, IsEntry}
+use Rattle.mdb_model.proofs.Structure.{structured}
+use Rattle.calibration.specs.Admitted.{IsInWidth}
+use Rattle.container_extract.specs.Bits.{bits_at, field_at}
+use Rattle.container_extract.specs.Chain.{chain_of, entries_at}
+use Rattle.container_extract.specs.Laws.{ExtractionKeepsRules, IsValue}
+use Rattle.container_extract.specs.Values.{coding_of, fits, raw_of, value_of}
+use Rattle.container_extract.proofs.Paths.{all_known, chain_keeps}
+use Rattle.container_extract.proofs.Widths.{in_width}
+
+-- ---- one value
+
+raw_in_width : (db : Database) (packet : List ℕ) (e : Entry) (p : Parameter) → IsDatabase db → slice_get db.parameters e.parameter ≡ Some p → IsInWidth p.coding p.bits (raw_of db packet e)
+raw_in_width db packet e p is at =
+    let width = ((structured db is).parameters e.parameter p at).width in
+    let below : field_at packet e.at p.bits < 2 ^ p.bits = mod_below _ (2 ^ p.bits) (pow_pos p.bits) in
+    let raw : raw_of db packet e ≡ bits_at packet e.at p.bits p.coding = ap (λ (o : Option Parameter). bits_at packet e.at (bits_of_parameter o) (coding_of o)) at in
+    subst (IsInWidth p.coding p.bits) (sym raw) (in_width p.coding p.bits (field_at packet e.at p.bits) width below)
+
+value_is_sound : (db : Database) (packet : List ℕ) (e : Entry) → IsDatabase db → IsEntry db e → IsValue db (value_of db packet e)
+value_is_sound db packet e is entry = record {
+  known = entry.parameter;
+  in_width = λ p at. raw_in_width db packet e p is at;
+  by_calibration = refl;
+}
+
+-- ---- the values of the first entries
+
+values_are_sound : (db : Database) (packet : List ℕ) (k : ℕ) (es : List Entry) → IsDatabase db → AllByRecursion (IsEntry db) es → AllByRecursion (IsValue db) (map (value_of db packet) (take k es))
+values_are_sound db packet zero es is all = tt
+values_are_sound db packet (suc k) [] is all = tt
+values_are_sound db packet (suc k) (e ∷ es) is all = (value_is_sound db packet e is all.0, values_are_sound db packet k es is all.1)
+
+others : (db : Database) (packet : List ℕ) (n k : ℕ) (es : List Entry) → AllByRecursion (λ m. nat_eq n m ≡ false) (map (λ e. e.parameter) es) → AllByRecursion (λ m. nat_eq n m ≡ false) (map (λ v. v.parameter) (map (value_of db packet) (take k es)))
+others db packet n zero es all = tt
+others db packet n (suc k) [] all = tt
+others db packet n (suc k) (e ∷ es) all = (all.0, others db packet n k es all.1)
+
+values_differ : (db : Database) (packet : List ℕ) (k : ℕ) (es : List Entry) → AreDistinctEntries es → IsDistinct nat_eq (map (λ v. v.parameter) (map (value_of db packet) (take k es)))
+unfolding IsDistinct
+values_differ db packet zero es all = tt
+values_differ db packet (suc k) [] all = tt
+values_differ db packet (suc k) (e ∷ es) all = (others db packet e.parameter k es all.0, values_differ db packet k es all.1)
+
+pub extraction_keeps_rules : ExtractionKeepsRules
+extraction_keeps_rules = λ db packet is.
+    let es = flat_map (entries_at db) (chain_of db packet) in
+    let k = prefix_len (fits db packet) es in
+    let path = chain_keeps db packet is in
+    record {
+      each = values_are_sound db packet k es is (all_known db (chain_of db packet) is);
+      distinct = values_differ db packet k es path.distinct;
+      few = omega (arith, path.few_entries, length-map (take k es) (value_of db packet), length-take k es);
+    }
