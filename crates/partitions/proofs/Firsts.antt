@@ -10,7 +10,7 @@ use Rattle.partitions.specs.declared.named_day.NamedDay.{NamedDay}
 use Rattle.partitions.specs.declared.days.Days.{Days}
 use Rattle.partitions.specs.declared.name_day_filter.NameDayFilter.{NameDayFilter}
 use Rattle.partitions.specs.Partition.{partition_cmp}
-use Rattle.partitions.specs.NameDayFilter.{is_on, is_on_days, is_name_day_filter}
+use Rattle.partitions.specs.NameDayFilter.{is_on, is_on_days, passes_filter}
 use Rattle.partitions.proofs.Order.{IsNoLater, IsBefore, no_later, before_from_less}
 
 -- what is true of a day that is one of those in a row
@@ -62,13 +62,13 @@ pub record IsWanted (name_day_filter : NameDayFilter) (at : NamedDay) : Type 0 w
   pub last : at.day ≤ℤ name_day_filter.days.last
   pub name : list_any (nat_eq at.pname) name_day_filter.names ≡ true
 
-pub name_day_filter_is : (w : NameDayFilter) (k : NamedDay) → is_name_day_filter w k ≡ true → IsWanted w k
-name_day_filter_is w k h = by (is_on w.days k.day) (list_any (nat_eq k.pname) w.names) refl refl h
+pub passes_filter_is : (w : NameDayFilter) (k : NamedDay) → passes_filter w k ≡ true → IsWanted w k
+passes_filter_is w k h = by (is_on w.days k.day) (list_any (nat_eq k.pname) w.names) refl refl h
   where
     by : (b c : Bool) → is_on w.days k.day ≡ b → list_any (nat_eq k.pname) w.names ≡ c → (b && c) ≡ true → IsWanted w k
     by true true on name h = let is = on_is w.days k.day on in record { first = is.first; last = is.last; name = name }
     by true false on name h = cc
     by false c on name h = cc
 
-pub name_day_filter_from : (w : NameDayFilter) (k : NamedDay) → IsWanted w k → is_name_day_filter w k ≡ true
-name_day_filter_from w k is = rw (on_from w.days k.day (record { first = is.first; last = is.last }), is.name)
+pub passes_filter_from : (w : NameDayFilter) (k : NamedDay) → IsWanted w k → passes_filter w k ≡ true
+passes_filter_from w k is = rw (on_from w.days k.day (record { first = is.first; last = is.last }), is.name)

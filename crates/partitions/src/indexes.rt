@@ -5,7 +5,7 @@ ghost use Rattle.std.specs.Map.{keys_of};
 ghost use Rattle.block_map.specs.Rising.{IsRising};
 ghost use Rattle.partitions.specs.Partition.{partition_cmp};
 ghost use Rattle.partitions.specs.NamedDay.{named_day};
-ghost use Rattle.partitions.specs.NameDayFilter.{is_on_days, is_name_day_filter};
+ghost use Rattle.partitions.specs.NameDayFilter.{is_on_days, passes_filter};
 
 use crate::days::Days;
 use crate::lists::PartList;
@@ -45,7 +45,7 @@ pub(crate) fn of_names(
     name_day_filter: &NameDayFilter,
 ) -> Result<PartList, AllocError>
     requires { name_day_filter.now.days.first ≤ℤ name_day_filter.now.days.last }
-    ensures { IfOk result (λ parts. map named_day parts ≡ filter (is_name_day_filter name_day_filter.now) (keys_of index.now.entries)) }
+    ensures { IfOk result (λ parts. map named_day parts ≡ filter (passes_filter name_day_filter.now) (keys_of index.now.entries)) }
 {
     let mut parts = PartList::new(alloc);
     let mut entries = index.iter();
