@@ -1,33 +1,22 @@
 -- Counts of intervals.
-use Rattle.std.proofs.Common.{◌≡◌, ℕ, ℤ, ◌<ℤ◌, ◌+◌, List, Bool, true, false, true≢false, refl, sym, ◌∙◌, ap, subst, arith}
+use Rattle.std.proofs.Common.{◌≡◌, ℕ, ℤ, ◌+◌, List, Bool, true, false, true≢false, refl, sym, ◌∙◌, ap, subst, arith}
 use Rattle.std.specs.Prelude.{if◌then◌else◌, ◌≢◌}
-use Rattle.std.specs.Ordering.{int_cmp, int_eq, is_eq, MatchOrdering}
-use Rattle.std.specs.Cmp.{IsTotalOrder, on_total, int_cmp_total, int_ranks}
-use Rattle.std.specs.declared.cmp.Ordering.{Ordering}
-use Rattle.std.specs.declared.cmp.Ordering.TheVariants.{Less, Equal, Greater}
+use Rattle.std.specs.Ordering.{int_eq}
 use Rattle.std.specs.BTreeMap.{is_at, insert_entry}
 use Rattle.std.proofs.lemmas.Bool.{false_from_ne_true}
 use Rattle.std.proofs.lemmas.Bool.Decides.{Decides-int_eq}
+use Rattle.std.proofs.lemmas.Map.Views.{tells_apart}
 use Rattle.block_map.proofs.KeyedLists.{lookup-insert_entry_same, lookup-insert_entry_other}
 use Rattle.arch_types.specs.declared.interval.Interval.{Interval}
-use Rattle.archive_store.specs.LimitCounts.{interval_cmp, or_zero, count_of, one_at}
-
-interval_cmp_total : IsTotalOrder interval_cmp
-interval_cmp_total = on_total (λ (i : Interval). i.0) int_cmp_total
+use Rattle.arch_types.specs.Interval.{interval_cmp}
+use Rattle.arch_types.proofs.Ranks.{interval_cmp_total, exact_intervals}
+use Rattle.archive_store.specs.LimitCounts.{or_zero, count_of, one_at}
 
 pub together : (a b : Interval) → a.0 ≡ b.0 → a ≡ b
 together a b numbers = ap (λ (n : ℤ). let i : Interval = record { 0 = n } in i) numbers
 
-ranked_as : (a b : ℤ) (r : Ordering) → int_cmp a b ≡ r → MatchOrdering r (a <ℤ b) (a ≡ b) (b <ℤ a)
-ranked_as a b r e = subst (λ k. MatchOrdering k (a <ℤ b) (a ≡ b) (b <ℤ a)) e (int_ranks a b)
-
-same_from : (a b : ℤ) (r : Ordering) → int_cmp a b ≡ r → is_eq r ≡ true → a ≡ b
-same_from a b Less e same = cc
-same_from a b Equal e same = ranked_as a b Equal e
-same_from a b Greater e same = cc
-
 apart : (a b : Interval) → b ≢ a → is_at (interval_cmp a) b ≡ false
-apart a b ne = false_from_ne_true _ (λ e. ne (sym (together a b (same_from a.0 b.0 (int_cmp a.0 b.0) refl e))))
+apart a b ne = false_from_ne_true _ (λ e. ne (sym (tells_apart exact_intervals a b e)))
 
 -- one interval counts one more, and all others as many as before
 pub counted : (es : List (Interval × ℕ)) (i other : Interval) (v : ℕ) → v ≡ count_of es i + 1 → count_of (insert_entry interval_cmp es i v) other ≡ count_of es other + one_at i other

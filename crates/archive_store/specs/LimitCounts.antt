@@ -1,15 +1,10 @@
 -- What the limits count.
 use Rattle.std.specs.Prelude.{ℕ, List, Option, Some, None, if◌then◌else◌}
-use Rattle.std.specs.Ordering.{int_cmp}
-use Rattle.std.specs.declared.cmp.Ordering.{Ordering}
 use Rattle.std.specs.Map.{lookup}
 use Rattle.std.specs.BTreeMap.{is_at}
 use Rattle.arch_types.specs.declared.interval.Interval.{Interval}
+use Rattle.arch_types.specs.Interval.{interval_cmp}
 use Rattle.archive_core.specs.Fills.{is_same}
-
--- intervals stand in the order of their numbers
-abbrev pub interval_cmp : Interval → Interval → Ordering
-interval_cmp a b = int_cmp a.0 b.0
 
 -- octets, the rows of each interval that has any, and how many more intervals may come without memory
 pub record LimitCountsView : Type 0 where

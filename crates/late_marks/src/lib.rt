@@ -5,6 +5,8 @@
 // last fill, and whether somebody has taken the interval to fill it (specs/Mark.antt, specs/Marks.antt). That the greatest position
 // decides as all of them do (`IsLateBy`) is a clause of `touch` and of `is_late`, over every list of positions that a mark may stand for
 // (`StandAt`).
+// Each change of a mark changes the number of late intervals by that one interval alone (`Marked`), so a loop that fills late intervals
+// ends.
 // Callers: the store, which touches the interval of each row, notes fills, and asks for the next interval to fill.
 //
 // The marks stand in one ordered index, and the intervals that are late and free in a second one, so that the least of them is

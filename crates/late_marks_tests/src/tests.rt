@@ -85,3 +85,15 @@ fn fills_in_their_order(rt: HostRuntime) -> Result<(), Fail> {
     }
     Ok(())
 }
+
+#[test]
+fn late_intervals(rt: HostRuntime) -> Result<(), Fail> {
+    let mut marks = touched(rt.alloc(), &ROWS)?;
+    assert_eq!(rt; marks.late(), 3);
+    assert_eq!(rt; fill(&mut marks, 5), Some(Interval(-3)));
+    assert_eq!(rt; marks.late(), 2);
+    for (entry, want) in marks.iter().zip([-3, 0, 7]) {
+        assert_eq!(rt; entry.0, Interval(want));
+    }
+    Ok(())
+}

@@ -13,10 +13,10 @@ use Rattle.partitions.specs.declared.name_day_filter.NameDayFilter.{NameDayFilte
 use Rattle.time_text.specs.Day.{day_of}
 use Rattle.partitions.specs.NamedDay.{named_day}
 use Rattle.partitions.specs.Bounds.{HasTimeOn, MayHold}
-use Rattle.partitions.specs.NameDayFilter.{is_on, is_selected}
+use Rattle.partitions.specs.NameDayFilter.{is_on, passes_filter}
 use Rattle.time_text.proofs.DayFacts.{days_rise}
 use Rattle.partitions.proofs.TimesOfDays.{has_time_on}
-use Rattle.partitions.proofs.Firsts.{selected_is, selected_from, on_is, on_from}
+use Rattle.partitions.proofs.Firsts.{passes_filter_is, passes_filter_from, on_is, on_from}
 
 same_names : (x y : ℕ) → nat_eq x y ≡ true → x ≡ y
 same_names x y e = grind (arith, nat_tests)
@@ -39,19 +39,19 @@ module _ (bounds : Bounds) (days : Days) (on : (day : ℤ) → (is_on days day �
 
   -- a list with the same names wants the same
   pub named_exactly : (names sorted : List ℕ) → bounds.names ≡ Some names → ((p : ℕ) → list_any (nat_eq p) sorted ≡ list_any (nat_eq p) names) →
-      (p : Partition) → (is_selected (record { days = days; names = sorted }) (named_day p) ≡ true) ↔ MayHold bounds p
+      (p : Partition) → (passes_filter (record { days = days; names = sorted }) (named_day p) ≡ true) ↔ MayHold bounds p
   named_exactly names sorted is same p = (to, from)
     where
       w : NameDayFilter
       w = record { days = days; names = sorted }
 
-      to : is_selected w (named_day p) ≡ true → MayHold bounds p
-      to wants = let has = selected_is w (named_day p) wants in
+      to : passes_filter w (named_day p) ≡ true → MayHold bounds p
+      to wants = let has = passes_filter_is w (named_day p) wants in
           record {
             day = (on p.day).0 (on_from days p.day (record { first = has.first; last = has.last }));
             name = rw is (Contains-from_any {eq = nat_eq} same_names p.pname names (sym (same p.pname) ∙ has.name));
           }
 
-      from : MayHold bounds p → is_selected w (named_day p) ≡ true
+      from : MayHold bounds p → passes_filter w (named_day p) ≡ true
       from may = let has = on_is days p.day ((on p.day).1 may.day) in
-          selected_from w (named_day p) (record { first = has.first; last = has.last; name = same p.pname ∙ list_any-from_Contains nat_eq_equiv p.pname names (rw is at may.name) })
+          passes_filter_from w (named_day p) (record { first = has.first; last = has.last; name = same p.pname ∙ list_any-from_Contains nat_eq_equiv p.pname names (rw is at may.name) })

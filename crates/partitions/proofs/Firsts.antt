@@ -10,7 +10,7 @@ use Rattle.partitions.specs.declared.named_day.NamedDay.{NamedDay}
 use Rattle.partitions.specs.declared.days.Days.{Days}
 use Rattle.partitions.specs.declared.name_day_filter.NameDayFilter.{NameDayFilter}
 use Rattle.partitions.specs.Partition.{partition_cmp}
-use Rattle.partitions.specs.NameDayFilter.{is_on, is_on_days, is_selected}
+use Rattle.partitions.specs.NameDayFilter.{is_on, is_on_days, passes_filter}
 use Rattle.partitions.proofs.Order.{IsNoLater, IsBefore, no_later, before_from_less}
 
 -- what is true of a day that is one of those in a row
@@ -57,18 +57,18 @@ module _ (days : Days) where
       by (inr x) is = omega (arith, ints, x.0, past, is.last)
 
 -- what is true of a named day that is wanted
-pub record IsSelected (filter : NameDayFilter) (at : NamedDay) : Type 0 where
-  pub first : filter.days.first ≤ℤ at.day
-  pub last : at.day ≤ℤ filter.days.last
-  pub name : list_any (nat_eq at.pname) filter.names ≡ true
+pub record IsWanted (name_day_filter : NameDayFilter) (at : NamedDay) : Type 0 where
+  pub first : name_day_filter.days.first ≤ℤ at.day
+  pub last : at.day ≤ℤ name_day_filter.days.last
+  pub name : list_any (nat_eq at.pname) name_day_filter.names ≡ true
 
-pub selected_is : (w : NameDayFilter) (k : NamedDay) → is_selected w k ≡ true → IsSelected w k
-selected_is w k h = by (is_on w.days k.day) (list_any (nat_eq k.pname) w.names) refl refl h
+pub passes_filter_is : (w : NameDayFilter) (k : NamedDay) → passes_filter w k ≡ true → IsWanted w k
+passes_filter_is w k h = by (is_on w.days k.day) (list_any (nat_eq k.pname) w.names) refl refl h
   where
-    by : (b c : Bool) → is_on w.days k.day ≡ b → list_any (nat_eq k.pname) w.names ≡ c → (b && c) ≡ true → IsSelected w k
+    by : (b c : Bool) → is_on w.days k.day ≡ b → list_any (nat_eq k.pname) w.names ≡ c → (b && c) ≡ true → IsWanted w k
     by true true on name h = let is = on_is w.days k.day on in record { first = is.first; last = is.last; name = name }
     by true false on name h = cc
     by false c on name h = cc
 
-pub selected_from : (w : NameDayFilter) (k : NamedDay) → IsSelected w k → is_selected w k ≡ true
-selected_from w k is = rw (on_from w.days k.day (record { first = is.first; last = is.last }), is.name)
+pub passes_filter_from : (w : NameDayFilter) (k : NamedDay) → IsWanted w k → passes_filter w k ≡ true
+passes_filter_from w k is = rw (on_from w.days k.day (record { first = is.first; last = is.last }), is.name)

@@ -17,8 +17,8 @@ abbrev pub is_on_days : Days → Partition → Bool
 is_on_days days part = is_on days part.day
 
 -- whether a named day has one of the days and one of the packet names that are wanted
-abbrev pub is_selected : NameDayFilter → NamedDay → Bool
-is_selected filter at = is_on filter.days at.day && list_any (nat_eq at.pname) filter.names
+abbrev pub passes_filter : NameDayFilter → NamedDay → Bool
+passes_filter name_day_filter at = is_on name_day_filter.days at.day && list_any (nat_eq at.pname) name_day_filter.names
 
 -- the first key that passes a test, from a key on, or that there is none
 abbrev pub IsFirstFrom : {K : Type 0} → (K → K → Ordering) → (K → Bool) → K → Option K → Type 0

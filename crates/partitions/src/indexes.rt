@@ -5,7 +5,7 @@ ghost use Rattle.std.specs.Map.{keys_of};
 ghost use Rattle.block_map.specs.Rising.{IsRising};
 ghost use Rattle.partitions.specs.Partition.{partition_cmp};
 ghost use Rattle.partitions.specs.NamedDay.{named_day};
-ghost use Rattle.partitions.specs.NameDayFilter.{is_on_days, is_selected};
+ghost use Rattle.partitions.specs.NameDayFilter.{is_on_days, passes_filter};
 
 use crate::days::Days;
 use crate::lists::PartList;
@@ -42,15 +42,15 @@ pub(crate) fn on_days(
 pub(crate) fn of_names(
     alloc: Global,
     index: &Index<NamedDay, ()>,
-    selection: &NameDayFilter,
+    name_day_filter: &NameDayFilter,
 ) -> Result<PartList, AllocError>
-    requires { selection.now.days.first ≤ℤ selection.now.days.last }
-    ensures { IfOk result (λ parts. map named_day parts ≡ filter (is_selected selection.now) (keys_of index.now.entries)) }
+    requires { name_day_filter.now.days.first ≤ℤ name_day_filter.now.days.last }
+    ensures { IfOk result (λ parts. map named_day parts ≡ filter (passes_filter name_day_filter.now) (keys_of index.now.entries)) }
 {
     let mut parts = PartList::new(alloc);
     let mut entries = index.iter();
     while let Some(&(at, ())) = entries.next() {
-        match selection.first_from(at) {
+        match name_day_filter.first_from(at) {
             Some(next) if next == at => parts.push(at.partition())?,
             Some(next) => entries = index.from_key(next),
             None => break,

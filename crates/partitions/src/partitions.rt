@@ -4,7 +4,7 @@ ghost use Rattle.std.specs.Prelude.{◌≡◌, ◌+◌, ◌<◌, ◌≤◌, ◌�
 ghost use Rattle.partitions.specs.Partition.{partition_of};
 ghost use Rattle.partitions.specs.NamedDay.{named_day};
 ghost use Rattle.partitions.specs.Bounds.{MayHold};
-ghost use Rattle.partitions.specs.NameDayFilter.{is_on, is_selected};
+ghost use Rattle.partitions.specs.NameDayFilter.{is_on, passes_filter};
 ghost use Rattle.partitions.specs.Partitions.{AreRising, IsAdded};
 
 use crate::bounds::Bounds;
@@ -101,12 +101,12 @@ impl Partitions {
     }
 
     /// The partitions that hold a row and are wanted.
-    fn of_names(&self, filter: &NameDayFilter) -> Result<PartList, AllocError>
-        requires { filter.now.days.first ≤ℤ filter.now.days.last }
-        ensures exactly { IfOk result (λ parts. (p : Partition) → Contains parts p ↔ (Contains self.now.parts p × (is_selected filter.now (named_day p) ≡ true))) }
+    fn of_names(&self, name_day_filter: &NameDayFilter) -> Result<PartList, AllocError>
+        requires { name_day_filter.now.days.first ≤ℤ name_day_filter.now.days.last }
+        ensures exactly { IfOk result (λ parts. (p : Partition) → Contains parts p ↔ (Contains self.now.parts p × (passes_filter name_day_filter.now (named_day p) ≡ true))) }
         ensures rising { IfOk result (λ parts. AreRising parts) }
     {
-        let parts = of_names(self.alloc, &self.by_name, filter)?;
+        let parts = of_names(self.alloc, &self.by_name, name_day_filter)?;
         Ok(in_order(parts))
     }
 }

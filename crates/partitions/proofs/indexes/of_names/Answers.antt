@@ -3,7 +3,7 @@ use Rattle.std.proofs.lemmas.List.{map-append}
 use Rattle.block_map.specs.Rising.{IsRising}
 use Rattle.partitions.specs.declared.named_day.NamedDay.{NamedDay}
 use Rattle.partitions.specs.NamedDay.{named_cmp, named_day}
-use Rattle.partitions.specs.NameDayFilter.{is_selected}
+use Rattle.partitions.specs.NameDayFilter.{passes_filter}
 use Rattle.partitions.proofs.NamedOrder.{named_cmp_total, same_named_by_test, less_named_by_test}
 use Rattle.partitions.proofs.Leaps.{given_one, leap, leap_shorter, ended, ended_early}
 use Rattle.partitions.proofs.indexes.of_names.Goals as goal
@@ -11,7 +11,7 @@ use Rattle.partitions.proofs.indexes.of_names.Goals.{in-Some+in-None, in_default
 
 pub loop-at-preserved-then-eq : goal.loop-at-preserved-then-eq
 loop-at-preserved-then-eq c =
-    let test = is_selected c.args.selection.now in
+    let test = passes_filter c.args.name_day_filter.now in
     let all = c.args.index.now.entries in
     let e = c.in-Some.field-0.now in
     let way = rw c.in-Some.ensures.steps at c.loop-at.invariant in
@@ -23,7 +23,7 @@ loop-at-preserved-then-eq c =
 
 pub loop-at-smaller : goal.loop-at-smaller
 loop-at-smaller c =
-    let test = is_selected c.args.selection.now in
+    let test = passes_filter c.args.name_day_filter.now in
     let all = c.args.index.now.entries in
     let e = c.in-Some.field-0.now in
     let way = rw c.in-Some.ensures.steps at c.loop-at.invariant in
@@ -33,7 +33,7 @@ loop-at-smaller c =
 
 pub loop-at-preserved : goal.loop-at-preserved
 loop-at-preserved c =
-    let test = is_selected c.args.selection.now in
+    let test = passes_filter c.args.name_day_filter.now in
     let all = c.args.index.now.entries in
     let e = c.in-Some.field-0.now in
     let way = rw c.in-Some.ensures.steps at c.loop-at.invariant in
@@ -43,7 +43,7 @@ loop-at-preserved c =
 
 pub returns : goal.returns
 returns c =
-    let test = is_selected c.args.selection.now in
+    let test = passes_filter c.args.name_day_filter.now in
     let all = c.args.index.now.entries in
     let given = map named_day c.loop-at.parts in
     let up : IsRising named_cmp all = rw c.iter-entries.ensures.entries at c.iter-entries.ensures.rising in

@@ -3,7 +3,8 @@ use Rattle.std.specs.Map.{lookup}
 use Rattle.std.specs.BTreeMap.{is_at, insert_entry}
 use Rattle.block_map.specs.Index.{Listing}
 use Rattle.arch_types.specs.declared.interval.Interval.{Interval}
-use Rattle.archive_store.specs.LimitCounts.{LimitCountsView, interval_cmp, or_zero, count_of, one_at}
+use Rattle.arch_types.specs.Interval.{interval_cmp}
+use Rattle.archive_store.specs.LimitCounts.{LimitCountsView, or_zero, count_of, one_at}
 use Rattle.archive_store.proofs.Counting.{counted}
 use Rattle.archive_store.proofs.limit_counts.LimitCounts.add_row.Goals as goal
 
