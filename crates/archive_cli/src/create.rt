@@ -6,7 +6,7 @@ ghost use Rattle.arch_disk.specs.Disk.{raised};
 ghost use Rattle.arch_types.specs.declared.refusal.Refusal.TheVariants.{DiskFault};
 ghost use Rattle.field_codec.specs.declared.entry.Entry.TheVariants as entries;
 ghost use Rattle.field_codec.specs.Entries.{IsEntry};
-ghost use Rattle.mdb_model.specs.declared.sheet.RawMdb.{RawMdb};
+ghost use Rattle.mdb_items.specs.declared.sheet.RawMdb.{RawMdb};
 ghost use Rattle.mdb_sheets.specs.Sheets.{ReadsCounted};
 ghost use Rattle.outer_traits.specs.Outside.{Stays};
 ghost use Rattle.command_words.specs.JobView.{sheet_words_of};

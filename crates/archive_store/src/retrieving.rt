@@ -2,7 +2,7 @@
 
 ghost use Rattle.std.specs.Prelude.{◌≡◌, ◌≢◌, ℤ, ◌<◌, ◌≤◌, ◌<ℤ◌, ◌≤ℤ◌, ◌++◌, [], ◌∷◌, None, map, OnOk, OnErr, IfOk, IfErr, Err, length};
 ghost use Rattle.arch_types.specs.declared.refusal.Refusal.TheVariants.{UnknownParameter, BadRange, OutOfMemory};
-ghost use Rattle.mdb_model.specs.Texts.{place_of};
+ghost use Rattle.mdb_items.specs.Texts.{place_of};
 ghost use Rattle.std.specs.Option.{is_some};
 ghost use Rattle.std.specs.List.{AllByRecursion};
 ghost use Rattle.arch_types.specs.Interval.{interval_of};

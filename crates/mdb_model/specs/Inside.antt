@@ -2,7 +2,7 @@
 use Rattle.std.specs.Prelude.{◌≡◌, map}
 use Rattle.mdb_model.specs.declared.mdb.Mdb.TheInside.{Inside}
 use Rattle.mdb_model.specs.Children.{AreChildren}
-use Rattle.mdb_model.specs.Database.{Database, IsDatabase}
+use Rattle.mdb_items.specs.Database.{Database, IsDatabase}
 
 -- the database of the fields
 abbrev pub database_inside : Inside → Database

@@ -2,9 +2,9 @@
 
 ghost use Rattle.std.specs.Prelude.{◌≡◌, ◌<◌, ◌≤◌, ◌++◌, ℕ, List, length, slice_get, Some, OnOk, IfOk};
 ghost use Rattle.mdb_model.specs.Children.{AreChildren, if_parent};
-ghost use Rattle.mdb_model.specs.Totals.{AreEarlier};
+ghost use Rattle.mdb_rules.specs.Totals.{AreEarlier};
 
-use crate::container::Container;
+use mdb_items::container::Container;
 use item_list::items::Items;
 use std::alloc::{AllocError, Global};
 

@@ -1,37 +1,37 @@
 //! The checked mission database.
 
 ghost use Rattle.std.specs.Prelude.{◌≡◌, ◌<◌, IfOk, Some, is_some, length, map, slice_get};
-ghost use Rattle.mdb_model.specs.declared.not_mdb.NotMdb.TheVariants.{OutOfMemory};
+ghost use Rattle.mdb_items.specs.declared.not_mdb.NotMdb.TheVariants.{OutOfMemory};
 ghost use Rattle.mdb_model.specs.Children.{children_of};
-ghost use Rattle.mdb_model.specs.Database.{IsDatabase, limit_passed};
+ghost use Rattle.mdb_items.specs.Database.{IsDatabase, limit_passed};
 ghost use Rattle.mdb_model.specs.SheetResults.{AreSpelledLists, IsCalibrationSheetResult, IsContainerSheetResult, IsParameterSheetResult, IsLimitsResult, database_from};
 ghost use Rattle.mdb_model.specs.Rechecking.{ListsRechecked, refusal};
 ghost use Rattle.mdb_model.specs.Sheets.{IsCheckResult};
-ghost use Rattle.mdb_model.specs.Spelling.{database_octets};
-ghost use Rattle.mdb_model.specs.Texts.{place_of};
+ghost use Rattle.mdb_octets.specs.Spelling.{database_octets};
+ghost use Rattle.mdb_items.specs.Texts.{place_of};
 ghost use Rattle.octet_fields.specs.Answers.{ReadsEach, ReadsOnly};
 
-use crate::calibration::Calibration;
-use crate::calibration_rows::Calibrations;
+use mdb_items::calibration::Calibration;
+use mdb_rules::calibration_rows::Calibrations;
 use crate::children::children_of;
-use crate::container::Container;
-use crate::container_rows::Containers;
-use crate::copies::{calibrations_copy, children_copy, containers_copy, parameters_copy};
-use crate::fault::{MdbFault, MdbLimit, MdbSheet};
+use mdb_items::container::Container;
+use mdb_rules::container_rows::Containers;
+use mdb_items::copies::{calibrations_copy, children_copy, containers_copy, parameters_copy};
+use mdb_items::fault::{MdbFault, MdbLimit, MdbSheet};
 use item_list::items::Items;
-use crate::limits::limit_passed;
-use crate::names::Names;
-use crate::not_mdb::NotMdb;
-use crate::parameter::Parameter;
-use crate::parameter_rows::Parameters;
-use crate::reading::{ItemLists, item_lists};
+use mdb_rules::limits::limit_passed;
+use mdb_rules::names::Names;
+use mdb_items::not_mdb::NotMdb;
+use mdb_items::parameter::Parameter;
+use mdb_rules::parameter_rows::Parameters;
+use mdb_octets::reading::{ItemLists, item_lists};
 use crate::rechecking::{
     have_rows, rechecked_calibrations, rechecked_containers, rechecked_parameters,
 };
-use crate::sheet::{RawMdb, Record};
+use mdb_items::sheet::{RawMdb, Record};
 use crate::sheet_rows::{is_calibration_header, is_container_header, is_parameter_header};
 use crate::sheets::{calibrations_of, containers_of, parameters_of};
-use crate::spelling::spelling;
+use mdb_octets::spelling::spelling;
 use octet_fields::DecodeError;
 use std::alloc::{AllocError, Global};
 use std::marker::Model;
@@ -49,7 +49,7 @@ pub struct Mdb {
 }
 
 impl Model for Mdb {
-    ghost use Rattle.mdb_model.specs.Database.{Database};
+    ghost use Rattle.mdb_items.specs.Database.{Database};
 
     ghost Value = { Database };
 

@@ -2,24 +2,24 @@
 
 ghost use Rattle.std.specs.Prelude.{◌≡◌, ◌<◌, ◌∷◌, ◌++◌, [], length, map, drop, take, flat_map, fold, slice_get, option_copied, option_map, None, Some, IfOk, nat_lt, true, false};
 ghost use Rattle.std.specs.List.{AllByRecursion, list_all};
-ghost use Rattle.mdb_model.specs.CalibrationRows.{row_values_of, rows_of_calibration, with_calibration_row};
-ghost use Rattle.mdb_model.specs.ContainerRows.{begin_row, entry_row, rows_of_container, with_container_row};
-ghost use Rattle.mdb_model.specs.Database.{table_len};
-ghost use Rattle.mdb_model.specs.ParameterRows.{reference_to, row_of_parameter};
+ghost use Rattle.mdb_items.specs.CalibrationRows.{row_values_of, rows_of_calibration, with_calibration_row};
+ghost use Rattle.mdb_items.specs.ContainerRows.{begin_row, entry_row, rows_of_container, with_container_row};
+ghost use Rattle.mdb_items.specs.Database.{table_len};
+ghost use Rattle.mdb_items.specs.ParameterRows.{reference_to, row_of_parameter};
 ghost use Rattle.mdb_model.specs.Rechecking.{CalibrationsRechecked, ContainersRechecked, HasRows, ParameterRechecked, ParametersRechecked, RowsRechecked, CalibrationRowRechecked, CalibrationRechecked, row_with};
-ghost use Rattle.mdb_model.specs.Totals.{HasPaths};
-ghost use Rattle.mdb_model.specs.Steps.{IsInStep};
+ghost use Rattle.mdb_rules.specs.Totals.{HasPaths};
+ghost use Rattle.mdb_rules.specs.Steps.{IsInStep};
 
-use crate::calibration::{Calibration, Table};
-use crate::calibration_rows::Calibrations;
-use crate::container::{Container, Entry};
-use crate::container_rows::Containers;
+use mdb_items::calibration::{Calibration, Table};
+use mdb_rules::calibration_rows::Calibrations;
+use mdb_items::container::{Container, Entry};
+use mdb_rules::container_rows::Containers;
 use item_list::items::Items;
-use crate::limits::table_len;
-use crate::name::MdbName;
-use crate::parameter::Parameter;
-use crate::parameter_rows::Parameters;
-use crate::rows::{ContainerColumns, NewContainer, ParameterRow, Position, Reference, RowValues};
+use mdb_rules::limits::table_len;
+use mdb_items::name::MdbName;
+use mdb_items::parameter::Parameter;
+use mdb_rules::parameter_rows::Parameters;
+use mdb_items::rows::{ContainerColumns, NewContainer, ParameterRow, Position, Reference, RowValues};
 use octet_fields::DecodeError;
 use std::alloc::{AllocError, Global};
 

@@ -1,19 +1,19 @@
 //! The three sheets, checked one after the other.
 
 ghost use Rattle.std.specs.Prelude.{◌≡◌, ◌∷◌, ◌++◌, [], None, Some, Ok, option_copied, option_map, map, slice_get, IfOk};
-ghost use Rattle.mdb_model.specs.CalibrationRows.{calibration_fault, with_calibration_row};
-ghost use Rattle.mdb_model.specs.ContainerRows.{row_fault, with_container_row};
-ghost use Rattle.mdb_model.specs.ParameterRows.{parameter_fault, parameter_of};
+ghost use Rattle.mdb_items.specs.CalibrationRows.{calibration_fault, with_calibration_row};
+ghost use Rattle.mdb_items.specs.ContainerRows.{row_fault, with_container_row};
+ghost use Rattle.mdb_items.specs.ParameterRows.{parameter_fault, parameter_of};
 ghost use Rattle.mdb_model.specs.Sheets.{read_calibration, read_container, read_containers, read_parameter};
-ghost use Rattle.mdb_model.specs.Totals.{HasPaths};
-ghost use Rattle.mdb_model.specs.Steps.{IsCalibrationsResult, IsContainersResult, IsInStep, IsParametersResult};
-ghost use Rattle.mdb_model.specs.Texts.{field};
+ghost use Rattle.mdb_rules.specs.Totals.{HasPaths};
+ghost use Rattle.mdb_rules.specs.Steps.{IsCalibrationsResult, IsContainersResult, IsInStep, IsParametersResult};
+ghost use Rattle.mdb_items.specs.Texts.{field};
 
-use crate::calibration_rows::Calibrations;
-use crate::container_rows::{Containers, is_continuing};
-use crate::fault::{MdbFault, MdbSheet};
-use crate::parameter_rows::Parameters;
-use crate::sheet::Record;
+use mdb_rules::calibration_rows::Calibrations;
+use mdb_rules::container_rows::{Containers, is_continuing};
+use mdb_items::fault::{MdbFault, MdbSheet};
+use mdb_rules::parameter_rows::Parameters;
+use mdb_items::sheet::Record;
 use crate::sheet_rows::{
     read_columns, read_parameter, read_position, read_reference, read_row_values,
 };

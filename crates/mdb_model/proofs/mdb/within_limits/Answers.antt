@@ -1,8 +1,8 @@
 use Rattle.std.proofs.Common.{◌≡◌, ◌∙◌, List, None, ap, sym, subst}
-use Rattle.mdb_model.specs.declared.container.Container.{Container}
+use Rattle.mdb_items.specs.declared.container.Container.{Container}
 use Rattle.mdb_model.specs.Children.{AreChildren}
-use Rattle.mdb_model.specs.Database.{Database, IsDatabase, database_of, limit_passed}
-use Rattle.mdb_model.specs.Totals.{AreEarlier}
+use Rattle.mdb_items.specs.Database.{Database, IsDatabase, database_of, limit_passed}
+use Rattle.mdb_rules.specs.Totals.{AreEarlier}
 use Rattle.mdb_model.proofs.Respelling.{is_database}
 use Rattle.mdb_model.proofs.mdb.within_limits.Goals as goal
 
