@@ -26,3 +26,6 @@ pub mod ListsAgain
 pub mod Counts
 pub mod Families
 pub mod Structure
+pub mod FirstOfKey
+pub mod NamesInOrder
+pub mod SortedNames

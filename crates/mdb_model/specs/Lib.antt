@@ -19,3 +19,5 @@ pub mod Reading
 pub mod Refusals
 pub mod Rechecking
 pub mod Structure
+pub mod NameOrder
+pub mod Lookups
