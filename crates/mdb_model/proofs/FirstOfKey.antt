@@ -1,9 +1,9 @@
 -- Items sorted by a key and then by their number: the first that isn't below a key is the one with the least number of that key.
-use Rattle.std.proofs.Common.{◌≡◌, ◌∙◌, ◌<◌, ◌≤◌, ◌+◌, ℕ, List, length, get_or, Option, Some, None, Bool, true, false, refl, ap, sym, subst, arith, le-ltb, lt-ltb, true≢false, inl, inr}
+use Rattle.std.proofs.Common.{◌≡◌, ◌∙◌, ◌<◌, ◌≤◌, ◌+◌, ℕ, List, length, get_or, Some, None, Bool, true, false, refl, ap, sym, arith, le-ltb, lt-ltb, true≢false, inl, inr}
 use Rattle.std.specs.Cmp.{IsTotalOrder, IsStrictWeakOrder, tied_back}
-use Rattle.std.specs.List.{All, AllWithin, position}
+use Rattle.std.specs.List.{AllWithin, position}
 use Rattle.std.specs.List.Sorted.{IsSortedBy, IsPartitionedBy}
-use Rattle.std.specs.Ordering.{nat_cmp, is_eq, is_lt, on, ordering_index, ordering_reverse, ordering_then, then_cmp}
+use Rattle.std.specs.Ordering.{nat_cmp, is_eq, is_lt, ordering_index, ordering_reverse, ordering_then}
 use Rattle.std.specs.declared.cmp.Ordering.{Ordering}
 use Rattle.std.specs.declared.cmp.Ordering.TheVariants.{Less, Equal, Greater}
 use Rattle.std.proofs.lemmas.Bool.{cases_lt}

@@ -1,13 +1,12 @@
 -- Where a name stands among the numbers that are in the order of their names.
-use Rattle.std.proofs.Common.{◌≡◌, ◌∙◌, ◌<◌, ◌≤◌, ◌+◌, ℕ, List, [], length, get_or, Bool, true, false, Option, Some, None, inl, inr, refl, ap, sym, arith, ltb-true, ltb-false}
+use Rattle.std.proofs.Common.{◌≡◌, ◌∙◌, ◌<◌, ◌+◌, ℕ, List, [], length, get_or, true, false, Some, None, refl, ap, sym, arith, ltb-true, ltb-false}
 use Rattle.std.specs.Cmp.{tied_itself}
-use Rattle.std.specs.Cmp.Lexicographic.{nat_list_cmp_total, other_text, same_text, slice_cmp, texts_ties}
-use Rattle.std.specs.List.{AllWithin, Contains}
+use Rattle.std.specs.Cmp.Lexicographic.{nat_list_cmp_total, slice_cmp, texts_ties}
+use Rattle.std.specs.List.{AllWithin}
 use Rattle.std.specs.List.Sorted.{IsPartitionPoint}
 use Rattle.std.specs.Ordering.{is_eq, nat_cmp}
 use Rattle.std.specs.Prelude.{nat_lt}
 use Rattle.std.specs.Str.{bytes_eq}
-use Rattle.std.specs.declared.cmp.Ordering.{Ordering}
 use Rattle.std.proofs.lemmas.List.Elements.{All-get_or, at_read}
 use Rattle.mdb_model.specs.NameOrder.{IsNameOrder, is_below, name_at}
 use Rattle.mdb_model.specs.Texts.{Text, place_of}

@@ -1,8 +1,8 @@
 -- The numbers of named items in the order of their names.
-use Rattle.std.specs.Prelude.{◌≡◌, ℕ, List, [], ◌<◌, Bool, length, Contains, get_or}
+use Rattle.std.specs.Prelude.{◌≡◌, ℕ, List, [], ◌<◌, Bool, true, false, length, Contains, get_or}
 use Rattle.std.specs.Cmp.Lexicographic.{slice_cmp}
 use Rattle.std.specs.List.{All}
-use Rattle.std.specs.List.Sorted.{IsSorted}
+use Rattle.std.specs.List.Sorted.{IsPartitionPoint, IsSorted}
 use Rattle.std.specs.Ordering.{is_lt, nat_cmp, ordering_then}
 use Rattle.std.specs.declared.cmp.Ordering.{Ordering}
 use Rattle.mdb_model.specs.Texts.{Text}
@@ -24,6 +24,10 @@ pub record IsNameOrder (names : List Text) (order : List ℕ) : Type 0 where
   pub sorted : IsSorted (name_cmp names) order
   pub known : All (λ n. n < length names) order
   pub each : (n : ℕ) → n < length names → Contains order n
+
+-- so many of the first numbers have names that come before another, and the numbers after them have not
+abbrev pub IsCountBelow : List Text → List ℕ → Text → ℕ → Type 0
+IsCountBelow names order name count = IsPartitionPoint (λ n. is_below names name n ≡ true) (λ n. is_below names name n ≡ false) order count
 
 -- names with the numbers of their items, sorted
 pub record AreNamesSorted (names : List Text) (named : List (Text × ℕ)) : Type 0 where

@@ -1,6 +1,6 @@
 //! Lists, which contracts see as lists.
 
-ghost use Rattle.std.specs.Prelude.{◌≡◌, ◌∷◌, ◌++◌, [], length, IfOk, OnOk, OnErr};
+ghost use Rattle.std.specs.Prelude.{◌≡◌, ◌∷◌, ◌++◌, [], length, OnOk, OnErr};
 
 use std::alloc::{AllocError, Global};
 use std::marker::Model;
@@ -61,16 +61,5 @@ impl<T: Drop> Items<T> {
     {
         self.list.push(item)?;
         Ok(())
-    }
-}
-
-impl<T: Copy + Drop> Items<T> {
-    /// An equal value.
-    pub fn copy(&self, alloc: Global) -> Result<Items<T>, AllocError>
-        ensures { IfOk result (λ copy. copy ≡ self.now) }
-    {
-        Ok(Items {
-            list: Vec::from_slice(alloc, self.list.as_slice())?,
-        })
     }
 }

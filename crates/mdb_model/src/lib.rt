@@ -2,7 +2,8 @@
 // they stand (XTCE's terms). `Mdb::check` takes three sheets of octet fields, and answers the first rule that they
 // break, or else the first limit that they pass. `Mdb::to_bytes` and `Mdb::from_bytes` spell a database in octets.
 // A database's type keeps what `IsDatabase` of specs/Database.antt says: its own rows spell it, they break no rule, and
-// it passes no limit. Beside the containers it keeps the numbers of those directly below each. `laws` says what callers
+// it passes no limit. Copies share the items. Beside them stand the numbers in the order of the names, which find a
+// name by halving (specs/NameOrder.antt), and for each container the numbers of those directly below it. `laws` says what callers
 // need of any database. The rules stand in specs/CalibrationRows.antt, ParameterRows.antt and ContainerRows.antt, each
 // as a list of numbered tests of one row below the items above it.
 // The one idea of the proof: reading, checking and decoding all take rows in one after the other, below what those

@@ -1,8 +1,7 @@
 //! The numbers of named items in the order of their names.
 
-ghost use Rattle.std.specs.Prelude.{◌≡◌, ◌≤◌, length, map, true, false, IfOk};
-ghost use Rattle.std.specs.List.Sorted.{IsPartitionPoint};
-ghost use Rattle.mdb_model.specs.NameOrder.{AreNamesSorted, IsNameOrder, is_below, name_at};
+ghost use Rattle.std.specs.Prelude.{◌≡◌, ◌≤◌, length, map, IfOk};
+ghost use Rattle.mdb_model.specs.NameOrder.{AreNamesSorted, IsCountBelow, IsNameOrder, is_below, name_at};
 ghost use Rattle.mdb_model.specs.Texts.{place_of};
 
 use crate::container::Container;
@@ -80,7 +79,7 @@ fn is_below<T: Named>(items: &[T], number: u16, name: &[u8]) -> bool
 /// How many of the numbers have names that come before another.
 fn count_below<T: Named>(items: &[T], order: &[u16], name: &[u8]) -> usize
     requires { IsNameOrder (map T.name_of items.now) order.now }
-    ensures { IsPartitionPoint (λ n. is_below (map T.name_of items.now) name.now n ≡ true) (λ n. is_below (map T.name_of items.now) name.now n ≡ false) order.now result }
+    ensures { IsCountBelow (map T.name_of items.now) order.now name.now result }
 {
     let mut low = 0;
     let mut high = order.len();

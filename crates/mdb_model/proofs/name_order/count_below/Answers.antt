@@ -1,5 +1,4 @@
-use Rattle.std.proofs.Common.{◌≡◌, ◌∙◌, ◌<◌, ◌+◌, ◌-◌, ◌/◌, List, length, map, get_or, ap, sym, arith, true, false}
-use Rattle.mdb_model.specs.NameOrder.{is_below}
+use Rattle.std.proofs.Common.{◌∙◌, ◌<◌, ◌+◌, ◌-◌, ◌/◌, List, length, map, sym, arith}
 use Rattle.mdb_model.specs.Texts.{Text}
 use Rattle.mdb_model.proofs.NamesInOrder.{above_too, below_too}
 use Rattle.mdb_model.proofs.name_order.count_below.Goals as goal

@@ -1,6 +1,6 @@
-use Rattle.std.proofs.Common.{◌≡◌, ◌∙◌, List, length, map, take, ap, sym, subst, arith, rules}
-use Rattle.std.proofs.lemmas.List.{length-map, take_all}
-use Rattle.mdb_model.specs.NameOrder.{AreNamesSorted, IsNameOrder}
+use Rattle.std.proofs.Common.{◌≡◌, ◌∙◌, List, map, ap, sym, subst}
+use Rattle.std.proofs.lemmas.List.{take_all}
+use Rattle.mdb_model.specs.NameOrder.{IsNameOrder}
 use Rattle.mdb_model.specs.Texts.{Text}
 use Rattle.mdb_model.proofs.SortedNames.{numbers_sorted, seconds}
 use Rattle.mdb_model.proofs.name_order.name_order.Goals as goal

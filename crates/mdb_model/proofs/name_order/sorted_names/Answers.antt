@@ -1,7 +1,7 @@
-use Rattle.std.proofs.Common.{◌≡◌, ◌∙◌, List, length, map, ap, sym, subst, arith, rules}
+use Rattle.std.proofs.Common.{◌≡◌, List, length, map, subst, arith}
 use Rattle.std.proofs.lemmas.List.{length-map}
 use Rattle.mdb_model.specs.Texts.{Text}
-use Rattle.mdb_model.proofs.SortedNames.{AreNumbered, names_sorted, none_numbered, one_numbered}
+use Rattle.mdb_model.proofs.SortedNames.{AreNumbered, names_sorted}
 use Rattle.mdb_model.proofs.name_order.sorted_names.Goals as goal
 
 pub returns : goal.returns
