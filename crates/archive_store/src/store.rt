@@ -281,5 +281,5 @@ impl<D: Disk> Store<D> {
 fn shared(alloc: Global, mdb: &Mdb) -> Result<Arc<Mdb, Global>, AllocError>
     ensures { IfOk result (λ shared. arc_value shared ≡ mdb.now) }
 {
-    Ok(Arc::new(alloc, mdb.copy(alloc)?)?)
+    Ok(Arc::new(alloc, mdb.copy()?)?)
 }

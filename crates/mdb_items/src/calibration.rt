@@ -1,11 +1,7 @@
 //! Calibrations: how a raw number becomes an engineering value.
 
-ghost use Rattle.std.specs.Prelude.{◌≡◌, IfOk};
-
-use crate::copies::labels_copy;
-use item_list::items::Items;
 use crate::name::MdbName;
-use std::alloc::{AllocError, Global};
+use item_list::items::Items;
 
 /// A coefficient of a polynomial.
 #[derive(Drop, Clone, Copy)]
@@ -46,41 +42,4 @@ pub enum Table {
 pub struct Calibration {
     pub name: MdbName,
     pub table: Table,
-}
-
-impl EnumRow {
-    /// An equal value.
-    pub fn copy(&self, alloc: Global) -> Result<EnumRow, AllocError>
-        ensures { IfOk result (λ copy. copy ≡ self.now) }
-    {
-        let label = self.label.copy(alloc)?;
-        Ok(EnumRow { x: self.x, label })
-    }
-}
-
-impl Table {
-    /// An equal value.
-    pub fn copy(&self, alloc: Global) -> Result<Table, AllocError>
-        ensures { IfOk result (λ copy. copy ≡ self.now) }
-    {
-        match self {
-            Table::Poly(rows) => Ok(Table::Poly(rows.copy(alloc)?)),
-            Table::Points(rows) => Ok(Table::Points(rows.copy(alloc)?)),
-            Table::Enum(rows) => Ok(Table::Enum(Items::from_vec(labels_copy(
-                alloc,
-                rows.as_slice(),
-            )?))),
-        }
-    }
-}
-
-impl Calibration {
-    /// An equal value.
-    pub fn copy(&self, alloc: Global) -> Result<Calibration, AllocError>
-        ensures { IfOk result (λ copy. copy ≡ self.now) }
-    {
-        let name = self.name.copy(alloc)?;
-        let table = self.table.copy(alloc)?;
-        Ok(Calibration { name, table })
-    }
 }

@@ -1,10 +1,7 @@
 //! Containers: which parameters stand where in a packet, and when.
 
-ghost use Rattle.std.specs.Prelude.{◌≡◌, IfOk};
-
-use item_list::items::Items;
 use crate::name::MdbName;
-use std::alloc::{AllocError, Global};
+use item_list::items::Items;
 
 /// How a condition compares a parameter's raw value with a number.
 #[derive(Drop, Clone, Copy)]
@@ -47,22 +44,4 @@ pub struct Container {
     pub condition: Items<Comparison>,
     /// The container's own entries in their order.
     pub entries: Items<Entry>,
-}
-
-impl Container {
-    /// An equal value.
-    pub fn copy(&self, alloc: Global) -> Result<Container, AllocError>
-        ensures { IfOk result (λ copy. copy ≡ self.now) }
-    {
-        let name = self.name.copy(alloc)?;
-        let condition = self.condition.copy(alloc)?;
-        let entries = self.entries.copy(alloc)?;
-        Ok(Container {
-            name,
-            parent: self.parent,
-            archive: self.archive,
-            condition,
-            entries,
-        })
-    }
 }

@@ -8,7 +8,6 @@
 
 pub mod calibration;
 pub mod container;
-pub mod copies;
 pub mod fault;
 pub mod name;
 pub mod not_mdb;

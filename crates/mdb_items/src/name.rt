@@ -41,11 +41,4 @@ impl MdbName {
     {
         self.octets.as_slice()
     }
-
-    /// An equal value.
-    pub fn copy(&self, alloc: Global) -> Result<MdbName, AllocError>
-        ensures { IfOk result (λ copy. copy ≡ self.now) }
-    {
-        MdbName::from_slice(alloc, self.octets.as_slice())
-    }
 }

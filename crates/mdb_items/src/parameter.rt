@@ -1,9 +1,6 @@
 //! Parameters: how a field of a packet is read.
 
-ghost use Rattle.std.specs.Prelude.{◌≡◌, IfOk};
-
 use crate::name::MdbName;
-use std::alloc::{AllocError, Global};
 
 /// How the bits of a field are a number: unsigned or in two's complement, the first octet the highest or the lowest.
 #[derive(Drop, Clone, Copy)]
@@ -23,19 +20,4 @@ pub struct Parameter {
     pub bits: u8,
     /// The number of its calibration, if it has one.
     pub calibration: Option<usize>,
-}
-
-impl Parameter {
-    /// An equal value.
-    pub fn copy(&self, alloc: Global) -> Result<Parameter, AllocError>
-        ensures { IfOk result (λ copy. copy ≡ self.now) }
-    {
-        let name = self.name.copy(alloc)?;
-        Ok(Parameter {
-            name,
-            coding: self.coding,
-            bits: self.bits,
-            calibration: self.calibration,
-        })
-    }
 }

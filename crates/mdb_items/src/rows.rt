@@ -1,9 +1,9 @@
 //! What the texts of a row say, whatever they are: the rules judge these rows, those of sheets and those of stored octets alike.
 
 use crate::container::Comparison;
-use item_list::items::Items;
 use crate::name::MdbName;
 use crate::parameter::Coding;
+use item_list::items::Items;
 
 /// What a text that names an item says.
 #[derive(Drop, Clone, Copy)]

@@ -120,8 +120,6 @@ all_given raw c p k g h i =
       sound = both_none (calibrations_fault rows.calibrations) (or_else (parameters_fault cs rows.parameters) (containers_fault (parameters_from raw) rows.containers)) g.1
           (both_none (parameters_fault cs rows.parameters) (containers_fault (parameters_from raw) rows.containers) (second_rows raw c p g h) third);
       spelled = spelled_database raw c p k g h i;
-      parameter_names = h.3;
-      container_names = i.3.names;
       earlier = i.3.earlier;
     }
 

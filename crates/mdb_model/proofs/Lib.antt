@@ -15,3 +15,6 @@ pub mod Families
 pub mod Distinct
 pub mod CalibrationTables
 pub mod Structure
+pub mod FirstOfKey
+pub mod NamesInOrder
+pub mod SortedNames

@@ -42,13 +42,11 @@ IsContainerSheetResult parameters records (Err fault) = Refuses (sheet_fault she
 abbrev pub database_from : Calibrations → Parameters → Containers → Database
 database_from calibrations parameters containers = record { parameters = parameters.items.items; calibrations = calibrations.items.items; containers = containers.items.items }
 
--- sound rows spell the three lists, the names are those of the items, and each parent stands earlier
+-- sound rows spell the three lists, and each parent stands earlier
 pub record AreSpelledLists (calibrations : Calibrations) (parameters : Parameters) (containers : Containers) : Type 0 where
   pub rows : Rows
   pub sound : first_fault rows ≡ None
   pub spelled : database_of rows ≡ database_from calibrations parameters containers
-  pub parameter_names : parameters.names ≡ map (λ p. p.name) parameters.items.items
-  pub container_names : containers.names ≡ map (λ c. c.name) containers.items.items
   pub earlier : AreEarlier containers.items.items
 
 -- the database, or the first limit that it passes; for want of memory nothing is said

@@ -4,8 +4,8 @@ ghost use Rattle.std.specs.Prelude.{◌≡◌, ◌<◌, ◌≤◌, ◌++◌, ℕ
 ghost use Rattle.mdb_model.specs.Children.{AreChildren, if_parent};
 ghost use Rattle.mdb_rules.specs.Totals.{AreEarlier};
 
-use mdb_items::container::Container;
 use item_list::items::Items;
+use mdb_items::container::Container;
 use std::alloc::{AllocError, Global};
 
 /// Puts a container behind the children of its parent.

@@ -10,16 +10,18 @@ ghost use Rattle.mdb_model.specs.Rechecking.{CalibrationsRechecked, ContainersRe
 ghost use Rattle.mdb_rules.specs.Totals.{HasPaths};
 ghost use Rattle.mdb_rules.specs.Steps.{IsInStep};
 
-use mdb_items::calibration::{Calibration, Table};
-use mdb_rules::calibration_rows::Calibrations;
-use mdb_items::container::{Container, Entry};
-use mdb_rules::container_rows::Containers;
 use item_list::items::Items;
-use mdb_rules::limits::table_len;
+use mdb_items::calibration::{Calibration, Table};
+use mdb_items::container::{Container, Entry};
 use mdb_items::name::MdbName;
 use mdb_items::parameter::Parameter;
+use mdb_items::rows::{
+    ContainerColumns, NewContainer, ParameterRow, Position, Reference, RowValues,
+};
+use mdb_rules::calibration_rows::Calibrations;
+use mdb_rules::container_rows::Containers;
+use mdb_rules::limits::table_len;
 use mdb_rules::parameter_rows::Parameters;
-use mdb_items::rows::{ContainerColumns, NewContainer, ParameterRow, Position, Reference, RowValues};
 use octet_fields::DecodeError;
 use std::alloc::{AllocError, Global};
 

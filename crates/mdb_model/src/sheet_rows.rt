@@ -7,13 +7,15 @@ ghost use Rattle.mdb_model.specs.Sheets.{are_texts, is_calibration_header, is_co
 ghost use Rattle.mdb_items.specs.Texts.{field, offset};
 ghost use Rattle.text_forms.specs.Digits.{digits_at_most};
 
-use mdb_rules::condition::condition;
 use mdb_items::name::MdbName;
-use mdb_rules::names::Names;
 use mdb_items::parameter::Coding;
-use mdb_items::rows::{ContainerColumns, NewContainer, ParameterRow, Position, Reference, RowValues};
+use mdb_items::rows::{
+    ContainerColumns, NewContainer, ParameterRow, Position, Reference, RowValues,
+};
 use mdb_items::sheet::Record;
 use mdb_items::texts::{decimal_number, offset, small_number, whole_number};
+use mdb_rules::condition::condition;
+use mdb_rules::names::Names;
 use std::alloc::{AllocError, Global};
 use text_forms::digits_at_most;
 

@@ -9,14 +9,14 @@ ghost use Rattle.mdb_rules.specs.Totals.{HasPaths};
 ghost use Rattle.mdb_rules.specs.Steps.{IsCalibrationsResult, IsContainersResult, IsInStep, IsParametersResult};
 ghost use Rattle.mdb_items.specs.Texts.{field};
 
-use mdb_rules::calibration_rows::Calibrations;
-use mdb_rules::container_rows::{Containers, is_continuing};
-use mdb_items::fault::{MdbFault, MdbSheet};
-use mdb_rules::parameter_rows::Parameters;
-use mdb_items::sheet::Record;
 use crate::sheet_rows::{
     read_columns, read_parameter, read_position, read_reference, read_row_values,
 };
+use mdb_items::fault::{MdbFault, MdbSheet};
+use mdb_items::sheet::Record;
+use mdb_rules::calibration_rows::Calibrations;
+use mdb_rules::container_rows::{Containers, is_continuing};
+use mdb_rules::parameter_rows::Parameters;
 use std::alloc::{AllocError, Global};
 
 /// The first field of a record, if there is a record.

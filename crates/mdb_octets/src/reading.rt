@@ -6,9 +6,9 @@ ghost use Rattle.octet_fields.specs.Answers.{Answers, Gives};
 ghost use Rattle.octet_fields.specs.Reading.{counted_at, times_at, whole};
 ghost use Rattle.mdb_octets.specs.Reading.{archive_at, calibration_at, coding_at, comparison_at, container_at, database_at, entry_at, enum_at, from_link, link_at, operator_at, parameter_at, points_at, poly_at, table_at};
 
+use item_list::items::Items;
 use mdb_items::calibration::{Calibration, EnumRow, PointsRow, PolyRow, Table};
 use mdb_items::container::{Comparison, Container, Entry, Operator};
-use item_list::items::Items;
 use mdb_items::name::MdbName;
 use mdb_items::parameter::{Coding, Parameter};
 use octet_fields::{DecodeError, Short, i64_at, i128_at, name_at, u8_at, u16_at, u32_at};

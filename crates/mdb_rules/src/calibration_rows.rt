@@ -10,10 +10,10 @@ ghost use Rattle.mdb_items.specs.Numbers.{is_decimal, is_in_range, is_whole_numb
 ghost use Rattle.mdb_rules.specs.Steps.{IsInStep};
 ghost use Rattle.mdb_items.specs.Texts.{place_of};
 
-use mdb_items::calibration::{Calibration, EnumRow, PointsRow, PolyRow, Table};
-use item_list::items::Items;
-use mdb_items::name::MdbName;
 use crate::names::{Names, Numbers};
+use item_list::items::Items;
+use mdb_items::calibration::{Calibration, EnumRow, PointsRow, PolyRow, Table};
+use mdb_items::name::MdbName;
 use mdb_items::rows::RowValues;
 use mdb_items::texts::is_label;
 use std::alloc::{AllocError, Global};

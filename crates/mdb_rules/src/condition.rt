@@ -5,9 +5,9 @@ ghost use Rattle.std.specs.List.{list_all};
 ghost use Rattle.mdb_items.specs.Conditions.{after, comparison, comparison_named, comparison_of, comparison_with, condition, front, front_len, is_no_semicolon, is_no_space, is_operator_octet, is_space, operator_of, pieces, pieces_after};
 ghost use Rattle.text_forms.specs.Names.{is_name_octet};
 
-use mdb_items::container::{Comparison, Operator};
-use item_list::items::Items;
 use crate::names::Names;
+use item_list::items::Items;
+use mdb_items::container::{Comparison, Operator};
 use mdb_items::texts::whole_number;
 use std::alloc::{AllocError, Global};
 use text_forms::is_name_octet;

@@ -14,11 +14,11 @@ ghost use Rattle.mdb_rules.specs.Totals.{AreEarlier, HasPaths, HasSomePaths, Kee
 ghost use Rattle.mdb_items.specs.Texts.{place_of};
 
 use crate::calibration_rows::is_in_range;
-use mdb_items::container::{Comparison, Container, Entry};
-use item_list::items::Items;
 use crate::names::Names;
-use mdb_items::parameter::Parameter;
 use crate::parameter_rows::{is_reference, number_of};
+use item_list::items::Items;
+use mdb_items::container::{Comparison, Container, Entry};
+use mdb_items::parameter::Parameter;
 use mdb_items::rows::{ContainerColumns, NewContainer, Position, Reference};
 use std::alloc::{AllocError, Global};
 use text_forms::is_name;

@@ -1,6 +1,6 @@
 //! Distinct names and distinct numbers, found by their hashes.
 
-ghost use Rattle.std.specs.Prelude.{◌≡◌, ◌∷◌, ◌++◌, [], IfOk, OnOk, OnErr, None, false};
+ghost use Rattle.std.specs.Prelude.{◌≡◌, ◌∷◌, ◌++◌, [], OnOk, OnErr, None, false};
 ghost use Rattle.std.specs.List.{list_any};
 ghost use Rattle.mdb_items.specs.Texts.{place_of};
 ghost use Rattle.mdb_items.specs.Numbers.{has_number};
@@ -47,17 +47,6 @@ impl Names {
     {
         self.set.insert(name)?;
         Ok(())
-    }
-}
-
-impl Names {
-    /// An equal value.
-    pub fn copy(&self) -> Result<Names, AllocError>
-        ensures { IfOk result (λ copy. copy ≡ self.now) }
-    {
-        Ok(Names {
-            set: self.set.clone()?,
-        })
     }
 }
 

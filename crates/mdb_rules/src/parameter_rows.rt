@@ -5,8 +5,8 @@ ghost use Rattle.mdb_items.specs.Checks.{first_broken};
 ghost use Rattle.mdb_items.specs.Texts.{place_of};
 ghost use Rattle.mdb_items.specs.ParameterRows.{admits, degree, fits_coding, is_le, is_reference, number_of, parameter_checks, parameter_of, reach, table_at};
 
-use mdb_items::calibration::{Calibration, PolyRow, Table};
 use crate::names::Names;
+use mdb_items::calibration::{Calibration, PolyRow, Table};
 use mdb_items::parameter::{Coding, Parameter};
 use mdb_items::rows::{ParameterRow, Reference};
 use std::alloc::{AllocError, Global};

@@ -96,8 +96,6 @@ within_limits-requires c =
       sound = all_sound d cs ps ec ep (some_item d.containers some) (subst P c.deref-2.ensures.value c.in_ok-calibrations.ensures.0) (subst R c.deref-3.ensures.value (subst Q c.as_slice.ensures.value c.in_ok-parameters.ensures.0))
           (subst T c.deref-4.ensures.value (subst S c.as_slice-2.ensures.value c.in_ok-containers.ensures.0));
       spelled = all_spelled d cs ps ks ec ep ek;
-      parameter_names = c.in_ok-parameters.ensures.2;
-      container_names = c.in_ok-containers.ensures.2.names;
       earlier = c.in_ok-containers.ensures.2.earlier;
     }
 
