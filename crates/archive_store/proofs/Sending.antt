@@ -9,12 +9,12 @@ use Rattle.archive_store.specs.contracts.history.History as History
 use Rattle.archive_store.specs.contracts.limit_counts.LimitCounts as LimitCounts
 use Rattle.archive_store.specs.contracts.store.Store as Store
 use Rattle.archive_store.specs.contracts.table_set.TableSet as TableSet
-use Rattle.mdb_model.specs.contracts.calibration.Calibration as Calibration
-use Rattle.mdb_model.specs.contracts.container.Container as Container
+use Rattle.mdb_items.specs.contracts.calibration.Calibration as Calibration
+use Rattle.mdb_items.specs.contracts.container.Container as Container
 use Rattle.mdb_model.specs.contracts.mdb.Mdb as Mdb
-use Rattle.mdb_model.specs.contracts.name.MdbName as MdbName
-use Rattle.mdb_model.specs.contracts.names.Names as Names
-use Rattle.mdb_model.specs.contracts.parameter.Parameter as Parameter
+use Rattle.mdb_items.specs.contracts.name.MdbName as MdbName
+use Rattle.mdb_rules.specs.contracts.names.Names as Names
+use Rattle.mdb_items.specs.contracts.parameter.Parameter as Parameter
 use Rattle.yarch_table.specs.contracts.table.Stored as Stored
 use Rattle.yarch_table.specs.contracts.table.Table as Table
 
