@@ -69,7 +69,8 @@ fn point_of(text: &[u8]) -> Option<usize>
 
 /// The millionths of the digits before a point and those after it.
 fn millionths_from(whole: &[u8], places: &[u8]) -> Option<u64>
-    ensures value { result ≡ millionths_from (digits_at_most 12 whole.now) (digits_at_most 6 places.now) (length places.now) }
+    ensures value { result ≡ millionths_from (digits_at_most 12 whole.now) (digits_at_most 6 places.now)
+        (length places.now) }
     ensures small { IfSome result (λ n. n < 10 ^ 18) }
 {
     let Some(whole) = digits_at_most(12, whole) else {

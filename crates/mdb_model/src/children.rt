@@ -16,7 +16,8 @@ fn adopt(
 ) -> Result<(), AllocError>
     requires { (p : ℕ) → parent ≡ Some p → p < length children.old.items }
     ensures count { OnOk result (length children.new.items ≡ length children.old.items) }
-    ensures each { OnOk result ((n : ℕ) (xs : List ℕ) → slice_get children.old.items n ≡ Some xs → slice_get children.new.items n ≡ Some (xs ++ if_parent n parent number)) }
+    ensures each { OnOk result ((n : ℕ) (xs : List ℕ) → slice_get children.old.items n ≡ Some xs →
+        slice_get children.new.items n ≡ Some (xs ++ if_parent n parent number)) }
 {
     match parent {
         None => Ok(()),

@@ -354,7 +354,12 @@ fn refusal(fault: MdbFault) -> DecodeError
 
 /// The decoded lists pass a limit.
 fn pass_limit(lists: &ItemLists) -> bool
-    ensures { result ≡ is_some (limit_passed (record { parameters = lists.now.parameters.items; calibrations = lists.now.calibrations.items; containers = lists.now.containers.items })) }
+    ensures { result ≡ is_some
+        (limit_passed (record {
+          parameters = lists.now.parameters.items;
+          calibrations = lists.now.calibrations.items;
+          containers = lists.now.containers.items;
+        })) }
 {
     limit_passed(&lists.parameters, &lists.calibrations, &lists.containers).is_some()
 }
@@ -363,7 +368,12 @@ impl Mdb {
     /// The database of decoded lists, whose items are taken in again by the rules of the sheets, once the limits were
     /// asked.
     fn of_lists(alloc: Global, lists: &ItemLists) -> Result<Mdb, DecodeError>
-        ensures { ListsRechecked (record { parameters = lists.now.parameters.items; calibrations = lists.now.calibrations.items; containers = lists.now.containers.items }) result }
+        ensures { ListsRechecked (record {
+          parameters = lists.now.parameters.items;
+          calibrations =
+              lists.now.calibrations.items;
+          containers = lists.now.containers.items;
+        }) result }
     {
         if pass_limit(lists) {
             return Err(DecodeError::Malformed);

@@ -56,7 +56,8 @@ fn recheck_row(
     next: Option<&[u8]>,
 ) -> Result<(), DecodeError>
     requires { IsInStep calibrations.old }
-    ensures { CalibrationRowRechecked calibrations.old calibrations.new (row_with name.now row_values) (option_copied next.entry) result }
+    ensures { CalibrationRowRechecked calibrations.old calibrations.new (row_with name.now row_values)
+        (option_copied next.entry) result }
 {
     if calibrations.broken(4, name, &row_values, next).is_some() {
         return Err(DecodeError::Malformed);
@@ -185,7 +186,13 @@ pub(crate) fn rechecked_parameters(
 }
 
 fn begun(alloc: Global, c: &Container) -> Result<NewContainer, AllocError>
-    ensures { IfOk result (λ b. b ≡ record { name = c.now.name; parent = reference_to c.now.parent; condition = Some c.now.condition; archive = Some c.now.archive }) }
+    ensures { IfOk result (λ b. b ≡ record {
+      name = c.now.name;
+      parent = reference_to c.now.parent;
+      condition = Some
+          c.now.condition;
+      archive = Some c.now.archive;
+    }) }
 {
     Ok(NewContainer {
         name: MdbName::from_slice(alloc, c.name.as_bytes())?,
@@ -242,7 +249,8 @@ fn recheck_entries(
 ) -> Result<(), DecodeError>
     requires path { HasPaths parameters.now containers.old }
     requires begun { 0 < length containers.old.items.items }
-    ensures { RowsRechecked parameters.now containers.old containers.new (flat_map (λ e. entry_row e ∷ []) entries.now) result }
+    ensures { RowsRechecked parameters.now containers.old containers.new (flat_map (λ e.
+        entry_row e ∷ []) entries.now) result }
 {
     for e in entries {
         recheck_entry(parameters, containers, e)?;

@@ -113,7 +113,8 @@ pub(crate) fn read_columns(
     above: &Names,
     fields: &Record,
 ) -> Result<ContainerColumns, AllocError>
-    ensures { IfOk result (λ columns. columns ≡ read_columns parameters.now above.now (field fields.now 0) (field fields.now 1) (field fields.now 2) (field fields.now 3)) }
+    ensures { IfOk result (λ columns. columns ≡ read_columns parameters.now above.now (field fields.now 0)
+        (field fields.now 1) (field fields.now 2) (field fields.now 3)) }
 {
     let name = fields.field(0);
     let parent = fields.field(1);

@@ -44,8 +44,11 @@ fn take_calibration(
     next: Option<&Record>,
 ) -> Result<Option<u8>, AllocError>
     requires { IsInStep calibrations.old }
-    ensures fault { IfOk result (λ rule. rule ≡ calibration_fault calibrations.old.items.items (Some (read_calibration fields.now)) (option_map read_calibration (option_copied next.entry))) }
-    ensures added { result ≡ Ok None → calibrations.new.items.items ≡ with_calibration_row calibrations.old.items.items (read_calibration fields.now) }
+    ensures fault { IfOk result (λ rule. rule ≡ calibration_fault calibrations.old.items.items
+        (Some (read_calibration fields.now)) (option_map read_calibration (option_copied next.entry))) }
+    ensures added { result ≡ Ok None →
+        calibrations.new.items.items ≡ with_calibration_row calibrations.old.items.items
+        (read_calibration fields.now) }
     ensures step { result ≡ Ok None → IsInStep calibrations.new }
 {
     let count = fields.len();
@@ -86,8 +89,11 @@ fn take_parameter(
     fields: &Record,
 ) -> Result<Option<u8>, AllocError>
     requires names { parameters.old.names ≡ map (λ p. p.name) parameters.old.items.items }
-    ensures fault { IfOk result (λ rule. rule ≡ parameter_fault calibrations.now.items.items parameters.old.items.items (Some (read_parameter calibrations.now.names fields.now))) }
-    ensures added { result ≡ Ok None → parameters.new.items.items ≡ parameters.old.items.items ++ parameter_of (read_parameter calibrations.now.names fields.now) ∷ [] }
+    ensures fault { IfOk result (λ rule.
+        rule ≡ parameter_fault calibrations.now.items.items parameters.old.items.items
+        (Some (read_parameter calibrations.now.names fields.now))) }
+    ensures added { result ≡ Ok None → parameters.new.items.items ≡ parameters.old.items.items ++ parameter_of
+        (read_parameter calibrations.now.names fields.now) ∷ [] }
     ensures names { result ≡ Ok None → parameters.new.names ≡ map (λ p. p.name) parameters.new.items.items }
 {
     let row = read_parameter(alloc, &calibrations.names, fields)?;
@@ -105,7 +111,8 @@ pub(crate) fn parameters_of(
     calibrations: &Calibrations,
     records: &[Record],
 ) -> Result<Parameters, MdbFault>
-    ensures { IsParametersResult calibrations.now.items.items (map (read_parameter calibrations.now.names) records.now) result }
+    ensures { IsParametersResult calibrations.now.items.items (map (read_parameter calibrations.now.names)
+        records.now) result }
 {
     let mut parameters = Parameters::new(alloc);
     for (i, fields) in records.iter().enumerate() {
@@ -129,8 +136,10 @@ fn take_container(
 ) -> Result<Option<u8>, AllocError>
     requires path { HasPaths parameters.now.items.items containers.old }
     requires names { parameters.now.names ≡ map (λ p. p.name) parameters.now.items.items }
-    ensures fault { IfOk result (λ rule. rule ≡ row_fault parameters.now.items.items containers.old.items.items (read_container parameters.now.items.items containers.old.items.items fields.now)) }
-    ensures added { result ≡ Ok None → containers.new.items.items ≡ with_container_row containers.old.items.items (read_container parameters.now.items.items containers.old.items.items fields.now) }
+    ensures fault { IfOk result (λ rule. rule ≡ row_fault parameters.now.items.items containers.old.items.items
+        (read_container parameters.now.items.items containers.old.items.items fields.now)) }
+    ensures added { result ≡ Ok None → containers.new.items.items ≡ with_container_row containers.old.items.items
+        (read_container parameters.now.items.items containers.old.items.items fields.now) }
     ensures path { result ≡ Ok None → HasPaths parameters.now.items.items containers.new }
 {
     let columns = read_columns(alloc, &parameters.names, &containers.names, fields)?;
@@ -154,7 +163,8 @@ pub(crate) fn containers_of(
     records: &[Record],
 ) -> Result<Containers, MdbFault>
     requires { parameters.now.names ≡ map (λ p. p.name) parameters.now.items.items }
-    ensures { IsContainersResult parameters.now.items.items (read_containers parameters.now.items.items [] records.now) result }
+    ensures { IsContainersResult parameters.now.items.items (read_containers parameters.now.items.items []
+        records.now) result }
 {
     if records.is_empty() {
         return Err(MdbFault::Bad {

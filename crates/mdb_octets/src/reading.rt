@@ -351,7 +351,12 @@ pub struct ItemLists {
 
 #[tactic(auto, unfolding(crate::specs::Reading::database_at, octet_fields::specs::Reading::counted_at))]
 pub fn item_lists(alloc: Global, octets: &[u8]) -> Result<ItemLists, DecodeError>
-    ensures { Gives (λ l. record { parameters = l.parameters.items; calibrations = l.calibrations.items; containers = l.containers.items }) result (whole database_at octets.now) }
+    ensures { Gives (λ l. record {
+      parameters = l.parameters.items;
+      calibrations = l.calibrations.items;
+      containers =
+          l.containers.items;
+    }) result (whole database_at octets.now) }
 {
     let (count, rest) = u16_at(octets)?;
     let (parameters, rest) = parameters_at(alloc, count, rest)?;

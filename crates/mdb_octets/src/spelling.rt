@@ -131,7 +131,8 @@ fn put_enum(out: &mut Vec<u8>, rows: &[EnumRow]) -> Result<(), AllocError>
 #[tactic(auto, unfolding(octet_fields::specs::Spelling::counted))]
 fn put_table(out: &mut Vec<u8>, table: &Table) -> Result<(), AllocError>
     requires { FitsTable table.now }
-    ensures { OnOk result (out.new.items ≡ out.old.items ++ (number w8 (kind_code table.now) ++ rows_octets table.now)) }
+    ensures { OnOk result (out.new.items ≡ out.old.items ++ (number w8 (kind_code table.now) ++ rows_octets
+        table.now)) }
 {
     match table {
         Table::Poly(rows) => {
@@ -260,8 +261,19 @@ pub fn spelling(
     calibrations: &[Calibration],
     containers: &[Container],
 ) -> Result<Vec<u8>, AllocError>
-    requires { FitsDatabase (record { parameters = parameters.now; calibrations = calibrations.now; containers = containers.now }) }
-    ensures { IfOk result (λ v. v.items ≡ database_octets (record { parameters = parameters.now; calibrations = calibrations.now; containers = containers.now })) }
+    requires { FitsDatabase (record {
+      parameters = parameters.now;
+      calibrations = calibrations.now;
+      containers =
+          containers.now;
+    }) }
+    ensures { IfOk result (λ v.
+        v.items ≡ database_octets (record {
+          parameters = parameters.now;
+          calibrations = calibrations.now;
+          containers =
+              containers.now;
+        })) }
 {
     let mut out = Vec::new(alloc);
     put_u16(&mut out, parameters.len() as u16)?;

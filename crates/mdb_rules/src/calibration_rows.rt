@@ -228,7 +228,8 @@ impl Calibrations {
     /// The name is that of a calibration, but not of the last.
     fn began_before(&self, name: &[u8]) -> bool
         requires { IsInStep self.now }
-        ensures { result ≡ (not (is_some (continued self.now.items.items name.now)) && is_some (place_of name.now (map (λ c. c.name) self.now.items.items))) }
+        ensures { result ≡ (not (is_some (continued self.now.items.items name.now)) && is_some
+            (place_of name.now (map (λ c. c.name) self.now.items.items))) }
     {
         match self.continued(name) {
             Some(_) => false,
@@ -238,7 +239,8 @@ impl Calibrations {
 
     /// The row is the only one of its points.
     fn is_alone(&self, name: &[u8], row_values: &RowValues, next: Option<&[u8]>) -> bool
-        ensures { result ≡ (is_point row_values.now && not (is_some (continued self.now.items.items name.now)) && not (is_named name.now (option_copied next.entry))) }
+        ensures { result ≡ (is_point row_values.now && not (is_some (continued self.now.items.items name.now)) && not
+            (is_named name.now (option_copied next.entry))) }
     {
         if !is_point(row_values) {
             return false;
@@ -258,7 +260,8 @@ impl Calibrations {
         next: Option<&[u8]>,
     ) -> Option<u8>
         requires step { IsInStep self.now }
-        ensures { result ≡ first_broken (calibration_checks self.now.items.items (record { fields = fields; name = name.now; row_values = row_values.now }) (option_copied next.entry)) }
+        ensures { result ≡ first_broken (calibration_checks self.now.items.items
+            (record { fields = fields; name = name.now; row_values = row_values.now }) (option_copied next.entry)) }
     {
         if fields != 4 {
             return Some(2);
@@ -299,7 +302,8 @@ impl Calibrations {
         row_values: &RowValues,
     ) -> Result<(), AllocError>
         requires fresh { place_of name.now self.old.names ≡ None }
-        ensures items { OnOk result (self.new.items.items ≡ self.old.items.items ++ (record { name = name.now; table = empty_table row_values.now }) ∷ []) }
+        ensures items { OnOk result (self.new.items.items ≡ self.old.items.items ++
+            (record { name = name.now; table = empty_table row_values.now }) ∷ []) }
         ensures names { OnOk result (self.new.names ≡ self.old.names ++ name.now ∷ []) }
         ensures numbers { OnOk result (self.new.numbers ≡ []) }
     {
@@ -351,8 +355,10 @@ impl Calibrations {
         next: Option<&[u8]>,
     ) -> Result<(), AllocError>
         requires step { IsInStep self.old }
-        requires sound { first_broken (calibration_checks self.old.items.items (record { fields = fields; name = name.now; row_values = row_values }) (option_copied next)) ≡ None }
-        ensures added { OnOk result (self.new.items.items ≡ with_calibration_row self.old.items.items (record { fields = fields; name = name.now; row_values = row_values })) }
+        requires sound { first_broken (calibration_checks self.old.items.items
+            (record { fields = fields; name = name.now; row_values = row_values }) (option_copied next)) ≡ None }
+        ensures added { OnOk result (self.new.items.items ≡ with_calibration_row self.old.items.items
+            (record { fields = fields; name = name.now; row_values = row_values })) }
         ensures step { OnOk result (IsInStep self.new) }
     {
         self.open(alloc, name, &row_values)?;

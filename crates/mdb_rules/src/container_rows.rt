@@ -228,7 +228,8 @@ impl Containers {
 
     /// The bit after the last of them.
     pub fn end_of_path(&self, number: Option<usize>) -> u32
-        ensures { (parameters : List ParameterValue) → HasPaths parameters self.now → result ≡ path_end parameters (path_at (paths_of self.now.items.items) number) }
+        ensures { (parameters : List ParameterValue) → HasPaths parameters self.now →
+            result ≡ path_end parameters (path_at (paths_of self.now.items.items) number) }
     {
         self.totals(number).end
     }
@@ -295,7 +296,8 @@ impl Containers {
     /// The first rule that a row breaks which begins a container below these.
     fn new_container_broken(&self, begun: &NewContainer) -> Option<u8>
         requires { HasSomePaths self.now }
-        ensures { result ≡ first_broken (new_container_checks self.now.items.items (path_up self.now.items.items begun.now) begun.now) }
+        ensures { result ≡ first_broken (new_container_checks self.now.items.items
+            (path_up self.now.items.items begun.now) begun.now) }
     {
         let name = begun.name.as_bytes();
         if !is_name(name) {
@@ -354,7 +356,8 @@ impl Containers {
     /// Begins a container. After want of memory nothing is known of the containers.
     pub fn begin(&mut self, alloc: Global, begun: NewContainer) -> Result<(), AllocError>
         requires path { HasSomePaths self.old }
-        requires sound { first_broken (new_container_checks self.old.items.items (path_up self.old.items.items begun) begun) ≡ None }
+        requires sound { first_broken (new_container_checks self.old.items.items (path_up self.old.items.items begun)
+            begun) ≡ None }
         ensures added { OnOk result (self.new.items.items ≡ with_columns self.old.items.items (BeginsValue begun)) }
         ensures path { OnOk result (KeepsPaths self.old self.new) }
     {
@@ -386,7 +389,8 @@ impl Containers {
         position: Position,
     ) -> Option<u8>
         requires { HasPaths parameters.now self.now }
-        ensures { result ≡ first_broken (entry_checks parameters.now (last_path self.now.items.items) continuing entry position) }
+        ensures { result ≡ first_broken (entry_checks parameters.now (last_path self.now.items.items) continuing entry
+            position) }
     {
         if !is_reference(parameters.len(), entry) {
             return Some(24);
@@ -436,7 +440,8 @@ impl Containers {
         columns: ContainerColumns,
     ) -> Result<Option<u8>, AllocError>
         requires { HasSomePaths self.old }
-        ensures fault { IfOk result (λ rule. rule ≡ first_broken ((2, not (fields == 6)) ∷ columns_checks self.old.items.items columns)) }
+        ensures fault { IfOk result (λ rule.
+            rule ≡ first_broken ((2, not (fields == 6)) ∷ columns_checks self.old.items.items columns)) }
         ensures added { result ≡ Ok None → self.new.items.items ≡ with_columns self.old.items.items columns }
         ensures path { result ≡ Ok None → KeepsPaths self.old self.new }
     {
@@ -464,7 +469,9 @@ impl Containers {
     ) -> Result<Option<u8>, AllocError>
         requires path { HasPaths parameters.now self.old }
         requires begun { 0 < length self.old.items.items }
-        ensures fault { IfOk result (λ rule. rule ≡ first_broken (entry_checks parameters.now (last_path self.old.items.items) continuing entry position)) }
+        ensures fault { IfOk result (λ rule.
+            rule ≡ first_broken (entry_checks parameters.now (last_path self.old.items.items) continuing entry
+            position)) }
         ensures added { result ≡ Ok None → self.new.items.items ≡ with_entry self.old.items.items entry position }
         ensures path { result ≡ Ok None → HasPaths parameters.now self.new }
     {

@@ -54,7 +54,12 @@ pub fn limit_passed(
     calibrations: &[Calibration],
     containers: &[Container],
 ) -> Option<(MdbLimit, usize)>
-    ensures { result ≡ limit_passed (record { parameters = parameters.now; calibrations = calibrations.now; containers = containers.now }) }
+    ensures { result ≡ limit_passed (record {
+      parameters = parameters.now;
+      calibrations = calibrations.now;
+      containers
+          = containers.now;
+    }) }
 {
     if calibrations.len() > 4096 {
         return Some((MdbLimit::Calibrations, 4096));
