@@ -33,7 +33,8 @@ use Rattle.retrieval.specs.Parameter.{IsNoParameter, IsParameter, first_refusal,
 use Rattle.archive_cli.specs.ReadDump.{dump_limit, IsDumpRead, ending_of}
 use Rattle.archive_cli.specs.ValuesEnding.{AreSheetsOf, ParameterOverDump, HasDump, IsInputRefused, IsParameterRefused, IsValuesEnding, text_of_asked}
 use Rattle.archive_cli.specs.ValuesPrinting.{cells_of_stored, end_of_cells, line_if, line_of, lines_of_cells, refusal_of_print, text_of_cells}
-use Rattle.retrieval.specs.ValuesText.{calibration_numbered, cell_lines, cells_of, values_line, values_text}
+use Rattle.mdb_model.specs.Lookups.{calibration_of}
+use Rattle.retrieval.specs.ValuesText.{cell_lines, cells_of, values_line, values_text}
 use Rattle.archive_cli.proofs.PacketNames.{cells_are}
 use Rattle.archive_cli.proofs.Scanned.{bad_rest, rest_is_none, received_of, end_is}
 use Rattle.archive_cli.proofs.Visible.{table-all}
@@ -46,11 +47,11 @@ line-cases calibration None cells text e = e
 line-cases calibration (Some cell) cells text e = ap (λ (more : List ℕ). cell_line calibration cell ++ more) e
 
 lines-are : (db : Database) (number : ℕ) (rows : List Row) →
-    flat_map (line_of db number) rows ≡ flat_map (cell_line (calibration_numbered db number)) (filter_map (cell_of db number) rows)
+    flat_map (line_of db number) rows ≡ flat_map (cell_line (calibration_of db number)) (filter_map (cell_of db number) rows)
 unfolding line_of
 lines-are db number [] = refl
 lines-are db number (row ∷ rows) =
-    line-cases (calibration_numbered db number) (cell_of db number row) (filter_map (cell_of db number) rows) (flat_map (line_of db number) rows) (lines-are db number rows)
+    line-cases (calibration_of db number) (cell_of db number row) (filter_map (cell_of db number) rows) (flat_map (line_of db number) rows) (lines-are db number rows)
 
 cells-stored : (db : Database) (number : ℕ) (packets : List (List ℕ)) (moment : ℤ) (stored : List Stored) (counts : Counts) → IsGathered packets moment stored counts →
     cells_of_stored db number stored ≡ cells_of db number packets moment

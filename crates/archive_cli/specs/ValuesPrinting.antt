@@ -18,7 +18,8 @@ use Rattle.yarch_table.specs.Stored.{rows_of}
 use Rattle.dump_lines.specs.declared.print_fault.PrintFault.{PrintFault}
 use Rattle.dump_lines.specs.declared.print_fault.PrintFault.TheVariants.{Write, OutOfMemory}
 use Rattle.retrieval.specs.CellText.{cell_line}
-use Rattle.retrieval.specs.ValuesText.{calibration_numbered, values_line}
+use Rattle.mdb_model.specs.Lookups.{calibration_of}
+use Rattle.retrieval.specs.ValuesText.{values_line}
 
 -- the line of a cell, where there is one
 abbrev pub line_if : Option Calibration → Option Cell → List ℕ
@@ -27,7 +28,7 @@ line_if calibration (Some cell) = cell_line calibration cell
 
 -- the line of a parameter's cell in the packet of a row
 unfoldable pub line_of : Database → ℕ → Row → List ℕ
-line_of db number row = line_if (calibration_numbered db number) (cell_of db number row)
+line_of db number row = line_if (calibration_of db number) (cell_of db number row)
 
 -- one value, or none
 abbrev pub count_if : Option Cell → ℕ

@@ -18,6 +18,7 @@ use crate::scan_input::{ended, read_scan_input};
 use arch_types::refusal::Refusal;
 use arch_types::row::Row;
 use command_words::job::ValuesWords;
+use container_extract::Extractor;
 use dump_lines::line_buffer::LineBuffer;
 use dump_lines::print_fault::PrintFault;
 use dump_lines::rows::DumpTable;
@@ -149,9 +150,10 @@ fn print_cells<K: Sink>(
     ensures later { K.faults sink.old ≤ K.faults sink.new }
     ensures counted { PrintCounted (result_err result) (K.faults sink.old) (K.faults sink.new) }
 {
+    let mut extractor = Extractor::new(alloc);
     let mut count = 0;
     for row in table.rows_at(u64::MAX) {
-        let found = put_cell_of(alloc, known, row, line_buffer)?;
+        let found = put_cell_of(&mut extractor, known, row, line_buffer)?;
         count += found;
         line_buffer.flush_if_full(sink)?;
     }
@@ -160,7 +162,7 @@ fn print_cells<K: Sink>(
 
 /// Adds the line of the cell in the packet of a row, where there is one, and says how many there are.
 fn put_cell_of(
-    alloc: Global,
+    extractor: &mut Extractor,
     known: &KnownParameter,
     row: &Row,
     line_buffer: &mut LineBuffer,
@@ -171,7 +173,7 @@ fn put_cell_of(
     ensures count { IfOk result (λ count. count ≡ count_of known.now.mdb known.now.number row.now) }
     ensures kept { OnErr result (line_buffer.new ≡ line_buffer.old) }
 {
-    let cell = cell_of(alloc, &known.mdb, known.number, row)?;
+    let cell = cell_of(extractor, &known.mdb, known.number, row)?;
     match cell {
         None => Ok(0),
         Some(cell) => {

@@ -9,9 +9,9 @@ use Rattle.mdb_items.specs.declared.parameter.Parameter.{Parameter}
 use Rattle.mdb_items.specs.Database.{Database, IsDatabase, row_count, table_len}
 use Rattle.mdb_items.specs.ParameterRows.{admits, reference_to, table_at, table_of}
 use Rattle.mdb_items.specs.Structure.{IsTable}
+use Rattle.mdb_model.specs.Lookups.{calibration_at}
 use Rattle.mdb_model.proofs.Structure.{structured}
 use Rattle.calibration.specs.Admitted.{IsAdmitted, IsInWidth, KeepsRules}
-use Rattle.calibration.specs.Calibrated.{calibration_at}
 
 -- a calibration's rows are some of all
 count_in : (cs : List Calibration) (n : ℕ) (c : Calibration) → slice_get cs n ≡ Some c → row_count c ≤ sum_by row_count cs

@@ -54,8 +54,3 @@ value_by (Enum rows) raw = label_at (position (λ row. int_eq row.x raw) rows)
 abbrev pub calibrated : Option Calibration → ℤ → Eng
 calibrated None raw = Whole
 calibrated (Some calibration) raw = value_by calibration.table raw
-
--- the calibration with a number
-abbrev pub calibration_at : List Calibration → Option ℕ → Option Calibration
-calibration_at calibrations None = None
-calibration_at calibrations (Some n) = slice_get calibrations n

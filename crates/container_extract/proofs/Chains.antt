@@ -12,7 +12,7 @@ use Rattle.mdb_items.specs.Structure.{IsBelowParent}
 use Rattle.mdb_model.proofs.Structure.{structured}
 use Rattle.container_extract.specs.Chain.{IsChainFrom, IsChain, chain_from, chain_of, entries_at, first_child, if_some, is_number, is_taken, next_of}
 use Rattle.container_extract.specs.Laws.{ChainIsOne}
-use Rattle.container_extract.specs.Values.{fits, holds, value_of}
+use Rattle.container_extract.specs.Values.{fits, holds, raw_value_of}
 
 cond_some : (b : Bool) (n m : ℕ) → cond b (Some n) None ≡ Some m → (b ≡ true) × (n ≡ m)
 cond_some true n m e = (refl, same_Some n m e)
@@ -49,7 +49,7 @@ is_the_parent n (Some m) e = ap (λ (k : ℕ). Some k) (eqb-true m n e)
 -- what comes after a container is a child of it
 pub child_of : (db : Database) (packet : List ℕ) (entries : List Entry) (n m : ℕ) → next_of db packet entries n ≡ Some m → (c : Container) × (slice_get db.containers m ≡ Some c) × (m < length db.containers) × (c.parent ≡ Some n)
 child_of db packet entries n m e =
-    let values = map (value_of db packet) entries in
+    let values = map (raw_value_of db packet) entries in
     let both = if_some_is (list_all (fits db packet) (entries_at db n)) (first_child db.containers n values) m e in
     let child = found (is_taken n values) db.containers m both.1 in
     (child.0, child.1, child.2, is_the_parent n child.0.parent (left_of_and (is_number n child.0.parent) (holds values child.0.condition) child.3))

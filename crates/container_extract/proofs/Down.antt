@@ -1,47 +1,34 @@
 -- The walk as the code takes it.
-use Rattle.std.proofs.Common.{◌≡◌, ◌∙◌, ◌+◌, ◌-◌, ◌<◌, ◌≤◌, ℕ, List, [], ◌∷◌, ◌++◌, length, Some, None, ap, sym, arith, subst, take}
-use Rattle.std.specs.Prelude.{sum_by}
-use Rattle.std.proofs.lemmas.List.{take_all}
-use Rattle.mdb_items.specs.Database.{Database, IsDatabase, entry_count}
+use Rattle.std.proofs.Common.{◌≡◌, ◌∙◌, ◌+◌, ◌-◌, ◌<◌, ◌≤◌, ℕ, List, [], ◌∷◌, ◌++◌, length, Some, None, ap, sym, arith, subst}
+use Rattle.mdb_items.specs.Database.{Database, IsDatabase}
 use Rattle.mdb_model.proofs.Structure.{structured}
-use Rattle.container_extract.specs.declared.values.ParameterValue.{ParameterValue}
+use Rattle.container_extract.specs.declared.values.RawValue.{RawValue}
 use Rattle.container_extract.specs.Chain.{IsChain, chain_of, entries_at}
-use Rattle.container_extract.specs.Extraction.{extraction, values_along}
+use Rattle.container_extract.specs.Extraction.{raw_extraction, raw_values_along}
 use Rattle.container_extract.specs.Step.{IsStep}
 use Rattle.container_extract.proofs.Chains.{is_chain_of}
-use Rattle.container_extract.proofs.Walk.{IsWalk, entries_rise, walk_begins, walk_ends, walk_goes_on}
+use Rattle.container_extract.proofs.Walk.{IsWalk, walk_begins, walk_ends, walk_goes_on}
 
-pub begins : (db : Database) (packet chain : List ℕ) (values : List ParameterValue) → IsDatabase db → chain ≡ [] → values ≡ [] → IsWalk db packet chain values 0
+pub begins : (db : Database) (packet chain : List ℕ) (values : List RawValue) → IsDatabase db → chain ≡ [] → values ≡ [] → IsWalk db packet chain values 0
 begins db packet chain values is none empty =
-    subst (λ (vs : List ParameterValue). IsWalk db packet chain vs 0) (sym empty) (subst (λ (ns : List ℕ). IsWalk db packet ns [] 0) (sym none) (walk_begins db packet is))
+    subst (λ (vs : List RawValue). IsWalk db packet chain vs 0) (sym empty) (subst (λ (ns : List ℕ). IsWalk db packet ns [] 0) (sym none) (walk_begins db packet is))
 
 -- the numbers of containers have sixteen bits
-pub number_small : (db : Database) (packet chain : List ℕ) (values : List ParameterValue) (n : ℕ) → IsDatabase db → IsWalk db packet chain values n → n < 65536
+pub number_small : (db : Database) (packet chain : List ℕ) (values : List RawValue) (n : ℕ) → IsDatabase db → IsWalk db packet chain values n → n < 65536
 number_small db packet chain values n is w = omega (arith, w.known, (structured db is).few_containers)
 
--- the values so far and the entries of the next container are no more than the entries of the database
-pub room : (db : Database) (packet chain : List ℕ) (values : List ParameterValue) (n : ℕ) → IsDatabase db → IsWalk db packet chain values n → length values + length (entries_at db n) ≤ 65536
-room db packet chain values n is w =
-    let all = length db.containers in
-    let rise = entries_rise db n all w.known w.known in
-    let whole : sum_by entry_count (take all db.containers) ≡ sum_by entry_count db.containers = ap (sum_by entry_count) (take_all all db.containers (omega arith)) in
-    omega (arith, w.few, (structured db is).few_entries)
-
-pub goes_on : (db : Database) (packet chain pushed : List ℕ) (values more : List ParameterValue) (n m : ℕ) → IsDatabase db → IsWalk db packet chain values n → IsStep db packet values n more (Some m) → pushed ≡ chain ++ n ∷ []
+pub goes_on : (db : Database) (packet chain pushed : List ℕ) (values more : List RawValue) (n m : ℕ) → IsDatabase db → IsWalk db packet chain values n → IsStep db packet values n more (Some m) → pushed ≡ chain ++ n ∷ []
     → IsWalk db packet pushed more m × (n < m) × (m < length db.containers)
 goes_on db packet chain pushed values more n m is w s same =
     let next = walk_goes_on db packet chain values more n m is w s in
     (subst (λ (ns : List ℕ). IsWalk db packet ns more m) (sym same) next.0, next.1, next.0.known)
 
-pub is_chain : (db : Database) (packet chain pushed : List ℕ) (values more : List ParameterValue) (n : ℕ) → IsWalk db packet chain values n → IsStep db packet values n more None → pushed ≡ chain ++ n ∷ [] → IsChain db packet pushed
-is_chain db packet chain pushed values more n w s same = subst (IsChain db packet) (sym same) (walk_ends db packet chain values more n w s).0
+pub is_one : (db : Database) (packet chain pushed : List ℕ) (values more : List RawValue) (n : ℕ) → IsDatabase db → IsWalk db packet chain values n → IsStep db packet values n more None → pushed ≡ chain ++ n ∷ [] → pushed ≡ chain_of db packet
+is_one db packet chain pushed values more n is w s same = is_chain_of db packet pushed is (subst (IsChain db packet) (sym same) (walk_ends db packet chain values more n w s).0)
 
-pub is_one : (db : Database) (packet chain pushed : List ℕ) (values more : List ParameterValue) (n : ℕ) → IsDatabase db → IsWalk db packet chain values n → IsStep db packet values n more None → pushed ≡ chain ++ n ∷ [] → pushed ≡ chain_of db packet
-is_one db packet chain pushed values more n is w s same = is_chain_of db packet pushed is (is_chain db packet chain pushed values more n w s same)
-
-pub is_extraction : (db : Database) (packet chain pushed : List ℕ) (values more : List ParameterValue) (n : ℕ) → IsDatabase db → IsWalk db packet chain values n → IsStep db packet values n more None → pushed ≡ chain ++ n ∷ [] → more ≡ extraction db packet
+pub is_extraction : (db : Database) (packet chain pushed : List ℕ) (values more : List RawValue) (n : ℕ) → IsDatabase db → IsWalk db packet chain values n → IsStep db packet values n more None → pushed ≡ chain ++ n ∷ [] → more ≡ raw_extraction db packet
 is_extraction db packet chain pushed values more n is w s same =
-    (walk_ends db packet chain values more n w s).1 ∙ ap (values_along db packet) (sym same ∙ is_one db packet chain pushed values more n is w s same)
+    (walk_ends db packet chain values more n w s).1 ∙ ap (raw_values_along db packet) (sym same ∙ is_one db packet chain pushed values more n is w s same)
 
 -- fewer containers stand after the next one
 pub smaller : (all n m : ℕ) → n < m → m < all → all - m < all - n

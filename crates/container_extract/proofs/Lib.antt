@@ -3,9 +3,10 @@ pub mod Widths
 pub mod Chains
 pub mod Paths
 pub mod Extracting
+pub mod Admitting
 pub mod Walk
 pub mod Taking
 pub mod Down
 pub mod Names
-pub mod Places
+pub mod Positions
 pub mod Children

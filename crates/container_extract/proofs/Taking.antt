@@ -5,10 +5,7 @@ use Rattle.std.specs.List.{All, list_all, take_while}
 use Rattle.std.proofs.lemmas.Bool.{leb-true}
 use Rattle.std.proofs.lemmas.List.Elements.{All-from_recursion}
 use Rattle.std.proofs.lemmas.List.Sums.{take_while-cons}
-use Rattle.std.proofs.lemmas.Nat.{mod_below, pow_pos}
 use Rattle.std.proofs.lemmas.Option.{slice_get_read}
-use Rattle.arch_types.specs.declared.cell.Eng.{Eng}
-use Rattle.mdb_items.specs.declared.calibration.Calibration.{Calibration}
 use Rattle.mdb_items.specs.declared.container.Container.{Container}
 use Rattle.mdb_items.specs.declared.container.Entry.{Entry}
 use Rattle.mdb_items.specs.declared.parameter.Parameter.{Parameter}
@@ -16,16 +13,12 @@ use Rattle.mdb_items.specs.Database.{Database, IsDatabase}
 use Rattle.mdb_items.specs.Paths.{bits_of_parameter}
 use Rattle.mdb_items.specs.Structure.{IsEntry}
 use Rattle.mdb_model.proofs.Structure.{structured}
-use Rattle.calibration.specs.Admitted.{IsAdmitted, IsInWidth}
-use Rattle.calibration.specs.Calibrated.{calibrated, calibration_at}
-use Rattle.calibration.proofs.Rules.{admitted}
-use Rattle.container_extract.specs.declared.values.ParameterValue.{ParameterValue}
-use Rattle.container_extract.specs.Bits.{bits_at, field_at}
+use Rattle.container_extract.specs.declared.values.RawValue.{RawValue}
+use Rattle.container_extract.specs.Bits.{bits_at}
 use Rattle.container_extract.specs.Chain.{entries_at, entries_of, first_child}
 use Rattle.container_extract.specs.Step.{IsStep}
-use Rattle.container_extract.specs.Values.{calibration_of, coding_of, fits, raw_of, value_of}
+use Rattle.container_extract.specs.Values.{coding_of, fits, raw_of, raw_value_of}
 use Rattle.container_extract.proofs.Walk.{if_false, if_true}
-use Rattle.container_extract.proofs.Widths.{in_width}
 
 -- ---- one entry
 
@@ -40,27 +33,12 @@ ends_inside db packet e p at is =
     let same : bits_of_parameter (slice_get db.parameters e.parameter) ≡ p.bits = ap bits_of_parameter at in
     omega arith
 
--- the rules admit its calibration for its raw number
-pub raw_admitted : (db : Database) (packet : List ℕ) (e : Entry) (p : Parameter) (raw : ℤ) (cs : List Calibration) (o : Option Calibration) → IsDatabase db → slice_get db.parameters e.parameter ≡ Some p
-    → raw ≡ bits_at packet e.at p.bits p.coding → cs ≡ db.calibrations → o ≡ calibration_at cs p.calibration → IsAdmitted o raw
-raw_admitted db packet e p raw cs o is at raw_is same o_is =
-    let width = ((structured db is).parameters e.parameter p at).width in
-    let below : field_at packet e.at p.bits < 2 ^ p.bits = mod_below _ (2 ^ p.bits) (pow_pos p.bits) in
-    let here : IsInWidth p.coding p.bits raw = subst (IsInWidth p.coding p.bits) (sym raw_is) (in_width p.coding p.bits (field_at packet e.at p.bits) width below) in
-    subst (λ (x : Option Calibration). IsAdmitted x raw) (sym (o_is ∙ ap (λ (xs : List Calibration). calibration_at xs p.calibration) same)) (admitted db e.parameter p raw is at here)
-
--- its value is that of the definition
-pub value_is : (db : Database) (packet : List ℕ) (e : Entry) (p : Parameter) (z raw : ℤ) (cs : List Calibration) (o : Option Calibration) (eng : Eng) → slice_get db.parameters e.parameter ≡ Some p → z ≡ raw
-    → raw ≡ bits_at packet e.at p.bits p.coding → cs ≡ db.calibrations → o ≡ calibration_at cs p.calibration → eng ≡ calibrated o z
-    → (let v : ParameterValue = record { parameter = e.parameter; raw = z; eng = eng } in v) ≡ value_of db packet e
-value_is db packet e p z raw cs o eng at plain raw_is same o_is eng_is =
+-- its raw value is that of the definition
+pub raw_value_is : (db : Database) (packet : List ℕ) (e : Entry) (p : Parameter) (z raw : ℤ) → slice_get db.parameters e.parameter ≡ Some p → z ≡ raw → raw ≡ bits_at packet e.at p.bits p.coding
+    → (let v : RawValue = record { parameter = e.parameter; raw = z } in v) ≡ raw_value_of db packet e
+raw_value_is db packet e p z raw at plain raw_is =
     let r : raw_of db packet e ≡ bits_at packet e.at p.bits p.coding = ap (λ (q : Option Parameter). bits_at packet e.at (bits_of_parameter q) (coding_of q)) at in
-    let own = calibration_at db.calibrations (calibration_of (slice_get db.parameters e.parameter)) in
-    let number : z ≡ raw_of db packet e = plain ∙ raw_is ∙ sym r in
-    let table : o ≡ own = o_is ∙ ap (λ (xs : List Calibration). calibration_at xs p.calibration) same ∙ ap (λ (q : Option Parameter). calibration_at db.calibrations (calibration_of q)) (sym at) in
-    let value : eng ≡ calibrated own (raw_of db packet e) = eng_is ∙ ap (λ (x : Option Calibration). calibrated x z) table ∙ ap (calibrated own) number in
-    ap (λ (y : ℤ). let v : ParameterValue = record { parameter = e.parameter; raw = y; eng = eng } in v) number
-    ∙ ap (λ (y : Eng). let v : ParameterValue = record { parameter = e.parameter; raw = raw_of db packet e; eng = y } in v) value
+    ap (λ (y : ℤ). let v : RawValue = record { parameter = e.parameter; raw = y } in v) (plain ∙ raw_is ∙ sym r)
 
 -- ---- entries one after the other
 
@@ -91,17 +69,17 @@ pub entries_are : (db : Database) (n : ℕ) (c : Container) (es : List Entry) �
 entries_are db n c es at same = same ∙ ap entries_of (sym at)
 
 -- a step where an entry passes the packet's end
-pub step_ends : (db : Database) (packet : List ℕ) (values more : List ParameterValue) (n : ℕ) (es : List Entry) → es ≡ entries_at db n
-    → more ≡ values ++ map (value_of db packet) (take_while (fits db packet) es) → list_all (fits db packet) es ≡ false → IsStep db packet values n more None
+pub step_ends : (db : Database) (packet : List ℕ) (values more : List RawValue) (n : ℕ) (es : List Entry) → es ≡ entries_at db n
+    → more ≡ values ++ map (raw_value_of db packet) (take_while (fits db packet) es) → list_all (fits db packet) es ≡ false → IsStep db packet values n more None
 step_ends db packet values more n es same taken isnt = record {
-  values_are = taken ∙ ap (λ (xs : List Entry). values ++ map (value_of db packet) (take_while (fits db packet) xs)) same;
+  values_are = taken ∙ ap (λ (xs : List Entry). values ++ map (raw_value_of db packet) (take_while (fits db packet) xs)) same;
   next_is = sym (if_false (list_all (fits db packet) (entries_at db n)) (first_child db.containers n more) None (ap (list_all (fits db packet)) (sym same) ∙ isnt));
 }
 
 -- a step where all are taken
-pub step_goes_on : (db : Database) (packet : List ℕ) (values more : List ParameterValue) (n : ℕ) (es : List Entry) (next : Option ℕ) → es ≡ entries_at db n
-    → more ≡ values ++ map (value_of db packet) (take_while (fits db packet) es) → list_all (fits db packet) es ≡ true → next ≡ first_child db.containers n more → IsStep db packet values n more next
+pub step_goes_on : (db : Database) (packet : List ℕ) (values more : List RawValue) (n : ℕ) (es : List Entry) (next : Option ℕ) → es ≡ entries_at db n
+    → more ≡ values ++ map (raw_value_of db packet) (take_while (fits db packet) es) → list_all (fits db packet) es ≡ true → next ≡ first_child db.containers n more → IsStep db packet values n more next
 step_goes_on db packet values more n es next same taken is next_is = record {
-  values_are = taken ∙ ap (λ (xs : List Entry). values ++ map (value_of db packet) (take_while (fits db packet) xs)) same;
+  values_are = taken ∙ ap (λ (xs : List Entry). values ++ map (raw_value_of db packet) (take_while (fits db packet) xs)) same;
   next_is = next_is ∙ sym (if_true (list_all (fits db packet) (entries_at db n)) (first_child db.containers n more) None (ap (list_all (fits db packet)) (sym same) ∙ is));
 }

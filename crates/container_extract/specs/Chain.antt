@@ -5,8 +5,8 @@ use Rattle.mdb_items.specs.declared.container.Container.{Container}
 use Rattle.mdb_items.specs.declared.container.Entry.{Entry}
 use Rattle.mdb_items.specs.Database.{Database}
 use Rattle.mdb_items.specs.Lists.{last_of}
-use Rattle.container_extract.specs.declared.values.ParameterValue.{ParameterValue}
-use Rattle.container_extract.specs.Values.{fits, holds, value_of}
+use Rattle.container_extract.specs.declared.values.RawValue.{RawValue}
+use Rattle.container_extract.specs.Values.{fits, holds, raw_value_of}
 
 -- the entries of a container, or none
 abbrev pub entries_of : Option Container → List Entry
@@ -22,18 +22,18 @@ abbrev pub is_number : ℕ → Option ℕ → Bool
 is_number n None = false
 is_number n (Some m) = m == n
 
--- the container is a child of the one with a number, and its condition holds of values
-abbrev pub is_taken : ℕ → List ParameterValue → Container → Bool
+-- the container is a child of the one with a number, and its condition holds of raw values
+abbrev pub is_taken : ℕ → List RawValue → Container → Bool
 is_taken n values c = is_number n c.parent && holds values c.condition
 
--- the first child in sheet order whose condition holds of values
-abbrev pub first_child : List Container → ℕ → List ParameterValue → Option ℕ
+-- the first child in sheet order whose condition holds of raw values
+abbrev pub first_child : List Container → ℕ → List RawValue → Option ℕ
 first_child containers n values = position (is_taken n values) containers
 
 -- what comes after a container: nothing where one of its entries passes the packet's end, else its first child whose condition holds of
--- the values of the entries so far
+-- the raw values of the entries so far
 abbrev pub next_of : Database → List ℕ → List Entry → ℕ → Option ℕ
-next_of db packet entries n = if list_all (fits db packet) (entries_at db n) then first_child db.containers n (map (value_of db packet) entries) else None
+next_of db packet entries n = if list_all (fits db packet) (entries_at db n) then first_child db.containers n (map (raw_value_of db packet) entries) else None
 
 -- containers each of which comes after the one before it, below entries further up, and after the last of which nothing comes
 abbrev pub IsChainFrom : Database → List ℕ → List Entry → List ℕ → Type 0

@@ -7,8 +7,9 @@ use Rattle.arch_types.specs.declared.row.Row.{Row}
 use Rattle.arch_types.specs.Table.{range_of}
 use Rattle.mdb_items.specs.Database.{Database}
 use Rattle.container_extract.specs.declared.values.ParameterValue.{ParameterValue}
+use Rattle.container_extract.specs.declared.values.RawValue.{RawValue}
 use Rattle.container_extract.specs.Chain.{chain_of, entries_at}
-use Rattle.container_extract.specs.Values.{fits, value_among, value_of}
+use Rattle.container_extract.specs.Values.{fits, raw_value_of, value_among, value_of}
 
 -- the entries of a chain's containers one after the other, cut before the first that passes the packet's end, each with its value
 abbrev pub values_along : Database → List ℕ → List ℕ → List ParameterValue
@@ -17,6 +18,14 @@ values_along db packet chain = map (value_of db packet) (take_while (fits db pac
 -- the extraction of a packet
 abbrev pub extraction : Database → List ℕ → List ParameterValue
 extraction db packet = values_along db packet (chain_of db packet)
+
+-- the entries of a chain's containers, cut likewise, each with its raw value
+abbrev pub raw_values_along : Database → List ℕ → List ℕ → List RawValue
+raw_values_along db packet chain = map (raw_value_of db packet) (take_while (fits db packet) (flat_map (entries_at db) chain))
+
+-- the raw extraction of a packet
+abbrev pub raw_extraction : Database → List ℕ → List RawValue
+raw_extraction db packet = raw_values_along db packet (chain_of db packet)
 
 -- a value at the key of its packet
 abbrev pub cell_at : Key → ParameterValue → Cell

@@ -1,6 +1,5 @@
 pub mod Bits
 pub mod Values
-pub mod Places
 pub mod Chain
 pub mod Step
 pub mod Extraction

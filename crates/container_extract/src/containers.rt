@@ -1,19 +1,19 @@
 //! What comes after a container.
 
-ghost use Rattle.std.specs.Prelude.{◌≡◌, ◌<◌, ◌≤◌, ◌+◌, length, slice_get, option_copied, IfOk};
+ghost use Rattle.std.specs.Prelude.{◌≡◌, ◌<◌, length, slice_get, option_copied, IfOk};
 ghost use Rattle.std.specs.List.{find};
 ghost use Rattle.mdb_items.specs.Database.{IsDatabase};
-ghost use Rattle.container_extract.specs.Chain.{entries_at, first_child, has_archive, name_along};
+ghost use Rattle.container_extract.specs.Chain.{first_child, has_archive, name_along};
 ghost use Rattle.container_extract.specs.Step.{IsStep, holds_at};
 
 use crate::conditions::holds;
 use crate::entries::take_entries;
-use crate::indexed_values::IndexedValues;
+use crate::values::RawValue;
 use mdb_model::{Container, Mdb};
 use std::alloc::AllocError;
 
-/// The condition of the container with a number holds of values.
-fn holds_at(containers: &[Container], number: u16, values: &IndexedValues) -> bool
+/// The condition of the container with a number holds of raw values.
+fn holds_at(containers: &[Container], number: u16, values: &[RawValue]) -> bool
     ensures { result ≡ holds_at containers.now values.now number }
 {
     match containers.get(number as usize) {
@@ -22,11 +22,11 @@ fn holds_at(containers: &[Container], number: u16, values: &IndexedValues) -> bo
     }
 }
 
-/// The first of some containers whose condition holds of values.
+/// The first of some containers whose condition holds of raw values.
 fn first_of<'a>(
     containers: &[Container],
     numbers: &'a [u16],
-    values: &IndexedValues,
+    values: &[RawValue],
 ) -> Option<&'a u16>
     ensures { option_copied result ≡ find (holds_at containers.now values.now) numbers.now }
 {
@@ -35,31 +35,30 @@ fn first_of<'a>(
         .find(|number| holds_at(containers, **number, values))
 }
 
-/// The first child in sheet order whose condition holds of values.
-fn first_child(mdb: &Mdb, number: u16, values: &IndexedValues) -> Option<u16>
+/// The first child in sheet order whose condition holds of raw values.
+fn first_child(mdb: &Mdb, number: u16, values: &[RawValue]) -> Option<u16>
     requires { number < length mdb.now.containers }
     ensures { result ≡ first_child mdb.now.containers number values.now }
 {
     first_of(mdb.container_list(), mdb.children(number), values).copied()
 }
 
-/// Takes the values of a container's entries, and gives what comes after it.
+/// Takes the raw values of a container's entries, and gives what comes after it.
 pub(crate) fn next_of(
     mdb: &Mdb,
     packet: &[u8],
     number: u16,
-    values: &mut IndexedValues,
+    values: &mut Vec<RawValue>,
 ) -> Result<Option<u16>, AllocError>
     requires known { number < length mdb.now.containers }
     requires sound { IsDatabase mdb.now }
-    requires room { length values.old + length (entries_at mdb.now number) ≤ 65536 }
-    ensures { IfOk result (λ next. IsStep mdb.now packet.now values.old number values.new next) }
+    ensures { IfOk result (λ next. IsStep mdb.now packet.now values.old.items number values.new.items next) }
 {
     let entries = mdb.container(number).entries.as_slice();
     if !take_entries(mdb, packet, entries, values)? {
         return Ok(None);
     }
-    Ok(first_child(mdb, number, values))
+    Ok(first_child(mdb, number, values.as_slice()))
 }
 
 fn has_archive(container: Option<&Container>) -> bool

@@ -1,15 +1,12 @@
-//! The values of entries.
+//! The raw values of entries.
 
-ghost use Rattle.std.specs.Prelude.{◌≡◌, ◌<◌, ◌≤◌, ◌+◌, ◌++◌, length, map, true, option_copied, IfOk};
+ghost use Rattle.std.specs.Prelude.{◌≡◌, ◌<◌, ◌++◌, length, map, true, IfOk};
 ghost use Rattle.std.specs.List.{All, list_all, take_while};
-ghost use Rattle.calibration.specs.Calibrated.{calibration_at};
-ghost use Rattle.container_extract.specs.Values.{fits, value_of};
+ghost use Rattle.container_extract.specs.Values.{fits, raw_value_of};
 
 use crate::fields::bits;
-use crate::indexed_values::IndexedValues;
-use crate::values::ParameterValue;
-use calibration::calibrate;
-use mdb_model::{Calibration, Entry, Mdb};
+use crate::values::RawValue;
+use mdb_model::{Entry, Mdb};
 use std::alloc::AllocError;
 
 /// The entry doesn't pass the packet's end.
@@ -22,39 +19,28 @@ fn fits(mdb: &Mdb, packet: &[u8], entry: Entry) -> bool
     (end + 7) / 8 <= packet.len()
 }
 
-/// The calibration with a number.
-fn calibration_at(calibrations: &[Calibration], number: Option<usize>) -> Option<&Calibration>
-    ensures { option_copied result ≡ calibration_at calibrations.now number }
-{
-    calibrations.get(number?)
-}
-
-/// The value of an entry inside the packet.
-fn value_of(mdb: &Mdb, packet: &[u8], entry: Entry) -> ParameterValue
+/// The raw value of an entry inside the packet.
+fn raw_value_of(mdb: &Mdb, packet: &[u8], entry: Entry) -> RawValue
     requires known { entry.parameter < length mdb.now.parameters }
     requires inside { fits mdb.now packet.now entry ≡ true }
-    ensures { result ≡ value_of mdb.now packet.now entry }
+    ensures { result ≡ raw_value_of mdb.now packet.now entry }
 {
     let parameter = &mdb.parameter_list()[entry.parameter];
-    let calibration = calibration_at(mdb.calibration_list(), parameter.calibration);
-    let raw = bits(packet, entry.at, parameter.bits, parameter.coding);
-    ParameterValue {
+    RawValue {
         parameter: entry.parameter as u16,
-        raw,
-        eng: calibrate(calibration, raw),
+        raw: bits(packet, entry.at, parameter.bits, parameter.coding),
     }
 }
 
-/// Takes the values of entries up to the first that passes the packet's end, and tells whether none does.
+/// Takes the raw values of entries up to the first that passes the packet's end, and tells whether none does.
 pub(crate) fn take_entries(
     mdb: &Mdb,
     packet: &[u8],
     entries: &[Entry],
-    values: &mut IndexedValues,
+    values: &mut Vec<RawValue>,
 ) -> Result<bool, AllocError>
     requires known { All (λ e. e.parameter < length mdb.now.parameters) entries.now }
-    requires room { length values.old + length entries.now ≤ 65536 }
-    ensures taken { IfOk result (λ whole. values.new ≡ values.old ++ map (value_of mdb.now packet.now)
+    ensures taken { IfOk result (λ whole. values.new.items ≡ values.old.items ++ map (raw_value_of mdb.now packet.now)
         (take_while (fits mdb.now packet.now) entries.now)) }
     ensures whole { IfOk result (λ whole. whole ≡ list_all (fits mdb.now packet.now) entries.now) }
 {
@@ -62,7 +48,7 @@ pub(crate) fn take_entries(
         if !fits(mdb, packet, *entry) {
             return Ok(false);
         }
-        values.push(value_of(mdb, packet, *entry))?;
+        values.push(raw_value_of(mdb, packet, *entry))?;
     }
     Ok(true)
 }

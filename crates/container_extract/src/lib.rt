@@ -1,9 +1,10 @@
 // What a packet's octets say by a mission database: bit fields, the chain of containers, and the values of their entries.
 //
 // The definitions stand in specs/: Bits takes the packet as one number and says what a field is (CCSDS 133.0-B counts bits from the first one
-// on), Values says what an entry's value is and when a condition holds, Chain is a relation between a packet and a list of container numbers
-// (`IsChain`, of which `laws` says that there is exactly one), and Extraction is the values along it. The archive calls `packet_name` for each
-// arrival and `extract` for each packet that it reads, and counts the latter's steps.
+// on), Values says what an entry's raw value is, its engineering value, and when a condition holds, Chain is a relation between a packet and a
+// list of container numbers (`IsChain`, of which `laws` says that there is exactly one), and Extraction is the values along it, raw and
+// calibrated. An `Extractor` takes the raw values of one packet after the other and takes memory once; `eng_of` calibrates those that are
+// asked for. The archive names each arrival by `packet_name`, and reads packets by an `Extractor`; `extract` is its values, all calibrated.
 //
 // The idea of the proof: whatever goes on from the containers so far makes a chain (proofs/Walk.antt), so that the walk ends with one.
 // A container's children all stand after it in the sheet, so the walk ends: that and what else is used of a database is mdb_model's law (`IsStructured`).
@@ -12,12 +13,15 @@
 pub mod chain;
 mod conditions;
 mod containers;
+mod engineering;
 mod entries;
 mod extraction;
 mod fields;
-mod indexed_values;
 pub mod laws;
+mod raw_extraction;
 pub mod values;
 
+pub use engineering::eng_of;
 pub use extraction::{Extracted, extract, packet_name};
+pub use raw_extraction::{Extractor, RawExtracted};
 pub use fields::bits;

@@ -2,14 +2,15 @@
 use Rattle.std.proofs.Common.{◌≡◌, ◌≤◌, ℕ, List, [], ◌∷◌, length, true, Option, Some, None, refl, arith}
 use Rattle.std.specs.Prelude.{slice_get}
 use Rattle.std.specs.List.{AllByRecursion}
-use Rattle.calibration.specs.Calibrated.{calibration_at}
 use Rattle.mdb_items.specs.declared.calibration.Calibration.{Calibration}
 use Rattle.mdb_items.specs.declared.calibration.EnumRow.{EnumRow}
 use Rattle.mdb_items.specs.declared.calibration.Table.{Table}
 use Rattle.mdb_items.specs.declared.calibration.Table.TheVariants.{Poly, Points, Enum}
+use Rattle.mdb_items.specs.declared.parameter.Parameter.{Parameter}
 use Rattle.mdb_items.specs.Database.{Database, IsDatabase}
 use Rattle.mdb_items.specs.Structure.{IsLabelled, IsTable}
 use Rattle.mdb_items.specs.Texts.{is_label}
+use Rattle.mdb_model.specs.Lookups.{calibration_at, calibration_of, calibration_of_parameter}
 use Rattle.mdb_model.proofs.Structure.{structured}
 use Rattle.retrieval.specs.CellText.{HasShortLabels, rows_of_table}
 
@@ -29,7 +30,14 @@ short_at : (db : Database) (n : ℕ) (o : Option Calibration) → IsDatabase db 
 short_at db n None is at = tt
 short_at db n (Some c) is at = table_short c.table ((structured db is).calibrations n c at).rows
 
--- each calibration's labels are short enough for a line
-pub short_labels : (db : Database) (number : Option ℕ) → IsDatabase db → HasShortLabels (calibration_at db.calibrations number)
-short_labels db None is = tt
-short_labels db (Some n) is = short_at db n (slice_get db.calibrations n) is refl
+number_labels : (db : Database) (number : Option ℕ) → IsDatabase db → HasShortLabels (calibration_at db.calibrations number)
+number_labels db None is = tt
+number_labels db (Some n) is = short_at db n (slice_get db.calibrations n) is refl
+
+parameter_labels : (db : Database) (p : Option Parameter) → IsDatabase db → HasShortLabels (calibration_of_parameter db.calibrations p)
+parameter_labels db None is = tt
+parameter_labels db (Some p) is = number_labels db p.calibration is
+
+-- the labels of a parameter's calibration are short enough for a line
+pub short_labels : (db : Database) (number : ℕ) → IsDatabase db → HasShortLabels (calibration_of db number)
+short_labels db number is = parameter_labels db (slice_get db.parameters number) is

@@ -1,3 +1,4 @@
 pub mod Labels
+pub mod FoundCells
 pub mod Parameters
 pub mod Limited

@@ -1,17 +1,15 @@
 -- What `values` prints.
-use Rattle.std.specs.Prelude.{ℕ, ℤ, List, [], ◌∷◌, ◌++◌, length, flat_map, slice_get, Option, codes, decimal}
+use Rattle.std.specs.Prelude.{ℕ, ℤ, List, [], ◌∷◌, ◌++◌, length, flat_map, codes, decimal}
 use Rattle.std.specs.List.{filter_map}
 use Rattle.arch_types.specs.declared.cell.Cell.{Cell}
 use Rattle.arch_types.specs.declared.row.Row.{Row}
 use Rattle.arch_types.specs.Arrivals.{arrivals}
 use Rattle.arch_types.specs.History.{firsts}
 use Rattle.arch_types.specs.Table.{table_of}
-use Rattle.mdb_items.specs.declared.calibration.Calibration.{Calibration}
 use Rattle.mdb_items.specs.Database.{Database}
-use Rattle.calibration.specs.Calibrated.{calibration_at}
+use Rattle.mdb_model.specs.Lookups.{calibration_of}
 use Rattle.container_extract.specs.Chain.{packet_name_of}
 use Rattle.container_extract.specs.Extraction.{cell_of}
-use Rattle.container_extract.specs.Values.{calibration_of}
 use Rattle.retrieval.specs.CellText.{cell_line}
 
 -- the rows of packets of link 1, all in table 0, with the packet names that a database gives them
@@ -22,13 +20,9 @@ named_rows db packets moment = arrivals 1 moment (packet_name_of db) (λ p. 0 �
 abbrev pub cells_of : Database → ℕ → List (List ℕ) → ℤ → List Cell
 cells_of db number packets moment = filter_map (cell_of db number) (table_of 0 (firsts (named_rows db packets moment)))
 
--- the calibration of the parameter with a number
-abbrev pub calibration_numbered : Database → ℕ → Option Calibration
-calibration_numbered db number = calibration_at db.calibrations (calibration_of (slice_get db.parameters number))
-
 -- a line for each cell
 abbrev pub cell_lines : Database → ℕ → List Cell → List ℕ
-cell_lines db number cells = flat_map (cell_line (calibration_numbered db number)) cells
+cell_lines db number cells = flat_map (cell_line (calibration_of db number)) cells
 
 -- the last line: how many cells there are
 abbrev pub values_line : ℕ → List ℕ

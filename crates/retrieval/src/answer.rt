@@ -16,6 +16,7 @@ use arch_types::name::Name;
 use arch_types::refusal::Refusal;
 use arch_types::row::Row;
 use archive_store::{Part, Plan, Store};
+use container_extract::Extractor;
 use mdb_model::Mdb;
 use std::alloc::{AllocError, Global};
 use std::sync::Arc;
@@ -102,9 +103,10 @@ fn first_cells(
     ensures { IfOk result (λ cells.
         cells.items ≡ truncated limit (filter_map (cell_of mdb.now number) (rows_of_parts parts.now))) }
 {
+    let mut extractor = Extractor::new(alloc);
     let mut cells = Vec::new(alloc);
     for part in parts {
-        add_cells(alloc, mdb, number, part.rows.as_slice(), limit, &mut cells)?;
+        add_cells(&mut extractor, mdb, number, part.rows.as_slice(), limit, &mut cells)?;
     }
     Ok(cells)
 }
@@ -121,16 +123,17 @@ fn last_cells(
         cells.items ≡ truncated limit
         (in_asked_order true (filter_map (cell_of mdb.now number) (rows_of_parts parts.now)))) }
 {
+    let mut extractor = Extractor::new(alloc);
     let mut cells = Vec::new(alloc);
     for part in parts.iter().rev() {
-        add_last_cells(alloc, mdb, number, part.rows.as_slice(), limit, &mut cells)?;
+        add_last_cells(&mut extractor, mdb, number, part.rows.as_slice(), limit, &mut cells)?;
     }
     Ok(cells)
 }
 
 /// Adds the cells of rows, up to a limit of all.
 fn add_cells(
-    alloc: Global,
+    extractor: &mut Extractor,
     mdb: &Mdb,
     number: u16,
     rows: &[Row],
@@ -145,14 +148,14 @@ fn add_cells(
         if is_full(cells.as_slice(), limit) {
             return Ok(());
         }
-        add_cell(alloc, mdb, number, row, cells)?;
+        add_cell(extractor, mdb, number, row, cells)?;
     }
     Ok(())
 }
 
 /// Adds the cells of rows, those of the last row first, up to a limit of all.
 fn add_last_cells(
-    alloc: Global,
+    extractor: &mut Extractor,
     mdb: &Mdb,
     number: u16,
     rows: &[Row],
@@ -167,14 +170,14 @@ fn add_last_cells(
         if is_full(cells.as_slice(), limit) {
             return Ok(());
         }
-        add_cell(alloc, mdb, number, row, cells)?;
+        add_cell(extractor, mdb, number, row, cells)?;
     }
     Ok(())
 }
 
 /// Adds the cell of a row, where there is one.
 fn add_cell(
-    alloc: Global,
+    extractor: &mut Extractor,
     mdb: &Mdb,
     number: u16,
     row: &Row,
@@ -182,7 +185,7 @@ fn add_cell(
 ) -> Result<(), AllocError>
     ensures { OnOk result (cells.new.items ≡ cells.old.items ++ cell_list (cell_of mdb.now number row.now)) }
 {
-    match cell_of(alloc, mdb, number, row)? {
+    match cell_of(extractor, mdb, number, row)? {
         None => Ok(()),
         Some(cell) => {
             cells.push(cell)?;

@@ -4,7 +4,7 @@ use Rattle.mdb_items.specs.declared.calibration.Calibration.{Calibration}
 use Rattle.container_extract.specs.Extraction.{cell_of}
 use Rattle.retrieval.specs.CellText.{cell_line}
 use Rattle.archive_cli.specs.ValuesPrinting.{count_if, count_of, line_if, line_of}
-use Rattle.retrieval.specs.ValuesText.{calibration_numbered}
+use Rattle.mdb_model.specs.Lookups.{calibration_of}
 use Rattle.archive_cli.proofs.values.put_cell_of.Goals as goal
 
 pub returns-in-None-clause-line : goal.returns-in-None-clause-line
@@ -13,7 +13,7 @@ returns-in-None-clause-line c =
     let db = c.args.known.now.mdb in
     let number = c.args.known.now.number in
     let none : cell_of db number c.args.row.now ≡ None = sym c.in_ok-cell.ensures ∙ c.in-None.is in
-    sym (ap (λ (o : Option Cell). c.args.line_buffer.now ++ line_if (calibration_numbered db number) o) none ∙ append-nil c.args.line_buffer.now)
+    sym (ap (λ (o : Option Cell). c.args.line_buffer.now ++ line_if (calibration_of db number) o) none ∙ append-nil c.args.line_buffer.now)
 
 pub returns-in-None-clause-count : goal.returns-in-None-clause-count
 unfolding count_of
@@ -28,7 +28,7 @@ returns-in-Some-clause-line c =
     let number = c.args.known.now.number in
     let some : cell_of db number c.args.row.now ≡ Some c.in-Some.cell = sym c.in_ok-cell.ensures ∙ c.in-Some.is in
     c.put_cell.ensures ∙ ap (λ (calibration : Option Calibration). c.args.line_buffer.now ++ cell_line calibration c.in-Some.cell) c.calibration_of.ensures.value ∙
-    sym (ap (λ (o : Option Cell). c.args.line_buffer.now ++ line_if (calibration_numbered db number) o) some)
+    sym (ap (λ (o : Option Cell). c.args.line_buffer.now ++ line_if (calibration_of db number) o) some)
 
 pub returns-in-Some-clause-count : goal.returns-in-Some-clause-count
 unfolding count_of

@@ -1,5 +1,5 @@
 use Rattle.container_extract.proofs.Taking.{entries_known}
 use Rattle.container_extract.proofs.containers.next_of.Goals as goal
 
-pub take_entries-requires-clause-known : goal.take_entries-requires-clause-known
-take_entries-requires-clause-known c = entries_known c.args.mdb.now c.args.number c.container.result.now c.as_slice-entries.result.now c.requires.sound c.container.ensures c.as_slice-entries.ensures
+pub take_entries-requires : goal.take_entries-requires
+take_entries-requires c = entries_known c.args.mdb.now c.args.number c.container.result.now c.as_slice-entries.result.now c.requires.sound c.container.ensures c.as_slice-entries.ensures

@@ -1,9 +1,9 @@
 use Rattle.std.proofs.Common.{◌-◌, length}
 use Rattle.container_extract.proofs.Walk.{IsWalk}
-use Rattle.container_extract.proofs.extraction.walk.Given as goal
+use Rattle.container_extract.proofs.raw_extraction.RawExtracted.walk.Given as goal
 
 abbrev pub invariant-down : goal.invariant-down
-invariant-down l = IsWalk l.mdb l.packet l.chain l.values l.number
+invariant-down l = IsWalk l.mdb l.packet l.self.chain.items l.self.values.items l.number
 
 abbrev pub decreases-down : goal.decreases-down
 decreases-down l = length l.mdb.containers - l.number
