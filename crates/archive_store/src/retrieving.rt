@@ -41,7 +41,7 @@ fn container_names(alloc: Global, mdb: &Mdb) -> Result<Names, AllocError>
     for container in mdb.container_list() {
         let octets = Octets::from_slice(alloc, container.name.as_bytes())?;
         let Some(name) = Name::of(octets) else {
-            return Err(AllocError);
+            unreachable!()
         };
         names.push(name)?;
     }

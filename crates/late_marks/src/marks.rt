@@ -65,7 +65,8 @@ impl LateMarks {
     pub fn touch(&mut self, interval: Interval, position: u64)
         requires { 0 < self.old.room }
         ensures marked { Marked self.old self.new interval (touched (mark_of self.old interval) position) }
-        ensures rows { (positions : List ℕ) → StandAt (mark_of self.old interval) positions → StandAt (mark_of self.new interval) (positions ++ position ∷ []) }
+        ensures rows { (positions : List ℕ) → StandAt (mark_of self.old interval) positions
+            → StandAt (mark_of self.new interval) (positions ++ position ∷ []) }
         ensures known { has_rows self.old interval ≡ true → self.new.room ≡ self.old.room }
         ensures fresh { has_rows self.old interval ≡ false → self.new.room + 1 ≡ self.old.room }
     {
@@ -79,8 +80,10 @@ impl LateMarks {
     /// Notes that the interval, which has rows, was filled from the history's first `base` rows on.
     pub fn filled(&mut self, interval: Interval, base: u64)
         requires { has_rows self.old interval ≡ true }
-        ensures marked { IfSome (mark_of self.old interval) (λ m. Marked self.old self.new interval (record m { base = Some base })) }
-        ensures fewer { is_late self.old interval ≡ true → is_late self.new interval ≡ false → late_of self.new + 1 ≡ late_of self.old }
+        ensures marked { IfSome (mark_of self.old interval)
+            (λ m. Marked self.old self.new interval (record m { base = Some base })) }
+        ensures fewer { is_late self.old interval ≡ true → is_late self.new interval ≡ false
+            → late_of self.new + 1 ≡ late_of self.old }
         ensures room { self.new.room ≡ self.old.room }
     {
         if let Some(mark) = self.mark(interval) {
@@ -97,7 +100,8 @@ impl LateMarks {
     /// Whether the interval has rows, and was never filled or has one at or after the base of its last fill.
     pub fn is_late(&self, interval: Interval) -> bool
         ensures mark { result ≡ is_late self.now interval }
-        ensures rows { (positions : List ℕ) → StandAt (mark_of self.now interval) positions → (result ≡ true) ↔ IsLateBy positions (base_of self.now interval) }
+        ensures rows { (positions : List ℕ) → StandAt (mark_of self.now interval) positions
+            → (result ≡ true) ↔ IsLateBy positions (base_of self.now interval) }
     {
         match self.mark(interval) {
             Some(mark) => mark.is_late(),
@@ -130,7 +134,8 @@ impl LateMarks {
     /// Takes an interval that is late and that nobody has taken.
     pub fn take(&mut self, interval: Interval)
         requires { is_late_free self.old interval ≡ true }
-        ensures marked { IfSome (mark_of self.old interval) (λ m. Marked self.old self.new interval (record m { taken = true })) }
+        ensures marked { IfSome (mark_of self.old interval)
+            (λ m. Marked self.old self.new interval (record m { taken = true })) }
         ensures room { self.new.room ≡ self.old.room }
     {
         if let Some(mark) = self.mark(interval) {
@@ -146,7 +151,8 @@ impl LateMarks {
 
     /// Gives an interval back, where somebody has taken it.
     pub fn free(&mut self, interval: Interval)
-        ensures marked { IfSome (mark_of self.old interval) (λ m. Marked self.old self.new interval (record m { taken = false })) }
+        ensures marked { IfSome (mark_of self.old interval)
+            (λ m. Marked self.old self.new interval (record m { taken = false })) }
         ensures none { has_rows self.old interval ≡ false → self.new ≡ self.old }
         ensures room { self.new.room ≡ self.old.room }
     {

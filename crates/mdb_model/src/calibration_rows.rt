@@ -11,7 +11,7 @@ ghost use Rattle.mdb_model.specs.Steps.{IsInStep};
 ghost use Rattle.mdb_model.specs.Texts.{place_of};
 
 use crate::calibration::{Calibration, EnumRow, PointsRow, PolyRow, Table};
-use crate::items::Items;
+use item_list::items::Items;
 use crate::name::MdbName;
 use crate::names::{Names, Numbers};
 use crate::rows::RowValues;

@@ -5,7 +5,7 @@ ghost use Rattle.mdb_model.specs.Children.{AreChildren, if_parent};
 ghost use Rattle.mdb_model.specs.Totals.{AreEarlier};
 
 use crate::container::Container;
-use crate::items::Items;
+use item_list::items::Items;
 use std::alloc::{AllocError, Global};
 
 /// Puts a container behind the children of its parent.

@@ -6,7 +6,7 @@ ghost use Rattle.mdb_model.specs.Conditions.{after, comparison, comparison_named
 ghost use Rattle.text_forms.specs.Names.{is_name_octet};
 
 use crate::container::{Comparison, Operator};
-use crate::items::Items;
+use item_list::items::Items;
 use crate::names::Names;
 use crate::texts::whole_number;
 use std::alloc::{AllocError, Global};

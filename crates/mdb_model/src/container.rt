@@ -2,7 +2,7 @@
 
 ghost use Rattle.std.specs.Prelude.{◌≡◌, IfOk};
 
-use crate::items::Items;
+use item_list::items::Items;
 use crate::name::MdbName;
 use std::alloc::{AllocError, Global};
 

@@ -15,7 +15,7 @@ ghost use Rattle.mdb_model.specs.Texts.{place_of};
 
 use crate::calibration_rows::is_in_range;
 use crate::container::{Comparison, Container, Entry};
-use crate::items::Items;
+use item_list::items::Items;
 use crate::names::Names;
 use crate::parameter::Parameter;
 use crate::parameter_rows::{is_reference, number_of};

@@ -4,7 +4,7 @@ ghost use Rattle.std.specs.Prelude.{◌≡◌, IfOk};
 
 use crate::calibration::{Calibration, EnumRow};
 use crate::container::Container;
-use crate::items::Items;
+use item_list::items::Items;
 use crate::parameter::Parameter;
 use std::alloc::{AllocError, Global};
 

@@ -18,7 +18,7 @@ use crate::container::Container;
 use crate::container_rows::Containers;
 use crate::copies::{calibrations_copy, children_copy, containers_copy, parameters_copy};
 use crate::fault::{MdbFault, MdbLimit, MdbSheet};
-use crate::items::Items;
+use item_list::items::Items;
 use crate::limits::limit_passed;
 use crate::names::Names;
 use crate::not_mdb::NotMdb;

@@ -8,7 +8,7 @@ ghost use Rattle.mdb_model.specs.Reading.{archive_at, calibration_at, coding_at,
 
 use crate::calibration::{Calibration, EnumRow, PointsRow, PolyRow, Table};
 use crate::container::{Comparison, Container, Entry, Operator};
-use crate::items::Items;
+use item_list::items::Items;
 use crate::name::MdbName;
 use crate::parameter::{Coding, Parameter};
 use octet_fields::{DecodeError, Short, i64_at, i128_at, name_at, u8_at, u16_at, u32_at};

@@ -14,7 +14,7 @@ use crate::calibration::{Calibration, Table};
 use crate::calibration_rows::Calibrations;
 use crate::container::{Container, Entry};
 use crate::container_rows::Containers;
-use crate::items::Items;
+use item_list::items::Items;
 use crate::limits::table_len;
 use crate::name::MdbName;
 use crate::parameter::Parameter;

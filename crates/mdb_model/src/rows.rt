@@ -1,7 +1,7 @@
 //! What the texts of a row say, whatever they are: the rules judge these rows, those of sheets and those of stored octets alike.
 
 use crate::container::Comparison;
-use crate::items::Items;
+use item_list::items::Items;
 use crate::name::MdbName;
 use crate::parameter::Coding;
 

@@ -3,7 +3,7 @@
 ghost use Rattle.std.specs.Prelude.{◌≡◌, ◌∷◌, ◌++◌, [], length, OnOk, OnErr};
 ghost use Rattle.mdb_model.specs.Texts.{field};
 
-use crate::items::Items;
+use item_list::items::Items;
 use std::alloc::{AllocError, Global};
 use std::marker::Model;
 

@@ -45,7 +45,8 @@ pub(crate) fn of_names(
     name_day_filter: &NameDayFilter,
 ) -> Result<PartList, AllocError>
     requires { name_day_filter.now.days.first ≤ℤ name_day_filter.now.days.last }
-    ensures { IfOk result (λ parts. map named_day parts ≡ filter (passes_filter name_day_filter.now) (keys_of index.now.entries)) }
+    ensures { IfOk result (λ parts. map named_day parts
+        ≡ filter (passes_filter name_day_filter.now) (keys_of index.now.entries)) }
 {
     let mut parts = PartList::new(alloc);
     let mut entries = index.iter();

@@ -76,7 +76,8 @@ impl Partitions {
     /// The partitions that hold a row and may hold one in the bounds, by day and then by the packet name's number.
     /// The one error is want of memory.
     pub fn pruned(&self, bounds: &Bounds) -> Result<PartList, AllocError>
-        ensures exactly { IfOk result (λ parts. (p : Partition) → Contains parts p ↔ (Contains self.now.parts p × MayHold bounds.now p)) }
+        ensures exactly { IfOk result (λ parts. (p : Partition) → Contains parts p
+            ↔ (Contains self.now.parts p × MayHold bounds.now p)) }
         ensures rising { IfOk result (λ parts. AreRising parts) }
     {
         if bounds.to <= bounds.from {
@@ -94,7 +95,8 @@ impl Partitions {
 
     /// The partitions that hold a row on some days.
     fn on_days(&self, days: &Days) -> Result<PartList, AllocError>
-        ensures exactly { IfOk result (λ parts. (p : Partition) → Contains parts p ↔ (Contains self.now.parts p × (is_on days.now p.day ≡ true))) }
+        ensures exactly { IfOk result (λ parts. (p : Partition) → Contains parts p
+            ↔ (Contains self.now.parts p × (is_on days.now p.day ≡ true))) }
         ensures rising { IfOk result (λ parts. AreRising parts) }
     {
         on_days(self.alloc, &self.by_day, days)
@@ -103,7 +105,8 @@ impl Partitions {
     /// The partitions that hold a row and are wanted.
     fn of_names(&self, name_day_filter: &NameDayFilter) -> Result<PartList, AllocError>
         requires { name_day_filter.now.days.first ≤ℤ name_day_filter.now.days.last }
-        ensures exactly { IfOk result (λ parts. (p : Partition) → Contains parts p ↔ (Contains self.now.parts p × (passes_filter name_day_filter.now (named_day p) ≡ true))) }
+        ensures exactly { IfOk result (λ parts. (p : Partition) → Contains parts p
+            ↔ (Contains self.now.parts p × (passes_filter name_day_filter.now (named_day p) ≡ true))) }
         ensures rising { IfOk result (λ parts. AreRising parts) }
     {
         let parts = of_names(self.alloc, &self.by_name, name_day_filter)?;

@@ -15,4 +15,4 @@ returns-in-Some-clause-each c =
     on_ok_weaker c.push.result
     (λ pushed. λ n xs here.
     written lists p k n c.index_mut.result.now c.push.new.self xs there pushed here ∙ ap (λ (o : Option ℕ). Some (xs ++ if_parent n o k)) (sym c.in-Some.is))
-    c.push.ensures.pushed
+    c.push.ensures.ok

@@ -36,7 +36,7 @@ returns-clause-added c =
     let a = c.args.self.now.items.ok.0 in
     let lt : n < length items = omega arith in
     let at = slice_get_read items (length items) n c.index_mut-container.result.now refl lt c.index_mut-container.ensures.value in
-    on_ok_weaker c.push.result (λ pushed. entry_written items n c.index_mut-container.result.now c.push.new.self c.args.entry (omega arith) at pushed) c.push.ensures.pushed
+    on_ok_weaker c.push.result (λ pushed. entry_written items n c.index_mut-container.result.now c.push.new.self c.args.entry (omega arith) at pushed) c.push.ensures.ok
 
 pub returns-clause-path : goal.returns-clause-path
 returns-clause-path c =
@@ -52,4 +52,4 @@ returns-clause-path c =
     let there = slice_get_read all_totals (length all_totals) n c.index_mut-totals.result.now refl less c.index_mut-totals.ensures.value in
     let end : c.args.entry.at + c.bits_at.result ≡ c.args.entry.at + bits_at c.args.parameters.now c.args.entry.parameter = ap (λ (k : ℕ). c.args.entry.at + k) c.bits_at.ensures in
     let spanned = totals_written all_totals n c.index_mut-totals.result.now (c.args.entry.at + c.bits_at.result) (c.args.entry.at + bits_at c.args.parameters.now c.args.entry.parameter) (omega arith) there end in
-    on_ok_weaker c.push.result (λ pushed. in_path_entered c.args.parameters.now old _ c.args.entry c.requires.path c.requires.begun refl (entry_written items n c.index_mut-container.result.now c.push.new.self c.args.entry (omega arith) at pushed) spanned) c.push.ensures.pushed
+    on_ok_weaker c.push.result (λ pushed. in_path_entered c.args.parameters.now old _ c.args.entry c.requires.path c.requires.begun refl (entry_written items n c.index_mut-container.result.now c.push.new.self c.args.entry (omega arith) at pushed) spanned) c.push.ensures.ok
