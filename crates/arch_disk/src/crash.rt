@@ -108,7 +108,8 @@ fn from(octets: &[u8], at: u64) -> &[u8]
 
 // A write that isn't synced.
 fn tear(alloc: Global, image: &mut Files, write: &Write, crash: Crash) -> Result<(), AllocError>
-    ensures { OnOk result (InFile (Becomes (written_as crash write.now.at write.now.octets.items)) write.now.file (image_in image.old) (image_in image.new)) }
+    ensures { OnOk result (InFile (Becomes (written_as crash write.now.at write.now.octets.items)) write.now.file
+        (image_in image.old) (image_in image.new)) }
 {
     let old = image.content(write.file);
     let len = old.len() as u64;
@@ -150,7 +151,8 @@ fn replay(
     call: &Call,
     crash: Crash,
 ) -> Result<(), AllocError>
-    ensures { (past : List ACall) → ((f : ℕ) → image_in reads.old f ≡ reads_of past f) → ((f : ℕ) → image_in image.old f ≡ crash_of crash past f)
+    ensures { (past : List ACall) → ((f : ℕ) → image_in reads.old f ≡ reads_of past f) →
+        ((f : ℕ) → image_in image.old f ≡ crash_of crash past f)
         → OnOk result (((f : ℕ) → image_in reads.new f ≡ reads_of (call.now ∷ past) f) × ((f : ℕ) → image_in image.new f ≡ crash_of crash (call.now ∷ past) f)) }
 {
     match call {

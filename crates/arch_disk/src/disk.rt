@@ -27,7 +27,8 @@ pub trait Disk {
     /// Fills `into` whole with the octets from `at` on.
     fn read_at(&mut self, file: u32, at: u64, into: &mut [u8]) -> Result<(), Failed>
         requires { IsTrue device.is_transparent → at + length into.old ≤ length (device.reads self.old file) }
-        ensures octets { OnOk result (IsTrue device.is_transparent → into.new ≡ take (length into.old) (drop at (device.reads self.old file))) }
+        ensures octets { OnOk result (IsTrue device.is_transparent →
+            into.new ≡ take (length into.old) (drop at (device.reads self.old file))) }
         ensures len { length into.new ≡ length into.old }
         ensures reads { device.reads self.new ≡ device.reads self.old }
         ensures crash { AddsNoImage device self.old self.new }
@@ -38,8 +39,10 @@ pub trait Disk {
     /// Writes over what stands there, and past the end. It begins at most at the end.
     fn write_at(&mut self, file: u32, at: u64, from: &[u8]) -> Result<(), Failed>
         requires { IsTrue device.is_transparent → at ≤ length (device.reads self.old file) }
-        ensures written { OnOk result (IsTrue device.is_transparent → InFile (Becomes (overwritten at from.now)) file (device.reads self.old) (device.reads self.new)) }
-        ensures torn { OnErr result (IsTrue device.is_transparent → InFile (Torn at (length from.now)) file (device.reads self.old) (device.reads self.new)) }
+        ensures written { OnOk result (IsTrue device.is_transparent →
+            InFile (Becomes (overwritten at from.now)) file (device.reads self.old) (device.reads self.new)) }
+        ensures torn { OnErr result (IsTrue device.is_transparent →
+            InFile (Torn at (length from.now)) file (device.reads self.old) (device.reads self.new)) }
         ensures crash { Follows device (InFile (Torn at (length from.now)) file) self.old self.new }
         ensures time { Elapses device self.old self.new }
         ensures cause { HasCause device self.old self.new result }
@@ -47,8 +50,10 @@ pub trait Disk {
 
     /// Cuts a file to a length; a shorter file stays as it is.
     fn cut(&mut self, file: u32, len: u64) -> Result<(), Failed>
-        ensures done { OnOk result (IsTrue device.is_transparent → InFile (Becomes (take len)) file (device.reads self.old) (device.reads self.new)) }
-        ensures torn { OnErr result (IsTrue device.is_transparent → InFile (Shortened len) file (device.reads self.old) (device.reads self.new)) }
+        ensures done { OnOk result (IsTrue device.is_transparent →
+            InFile (Becomes (take len)) file (device.reads self.old) (device.reads self.new)) }
+        ensures torn { OnErr result (IsTrue device.is_transparent →
+            InFile (Shortened len) file (device.reads self.old) (device.reads self.new)) }
         ensures crash { Follows device (InFile (Shortened len) file) self.old self.new }
         ensures time { Elapses device self.old self.new }
         ensures cause { HasCause device self.old self.new result }

@@ -79,7 +79,8 @@ impl Files {
 
     /// Writes over the octets of a file from `at` on, and past the end.
     pub fn write(&mut self, file: u32, at: u64, from: &[u8]) -> Result<(), AllocError>
-        ensures ok { OnOk result (InFile (Becomes (overwritten at from.now)) file (image_in self.old) (image_in self.new)) }
+        ensures ok { OnOk result (InFile (Becomes (overwritten at from.now)) file (image_in self.old)
+            (image_in self.new)) }
         ensures err { OnErr result ((g : ℕ) → image_in self.new g ≡ image_in self.old g) }
     {
         let i = place(&mut self.list, file)?;

@@ -132,7 +132,8 @@ impl History {
 
     // Makes these octets all that a file holds, synced.
     fn write_synced(&mut self, file: u32, octets: &[u8]) -> Result<(), AllocError>
-        ensures { OnOk result ((write : AWrite) × (write.file ≡ file) × (write.at ≡ 0) × (write.octets.items ≡ octets.now) × (self.new ≡ Synced file ∷ Wrote write ∷ self.old)) }
+        ensures { OnOk result ((write : AWrite) × (write.file ≡ file) × (write.at ≡ 0) ×
+            (write.octets.items ≡ octets.now) × (self.new ≡ Synced file ∷ Wrote write ∷ self.old)) }
     {
         let write = Write::copy(*self.calls.allocator(), file, 0, octets)?;
         self.write(write)?;

@@ -75,7 +75,8 @@ impl MemDisk {
         requires { moment ≤ length self.now.history }
         ensures image { IfOk result (λ disk. images_of (first_calls moment self.now.history) (reads_of disk.history)) }
         ensures since { IfOk result (λ disk. since_of self.now.history moment (reads_of disk.history)) }
-        ensures kind { IfOk result (λ disk. HoldsOnly disk.history (crash_of crash (first_calls moment self.now.history))) }
+        ensures kind { IfOk result (λ disk.
+            HoldsOnly disk.history (crash_of crash (first_calls moment self.now.history))) }
         ensures unlisted { IfOk result (λ disk. disk.failing.items ≡ []) }
         ensures fresh { IfOk result IsFresh }
     {
@@ -114,7 +115,8 @@ impl Disk for MemDisk {
     ghost device = { memory_device };
 
     fn len(&mut self, file: u32) -> Result<u64, Failed>
-        ensures length { IfOk result (λ n. IsTrue memory_device.is_transparent → n ≡ length (memory_device.reads self.old file)) }
+        ensures length { IfOk result (λ n. IsTrue memory_device.is_transparent →
+            n ≡ length (memory_device.reads self.old file)) }
         ensures reads { memory_device.reads self.new ≡ memory_device.reads self.old }
         ensures crash { AddsNoImage memory_device self.old self.new }
         ensures time { Elapses memory_device self.old self.new }
@@ -132,8 +134,10 @@ impl Disk for MemDisk {
     }
 
     fn read_at(&mut self, file: u32, at: u64, into: &mut [u8]) -> Result<(), Failed>
-        requires { IsTrue memory_device.is_transparent → at + length into.old ≤ length (memory_device.reads self.old file) }
-        ensures octets { OnOk result (IsTrue memory_device.is_transparent → into.new ≡ take (length into.old) (drop at (memory_device.reads self.old file))) }
+        requires { IsTrue memory_device.is_transparent →
+            at + length into.old ≤ length (memory_device.reads self.old file) }
+        ensures octets { OnOk result (IsTrue memory_device.is_transparent →
+            into.new ≡ take (length into.old) (drop at (memory_device.reads self.old file))) }
         ensures len { length into.new ≡ length into.old }
         ensures reads { memory_device.reads self.new ≡ memory_device.reads self.old }
         ensures crash { AddsNoImage memory_device self.old self.new }
@@ -156,8 +160,11 @@ impl Disk for MemDisk {
     // A write that fails leaves all octets, and is kept where its number was listed and memory lasts.
     fn write_at(&mut self, file: u32, at: u64, from: &[u8]) -> Result<(), Failed>
         requires { IsTrue memory_device.is_transparent → at ≤ length (memory_device.reads self.old file) }
-        ensures written { OnOk result (IsTrue memory_device.is_transparent → InFile (Becomes (overwritten at from.now)) file (memory_device.reads self.old) (memory_device.reads self.new)) }
-        ensures torn { OnErr result (IsTrue memory_device.is_transparent → InFile (Torn at (length from.now)) file (memory_device.reads self.old) (memory_device.reads self.new)) }
+        ensures written { OnOk result (IsTrue memory_device.is_transparent →
+            InFile (Becomes (overwritten at from.now)) file (memory_device.reads self.old)
+            (memory_device.reads self.new)) }
+        ensures torn { OnErr result (IsTrue memory_device.is_transparent →
+            InFile (Torn at (length from.now)) file (memory_device.reads self.old) (memory_device.reads self.new)) }
         ensures crash { Follows memory_device (InFile (Torn at (length from.now)) file) self.old self.new }
         ensures time { Elapses memory_device self.old self.new }
         ensures cause { HasCause memory_device self.old self.new result }
@@ -166,7 +173,8 @@ impl Disk for MemDisk {
         ensures counted { HasCounted self.old self.new }
         ensures fails { IsTrue (next_fails self.old) → IsErr result }
         ensures kept { OnOk result (KeepsWrite Wrote file at from.now self.old.history self.new.history) }
-        ensures failed { OnErr result ((IsTrue (next_fails self.old) × KeepsWrite FailedWrite file at from.now self.old.history self.new.history)
+        ensures failed { OnErr result ((IsTrue (next_fails self.old) ×
+            KeepsWrite FailedWrite file at from.now self.old.history self.new.history)
             ⊎ (self.new.history ≡ self.old.history)) }
     {
         let listed = next_is_listed(&mut self.made, &self.failing);
@@ -182,8 +190,10 @@ impl Disk for MemDisk {
 
     // As for a write.
     fn cut(&mut self, file: u32, len: u64) -> Result<(), Failed>
-        ensures done { OnOk result (IsTrue memory_device.is_transparent → InFile (Becomes (take len)) file (memory_device.reads self.old) (memory_device.reads self.new)) }
-        ensures torn { OnErr result (IsTrue memory_device.is_transparent → InFile (Shortened len) file (memory_device.reads self.old) (memory_device.reads self.new)) }
+        ensures done { OnOk result (IsTrue memory_device.is_transparent →
+            InFile (Becomes (take len)) file (memory_device.reads self.old) (memory_device.reads self.new)) }
+        ensures torn { OnErr result (IsTrue memory_device.is_transparent →
+            InFile (Shortened len) file (memory_device.reads self.old) (memory_device.reads self.new)) }
         ensures crash { Follows memory_device (InFile (Shortened len) file) self.old self.new }
         ensures time { Elapses memory_device self.old self.new }
         ensures cause { HasCause memory_device self.old self.new result }
@@ -192,7 +202,8 @@ impl Disk for MemDisk {
         ensures counted { HasCounted self.old self.new }
         ensures fails { IsTrue (next_fails self.old) → IsErr result }
         ensures kept { OnOk result (self.new.history ≡ Cut file len ∷ self.old.history) }
-        ensures failed { OnErr result ((IsTrue (next_fails self.old) × (self.new.history ≡ FailedCut file len ∷ self.old.history))
+        ensures failed { OnErr result ((IsTrue (next_fails self.old) ×
+            (self.new.history ≡ FailedCut file len ∷ self.old.history))
             ⊎ (self.new.history ≡ self.old.history)) }
     {
         if next_is_listed(&mut self.made, &self.failing) {

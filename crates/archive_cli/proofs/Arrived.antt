@@ -8,8 +8,8 @@ use Rattle.std.proofs.lemmas.List.Elements.{filter-append}
 use Rattle.arch_types.specs.declared.row.Row.{Row}
 use Rattle.arch_types.specs.Arrivals.{row_of, kept}
 use Rattle.arch_types.specs.Packet.{IsPacket, is_idle}
-use Rattle.mdb_model.specs.declared.container.Container.{Container}
-use Rattle.mdb_model.specs.Database.{Database, IsDatabase}
+use Rattle.mdb_items.specs.declared.container.Container.{Container}
+use Rattle.mdb_items.specs.Database.{Database, IsDatabase}
 use Rattle.mdb_model.proofs.Structure.{structured}
 use Rattle.container_extract.specs.Chain.{has_archive, packet_name_of, chain_of}
 use Rattle.text_forms.specs.ClockTime.{IsClockTime}

@@ -21,7 +21,7 @@ use Rattle.archive_core.specs.Items.{Item}
 use Rattle.archive_core.specs.Outcomes.{fresh_of}
 use Rattle.archive_core.proofs.Outcomes.{fresh_added, ingested-append}
 use Rattle.text_forms.specs.ClockTime.{IsClockTime}
-use Rattle.mdb_model.specs.Database.{IsDatabase}
+use Rattle.mdb_items.specs.Database.{IsDatabase}
 use Rattle.space_packet.specs.declared.dump.Why.{Why}
 use Rattle.space_packet.specs.Cut.{IsCut, IsPart}
 use Rattle.space_packet.specs.Rest.{why_of}

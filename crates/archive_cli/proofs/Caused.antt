@@ -5,7 +5,7 @@ use Rattle.arch_types.specs.declared.refusal.Refusal.{Refusal}
 use Rattle.arch_types.specs.declared.refusal.Refusal.TheVariants.{Missing, ReadFault, WriteFault, BadSheet, Limit, NoArchive, Exists, Damaged, DiskFault, UnknownParameter, BadRange, OutOfMemory}
 use Rattle.arch_types.specs.declared.refusal.Which.TheVariants.{SheetOctets, Asks}
 use Rattle.archive_core.specs.Items.{Item}
-use Rattle.mdb_model.specs.Database.{Database}
+use Rattle.mdb_items.specs.Database.{Database}
 use Rattle.mdb_sheets.specs.Sheets.{HasSheet}
 use Rattle.archive_store.specs.Answers.{IsCreateAnswer, IsOpenAnswer}
 use Rattle.archive_cli.specs.declared.ask_sheet.AskSheet.{AskSheet}

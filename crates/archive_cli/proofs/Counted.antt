@@ -4,9 +4,9 @@ use Rattle.std.specs.Prelude.{IfSome}
 use Rattle.arch_types.specs.declared.refusal.Refusal.{Refusal}
 use Rattle.arch_types.specs.declared.refusal.Refusal.TheVariants.{ReadFault, WriteFault}
 use Rattle.arch_types.specs.declared.refusal.Which.{Which}
-use Rattle.mdb_model.specs.declared.fault.MdbLimit.{MdbLimit}
-use Rattle.mdb_model.specs.declared.sheet.RawMdb.{RawMdb}
-use Rattle.mdb_model.specs.Database.{Broken, limit_passed}
+use Rattle.mdb_items.specs.declared.fault.MdbLimit.{MdbLimit}
+use Rattle.mdb_items.specs.declared.sheet.RawMdb.{RawMdb}
+use Rattle.mdb_items.specs.Database.{Broken, limit_passed}
 use Rattle.mdb_model.specs.Sheets.{sheets_database, sheets_fault}
 use Rattle.mdb_sheets.specs.Sheets.{ReadsCounted}
 use Rattle.outer_traits.specs.Outside.{Files, HasRisen, Stays}

@@ -7,8 +7,8 @@ use Rattle.arch_types.specs.declared.refusal.Refusal.{Refusal}
 use Rattle.arch_types.specs.declared.refusal.Refusal.TheVariants.{Missing, WriteFault, Exists, DiskFault, OutOfMemory}
 use Rattle.arch_types.specs.declared.refusal.Which.TheVariants.{SheetOctets}
 use Rattle.disk_journal.specs.Format.{HoldsNone}
-use Rattle.mdb_model.specs.declared.sheet.RawMdb.{RawMdb}
-use Rattle.mdb_model.specs.Checks.{or_else}
+use Rattle.mdb_items.specs.declared.sheet.RawMdb.{RawMdb}
+use Rattle.mdb_items.specs.Checks.{or_else}
 use Rattle.mdb_sheets.specs.Sheets.{AreSheets}
 use Rattle.outer_traits.specs.Outside.{Files}
 use Rattle.archive_cli.specs.declared.report.Report.{Report}

@@ -10,12 +10,12 @@ use Rattle.archive_core.specs.declared.fills.Fill.{Fill}
 use Rattle.archive_core.specs.Items.{Item}
 use Rattle.disk_journal.specs.Format.{HoldsNone}
 use Rattle.disk_journal.specs.State.{IsUntouched as JournalLeft}
-use Rattle.mdb_model.specs.declared.fault.MdbFault.{MdbFault}
-use Rattle.mdb_model.specs.declared.fault.MdbFault.TheVariants as faulted
-use Rattle.mdb_model.specs.declared.fault.MdbLimit.{MdbLimit}
-use Rattle.mdb_model.specs.declared.sheet.RawMdb.{RawMdb}
-use Rattle.mdb_model.specs.Checks.{or_else}
-use Rattle.mdb_model.specs.Database.{Broken, Database, limit_passed}
+use Rattle.mdb_items.specs.declared.fault.MdbFault.{MdbFault}
+use Rattle.mdb_items.specs.declared.fault.MdbFault.TheVariants as faulted
+use Rattle.mdb_items.specs.declared.fault.MdbLimit.{MdbLimit}
+use Rattle.mdb_items.specs.declared.sheet.RawMdb.{RawMdb}
+use Rattle.mdb_items.specs.Checks.{or_else}
+use Rattle.mdb_items.specs.Database.{Broken, Database, limit_passed}
 use Rattle.mdb_model.specs.Sheets.{IsCheckResult, sheets_database, sheets_fault}
 use Rattle.mdb_sheets.specs.Sheets.{AreSheets, IsSheetRefusal, ReadsCounted}
 use Rattle.outer_traits.specs.Outside.{Files}

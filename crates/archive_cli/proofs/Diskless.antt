@@ -4,9 +4,9 @@ use Rattle.std.specs.Prelude.{◌⊎◌}
 use Rattle.arch_disk.specs.Disk.{Device}
 use Rattle.arch_types.specs.declared.refusal.Refusal.{Refusal}
 use Rattle.arch_types.specs.declared.refusal.Refusal.TheVariants.{DiskFault}
-use Rattle.mdb_model.specs.declared.fault.MdbLimit.{MdbLimit}
-use Rattle.mdb_model.specs.declared.sheet.RawMdb.{RawMdb}
-use Rattle.mdb_model.specs.Database.{Broken, limit_passed}
+use Rattle.mdb_items.specs.declared.fault.MdbLimit.{MdbLimit}
+use Rattle.mdb_items.specs.declared.sheet.RawMdb.{RawMdb}
+use Rattle.mdb_items.specs.Database.{Broken, limit_passed}
 use Rattle.mdb_model.specs.Sheets.{sheets_database, sheets_fault}
 use Rattle.archive_cli.specs.declared.report.Report.{Report}
 use Rattle.archive_cli.specs.Call.{Call}

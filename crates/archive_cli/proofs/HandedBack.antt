@@ -6,7 +6,7 @@ use Rattle.arch_types.specs.declared.refusal.Refusal.{Refusal}
 use Rattle.arch_types.specs.declared.refusal.Refusal.TheVariants.{Missing, ReadFault, WriteFault, NoArchive, Exists, Damaged, DiskFault, Limit, OutOfMemory}
 use Rattle.arch_types.specs.declared.refusal.Which.TheVariants.{SheetOctets}
 use Rattle.archive_core.specs.Items.{Item}
-use Rattle.mdb_model.specs.Database.{Database}
+use Rattle.mdb_items.specs.Database.{Database}
 use Rattle.archive_store.specs.Answers.{IsCreateAnswer, IsOpenAnswer}
 use Rattle.archive_store.specs.StoreView.{StoreView}
 use Rattle.archive_cli.specs.declared.ask_sheet.AskSheet.{AskSheet}

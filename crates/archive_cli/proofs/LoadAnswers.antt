@@ -20,7 +20,7 @@ use Rattle.archive_core.specs.Outcomes.{fresh_of}
 use Rattle.archive_core.proofs.Outcomes.{fresh_added, ingested-append}
 use Rattle.container_extract.specs.Chain.{packet_name_of}
 use Rattle.disk_journal.specs.Format.{HoldsNone}
-use Rattle.mdb_model.specs.Database.{Database}
+use Rattle.mdb_items.specs.Database.{Database}
 use Rattle.outer_traits.specs.Outside.{Files}
 use Rattle.outer_traits.specs.Whole.{IsThere}
 use Rattle.archive_store.specs.Entries.{Archive}

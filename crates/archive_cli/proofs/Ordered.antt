@@ -8,8 +8,8 @@ use Rattle.arch_types.specs.declared.refusal.Refusal.TheVariants.{Missing, ReadF
 use Rattle.arch_types.specs.declared.refusal.Which.{Which}
 use Rattle.arch_types.specs.declared.refusal.Which.TheVariants.{DumpOctets, SheetOctets}
 use Rattle.arch_types.specs.Limits.{limit_of}
-use Rattle.mdb_model.specs.Checks.{or_else}
-use Rattle.mdb_model.specs.declared.sheet.RawMdb.{RawMdb}
+use Rattle.mdb_items.specs.Checks.{or_else}
+use Rattle.mdb_items.specs.declared.sheet.RawMdb.{RawMdb}
 use Rattle.mdb_sheets.specs.Sheets.{AreSheets, HasSheet, IsRefusal, IsSheetRefusal, SourcesOfSheet, more}
 use Rattle.outer_traits.specs.declared.whole.ReadFault.{ReadFault as AReadFault}
 use Rattle.outer_traits.specs.declared.whole.ReadFault.TheVariants as fault

@@ -8,7 +8,7 @@ use Rattle.arch_types.specs.Arrivals.{row_of, kept}
 use Rattle.arch_types.specs.History.{is_duplicate_of, is_in_table, with_row, ingested, firsts}
 use Rattle.arch_types.specs.Order.{is_before, place_by}
 use Rattle.arch_types.specs.Table.{sorted, table_of}
-use Rattle.mdb_model.specs.Database.{Database}
+use Rattle.mdb_items.specs.Database.{Database}
 use Rattle.container_extract.specs.Chain.{packet_name_of}
 use Rattle.container_extract.specs.Extraction.{cell_of}
 use Rattle.dump_lines.specs.Text.{scanned_rows}

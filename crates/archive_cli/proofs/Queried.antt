@@ -9,7 +9,7 @@ use Rattle.arch_types.specs.declared.refusal.Refusal.TheVariants.{Missing, ReadF
 use Rattle.arch_types.specs.declared.refusal.Which.TheVariants.{SheetOctets, Asks}
 use Rattle.arch_types.specs.Limits.{limit_of}
 use Rattle.archive_core.specs.Items.{Item}
-use Rattle.mdb_model.specs.Database.{Database}
+use Rattle.mdb_items.specs.Database.{Database}
 use Rattle.mdb_sheets.specs.Asks.{AreAsks, IsAsksRefusal}
 use Rattle.mdb_sheets.specs.Sheets.{HasSheet, ReadsCounted}
 use Rattle.outer_traits.specs.Outside.{Files}

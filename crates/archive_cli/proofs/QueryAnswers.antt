@@ -13,8 +13,8 @@ use Rattle.arch_types.specs.declared.refusal.Which.TheVariants.{SheetOctets}
 use Rattle.arch_types.specs.declared.refusal.Which.TheVariants as which
 use Rattle.arch_types.specs.Limits.{limit_of}
 use Rattle.disk_journal.specs.Format.{HoldsNone}
-use Rattle.mdb_model.specs.Checks.{or_else}
-use Rattle.mdb_model.specs.Database.{Database}
+use Rattle.mdb_items.specs.Checks.{or_else}
+use Rattle.mdb_items.specs.Database.{Database}
 use Rattle.mdb_sheets.specs.Asks.{AreAsks, IsAsksResult, IsAsksRefusal, ask_of, sheet_fault}
 use Rattle.mdb_sheets.specs.Sheets.{Fields, HasSheet, sheet_of}
 use Rattle.outer_traits.specs.Outside.{Files}

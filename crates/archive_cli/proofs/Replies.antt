@@ -7,8 +7,8 @@ use Rattle.arch_types.specs.declared.ask.Request.{Request}
 use Rattle.arch_types.specs.declared.refusal.Refusal.{Refusal}
 use Rattle.arch_types.specs.declared.refusal.Refusal.TheVariants.{UnknownParameter, BadRange, WriteFault}
 use Rattle.archive_core.specs.Items.{Item}
-use Rattle.mdb_model.specs.Checks.{or_else}
-use Rattle.mdb_model.specs.Database.{Database}
+use Rattle.mdb_items.specs.Checks.{or_else}
+use Rattle.mdb_items.specs.Database.{Database}
 use Rattle.outer_traits.specs.Outside.{WritesSome}
 use Rattle.retrieval.specs.AnswerText.{ask_refusal, ask_text, asks_refusal, asks_text, request_refusal}
 use Rattle.dump_lines.specs.Output.{WritesCounted, IsBuffered, IsFinished}

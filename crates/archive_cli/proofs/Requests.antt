@@ -13,8 +13,8 @@ use Rattle.arch_types.specs.declared.refusal.Refusal.{Refusal}
 use Rattle.arch_types.specs.declared.refusal.Refusal.TheVariants.{UnknownParameter, BadRange, OutOfMemory}
 use Rattle.arch_types.specs.declared.row.Row.{Row}
 use Rattle.archive_core.specs.Items.{Item, rows_in}
-use Rattle.mdb_model.specs.declared.parameter.Parameter.{Parameter}
-use Rattle.mdb_model.specs.Database.{Database}
+use Rattle.mdb_items.specs.declared.parameter.Parameter.{Parameter}
+use Rattle.mdb_items.specs.Database.{Database}
 use Rattle.calibration.proofs.Admission.{place_within}
 use Rattle.container_extract.specs.Extraction.{cell_of}
 use Rattle.archive_store.specs.declared.head.Head.{Head}

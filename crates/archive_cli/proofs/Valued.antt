@@ -8,10 +8,10 @@ use Rattle.arch_types.specs.declared.refusal.Refusal.{Refusal}
 use Rattle.arch_types.specs.declared.refusal.Refusal.TheVariants.{WriteFault, BadPacket, OutOfMemory}
 use Rattle.arch_types.specs.declared.refusal.BadKind.TheVariants as bad
 use Rattle.arch_types.specs.Table.{sorted, table_of}
-use Rattle.mdb_model.specs.declared.calibration.Calibration.{Calibration}
-use Rattle.mdb_model.specs.declared.fault.MdbLimit.{MdbLimit}
-use Rattle.mdb_model.specs.declared.sheet.RawMdb.{RawMdb}
-use Rattle.mdb_model.specs.Database.{Broken, Database, limit_passed}
+use Rattle.mdb_items.specs.declared.calibration.Calibration.{Calibration}
+use Rattle.mdb_items.specs.declared.fault.MdbLimit.{MdbLimit}
+use Rattle.mdb_items.specs.declared.sheet.RawMdb.{RawMdb}
+use Rattle.mdb_items.specs.Database.{Broken, Database, limit_passed}
 use Rattle.mdb_model.specs.Sheets.{sheets_database, sheets_fault}
 use Rattle.container_extract.specs.Extraction.{cell_of}
 use Rattle.outer_traits.specs.Outside.{Files}

@@ -4,7 +4,7 @@ use Rattle.arch_types.specs.declared.ask.Ask.{Ask}
 use Rattle.arch_types.specs.declared.refusal.Refusal.{Refusal}
 use Rattle.arch_types.specs.declared.refusal.Refusal.TheVariants.{WriteFault, BadSheet, NoArchive, Exists, Damaged, DiskFault, UnknownParameter, BadRange, Limit, OutOfMemory}
 use Rattle.arch_types.specs.declared.refusal.Which.TheVariants.{SheetOctets, Asks}
-use Rattle.mdb_model.specs.declared.sheet.RawMdb.{RawMdb}
+use Rattle.mdb_items.specs.declared.sheet.RawMdb.{RawMdb}
 use Rattle.mdb_sheets.specs.Sheets.{HasSheet}
 use Rattle.archive_cli.specs.Call.{Call}
 use Rattle.archive_cli.specs.CreateEnding.{AreGood, AreRefused}

@@ -15,7 +15,7 @@ use Rattle.arch_types.specs.Limits.{limit_of}
 use Rattle.archive_core.specs.Items.{Item, items_of}
 use Rattle.archive_core.specs.Outcomes.{fresh_of}
 use Rattle.container_extract.specs.Chain.{packet_name_of}
-use Rattle.mdb_model.specs.Database.{Database}
+use Rattle.mdb_items.specs.Database.{Database}
 use Rattle.outer_traits.specs.Whole.{IsThere}
 use Rattle.archive_store.specs.Entries.{Archive, archive}
 use Rattle.archive_store.specs.Limits.{IsLimit}

@@ -5,7 +5,7 @@ use Rattle.arch_types.specs.declared.refusal.Refusal.{Refusal}
 use Rattle.arch_types.specs.declared.refusal.Refusal.TheVariants.{Missing, ReadFault}
 use Rattle.arch_types.specs.declared.refusal.Which.{Which}
 use Rattle.arch_types.specs.declared.refusal.Which.TheVariants.{DumpOctets, SheetOctets}
-use Rattle.mdb_model.specs.Checks.{or_else}
+use Rattle.mdb_items.specs.Checks.{or_else}
 use Rattle.outer_traits.specs.Outside.{Files, one_more}
 use Rattle.archive_cli.specs.declared.report.Report.{Report}
 use Rattle.archive_cli.specs.Expecting.{IsOrEarlier}

@@ -7,7 +7,7 @@ use Rattle.arch_types.specs.declared.refusal.Refusal.{Refusal}
 use Rattle.arch_types.specs.declared.refusal.Refusal.TheVariants.{WriteFault, BadSheet, Limit, NoArchive, Damaged, DiskFault, UnknownParameter, BadRange, OutOfMemory}
 use Rattle.arch_types.specs.declared.refusal.Which.TheVariants.{SheetOctets, Asks}
 use Rattle.archive_core.specs.Items.{Item}
-use Rattle.mdb_model.specs.Database.{Database}
+use Rattle.mdb_items.specs.Database.{Database}
 use Rattle.outer_traits.specs.Outside.{Files, HasRisen, Stays, WritesSome}
 use Rattle.mdb_sheets.specs.Asks.{AreAsks, IsAsksRefusal}
 use Rattle.mdb_sheets.specs.Sheets.{HasSheet}

@@ -7,8 +7,8 @@ use Rattle.arch_types.specs.declared.refusal.Which.{Which}
 use Rattle.arch_types.specs.declared.refusal.Which.TheVariants.{DumpOctets, SheetOctets}
 use Rattle.arch_types.specs.Limits.{limit_of}
 use Rattle.arch_types.specs.Dump.{IsDump}
-use Rattle.mdb_model.specs.declared.sheet.RawMdb.{RawMdb}
-use Rattle.mdb_model.specs.Checks.{or_else}
+use Rattle.mdb_items.specs.declared.sheet.RawMdb.{RawMdb}
+use Rattle.mdb_items.specs.Checks.{or_else}
 use Rattle.mdb_sheets.specs.Sheets.{sheet_of}
 use Rattle.outer_traits.specs.Outside.{Files}
 use Rattle.archive_cli.specs.Call.{Call}

@@ -7,8 +7,8 @@ use Rattle.arch_types.specs.declared.refusal.Refusal.TheVariants.{WriteFault}
 use Rattle.arch_types.specs.declared.refusal.Refusal.TheVariants as refused
 use Rattle.arch_types.specs.declared.row.Row.{Row}
 use Rattle.arch_types.specs.Table.{sorted}
-use Rattle.mdb_model.specs.declared.calibration.Calibration.{Calibration}
-use Rattle.mdb_model.specs.Database.{Database}
+use Rattle.mdb_items.specs.declared.calibration.Calibration.{Calibration}
+use Rattle.mdb_items.specs.Database.{Database}
 use Rattle.container_extract.specs.Extraction.{cell_of}
 use Rattle.outer_traits.specs.Outside.{HasRisen, Stays}
 use Rattle.space_packet.specs.declared.dump.Why.{Why}

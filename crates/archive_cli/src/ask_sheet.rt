@@ -26,7 +26,8 @@ pub enum AskSheet {
 pub fn read_sheet<I: Inputs>(alloc: Global, name: &str, inputs: &mut I) -> Result<AskSheet, Refusal>
     ensures sheet { IfOk result (IsAskSheet (I.files inputs.old) name.now) }
     ensures deferred { IfOk result IsDeferred }
-    ensures refused { IfErr result (IsReadRefusal (I.files inputs.old) name.now Which.SheetOctets (I.faults inputs.old) (I.faults inputs.new)) }
+    ensures refused { IfErr result (IsReadRefusal (I.files inputs.old) name.now Which.SheetOctets
+        (I.faults inputs.old) (I.faults inputs.new)) }
     ensures same { I.files inputs.new ≡ I.files inputs.old }
     ensures closed { I.open_sources inputs.old + 1 < 2 ^ 64 → I.open_sources inputs.new ≡ I.open_sources inputs.old }
     ensures gave { I.given inputs.new ≤ I.given inputs.old + 1 }

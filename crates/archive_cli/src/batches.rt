@@ -121,7 +121,8 @@ impl NextBatch {
         requires few { self.old.packets < 64 }
         ensures packets { OnOk result (self.new.packets ≡ self.old.packets + 1) }
         ensures received { self.new.batch.rectime ≡ self.old.batch.rectime }
-        ensures arrivals { OnOk result (self.new.batch.arrivals ≡ arrivals_with head.now link self.old.batch.arrivals packet) }
+        ensures arrivals { OnOk result (self.new.batch.arrivals ≡ arrivals_with head.now link self.old.batch.arrivals
+            packet) }
     {
         self.packets += 1;
         if is_idle_packet(packet.as_slice()) {

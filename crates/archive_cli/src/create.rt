@@ -6,7 +6,7 @@ ghost use Rattle.arch_disk.specs.Disk.{raised};
 ghost use Rattle.arch_types.specs.declared.refusal.Refusal.TheVariants.{DiskFault};
 ghost use Rattle.field_codec.specs.declared.entry.Entry.TheVariants as entries;
 ghost use Rattle.field_codec.specs.Entries.{IsEntry};
-ghost use Rattle.mdb_model.specs.declared.sheet.RawMdb.{RawMdb};
+ghost use Rattle.mdb_items.specs.declared.sheet.RawMdb.{RawMdb};
 ghost use Rattle.mdb_sheets.specs.Sheets.{ReadsCounted};
 ghost use Rattle.outer_traits.specs.Outside.{Stays};
 ghost use Rattle.command_words.specs.JobView.{sheet_words_of};
@@ -19,19 +19,19 @@ ghost use Rattle.command_words.specs.Job.{SheetWords as GivenWords};
 ghost use Rattle.archive_cli.specs.Order.{AreInOrder, create_inputs};
 ghost use Rattle.archive_cli.specs.Report.{status_at, IsReadOnlyReport};
 
-use command_words::job::SheetWords;
-use dump_lines::line_buffer::LineBuffer;
-use retrieval::parameter::refusal_of_sheets;
 use crate::report::{Ended, Report};
 use arch_disk::Disk;
 use arch_types::name::{Name, Names};
 use arch_types::octets::Octets;
 use arch_types::refusal::Refusal;
 use archive_store::{Head, Store};
+use command_words::job::SheetWords;
+use dump_lines::line_buffer::LineBuffer;
 use mdb_model::Mdb;
 use mdb_sheets::read_mdb;
 use outer_traits::inputs::Inputs;
 use outer_traits::sink::Sink;
+use retrieval::parameter::refusal_of_sheets;
 use std::alloc::{AllocError, Global};
 
 /// Makes an archive with table `tm` and the database of three sheets on a disk that holds none.
@@ -79,7 +79,8 @@ pub fn create<D: Disk, I: Inputs, K: Sink>(
     ensures writes_counted { WritesCounted result.report.refusal (K.faults sink.old) (K.faults sink.new) }
     ensures reliable { I.never_fails inputs.old → Stays (I.faults inputs.old) (I.faults inputs.new) }
     ensures disk_later { D.device.fault_count disk ≤ D.device.fault_count result.disk }
-    ensures disk_fault { result.report.refusal ≡ Some DiskFault → raised (D.device.fault_count disk) ≤ D.device.fault_count result.disk }
+    ensures disk_fault { result.report.refusal ≡ Some DiskFault →
+        raised (D.device.fault_count disk) ≤ D.device.fault_count result.disk }
 
     // Refused before the disk was asked, it hands the very disk back.
     ensures handed_back { IsCreateBack disk result.disk result.report.refusal }
@@ -98,10 +99,12 @@ fn read_head<I: Inputs>(
 ) -> Result<Head, Refusal>
     ensures head { IfOk result (IsHead (I.files inputs.old) (sheet_words_of words.entry)) }
     ensures entry { IfOk result (λ head. IsEntry (entries.Head head.tables head.mdb)) }
-    ensures refused { IfErr result (AreRefused (I.files inputs.old) (sheet_words_of words.entry) (I.faults inputs.old) (I.faults inputs.new)) }
+    ensures refused { IfErr result (AreRefused (I.files inputs.old) (sheet_words_of words.entry) (I.faults inputs.old)
+        (I.faults inputs.new)) }
     ensures same { I.files inputs.new ≡ I.files inputs.old }
     ensures closed { I.open_sources inputs.old + 1 < 2 ^ 64 → I.open_sources inputs.new ≡ I.open_sources inputs.old }
-    ensures order { IfErr result (λ refusal. AreInOrder (I.files inputs.old) (create_inputs (sheet_words_of words.entry))
+    ensures order { IfErr result (λ refusal.
+        AreInOrder (I.files inputs.old) (create_inputs (sheet_words_of words.entry))
         (I.given inputs.old) (I.given inputs.new) (Some refusal)) }
     ensures later { I.faults inputs.old ≤ I.faults inputs.new }
     ensures counted { ReadsCounted (result_err result) (I.faults inputs.old) (I.faults inputs.new) }
@@ -144,7 +147,8 @@ fn tables(alloc: Global) -> Result<Names, AllocError>
 /// Makes the archive, and prints what it has. Room for the line is taken before, so that no archive is made for which there's none.
 fn make<D: Disk, K: Sink>(alloc: Global, disk: D, head: Head, sink: &mut K) -> Ended<D>
     requires { IsEntry (entries.Head head.tables head.mdb) }
-    ensures ended { IsTrue D.device.is_transparent → (given : _) (files : _) (moment : _) (read_faults : _) (read_faults' : _) (words : GivenWords) (raw : RawMdb) →
+    ensures ended { IsTrue D.device.is_transparent → (given : _) (files : _) (moment : _) (read_faults : _)
+        (read_faults' : _) (words : GivenWords) (raw : RawMdb) →
         AreGood files words raw → head ≡ new_head raw → IsCreateEnding D.device (record {
           words = given;
           files = files;
@@ -156,14 +160,16 @@ fn make<D: Disk, K: Sink>(alloc: Global, disk: D, head: Head, sink: &mut K) -> E
           write_faults = K.faults sink.old;
           write_faults' = K.faults sink.new;
         }) words disk result.disk result.report.refusal result.report }
-    ensures caused { (call : Call) (words : GivenWords) (raw : RawMdb) → AreGood call.files words raw → IsCreateCaused call words result.report.refusal }
+    ensures caused { (call : Call) (words : GivenWords) (raw : RawMdb) → AreGood call.files words raw →
+        IsCreateCaused call words result.report.refusal }
     ensures status { result.status ≡ status_at result.report.refusal }
     ensures report { IsReadOnlyReport result.report.refusal result.report }
     ensures reads_counted { (faults : ℕ) → ReadsCounted result.report.refusal faults faults }
     ensures writes_counted { WritesCounted result.report.refusal (K.faults sink.old) (K.faults sink.new) }
     ensures writes_later { K.faults sink.old ≤ K.faults sink.new }
     ensures disk_later { D.device.fault_count disk ≤ D.device.fault_count result.disk }
-    ensures disk_fault { result.report.refusal ≡ Some DiskFault → raised (D.device.fault_count disk) ≤ D.device.fault_count result.disk }
+    ensures disk_fault { result.report.refusal ≡ Some DiskFault →
+        raised (D.device.fault_count disk) ≤ D.device.fault_count result.disk }
 
     // Refused before the disk was asked, it hands the very disk back.
     ensures handed_back { IsCreateBack disk result.disk result.report.refusal }

@@ -16,8 +16,6 @@ ghost use Rattle.archive_cli.specs.ReadDump.{dump_limit, ending_of};
 ghost use Rattle.archive_cli.specs.Report.{read_only, loaded, status_at, IsLoadReport};
 
 use crate::batches::{DumpSummary, ingest_dump};
-use command_words::job::LoadWords;
-use dump_lines::line_buffer::LineBuffer;
 use crate::read::refusal_of_opening;
 use crate::report::{Ended, LoadCounts, Report};
 use crate::scan_input::bad_packet;
@@ -25,6 +23,8 @@ use arch_disk::Disk;
 use arch_types::octets::Octets;
 use arch_types::refusal::{BadKind, Refusal, Which};
 use archive_store::Store;
+use command_words::job::LoadWords;
+use dump_lines::line_buffer::LineBuffer;
 use outer_traits::clock::Clock;
 use outer_traits::inputs::Inputs;
 use outer_traits::sink::Sink;
@@ -84,7 +84,8 @@ pub fn load<D: Disk, I: Inputs, K: Sink, C: Clock>(
     ensures writes_counted { WritesCounted result.report.refusal (K.faults sink.old) (K.faults sink.new) }
     ensures reliable { I.never_fails inputs.old → Stays (I.faults inputs.old) (I.faults inputs.new) }
     ensures disk_later { D.device.fault_count disk ≤ D.device.fault_count result.disk }
-    ensures disk_fault { result.report.refusal ≡ Some Refusal.DiskFault → raised (D.device.fault_count disk) ≤ D.device.fault_count result.disk }
+    ensures disk_fault { result.report.refusal ≡ Some Refusal.DiskFault →
+        raised (D.device.fault_count disk) ≤ D.device.fault_count result.disk }
 
     // Refused before the disk was asked, it hands the very disk back.
     ensures handed_back { IsLoadBack disk result.disk result.report.opened result.report.refusal }
@@ -137,7 +138,8 @@ fn read_dump<S: Source>(alloc: Global, source: &mut S, link: u64) -> Result<Link
     ensures short { IfOk result (λ received. length received.dump ≤ dump_limit) }
     ensures link { IfOk result (λ received. (received.link ≡ link) × (received.link ≤ 255)) }
     ensures unread { IfErr result (λ unread. IsDumpRefusal (S.left source.old) link unread.refusal unread.link) }
-    ensures counted { MatchResult result (λ _. Stays (S.faults source.old) (S.faults source.new)) (λ unread. ReadsCounted (Some unread.refusal) (S.faults source.old) (S.faults source.new)) }
+    ensures counted { MatchResult result (λ _. Stays (S.faults source.old) (S.faults source.new)) (λ unread.
+        ReadsCounted (Some unread.refusal) (S.faults source.old) (S.faults source.new)) }
     ensures later { S.faults source.old ≤ S.faults source.new }
     ensures reliable { S.never_fails source.old → Stays (S.faults source.old) (S.faults source.new) }
 {
@@ -154,7 +156,8 @@ fn read_dump<S: Source>(alloc: Global, source: &mut S, link: u64) -> Result<Link
 /// The link with a number.
 fn link_numbered(link: u64) -> Result<u16, DumpRefusal>
     ensures link { IfOk result (λ number. (number ≡ link) × (number ≤ 255)) }
-    ensures none { IfErr result (λ unread. (unread.refusal ≡ Refusal.Limit Which.Links 255) × (unread.link ≡ None) × (255 < link)) }
+    ensures none { IfErr result (λ unread. (unread.refusal ≡ Refusal.Limit Which.Links 255) × (unread.link ≡ None) ×
+        (255 < link)) }
 {
     if link > Which::Links.limit() {
         return Err(DumpRefusal::of(Refusal::Limit {
@@ -198,7 +201,8 @@ fn unread_for(fault: ReadFault, link: u16) -> DumpRefusal
 /// The ending of a load that ingested nothing, since its dump wasn't read.
 fn nothing_loaded<D: Disk>(store: Store<D>, unread: DumpRefusal) -> Ended<D>
     ensures closed_store { IsStoreClosed D.device store result.disk }
-    ensures report { result.report ≡ record (read_only (Some unread.refusal) (length store.history)) { link = unread.link } }
+    ensures report { result.report ≡ record (read_only (Some unread.refusal) (length store.history))
+        { link = unread.link } }
     ensures status { result.status ≡ status_at (Some unread.refusal) }
 {
     let rows = store.front();
@@ -221,7 +225,8 @@ fn load_dump<D: Disk, K: Sink>(
     requires moment { IsClockTime moment }
     requires empty { line_buffer ≡ [] }
     requires no_failed_write { store.fills ≡ [] }
-    ensures session { IsLoadRun D.device store received.now.dump received.now.link moment (K.written sink.old) (K.written sink.new) result.disk result.report }
+    ensures session { IsLoadRun D.device store received.now.dump received.now.link moment (K.written sink.old)
+        (K.written sink.new) result.disk result.report }
     ensures status { result.status ≡ status_at result.report.refusal }
     ensures reads_counted { (faults : ℕ) → ReadsCounted result.report.refusal faults faults }
     ensures writes_counted { WritesCounted result.report.refusal (K.faults sink.old) (K.faults sink.new) }
@@ -300,7 +305,8 @@ fn print<D: Disk, K: Sink>(
     ensures closed_store { IsStoreClosed D.device store result.disk }
     ensures finished { IsFinished result.report.refusal (K.written sink.old) (K.written sink.new)
         (load_line whole.packets (length store.history - before) (whole.packets - whole.idle - (length store.history - before)) whole.idle (length store.history)) }
-    ensures report { result.report ≡ printed_report result.report.refusal before (length store.history) whole.packets whole.idle }
+    ensures report { result.report ≡ printed_report result.report.refusal before (length store.history) whole.packets
+        whole.idle }
     ensures status { result.status ≡ status_at result.report.refusal }
     ensures writes_counted { WritesCounted result.report.refusal (K.faults sink.old) (K.faults sink.new) }
     ensures writes_later { K.faults sink.old ≤ K.faults sink.new }

@@ -17,19 +17,19 @@ ghost use Rattle.archive_cli.specs.Report.{status_at, IsReadOnlyReport};
 ghost use Rattle.archive_cli.specs.ValuesPrinting.{PrintCounted, refusal_of_print};
 ghost use Rattle.retrieval.specs.Parameter.{number_named};
 
-use retrieval::answer::{answer_request, number_of};
-use retrieval::answer_text::print_found;
 use crate::ask_sheet::{AskSheet, read_sheet};
-use dump_lines::line_buffer::LineBuffer;
-use dump_lines::print_fault::PrintFault;
 use crate::report::{Ended, Report};
 use arch_disk::Disk;
 use arch_types::ask::{Ask, Request};
 use arch_types::refusal::Refusal;
 use archive_store::Store;
+use dump_lines::line_buffer::LineBuffer;
+use dump_lines::print_fault::PrintFault;
 use mdb_model::Mdb;
 use outer_traits::inputs::Inputs;
 use outer_traits::sink::Sink;
+use retrieval::answer::{answer_request, number_of};
+use retrieval::answer_text::print_found;
 use std::alloc::Global;
 
 /// Answers the asks of a sheet over the whole history of a disk's archive.
@@ -77,7 +77,8 @@ pub fn query<D: Disk, I: Inputs, K: Sink>(
     ensures writes_counted { WritesCounted result.report.refusal (K.faults sink.old) (K.faults sink.new) }
     ensures reliable { I.never_fails inputs.old → Stays (I.faults inputs.old) (I.faults inputs.new) }
     ensures disk_later { D.device.fault_count disk ≤ D.device.fault_count result.disk }
-    ensures disk_fault { result.report.refusal ≡ Some DiskFault → raised (D.device.fault_count disk) ≤ D.device.fault_count result.disk }
+    ensures disk_fault { result.report.refusal ≡ Some DiskFault →
+        raised (D.device.fault_count disk) ≤ D.device.fault_count result.disk }
 
     // Refused before the disk was asked, it hands the very disk back.
     ensures handed_back { IsQueryBack disk result.disk result.report.refusal }
@@ -91,7 +92,8 @@ pub fn query<D: Disk, I: Inputs, K: Sink>(
 /// Opens the archive of a disk, and answers the asks of a sheet.
 fn ask_archive<D: Disk, K: Sink>(alloc: Global, sheet: AskSheet, disk: D, sink: &mut K) -> Ended<D>
     requires { IsDeferred sheet }
-    ensures ended { IsTrue D.device.is_transparent → (given : _) (files : _) (moment : _) (read_faults : _) (read_faults' : _) (name : _) →
+    ensures ended { IsTrue D.device.is_transparent → (given : _) (files : _) (moment : _) (read_faults : _)
+        (read_faults' : _) (name : _) →
         IsAskSheet files name sheet → IsQueryEnding D.device (record {
           words = given;
           files = files;
@@ -103,14 +105,16 @@ fn ask_archive<D: Disk, K: Sink>(alloc: Global, sheet: AskSheet, disk: D, sink: 
           write_faults = K.faults sink.old;
           write_faults' = K.faults sink.new;
         }) name disk result.disk result.report.refusal result.report }
-    ensures caused { (call : Call) (name : List ℕ) → IsAskSheet call.files name sheet → IsQueryCaused call name result.report.refusal }
+    ensures caused { (call : Call) (name : List ℕ) → IsAskSheet call.files name sheet →
+        IsQueryCaused call name result.report.refusal }
     ensures status { result.status ≡ status_at result.report.refusal }
     ensures report { IsReadOnlyReport result.report.refusal result.report }
     ensures reads_counted { (faults : ℕ) → ReadsCounted result.report.refusal faults faults }
     ensures writes_counted { WritesCounted result.report.refusal (K.faults sink.old) (K.faults sink.new) }
     ensures writes_later { K.faults sink.old ≤ K.faults sink.new }
     ensures disk_later { D.device.fault_count disk ≤ D.device.fault_count result.disk }
-    ensures disk_fault { result.report.refusal ≡ Some DiskFault → raised (D.device.fault_count disk) ≤ D.device.fault_count result.disk }
+    ensures disk_fault { result.report.refusal ≡ Some DiskFault →
+        raised (D.device.fault_count disk) ≤ D.device.fault_count result.disk }
 
     // Refused before the disk was asked, it hands the very disk back.
     ensures handed_back { IsQueryBack disk result.disk result.report.refusal }
@@ -136,7 +140,8 @@ fn answer_sheet<D: Disk, K: Sink>(
     sink: &mut K,
 ) -> Option<Refusal>
     requires { line_buffer ≡ [] }
-    ensures reply { IsSheetReply store.old.head.mdb store.old.history sheet result (K.written sink.old) (K.written sink.new) (K.faults sink.old) (K.faults sink.new) }
+    ensures reply { IsSheetReply store.old.head.mdb store.old.history sheet result (K.written sink.old)
+        (K.written sink.new) (K.faults sink.old) (K.faults sink.new) }
     ensures writes_later { K.faults sink.old ≤ K.faults sink.new }
     ensures same { store.new ≡ store.old }
 {
@@ -208,7 +213,8 @@ fn answer_asks<D: Disk, K: Sink>(
 ) -> Option<Refusal>
     requires known { asks_refusal store.old.head.mdb asks.now ≡ None }
     requires empty { line_buffer ≡ [] }
-    ensures reply { IsReply store.old.head.mdb store.old.history asks.now result (K.written sink.old) (K.written sink.new) (K.faults sink.old) (K.faults sink.new) }
+    ensures reply { IsReply store.old.head.mdb store.old.history asks.now result (K.written sink.old)
+        (K.written sink.new) (K.faults sink.old) (K.faults sink.new) }
     ensures writes_later { K.faults sink.old ≤ K.faults sink.new }
     ensures same { store.new ≡ store.old }
 {
@@ -230,8 +236,10 @@ fn print_asks<D: Disk, K: Sink>(
 ) -> Result<(), PrintFault>
     requires known { asks_refusal store.old.head.mdb asks.now ≡ None }
     requires empty { line_buffer.old ≡ [] }
-    ensures buffered { OnOk result (IsBuffered (K.written sink.old) (K.written sink.new) (asks_text store.old.head.mdb store.old.history 1 asks.now) line_buffer.new) }
-    ensures some { OnErr result (WritesSome (K.written sink.old) (K.written sink.new) (asks_text store.old.head.mdb store.old.history 1 asks.now)) }
+    ensures buffered { OnOk result (IsBuffered (K.written sink.old) (K.written sink.new)
+        (asks_text store.old.head.mdb store.old.history 1 asks.now) line_buffer.new) }
+    ensures some { OnErr result (WritesSome (K.written sink.old) (K.written sink.new)
+        (asks_text store.old.head.mdb store.old.history 1 asks.now)) }
     ensures later { K.faults sink.old ≤ K.faults sink.new }
     ensures counted { PrintCounted (result_err result) (K.faults sink.old) (K.faults sink.new) }
     ensures same { store.new ≡ store.old }
@@ -253,9 +261,11 @@ fn print_ask<D: Disk, K: Sink>(
 ) -> Result<(), PrintFault>
     requires known { ask_refusal store.old.head.mdb ask.now ≡ None }
     requires room { length line_buffer.old < 65536 }
-    ensures buffered { OnOk result (IsBuffered (K.written sink.old) (K.written sink.new) (line_buffer.old ++ ask_text store.old.head.mdb store.old.history k ask.now) line_buffer.new) }
+    ensures buffered { OnOk result (IsBuffered (K.written sink.old) (K.written sink.new)
+        (line_buffer.old ++ ask_text store.old.head.mdb store.old.history k ask.now) line_buffer.new) }
     ensures room { OnOk result (length line_buffer.new < 65536) }
-    ensures some { OnErr result (WritesSome (K.written sink.old) (K.written sink.new) (line_buffer.old ++ ask_text store.old.head.mdb store.old.history k ask.now)) }
+    ensures some { OnErr result (WritesSome (K.written sink.old) (K.written sink.new)
+        (line_buffer.old ++ ask_text store.old.head.mdb store.old.history k ask.now)) }
     ensures later { K.faults sink.old ≤ K.faults sink.new }
     ensures counted { PrintCounted (result_err result) (K.faults sink.old) (K.faults sink.new) }
     ensures same { store.new ≡ store.old }
@@ -277,9 +287,12 @@ fn print_values<D: Disk, K: Sink>(
 ) -> Result<(), PrintFault>
     requires known { request_refusal (number_named store.old.head.mdb request.now.parameter) request.now ≡ None }
     requires room { length line_buffer.old < 65536 }
-    ensures buffered { OnOk result (IsBuffered (K.written sink.old) (K.written sink.new) (line_buffer.old ++ ask_text store.old.head.mdb store.old.history k (Ask.Values request.now)) line_buffer.new) }
+    ensures buffered { OnOk result (IsBuffered (K.written sink.old) (K.written sink.new)
+        (line_buffer.old ++ ask_text store.old.head.mdb store.old.history k (Ask.Values request.now))
+        line_buffer.new) }
     ensures room { OnOk result (length line_buffer.new < 65536) }
-    ensures some { OnErr result (WritesSome (K.written sink.old) (K.written sink.new) (line_buffer.old ++ ask_text store.old.head.mdb store.old.history k (Ask.Values request.now))) }
+    ensures some { OnErr result (WritesSome (K.written sink.old) (K.written sink.new)
+        (line_buffer.old ++ ask_text store.old.head.mdb store.old.history k (Ask.Values request.now))) }
     ensures later { K.faults sink.old ≤ K.faults sink.new }
     ensures counted { PrintCounted (result_err result) (K.faults sink.old) (K.faults sink.new) }
     ensures same { store.new ≡ store.old }

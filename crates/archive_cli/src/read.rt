@@ -25,13 +25,15 @@ pub fn read_limited<I: Inputs>(
 ) -> Result<Vec<u8>, Refusal>
     ensures whole { IfOk result (λ octets. IsInput (I.files inputs.old) name.now octets.items) }
     ensures short { IfOk result (λ octets. vec_len octets ≤ limit_of which) }
-    ensures refused { IfErr result (IsReadRefusal (I.files inputs.old) name.now which (I.faults inputs.old) (I.faults inputs.new)) }
+    ensures refused { IfErr result (IsReadRefusal (I.files inputs.old) name.now which (I.faults inputs.old)
+        (I.faults inputs.new)) }
     ensures same { I.files inputs.new ≡ I.files inputs.old }
     ensures closed { I.open_sources inputs.old + 1 < 2 ^ 64 → I.open_sources inputs.new ≡ I.open_sources inputs.old }
     ensures gave { I.given inputs.new ≤ I.given inputs.old + 1 }
     ensures counted { ReadsCounted (result_err result) (I.faults inputs.old) (I.faults inputs.new) }
     ensures later { I.faults inputs.old ≤ I.faults inputs.new }
-    ensures reliable { I.never_fails inputs.old → I.never_fails inputs.new × Stays (I.faults inputs.old) (I.faults inputs.new) }
+    ensures reliable { I.never_fails inputs.old → I.never_fails inputs.new ×
+        Stays (I.faults inputs.old) (I.faults inputs.new) }
 {
     match read_input(alloc, inputs, name, which.limit() as usize) {
         Ok(octets) => Ok(octets),
@@ -74,4 +76,3 @@ pub fn missing(alloc: Global, name: &str) -> Refusal
         Err(_) => Refusal::OutOfMemory,
     }
 }
-

@@ -8,11 +8,11 @@ ghost use Rattle.archive_cli.specs.Caused.{IsRecoverCaused};
 ghost use Rattle.archive_cli.specs.RecoverEnding.{IsRecoverEnding, recover_line};
 ghost use Rattle.archive_cli.specs.Report.{status_at, IsReadOnlyReport};
 
-use dump_lines::line_buffer::LineBuffer;
 use crate::report::{Ended, Report};
 use arch_disk::Disk;
 use arch_types::refusal::Refusal;
 use archive_store::Store;
+use dump_lines::line_buffer::LineBuffer;
 use outer_traits::sink::Sink;
 use std::alloc::Global;
 
@@ -20,17 +20,18 @@ use std::alloc::Global;
 ///
 /// Refuses, in this order: by `DiskFault`, `NoArchive` or `Damaged`; by `WriteFault`. `OutOfMemory` may come anywhere before the line.
 pub fn recover<D: Disk, K: Sink>(alloc: Global, disk: D, sink: &mut K) -> Ended<D>
-    ensures ended { IsTrue D.device.is_transparent → (words : _) (files : _) (moment : _) (read_faults : _) → IsRecoverEnding D.device (record {
-      words = words;
-      files = files;
-      moment = moment;
-      read_faults = read_faults;
-      read_faults' = read_faults;
-      written = K.written sink.old;
-      written' = K.written sink.new;
-      write_faults = K.faults sink.old;
-      write_faults' = K.faults sink.new;
-    }) disk result.disk result.report.refusal result.report }
+    ensures ended { IsTrue D.device.is_transparent → (words : _) (files : _) (moment : _) (read_faults : _) →
+        IsRecoverEnding D.device (record {
+          words = words;
+          files = files;
+          moment = moment;
+          read_faults = read_faults;
+          read_faults' = read_faults;
+          written = K.written sink.old;
+          written' = K.written sink.new;
+          write_faults = K.faults sink.old;
+          write_faults' = K.faults sink.new;
+        }) disk result.disk result.report.refusal result.report }
     ensures caused { IsRecoverCaused result.report.refusal }
     ensures status { result.status ≡ status_at result.report.refusal }
     ensures report { IsReadOnlyReport result.report.refusal result.report }
@@ -38,7 +39,8 @@ pub fn recover<D: Disk, K: Sink>(alloc: Global, disk: D, sink: &mut K) -> Ended<
     ensures writes_counted { WritesCounted result.report.refusal (K.faults sink.old) (K.faults sink.new) }
     ensures writes_later { K.faults sink.old ≤ K.faults sink.new }
     ensures disk_later { D.device.fault_count disk ≤ D.device.fault_count result.disk }
-    ensures disk_fault { result.report.refusal ≡ Some Refusal.DiskFault → raised (D.device.fault_count disk) ≤ D.device.fault_count result.disk }
+    ensures disk_fault { result.report.refusal ≡ Some Refusal.DiskFault →
+        raised (D.device.fault_count disk) ≤ D.device.fault_count result.disk }
 {
     let Ok(mut line_buffer) = LineBuffer::new(alloc) else {
         return Ended::unopened(disk, Some(Refusal::OutOfMemory));

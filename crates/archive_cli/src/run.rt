@@ -16,7 +16,6 @@ ghost use Rattle.archive_cli.specs.Report.{status_at, IsReport};
 ghost use Rattle.archive_cli.specs.Durable.{FailedAtMostOnce, IsDurableWith};
 
 use crate::create::create;
-use command_words::job::{Job, job_of};
 use crate::load::load;
 use crate::query::query;
 use crate::recover::recover;
@@ -25,6 +24,7 @@ use crate::scan::scan;
 use crate::values::values;
 use arch_disk::Disk;
 use arch_types::refusal::Refusal;
+use command_words::job::{Job, job_of};
 use outer_traits::clock::Clock;
 use outer_traits::inputs::Inputs;
 use outer_traits::sink::Sink;
@@ -40,13 +40,20 @@ pub fn run<D: Disk, I: Inputs, K: Sink, C: Clock>(
     clock: &mut C,
 ) -> Ended<D>
     // For each job and each answer its cause, what was written, and what became of the disk.
-    ensures ended { IsEnding D.device (call_of (map (λ w. string_bytes w) words.now) (I.files inputs.old) (C.next clock.old) (I.faults inputs.old) (I.faults inputs.new) (K.written sink.old) (K.written sink.new) (K.faults sink.old) (K.faults sink.new)) disk result.disk result.report }
+    ensures ended { IsEnding D.device (call_of (map (λ w. string_bytes w) words.now) (I.files inputs.old)
+        (C.next clock.old) (I.faults inputs.old) (I.faults inputs.new) (K.written sink.old) (K.written sink.new)
+        (K.faults sink.old) (K.faults sink.new)) disk result.disk result.report }
 
     // The causes of the answers of commands on an archive that don't rest on what the disk holds.
-    ensures caused { IsCaused (call_of (map (λ w. string_bytes w) words.now) (I.files inputs.old) (C.next clock.old) (I.faults inputs.old) (I.faults inputs.new) (K.written sink.old) (K.written sink.new) (K.faults sink.old) (K.faults sink.new)) (job_of (map (λ w. string_bytes w) words.now)) result.report.refusal }
+    ensures caused { IsCaused (call_of (map (λ w. string_bytes w) words.now) (I.files inputs.old) (C.next clock.old)
+        (I.faults inputs.old) (I.faults inputs.new) (K.written sink.old) (K.written sink.new) (K.faults sink.old)
+        (K.faults sink.new)) (job_of (map (λ w. string_bytes w) words.now)) result.report.refusal }
 
     // Over known inputs, on a transparent disk, the answer that it has to be, or want of memory.
-    ensures expected { IsExpected D.device (call_of (map (λ w. string_bytes w) words.now) (I.files inputs.old) (C.next clock.old) (I.faults inputs.old) (I.faults inputs.new) (K.written sink.old) (K.written sink.new) (K.faults sink.old) (K.faults sink.new)) (I.given inputs.old) (I.given inputs.new) disk result.disk result.report.refusal }
+    ensures expected { IsExpected D.device (call_of (map (λ w. string_bytes w) words.now) (I.files inputs.old)
+        (C.next clock.old) (I.faults inputs.old) (I.faults inputs.new) (K.written sink.old) (K.written sink.new)
+        (K.faults sink.old) (K.faults sink.new)) (I.given inputs.old) (I.given inputs.new) disk result.disk
+        result.report.refusal }
 
     // A read that failed takes the place of no answer that stands before it: that the first input that can't be read whole
     // gives, and of `load` those of its archive.
@@ -72,7 +79,8 @@ pub fn run<D: Disk, I: Inputs, K: Sink, C: Clock>(
 
     // Nor does the disk's count of faults fall, and it has risen where the answer is DiskFault.
     ensures disk_later { D.device.fault_count disk ≤ D.device.fault_count result.disk }
-    ensures disk_fault { result.report.refusal ≡ Some Refusal.DiskFault → raised (D.device.fault_count disk) ≤ D.device.fault_count result.disk }
+    ensures disk_fault { result.report.refusal ≡ Some Refusal.DiskFault →
+        raised (D.device.fault_count disk) ≤ D.device.fault_count result.disk }
 
     // Where an archive was opened or made, and the disk's count of faults stands at most one above its value at entry:
     // the disk reads as a history of `after` rows, and every image that a crash now leaves stands for the same.
@@ -98,8 +106,14 @@ fn run_job<D: Disk, I: Inputs, K: Sink, C: Clock>(
     clock: &mut C,
 ) -> Ended<D>
     requires link { HasLink (job_view job) }
-    ensures ended { (words : List (List ℕ)) → IsJobEnding D.device (call_of words (I.files inputs.old) (C.next clock.old) (I.faults inputs.old) (I.faults inputs.new) (K.written sink.old) (K.written sink.new) (K.faults sink.old) (K.faults sink.new)) disk result.disk (Some (job_view job.entry)) result.report }
-    ensures caused { (words : List (List ℕ)) → IsCaused (call_of words (I.files inputs.old) (C.next clock.old) (I.faults inputs.old) (I.faults inputs.new) (K.written sink.old) (K.written sink.new) (K.faults sink.old) (K.faults sink.new)) (Some (job_view job.entry)) result.report.refusal }
+    ensures ended { (words : List (List ℕ)) →
+        IsJobEnding D.device (call_of words (I.files inputs.old) (C.next clock.old) (I.faults inputs.old)
+        (I.faults inputs.new) (K.written sink.old) (K.written sink.new) (K.faults sink.old) (K.faults sink.new)) disk
+        result.disk (Some (job_view job.entry)) result.report }
+    ensures caused { (words : List (List ℕ)) →
+        IsCaused (call_of words (I.files inputs.old) (C.next clock.old) (I.faults inputs.old) (I.faults inputs.new)
+        (K.written sink.old) (K.written sink.new) (K.faults sink.old) (K.faults sink.new)) (Some (job_view job.entry))
+        result.report.refusal }
     ensures status { result.status ≡ status_at result.report.refusal }
     ensures report { IsReport (Some (job_view job.entry)) result.report }
     ensures same { I.files inputs.new ≡ I.files inputs.old }
@@ -112,7 +126,8 @@ fn run_job<D: Disk, I: Inputs, K: Sink, C: Clock>(
     ensures writes_counted { WritesCounted result.report.refusal (K.faults sink.old) (K.faults sink.new) }
     ensures reliable { I.never_fails inputs.old → Stays (I.faults inputs.old) (I.faults inputs.new) }
     ensures disk_later { D.device.fault_count disk ≤ D.device.fault_count result.disk }
-    ensures disk_fault { result.report.refusal ≡ Some Refusal.DiskFault → raised (D.device.fault_count disk) ≤ D.device.fault_count result.disk }
+    ensures disk_fault { result.report.refusal ≡ Some Refusal.DiskFault →
+        raised (D.device.fault_count disk) ≤ D.device.fault_count result.disk }
     ensures handed_back { IsHandedBack (Some (job_view job.entry)) disk result.disk result.report }
 {
     match job {

@@ -11,10 +11,10 @@ ghost use Rattle.dump_lines.specs.Printing.{lines_of, end_of, text_of_loaded};
 ghost use Rattle.std.specs.List.{AllByRecursion};
 ghost use Rattle.dump_lines.specs.DumpTable.{IsVisible};
 
-use dump_lines::line_buffer::LineBuffer;
-use dump_lines::rows::DumpTable;
 use crate::scan_input::{ended, read_scan_input};
 use arch_types::refusal::Refusal;
+use dump_lines::line_buffer::LineBuffer;
+use dump_lines::rows::DumpTable;
 use outer_traits::clock::Clock;
 use outer_traits::fault::Failed;
 use outer_traits::inputs::Inputs;
@@ -98,7 +98,8 @@ fn print_rows<K: Sink>(
 ) -> Result<(), Failed>
     requires empty { line_buffer.old ≡ [] }
     requires shown { AllByRecursion IsVisible table.now.stored }
-    ensures buffered { OnOk result (IsBuffered (K.written sink.old) (K.written sink.new) (lines_of table.now.stored) line_buffer.new) }
+    ensures buffered { OnOk result (IsBuffered (K.written sink.old) (K.written sink.new) (lines_of table.now.stored)
+        line_buffer.new) }
     ensures room { OnOk result (length line_buffer.new < 65536) }
     ensures some { OnErr result (WritesSome (K.written sink.old) (K.written sink.new) (lines_of table.now.stored)) }
     ensures later { K.faults sink.old ≤ K.faults sink.new }
@@ -111,4 +112,3 @@ fn print_rows<K: Sink>(
     }
     Ok(())
 }
-

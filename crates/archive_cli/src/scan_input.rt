@@ -8,11 +8,11 @@ ghost use Rattle.archive_cli.specs.Reading.{IsReadRefusal};
 ghost use Rattle.archive_cli.specs.ReadDump.{IsDumpRead, ending_of, dump_limit};
 ghost use Rattle.dump_lines.specs.DumpTable.{IsDumpTable};
 
-use dump_lines::line_buffer::LineBuffer;
 use crate::read::read_limited;
-use dump_lines::rows::{DumpTable, table_of_dump};
 use arch_types::octets::Octets;
 use arch_types::refusal::{BadKind, Refusal, Which};
+use dump_lines::line_buffer::LineBuffer;
+use dump_lines::rows::{DumpTable, table_of_dump};
 use outer_traits::clock::Clock;
 use outer_traits::inputs::Inputs;
 use space_packet::dump::Why;
@@ -32,15 +32,18 @@ pub fn read_scan_input<I: Inputs, C: Clock>(
     name: &str,
     clock: &mut C,
 ) -> Result<ScanInput, Refusal>
-    ensures received { IfOk result (λ scan_input. IsDumpRead (I.files inputs.old) (C.next clock.old) name.now scan_input.loaded) }
+    ensures received { IfOk result (λ scan_input. IsDumpRead (I.files inputs.old) (C.next clock.old) name.now
+        scan_input.loaded) }
     ensures empty { IfOk result (λ scan_input. scan_input.line_buffer ≡ []) }
-    ensures refused { IfErr result (IsReadRefusal (I.files inputs.old) name.now Which.DumpOctets (I.faults inputs.old) (I.faults inputs.new)) }
+    ensures refused { IfErr result (IsReadRefusal (I.files inputs.old) name.now Which.DumpOctets (I.faults inputs.old)
+        (I.faults inputs.new)) }
     ensures same { I.files inputs.new ≡ I.files inputs.old }
     ensures closed { I.open_sources inputs.old + 1 < 2 ^ 64 → I.open_sources inputs.new ≡ I.open_sources inputs.old }
     ensures gave { I.given inputs.new ≤ I.given inputs.old + 1 }
     ensures counted { ReadsCounted (result_err result) (I.faults inputs.old) (I.faults inputs.new) }
     ensures later { I.faults inputs.old ≤ I.faults inputs.new }
-    ensures reliable { I.never_fails inputs.old → I.never_fails inputs.new × Stays (I.faults inputs.old) (I.faults inputs.new) }
+    ensures reliable { I.never_fails inputs.old → I.never_fails inputs.new ×
+        Stays (I.faults inputs.old) (I.faults inputs.new) }
 {
     let dump = read_limited(alloc, inputs, name, Which::DumpOctets)?;
     let moment = clock.now();

@@ -14,19 +14,19 @@ ghost use Rattle.archive_cli.specs.Order.{AreInOrder, values_inputs};
 ghost use Rattle.archive_cli.specs.ValuesEnding.{IsValuesEnding};
 ghost use Rattle.archive_cli.specs.ValuesPrinting.{PrintCounted, line_of, count_of, cells_of_stored, lines_of_cells, end_of_cells, text_of_cells, refusal_of_print};
 
-use retrieval::cells::{calibration_of, cell_of};
-use command_words::job::ValuesWords;
-use dump_lines::line_buffer::LineBuffer;
-use retrieval::parameter::{KnownParameter, known_parameter};
-use dump_lines::print_fault::PrintFault;
-use dump_lines::rows::DumpTable;
 use crate::scan_input::{ended, read_scan_input};
 use arch_types::refusal::Refusal;
 use arch_types::row::Row;
+use command_words::job::ValuesWords;
+use dump_lines::line_buffer::LineBuffer;
+use dump_lines::print_fault::PrintFault;
+use dump_lines::rows::DumpTable;
 use mdb_sheets::read_mdb;
 use outer_traits::clock::Clock;
 use outer_traits::inputs::Inputs;
 use outer_traits::sink::Sink;
+use retrieval::cells::{calibration_of, cell_of};
+use retrieval::parameter::{KnownParameter, known_parameter};
 use space_packet::dump::Why;
 use std::alloc::{AllocError, Global};
 use yarch_table::table::Table;
@@ -103,8 +103,10 @@ fn print<K: Sink>(
     requires shown { AllByRecursion IsVisible loaded.now.table.stored }
     requires few { length (sorted (rows_of loaded.now.table.stored)) < 2 ^ 64 }
     requires number { known.now.number < length known.now.mdb.parameters }
-    ensures all { OnOk result (Appends (K.written sink.old) (K.written sink.new) (text_of_cells known.now.mdb known.now.number loaded.now.table.stored loaded.now.why)) }
-    ensures some { OnErr result (WritesSome (K.written sink.old) (K.written sink.new) (text_of_cells known.now.mdb known.now.number loaded.now.table.stored loaded.now.why)) }
+    ensures all { OnOk result (Appends (K.written sink.old) (K.written sink.new)
+        (text_of_cells known.now.mdb known.now.number loaded.now.table.stored loaded.now.why)) }
+    ensures some { OnErr result (WritesSome (K.written sink.old) (K.written sink.new)
+        (text_of_cells known.now.mdb known.now.number loaded.now.table.stored loaded.now.why)) }
     ensures later { K.faults sink.old ≤ K.faults sink.new }
     ensures counted { PrintCounted (result_err result) (K.faults sink.old) (K.faults sink.new) }
 {
@@ -137,10 +139,13 @@ fn print_cells<K: Sink>(
     requires shown { AllByRecursion IsVisible table.now.stored }
     requires few { length (sorted (rows_of table.now.stored)) < 2 ^ 64 }
     requires number { known.now.number < length known.now.mdb.parameters }
-    ensures buffered { OnOk result (IsBuffered (K.written sink.old) (K.written sink.new) (lines_of_cells known.now.mdb known.now.number table.now.stored) line_buffer.new) }
+    ensures buffered { OnOk result (IsBuffered (K.written sink.old) (K.written sink.new)
+        (lines_of_cells known.now.mdb known.now.number table.now.stored) line_buffer.new) }
     ensures room { OnOk result (length line_buffer.new < 65536) }
-    ensures count { IfOk result (λ count. count ≡ length (cells_of_stored known.now.mdb known.now.number table.now.stored)) }
-    ensures some { OnErr result (WritesSome (K.written sink.old) (K.written sink.new) (lines_of_cells known.now.mdb known.now.number table.now.stored)) }
+    ensures count { IfOk result (λ count.
+        count ≡ length (cells_of_stored known.now.mdb known.now.number table.now.stored)) }
+    ensures some { OnErr result (WritesSome (K.written sink.old) (K.written sink.new)
+        (lines_of_cells known.now.mdb known.now.number table.now.stored)) }
     ensures later { K.faults sink.old ≤ K.faults sink.new }
     ensures counted { PrintCounted (result_err result) (K.faults sink.old) (K.faults sink.new) }
 {

@@ -1,14 +1,12 @@
 //! The text that `scan` prints, the words, faults of the outside, and the texts of refusals.
 
-use archive_cli::Ended;
-use archive_cli::run;
-use archive_cli::FaultText;
 use arch_disk::MemDisk;
 use arch_types::interval::Interval;
 use arch_types::key::Key;
 use arch_types::name::Name;
 use arch_types::octets::Octets;
 use arch_types::refusal::{BadKind, Refusal, Sheet, Which};
+use archive_cli::{Ended, FaultText, run};
 use outer_traits::clock::FixedClock;
 use outer_traits::mem_inputs::{FailingCall, File, MemInputs};
 use outer_traits::mem_sink::MemSink;

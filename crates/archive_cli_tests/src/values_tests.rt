@@ -1,8 +1,8 @@
 //! The text that `values` prints, its refusals, and faults of the outside.
 
-use archive_cli::run;
 use crate::tests::{fault_of, file_of, words_of};
 use arch_disk::MemDisk;
+use archive_cli::run;
 use outer_traits::clock::FixedClock;
 use outer_traits::mem_inputs::{FailingCall, File, MemInputs};
 use outer_traits::mem_sink::MemSink;

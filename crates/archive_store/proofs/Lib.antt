@@ -13,6 +13,7 @@ pub mod Opened
 pub mod Outcomes
 pub mod Planning
 pub mod Refusals
+pub mod Sending
 pub mod TableSetFacts
 pub mod PendingFaults
 pub mod Steps

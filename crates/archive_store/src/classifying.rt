@@ -41,7 +41,8 @@ pub(crate) struct ClassifiedBatch {
 fn outcome(history: &History, classified: &ClassifiedBatch, at: TableKey) -> Inserted
     requires table { at.table < history.now.tables }
     requires places { IndexesByKey classified.now.fresh classified.now.places.entries }
-    ensures says { (row : ARow) → row.table ≡ at.table → row.key ≡ at.key → Says (history.now.items ++ classified.now.fresh) row result }
+    ensures says { (row : ARow) → row.table ≡ at.table → row.key ≡ at.key →
+        Says (history.now.items ++ classified.now.fresh) row result }
     ensures history { IsHistory history.now.items }
 {
     let known = history.len();
@@ -105,7 +106,9 @@ fn classify_row(
     requires table { table < history.now.tables }
     requires packet { IsPacket arrival.now.packet }
     requires classified { (rows : List ARow) × IsClassified history.now.items rows classified.old }
-    ensures { (rows : List ARow) → IsClassified history.now.items rows classified.old → OnOk result (IsClassified history.now.items (rows ++ arrival_row batch.now.rectime arrival.now table ∷ []) classified.new) }
+    ensures { (rows : List ARow) → IsClassified history.now.items rows classified.old →
+        OnOk result (IsClassified history.now.items (rows ++ arrival_row batch.now.rectime arrival.now table ∷ [])
+        classified.new) }
 {
     let key = key_at(batch, arrival);
     let at = TableKey { table, key };
@@ -130,7 +133,9 @@ fn classify_arrival(
     requires packet { IsPacket arrival.now.packet }
     requires tables { AllByRecursion (λ table. table < history.now.tables) arrival.now.tables }
     requires classified { (rows : List ARow) × IsClassified history.now.items rows classified.old }
-    ensures { (rows : List ARow) → IsClassified history.now.items rows classified.old → OnOk result (IsClassified history.now.items (rows ++ arrival_rows batch.now.rectime arrival.now) classified.new) }
+    ensures { (rows : List ARow) → IsClassified history.now.items rows classified.old →
+        OnOk result (IsClassified history.now.items (rows ++ arrival_rows batch.now.rectime arrival.now)
+        classified.new) }
 {
     for table in arrival.tables.as_slice() {
         classify_row(history, classified, batch, arrival, *table)?;
@@ -144,7 +149,8 @@ pub(crate) fn classify(
     history: &History,
     batch: &Batch,
 ) -> Result<ClassifiedBatch, AllocError>
-    requires { AllByRecursion (λ arrival. IsPacket arrival.packet × AllByRecursion (λ table. table < history.now.tables) arrival.tables) batch.now.arrivals }
+    requires { AllByRecursion (λ arrival. IsPacket arrival.packet ×
+        AllByRecursion (λ table. table < history.now.tables) arrival.tables) batch.now.arrivals }
     ensures { IfOk result (λ classified. IsClassified history.now.items (batch_rows batch.now) classified) }
 {
     let mut classified = ClassifiedBatch {

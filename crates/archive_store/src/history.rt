@@ -80,8 +80,10 @@ fn rows_in(rows: &[Row], interval: Interval) -> u64
 fn are_too_many(limit_counts: &LimitCounts, interval: Interval, rows: &[Row]) -> bool
     requires few { length rows.now ≤ limit_of limits.Rows }
     requires counted { count_of limit_counts.now.rows interval ≤ limit_of limits.IntervalRows }
-    ensures some { result ≡ true → limit_of limits.IntervalRows < count_of limit_counts.now.rows interval + interval_rows interval (items_of rows.now) }
-    ensures none { result ≡ false → count_of limit_counts.now.rows interval + interval_rows interval (items_of rows.now) ≤ limit_of limits.IntervalRows }
+    ensures some { result ≡ true → limit_of limits.IntervalRows < count_of limit_counts.now.rows interval +
+        interval_rows interval (items_of rows.now) }
+    ensures none { result ≡ false → count_of limit_counts.now.rows interval + interval_rows interval
+        (items_of rows.now) ≤ limit_of limits.IntervalRows }
 {
     let known = limit_counts.rows_of(interval);
     if known + rows.len() as u64 <= Which::IntervalRows.limit() {
@@ -112,7 +114,12 @@ impl History {
 
     /// Makes the room at least `rows`. The one error is want of memory, and then all is as before.
     pub(crate) fn reserve(&mut self, rows: usize) -> Result<(), AllocError>
-        ensures ok { OnOk result (self.new ≡ record { items = self.old.items; tables = self.old.tables; room = max self.old.room rows }) }
+        ensures ok { OnOk result (self.new ≡ record {
+          items = self.old.items;
+          tables = self.old.tables;
+          room = max
+              self.old.room rows;
+        }) }
         ensures err { OnErr result (self.new ≡ self.old) }
     {
         self.limit_counts.reserve(rows)?;
@@ -122,7 +129,8 @@ impl History {
     /// The position of the row that has a key in a table.
     pub(crate) fn position(&self, table: u8, key: Key) -> Option<u64>
         requires { table < self.now.tables }
-        ensures some { IfSome result (λ p. (there : Item) × (slice_get self.now.items p ≡ Some there) × (is_at_key table key there ≡ true)) }
+        ensures some { IfSome result (λ p. (there : Item) × (slice_get self.now.items p ≡ Some there) ×
+            (is_at_key table key there ≡ true)) }
         ensures none { IfNone result (list_any (is_at_key table key) self.now.items ≡ false) }
     {
         self.table_set.position(table, key)
@@ -131,8 +139,10 @@ impl History {
     /// Whether an interval would have too many rows with these.
     fn passes_interval(&self, rows: &[Row]) -> bool
         requires { length rows.now ≤ limit_of limits.Rows }
-        ensures some { result ≡ true → (i : AnInterval) × (limit_of limits.IntervalRows < interval_rows i (self.now.items ++ items_of rows.now)) }
-        ensures none { result ≡ false → (i : AnInterval) → interval_rows i (self.now.items ++ items_of rows.now) ≤ limit_of limits.IntervalRows }
+        ensures some { result ≡ true → (i : AnInterval) ×
+            (limit_of limits.IntervalRows < interval_rows i (self.now.items ++ items_of rows.now)) }
+        ensures none { result ≡ false → (i : AnInterval) → interval_rows i (self.now.items ++ items_of rows.now) ≤
+            limit_of limits.IntervalRows }
     {
         let limit_counts = &self.limit_counts;
         for row in rows {
@@ -192,7 +202,8 @@ impl History {
         requires room { length rows ≤ self.old.room }
         requires tables { AllByRecursion (λ row. row.table < self.old.tables) rows }
         requires within { IsWithin (self.old.items ++ items_of rows) }
-        ensures all { result ≡ true → (ingested self.old.items rows ≡ self.old.items ++ items_of rows) × (self.new.items ≡ self.old.items ++ items_of rows) }
+        ensures all { result ≡ true → (ingested self.old.items rows ≡ self.old.items ++ items_of rows) ×
+            (self.new.items ≡ self.old.items ++ items_of rows) }
         ensures some { result ≡ false → ingested self.old.items rows ≡ self.old.items ++ items_of rows → ⊥ }
         ensures tables { self.new.tables ≡ self.old.tables }
     {

@@ -59,7 +59,8 @@ fn prepare(
 ) -> Result<(Frame, Rows), AllocError>
     requires { IsEntry (entries.Rows fresh) }
     ensures frame { IfOk result (λ r. (r.0 ≡ entry_octets (entries.Rows fresh)) × (r.1 ≡ fresh)) }
-    ensures room { OnOk result (HasRoom journal.new × (length fresh ≤ history.new.room) × (vec_len fills.new < vec_capacity fills.new)) }
+    ensures room { OnOk result (HasRoom journal.new × (length fresh ≤ history.new.room) ×
+        (vec_len fills.new < vec_capacity fills.new)) }
     ensures journal { IsSame journal.old journal.new }
     ensures history { (history.new.items ≡ history.old.items) × (history.new.tables ≡ history.old.tables) }
     ensures fills { (fills.new.items ≡ fills.old.items) × (vec_len fills.new ≡ vec_len fills.old) }
@@ -76,8 +77,10 @@ impl<D: Disk> Store<D> {
 
     /// The first limit that is passed with these rows and their record.
     fn limit_passed(&self, fresh: &[Row]) -> Option<Which>
-        ensures none { IfNone result (IsWithin (self.now.history ++ items_of fresh.now) × (self.now.records < limit_of limits.Records)) }
-        ensures first { IfSome result (λ which. IsLimit which self.now.records (self.now.history ++ items_of fresh.now)) }
+        ensures none { IfNone result (IsWithin (self.now.history ++ items_of fresh.now) ×
+            (self.now.records < limit_of limits.Records)) }
+        ensures first { IfSome result (λ which.
+            IsLimit which self.now.records (self.now.history ++ items_of fresh.now)) }
     {
         if let Some(which) = self.history.limit_passed(fresh) {
             return Some(which);
@@ -93,16 +96,20 @@ impl<D: Disk> Store<D> {
         requires no_failed_write { pending_fault_of self.old.fills ≡ None }
         requires admitted { AreAdmitted (archive_of self.old) fresh }
         requires records { self.old.records < limit_of limits.Records }
-        ensures ok { OnOk result ((self.new.history ≡ self.old.history ++ items_of fresh) × (self.new.fills ≡ self.old.fills) × (self.new.records ≡ self.old.records + 1)) }
+        ensures ok { OnOk result ((self.new.history ≡ self.old.history ++ items_of fresh) ×
+            (self.new.fills ≡ self.old.fills) × (self.new.records ≡ self.old.records + 1)) }
         ensures same { (self.new.head ≡ self.old.head) × (self.new.opened ≡ self.old.opened) }
         ensures refused { OnErr result (self.new.history ≡ self.old.history) }
         ensures no_record { OnErr result (self.new.records ≡ self.old.records) }
         ensures fault { result ≡ Err DiskFault → AddsFault D.device self.old self.new fresh }
         ensures untouched { OnErr result ((result ≡ Err DiskFault) ⊎ (self.new ≡ self.old)) }
-        ensures any_moment { IsTrue D.device.is_transparent → LeavesOnly D.device self.old.disk self.new.disk (λ c. StandsFor c (archive_of self.old) ⊎ StandsFor c (archive self.old.head (self.old.history ++ items_of fresh))) }
+        ensures any_moment { IsTrue D.device.is_transparent → LeavesOnly D.device self.old.disk self.new.disk (λ c.
+            StandsFor c (archive_of self.old) ⊎ StandsFor c
+            (archive self.old.head (self.old.history ++ items_of fresh))) }
         ensures only { IfErr result (λ e. (e ≡ DiskFault) ⊎ (e ≡ OutOfMemory)) }
         ensures later { CountsNeverFall D.device self.old.disk self.new.disk }
-        ensures no_failed_write { OnOk result (D.device.failed_writes self.new.disk ≡ D.device.failed_writes self.old.disk) }
+        ensures no_failed_write { OnOk result (D.device.failed_writes self.new.disk ≡ D.device.failed_writes
+            self.old.disk) }
     {
         let prepared = prepare(
             alloc,
@@ -138,13 +145,15 @@ impl<D: Disk> Store<D> {
 
         ensures ok { IfOk result (λ ingest. (ingest.outcomes ≡ outcomes_of self.old.history (batch_rows batch.now))
             × (self.new.history ≡ ingested self.old.history (batch_rows batch.now)) × (self.new.fills ≡ self.old.fills)) }
-        ensures records { OnOk result (fresh_of self.old.history (batch_rows batch.now) ≢ [] → self.new.records ≡ self.old.records + 1) }
+        ensures records { OnOk result (fresh_of self.old.history (batch_rows batch.now) ≢ [] →
+            self.new.records ≡ self.old.records + 1) }
         ensures no_call { fresh_of self.old.history (batch_rows batch.now) ≡ [] → self.new ≡ self.old }
 
         // Refused, it leaves all as it was, but for the fault of a disk that failed, which holds the new rows.
         ensures refused { OnErr result (self.new.history ≡ self.old.history) }
         ensures no_record { OnErr result (self.new.records ≡ self.old.records) }
-        ensures fault { result ≡ Err DiskFault → AddsFault D.device self.old self.new (fresh_of self.old.history (batch_rows batch.now)) }
+        ensures fault { result ≡ Err DiskFault →
+            AddsFault D.device self.old self.new (fresh_of self.old.history (batch_rows batch.now)) }
         ensures untouched { OnErr result ((result ≡ Err DiskFault) ⊎ (self.new ≡ self.old)) }
 
         // A crash at any moment of the call leaves the history from before it, or the new one.
@@ -157,12 +166,17 @@ impl<D: Disk> Store<D> {
         // NeedsReopen comes exactly where a failed write stands, then the first limit that is passed where rows are new, then a fault of the disk.
         // Want of memory comes before any call of the disk.
         ensures needs_reopen { asks_reopen result ≡ pending_fault_of self.old.fills }
-        ensures limit { (which : AWhich) (number : ℕ) → result ≡ Err (Limit which number) → (number ≡ limit_of which) × IsLimit which self.old.records (ingested self.old.history (batch_rows batch.now)) }
-        ensures limit_some { (which : AWhich) (number : ℕ) → result ≡ Err (Limit which number) → fresh_of self.old.history (batch_rows batch.now) ≢ [] }
-        ensures below { MatchResult result (λ _. IsBelow self.old.records self.old.history (batch_rows batch.now)) (λ e. e ≡ DiskFault → IsBelow self.old.records self.old.history (batch_rows batch.now)) }
+        ensures limit { (which : AWhich) (number : ℕ) → result ≡ Err (Limit which number) →
+            (number ≡ limit_of which) ×
+            IsLimit which self.old.records (ingested self.old.history (batch_rows batch.now)) }
+        ensures limit_some { (which : AWhich) (number : ℕ) → result ≡ Err (Limit which number) →
+            fresh_of self.old.history (batch_rows batch.now) ≢ [] }
+        ensures below { MatchResult result (λ _. IsBelow self.old.records self.old.history (batch_rows batch.now))
+            (λ e. e ≡ DiskFault → IsBelow self.old.records self.old.history (batch_rows batch.now)) }
         ensures only { IfErr result IsIngestRefusal }
         ensures later { CountsNeverFall D.device self.old.disk self.new.disk }
-        ensures no_failed_write { OnOk result (D.device.failed_writes self.new.disk ≡ D.device.failed_writes self.old.disk) }
+        ensures no_failed_write { OnOk result (D.device.failed_writes self.new.disk ≡ D.device.failed_writes
+            self.old.disk) }
     {
         match self.pending_fault {
             Some(faults) => return Err(Refusal::NeedsReopen { faults }),
@@ -194,15 +208,20 @@ impl<D: Disk> Store<D> {
 
     /// Makes a write that failed as if it had never been made, so that batches are taken again. Takes no memory.
     pub fn reopen(&mut self) -> Result<(), Refusal>
-        ensures ok { OnOk result ((self.new.fills ≡ reopened self.old.fills) × (pending_fault_of self.new.fills ≡ None)) }
+        ensures ok { OnOk result ((self.new.fills ≡ reopened self.old.fills) ×
+            (pending_fault_of self.new.fills ≡ None)) }
         ensures err { OnErr result (self.new.fills ≡ self.old.fills) }
-        ensures same { (self.new.history ≡ self.old.history) × (self.new.head ≡ self.old.head) × (self.new.opened ≡ self.old.opened) × (self.new.records ≡ self.old.records) }
+        ensures same { (self.new.history ≡ self.old.history) × (self.new.head ≡ self.old.head) ×
+            (self.new.opened ≡ self.old.opened) × (self.new.records ≡ self.old.records) }
 
         // Afterwards every image stands for the history, whatever failed before.
-        ensures healed { IsTrue D.device.is_transparent → OnOk result ((c : Image) → D.device.images self.new.disk c → StandsFor c (archive_of self.new)) }
+        ensures healed { IsTrue D.device.is_transparent → OnOk result ((c : Image) → D.device.images self.new.disk c →
+            StandsFor c (archive_of self.new)) }
 
         // A crash at any moment of the call leaves what it could have left before.
-        ensures any_moment { IsTrue D.device.is_transparent → LeavesOnly D.device self.old.disk self.new.disk (IsNow self.old.head self.old.history (unacknowledged_rows self.old.fills)) }
+        ensures any_moment { IsTrue D.device.is_transparent →
+            LeavesOnly D.device self.old.disk self.new.disk (IsNow self.old.head self.old.history
+            (unacknowledged_rows self.old.fills)) }
         ensures no_call { pending_fault_of self.old.fills ≡ None → self.new.disk ≡ self.old.disk }
         ensures only { IfErr result (λ e. e ≡ DiskFault) }
         ensures later { CountsNeverFall D.device self.old.disk self.new.disk }

@@ -2,6 +2,10 @@
 
 ghost use Rattle.archive_store.specs.Laws.{ArchivesAreOne, ArchivesAreWhole, DamageIsOne, NoneIsNone};
 
+use crate::store::Store;
+use arch_disk::Disk;
+use std::marker::Send;
+
 /// An image stands for one archive at most.
 pub fn archives_are_one()
     ensures { ArchivesAreOne }
@@ -21,3 +25,10 @@ pub fn archives_are_whole()
 pub fn none_is_none()
     ensures { NoneIsNone }
 {}
+
+fn is_sendable<T: Send>() {}
+
+/// A store may go to another thread where its disk may.
+pub fn stores_are_sendable<D: Disk + Send>() {
+    is_sendable::<Store<D>>()
+}

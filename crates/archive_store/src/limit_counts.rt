@@ -38,7 +38,12 @@ impl LimitCounts {
 
     /// Makes room for at least so many more intervals. The one error is want of memory, and then all is as before.
     pub(crate) fn reserve(&mut self, intervals: usize) -> Result<(), AllocError>
-        ensures ok { OnOk result (self.new ≡ record { octets = self.old.octets; rows = self.old.rows; room = max self.old.room intervals }) }
+        ensures ok { OnOk result (self.new ≡ record {
+          octets = self.old.octets;
+          rows = self.old.rows;
+          room = max
+              self.old.room intervals;
+        }) }
         ensures err { OnErr result (self.new ≡ self.old) }
     {
         self.rows.reserve(intervals)

@@ -74,7 +74,8 @@ fn take_in(
     body: Vec<u8>,
 ) -> Result<bool, AllocError>
     requires tables { HasTables made.old }
-    ensures yes { IfOk result (λ ok. ok ≡ true → (entry : AnEntry) × (body.items ≡ entry_octets entry) × (after : Archive) × (archive_made made.new ≡ Some after) × Applies (archive_made made.old) entry after) }
+    ensures yes { IfOk result (λ ok. ok ≡ true → (entry : AnEntry) × (body.items ≡ entry_octets entry) ×
+        (after : Archive) × (archive_made made.new ≡ Some after) × Applies (archive_made made.old) entry after) }
     ensures no { IfOk result (λ ok. ok ≡ false → Breaks (archive_made made.old) body.items) }
     ensures tables { HasTables made.new }
 {
@@ -144,11 +145,15 @@ pub(crate) fn read_archive<D: Disk>(
 ) -> Result<ReadArchive, Refusal>
     requires at { IsTrue D.device.is_transparent → IsAt opening (D.device.reads disk.old 0) [] }
     requires file { file_read opening ≡ 0 }
-    requires first { IsTrue D.device.is_transparent → (2 ≤ length (D.device.reads disk.old 0)) × (get_or (D.device.reads disk.old 0) 0 0 ≡ 1) }
-    ensures found { IsTrue D.device.is_transparent → IfOk result (λ f. IsReadArchive (D.device.reads disk.old 0) f.journal (archive f.made.head f.made.history.items)) }
+    requires first { IsTrue D.device.is_transparent → (2 ≤ length (D.device.reads disk.old 0)) ×
+        (get_or (D.device.reads disk.old 0) 0 0 ≡ 1) }
+    ensures found { IsTrue D.device.is_transparent →
+        IfOk result (λ f. IsReadArchive (D.device.reads disk.old 0) f.journal
+        (archive f.made.head f.made.history.items)) }
     ensures no_pending_fault { IfOk result (λ f. (unhealed_fault f.journal ≡ None) × (file_of f.journal ≡ 0)) }
     ensures tables { IfOk result (λ f. HasTables (Some f.made)) }
-    ensures damaged { IsTrue D.device.is_transparent → (file at : ℕ) → result ≡ Err (Damaged file at) → (file ≡ 0) × IsDamagedAt (D.device.reads disk.old) at }
+    ensures damaged { IsTrue D.device.is_transparent → (file at : ℕ) → result ≡ Err (Damaged file at) → (file ≡ 0) ×
+        IsDamagedAt (D.device.reads disk.old) at }
     ensures only { IfErr result IsReadRefusal }
     ensures looked { OnlyReads D.device disk.old disk.new }
     ensures cause { result ≡ Err DiskFault → raised (D.device.fault_count disk.old) ≤ D.device.fault_count disk.new }

@@ -2,7 +2,7 @@
 
 ghost use Rattle.std.specs.Prelude.{◌≡◌, ◌≢◌, ℤ, ◌<◌, ◌≤◌, ◌<ℤ◌, ◌≤ℤ◌, ◌++◌, [], ◌∷◌, None, map, OnOk, OnErr, IfOk, IfErr, Err, length};
 ghost use Rattle.arch_types.specs.declared.refusal.Refusal.TheVariants.{UnknownParameter, BadRange, OutOfMemory};
-ghost use Rattle.mdb_model.specs.Texts.{place_of};
+ghost use Rattle.mdb_items.specs.Texts.{place_of};
 ghost use Rattle.std.specs.Option.{is_some};
 ghost use Rattle.std.specs.List.{AllByRecursion};
 ghost use Rattle.arch_types.specs.Interval.{interval_of};
@@ -52,8 +52,12 @@ fn container_names(alloc: Global, mdb: &Mdb) -> Result<Names, AllocError>
 fn put(alloc: Global, parts: &mut Vec<Part>, row: &Row) -> Result<(), AllocError>
     ensures rows { OnOk result (rows_of_parts parts.new.items ≡ rows_of_parts parts.old.items ++ row.now ∷ []) }
     ensures each { AllByRecursion IsPart parts.old.items → OnOk result (AllByRecursion IsPart parts.new.items) }
-    ensures rising { AreRising parts.old.items → AllByRecursion (λ part. part.interval.0 ≤ℤ interval_of row.now.key.time) parts.old.items → OnOk result (AreRising parts.new.items) }
-    ensures bounded { (x : ℤ) → AllByRecursion (λ part. part.interval.0 ≤ℤ x) parts.old.items → interval_of row.now.key.time ≤ℤ x → OnOk result (AllByRecursion (λ part. part.interval.0 ≤ℤ x) parts.new.items) }
+    ensures rising { AreRising parts.old.items →
+        AllByRecursion (λ part. part.interval.0 ≤ℤ interval_of row.now.key.time) parts.old.items →
+        OnOk result (AreRising parts.new.items) }
+    ensures bounded { (x : ℤ) → AllByRecursion (λ part. part.interval.0 ≤ℤ x) parts.old.items →
+        interval_of row.now.key.time ≤ℤ x →
+        OnOk result (AllByRecursion (λ part. part.interval.0 ≤ℤ x) parts.new.items) }
 {
     let interval = interval_of_row(row);
     let copy = row.copy()?;
@@ -70,7 +74,8 @@ fn put(alloc: Global, parts: &mut Vec<Part>, row: &Row) -> Result<(), AllocError
 /// The rows of a range in parts, one for each interval that has any.
 fn parts_of(alloc: Global, history: &History, from: i64, to: i64) -> Result<Parts, AllocError>
     requires { 0 < history.now.tables }
-    ensures { IfOk result (λ parts. (rows_of_parts parts ≡ range_of 0 from to history.now.items) × AllByRecursion IsPart parts × AreRising parts) }
+    ensures { IfOk result (λ parts. (rows_of_parts parts ≡ range_of 0 from to history.now.items) ×
+        AllByRecursion IsPart parts × AreRising parts) }
 {
     let mut parts = Vec::new(alloc);
     for row in history.range(from, to) {

@@ -101,7 +101,8 @@ struct NewArchive {
 /// Takes all memory that a new archive needs before its first device call, but for the journal's.
 fn prepare_new(alloc: Global, head: Head) -> Result<NewArchive, AllocError>
     requires { IsEntry (entries.Head head.tables head.mdb) }
-    ensures { IfOk result (λ f. (f.frame ≡ entry_octets (entries.Head head.tables head.mdb)) × (f.head ≡ head) × (arc_value f.mdb ≡ head.mdb)
+    ensures { IfOk result (λ f. (f.frame ≡ entry_octets (entries.Head head.tables head.mdb)) × (f.head ≡ head) ×
+        (arc_value f.mdb ≡ head.mdb)
         × (f.history.items ≡ []) × (f.history.tables ≡ length head.tables)) }
 {
     let (frame, head) = head_frame(alloc, head)?;
@@ -128,27 +129,33 @@ impl<D: Disk> Store<D> {
 
         // Exists comes exactly where file 0 has two octets at least and the first is 1, and then the disk reads as before.
         ensures none { IsTrue D.device.is_transparent → OnOk result (HoldsNone (D.device.reads disk 0)) }
-        ensures refused { IsTrue D.device.is_transparent → IfErr result (λ e. IsCreateRefusal (D.device.reads disk) (D.device.reads e.0) e.1) }
+        ensures refused { IsTrue D.device.is_transparent →
+            IfErr result (λ e. IsCreateRefusal (D.device.reads disk) (D.device.reads e.0) e.1) }
 
         // A disk that holds an archive is left as it is, whatever the call answers.
-        ensures kept { IsTrue D.device.is_transparent → 2 ≤ length (D.device.reads disk 0) → get_or (D.device.reads disk 0) 0 0 ≡ 1 → IfErr result (λ e. IsUntouched D.device disk e.0) }
+        ensures kept { IsTrue D.device.is_transparent → 2 ≤ length (D.device.reads disk 0) →
+            get_or (D.device.reads disk 0) 0 0 ≡ 1 → IfErr result (λ e. IsUntouched D.device disk e.0) }
 
         // A crash at any moment of the call leaves no archive or the head, or what it could have left before.
         ensures any_moment { IsTrue D.device.is_transparent → HoldsNone (D.device.reads disk 0)
             → MatchResult result (λ s. LeavesOnly D.device disk s.disk (IsCreateImage (D.device.images disk) head)) (λ e. LeavesOnly D.device disk e.0 (IsCreateImage (D.device.images disk) head)) }
 
         // After a failure with fewer than two faults a crash leaves no archive, or what it could have left before.
-        ensures closed { IsTrue D.device.is_transparent → HoldsNone (D.device.reads disk 0) → IfErr result (λ e. e.1 ≡ DiskFault
+        ensures closed { IsTrue D.device.is_transparent → HoldsNone (D.device.reads disk 0) →
+            IfErr result (λ e. e.1 ≡ DiskFault
             → D.device.fault_count e.0 < raised (raised (D.device.fault_count disk))
             → (c : Image) → D.device.images e.0 c → D.device.images disk c ⊎ HoldsNone (c 0)) }
 
         ensures only { IfErr result (λ e. IsCreateAnswer e.1) }
         ensures memory { IfErr result (λ e. e.1 ≡ OutOfMemory → e.0 ≡ disk) }
-        ensures later { MatchResult result (λ s. CountsNeverFall D.device disk s.disk) (λ e. CountsNeverFall D.device disk e.0) }
+        ensures later { MatchResult result (λ s. CountsNeverFall D.device disk s.disk) (λ e.
+            CountsNeverFall D.device disk e.0) }
         ensures writes { MatchResult result (λ s. D.device.failed_writes s.disk ≡ D.device.failed_writes disk)
             (λ e. D.device.failed_writes e.0 ≢ D.device.failed_writes disk → e.1 ≡ DiskFault) }
-        ensures writes_most { IfErr result (λ e. D.device.failed_writes e.0 ≤ raised (raised (D.device.failed_writes disk))) }
-        ensures cause { IfErr result (λ e. e.1 ≡ DiskFault → raised (D.device.fault_count disk) ≤ D.device.fault_count e.0) }
+        ensures writes_most { IfErr result (λ e.
+            D.device.failed_writes e.0 ≤ raised (raised (D.device.failed_writes disk))) }
+        ensures cause { IfErr result (λ e. e.1 ≡ DiskFault → raised (D.device.fault_count disk) ≤ D.device.fault_count
+            e.0) }
     {
         let mut disk = disk;
         let Ok(new_archive) = prepare_new(alloc, head) else {
@@ -180,10 +187,13 @@ impl<D: Disk> Store<D> {
 
     /// Opens the archive of a disk.
     pub fn open(alloc: Global, disk: D) -> Result<Store<D>, (D, Refusal)>
-        ensures opened { IsTrue D.device.is_transparent → IfOk result (λ s. StandsFor (D.device.reads disk) (archive_of s) × (D.device.reads s.disk ≡ D.device.reads disk)) }
+        ensures opened { IsTrue D.device.is_transparent →
+            IfOk result (λ s. StandsFor (D.device.reads disk) (archive_of s) ×
+            (D.device.reads s.disk ≡ D.device.reads disk)) }
         ensures fills { IfOk result (λ s. s.fills ≡ []) }
 
-        ensures records { IsTrue D.device.is_transparent → IfOk result (λ s. (bodies : List (List ℕ)) × HasRecords (D.device.reads disk 0) bodies × (s.records ≡ length bodies)) }
+        ensures records { IsTrue D.device.is_transparent → IfOk result (λ s. (bodies : List (List ℕ)) ×
+            HasRecords (D.device.reads disk 0) bodies × (s.records ≡ length bodies)) }
 
         // The history of the opening is the one that was handed in.
         ensures opening { IfOk result (λ s. D.device.reads s.opened ≡ D.device.reads disk) }
@@ -191,20 +201,27 @@ impl<D: Disk> Store<D> {
         ensures reads { IfErr result (λ e. D.device.reads e.0 ≡ D.device.reads disk) }
 
         // What the disk reads as decides, but for a fault of the disk and want of memory: no archive, damage at a gate, or the archive.
-        ensures nothing { IsTrue D.device.is_transparent → HoldsNone (D.device.reads disk 0) → MatchResult result (λ _. ⊥) (λ e. IsNoArchiveOrFault e.1) }
-        ensures damaged { IsTrue D.device.is_transparent → (at : ℕ) → IsDamagedAt (D.device.reads disk) at → MatchResult result (λ _. ⊥) (λ e. IsDamagedOrFault at e.1) }
-        ensures stands { IsTrue D.device.is_transparent → (archive : Archive) → StandsFor (D.device.reads disk) archive → MatchResult result (λ s. archive_of s ≡ archive) (λ e. IsFaultOrMemory e.1) }
+        ensures nothing { IsTrue D.device.is_transparent → HoldsNone (D.device.reads disk 0) →
+            MatchResult result (λ _. ⊥) (λ e. IsNoArchiveOrFault e.1) }
+        ensures damaged { IsTrue D.device.is_transparent → (at : ℕ) → IsDamagedAt (D.device.reads disk) at →
+            MatchResult result (λ _. ⊥) (λ e. IsDamagedOrFault at e.1) }
+        ensures stands { IsTrue D.device.is_transparent → (archive : Archive) →
+            StandsFor (D.device.reads disk) archive → MatchResult result (λ s. archive_of s ≡ archive) (λ e.
+            IsFaultOrMemory e.1) }
 
         // Up to the opening's syncs, and where it is refused, a crash leaves what it could have left before.
-        ensures handed_in { MatchResult result (λ s. LeavesOnly D.device disk s.opened (D.device.images disk)) (λ e. LeavesOnly D.device disk e.0 (D.device.images disk)) }
+        ensures handed_in { MatchResult result (λ s. LeavesOnly D.device disk s.opened (D.device.images disk)) (λ e.
+            LeavesOnly D.device disk e.0 (D.device.images disk)) }
         ensures only { IfErr result (λ e. IsOpenAnswer e.1) }
-        ensures later { MatchResult result (λ s. CountsNeverFall D.device disk s.opened) (λ e. CountsNeverFall D.device disk e.0) }
+        ensures later { MatchResult result (λ s. CountsNeverFall D.device disk s.opened) (λ e.
+            CountsNeverFall D.device disk e.0) }
 
         // A write failed only where the sync at the beginning did.
         ensures writes { MatchResult result (λ s. D.device.failed_writes s.disk ≡ D.device.failed_writes disk)
             (λ e. (D.device.failed_writes e.0 ≡ D.device.failed_writes disk)
             ⊎ ((e.1 ≡ DiskFault) × (D.device.failed_writes e.0 ≡ raised (D.device.failed_writes disk)))) }
-        ensures cause { IfErr result (λ e. e.1 ≡ DiskFault → raised (D.device.fault_count disk) ≤ D.device.fault_count e.0) }
+        ensures cause { IfErr result (λ e. e.1 ≡ DiskFault → raised (D.device.fault_count disk) ≤ D.device.fault_count
+            e.0) }
     {
         let mut disk = disk;
         let opening = match Opening::begin(alloc, &mut disk, 0) {
@@ -281,5 +298,5 @@ impl<D: Disk> Store<D> {
 fn shared(alloc: Global, mdb: &Mdb) -> Result<Arc<Mdb, Global>, AllocError>
     ensures { IfOk result (λ shared. arc_value shared ≡ mdb.now) }
 {
-    Ok(Arc::new(alloc, mdb.copy(alloc)?)?)
+    Ok(Arc::new(alloc, mdb.copy()?)?)
 }

@@ -90,7 +90,12 @@ impl TableSet {
 
     /// Makes the room at least `rows`. The one error is want of memory, and then all is as before.
     pub(crate) fn reserve(&mut self, rows: usize) -> Result<(), AllocError>
-        ensures ok { OnOk result (self.new ≡ record { items = self.old.items; tables = self.old.tables; room = max self.old.room rows }) }
+        ensures ok { OnOk result (self.new ≡ record {
+          items = self.old.items;
+          tables = self.old.tables;
+          room = max
+              self.old.room rows;
+        }) }
         ensures err { OnErr result (self.new ≡ self.old) }
     {
         if rows <= self.room {
@@ -105,7 +110,8 @@ impl TableSet {
     /// The position of the row that has a key in a table.
     pub(crate) fn position(&self, table: u8, key: Key) -> Option<u64>
         requires { table < self.now.tables }
-        ensures some { IfSome result (λ p. (there : Item) × (slice_get self.now.items p ≡ Some there) × (is_at_key table key there ≡ true)) }
+        ensures some { IfSome result (λ p. (there : Item) × (slice_get self.now.items p ≡ Some there) ×
+            (is_at_key table key there ≡ true)) }
         ensures none { IfNone result (list_any (is_at_key table key) self.now.items ≡ false) }
     {
         self.tables[table as usize].position(key)
@@ -143,4 +149,3 @@ impl TableSet {
         self.tables[table as usize].range_at(self.order.len() as u64, from, to)
     }
 }
-

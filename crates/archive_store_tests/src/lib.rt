@@ -1,7 +1,22 @@
-// Tests of archive_store: each rule of a record, broken once. What a load leaves where calls of the disk fail is tried by the program's tests.
+// Tests of archive_store: worked answers, what a plan gives, each rule of a record, the limit that a test can reach, and what a disk that fails leaves.
+//
+// A test lists calls and their answers as data (`Step`). Only `of_store` and its like own a store and lend it, and they are generic in the disk and
+// give the disk back at the end: in a function over `MemDisk`, or with a store that is dropped, the same costs minutes to prove.
 #![tactic(auto)]
 
 #[cfg(test)]
+mod answers;
+#[cfg(test)]
+mod faults;
+#[cfg(test)]
+mod images;
+#[cfg(test)]
+mod limits;
+#[cfg(test)]
 mod parts;
 #[cfg(test)]
+mod plans;
+#[cfg(test)]
 mod rules;
+#[cfg(test)]
+mod steps;

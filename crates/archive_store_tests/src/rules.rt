@@ -1,5 +1,5 @@
 // Each rule of a record, broken once: the archive is damaged at the gate of that record.
-use crate::parts::{head_octets, holding, opening, packet_octets};
+use crate::parts::{first_octets, head_octets, holding, opening};
 use std::alloc::Global;
 use std::test::Fail;
 
@@ -83,7 +83,7 @@ fn put_rows(out: &mut Vec<u8>, kind: u8, rows: &[(u8, u8)], behind: usize) -> Re
     out.extend_from_slice(&[kind, count[6], count[7]])?;
     for (table, name) in rows {
         out.extend_from_slice(&[*table, 0, 0, 0, 0, 0, 0, 0x23, 0x28, 1, 0, *name])?;
-        out.extend_from_slice(packet_octets())?;
+        out.extend_from_slice(first_octets())?;
     }
     out.extend_from_slice(&[0; 4][..behind.min(4)])?;
     Ok(())

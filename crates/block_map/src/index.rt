@@ -59,7 +59,11 @@ impl<K: Ord + Copy, V: Copy> Index<K, V> {
 
     /// Makes the room at least `additional`. The one error is want of memory, and then all is as before.
     pub fn reserve(&mut self, additional: usize) -> Result<(), AllocError>
-        ensures ok { OnOk result (self.new ≡ record { entries = self.old.entries; room = max self.old.room additional }) }
+        ensures ok { OnOk result (self.new ≡ record {
+          entries = self.old.entries;
+          room = max self.old.room
+              additional;
+        }) }
         ensures err { OnErr result (self.new ≡ self.old) }
         ensures full { OnErr result (self.old.room < additional) }
     {
@@ -104,7 +108,10 @@ impl<K: Ord + Copy, V: Copy> Index<K, V> {
     /// Gives a key that is there another value, and answers the old one. A key that isn't there stays away.
     pub fn replace(&mut self, key: K, value: V) -> Option<V>
         ensures found { result ≡ lookup (is_at (K.cmp key)) self.old.entries }
-        ensures replaced { OnSome result (self.new ≡ record { entries = insert_entry K.cmp self.old.entries key value; room = self.old.room }) }
+        ensures replaced { OnSome result (self.new ≡ record {
+          entries = insert_entry K.cmp self.old.entries key value;
+          room = self.old.room;
+        }) }
         ensures absent { IfNone result (self.new ≡ self.old) }
         ensures rising { IsRising K.cmp self.new.entries }
     {
@@ -117,7 +124,11 @@ impl<K: Ord + Copy, V: Copy> Index<K, V> {
     /// Takes out a key that is there, and answers its value. Its place can be used again without memory.
     pub fn remove(&mut self, key: K) -> Option<V>
         ensures found { result ≡ lookup (is_at (K.cmp key)) self.old.entries }
-        ensures removed { OnSome result (self.new ≡ record { entries = remove_entry (is_at (K.cmp key)) self.old.entries; room = self.old.room + 1 }) }
+        ensures removed { OnSome result (self.new ≡ record {
+          entries = remove_entry (is_at (K.cmp key))
+              self.old.entries;
+          room = self.old.room + 1;
+        }) }
         ensures absent { IfNone result (self.new ≡ self.old) }
         ensures rising { IsRising K.cmp self.new.entries }
     {

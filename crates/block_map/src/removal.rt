@@ -36,7 +36,8 @@ fn merge<K: Ord + Copy, V: Copy>(
 )
     requires underfull { IsUnderfullAt K.cmp blocks.old.items (left + 1) }
     requires within { left + 1 < length blocks.old.items }
-    requires fit { (d : Vec (K × V)) → length (slice_index_or blocks.old.items left d).items + length (slice_index_or blocks.old.items (left + 1) d).items ≤ CAPACITY }
+    requires fit { (d : Vec (K × V)) → length (slice_index_or blocks.old.items left d).items + length
+        (slice_index_or blocks.old.items (left + 1) d).items ≤ CAPACITY }
     requires ready { AreReady spare.old.items }
     requires room { vec_len blocks.old + vec_len spare.old ≤ vec_capacity spare.old }
     ensures blocks { IsBlocks K.cmp blocks.new.items }

@@ -6,16 +6,16 @@ use Rattle.std.proofs.Math.Nat.{pow-le-pow_right}
 use Rattle.std.proofs.lemmas.Bool.{leb-true, ltb-true}
 use Rattle.std.proofs.lemmas.Int.{ints}
 use Rattle.std.proofs.lemmas.Option.{cond_some}
-use Rattle.mdb_model.specs.declared.calibration.Calibration.{Calibration}
-use Rattle.mdb_model.specs.declared.calibration.EnumRow.{EnumRow}
-use Rattle.mdb_model.specs.declared.calibration.PointsRow.{PointsRow}
-use Rattle.mdb_model.specs.declared.calibration.PolyRow.{PolyRow}
-use Rattle.mdb_model.specs.declared.calibration.Table.{Table}
-use Rattle.mdb_model.specs.declared.calibration.Table.TheVariants.{Poly, Points, Enum}
-use Rattle.mdb_model.specs.declared.parameter.Coding.{Coding}
-use Rattle.mdb_model.specs.declared.parameter.Coding.TheVariants.{Uint, Int, UintLe, IntLe}
-use Rattle.mdb_model.specs.ParameterRows.{admits, degree, reach}
-use Rattle.mdb_model.specs.Structure.{IsPoint, IsRising}
+use Rattle.mdb_items.specs.declared.calibration.Calibration.{Calibration}
+use Rattle.mdb_items.specs.declared.calibration.EnumRow.{EnumRow}
+use Rattle.mdb_items.specs.declared.calibration.PointsRow.{PointsRow}
+use Rattle.mdb_items.specs.declared.calibration.PolyRow.{PolyRow}
+use Rattle.mdb_items.specs.declared.calibration.Table.{Table}
+use Rattle.mdb_items.specs.declared.calibration.Table.TheVariants.{Poly, Points, Enum}
+use Rattle.mdb_items.specs.declared.parameter.Coding.{Coding}
+use Rattle.mdb_items.specs.declared.parameter.Coding.TheVariants.{Uint, Int, UintLe, IntLe}
+use Rattle.mdb_items.specs.ParameterRows.{admits, degree, reach}
+use Rattle.mdb_items.specs.Structure.{IsPoint, IsRising}
 use Rattle.calibration.specs.Admitted.{IsAdmitted, IsInWidth, IsSigned, IsUnsigned, KeepsRules}
 use Rattle.calibration.specs.Carried.{AreCarried}
 

@@ -6,8 +6,8 @@ use Rattle.std.proofs.Math.Nat.{pow-le-pow_left, pow-suc, pow-zero}
 use Rattle.std.proofs.lemmas.Int.{ints, unsigned_abs-mul}
 use Rattle.std.proofs.lemmas.List.Sums.{sum_by-cons}
 use Rattle.std.proofs.lemmas.Nat.{div_below, mul-le, pow-add}
-use Rattle.mdb_model.specs.declared.calibration.PolyRow.{PolyRow}
-use Rattle.mdb_model.specs.ParameterRows.{reach}
+use Rattle.mdb_items.specs.declared.calibration.PolyRow.{PolyRow}
+use Rattle.mdb_items.specs.ParameterRows.{reach}
 use Rattle.calibration.specs.Calibrated.{polynomial, term}
 
 pub abs_neg : (n : ℕ) → unsigned_abs (neg_ℤ (pos n)) ≡ n

@@ -6,9 +6,9 @@ use Rattle.std.specs.Int.{w128}
 use Rattle.std.proofs.lemmas.Bool.{ltb-true, ltb-false}
 use Rattle.std.proofs.lemmas.Int.{ints, fits_signed_from_abs, fits_signed_mul, to_z-of_z, unsigned_abs-mul}
 use Rattle.std.proofs.lemmas.Nat.{mul-le}
-use Rattle.mdb_model.specs.declared.calibration.PointsRow.{PointsRow}
-use Rattle.mdb_model.specs.Numbers.{is_decimal, is_in_range}
-use Rattle.mdb_model.specs.Structure.{IsPoint}
+use Rattle.mdb_items.specs.declared.calibration.PointsRow.{PointsRow}
+use Rattle.mdb_items.specs.Numbers.{is_decimal, is_in_range}
+use Rattle.mdb_items.specs.Structure.{IsPoint}
 use Rattle.calibration.specs.Calibrated.{on_line}
 use Rattle.calibration.specs.Carried.{IsBetween}
 use Rattle.calibration.proofs.Bounds.{abs_add, abs_sub, quotient_within}

@@ -7,9 +7,9 @@ use Rattle.std.proofs.lemmas.List.{get_or-take}
 use Rattle.std.proofs.lemmas.List.Elements.{All-from_recursion}
 use Rattle.std.proofs.lemmas.List.Sums.{prefix_len_is}
 use Rattle.std.proofs.lemmas.Option.{get_or_from_slice_get, slice_get_within}
-use Rattle.mdb_model.specs.declared.calibration.PointsRow.{PointsRow}
-use Rattle.mdb_model.specs.Lists.{last_of}
-use Rattle.mdb_model.specs.Structure.{IsPoint}
+use Rattle.mdb_items.specs.declared.calibration.PointsRow.{PointsRow}
+use Rattle.mdb_items.specs.Lists.{last_of}
+use Rattle.mdb_items.specs.Structure.{IsPoint}
 use Rattle.calibration.specs.Calibrated.{between, on_points, reached}
 use Rattle.calibration.specs.Carried.{AreNeighbours}
 use Rattle.calibration.proofs.Rising.{above, le_true}

@@ -2,13 +2,13 @@
 use Rattle.std.proofs.Common.{◌≡◌, ◌∙◌, ◌≤◌, ℕ, zero, suc, List, [], ◌∷◌, Option, Some, None, refl, ap, sym, arith}
 use Rattle.std.specs.Prelude.{slice_get, sum_by, ℤ}
 use Rattle.std.proofs.lemmas.List.Sums.{sum_by-cons}
-use Rattle.mdb_model.specs.declared.calibration.Calibration.{Calibration}
-use Rattle.mdb_model.specs.declared.calibration.Table.{Table}
-use Rattle.mdb_model.specs.declared.calibration.Table.TheVariants.{Poly, Points, Enum}
-use Rattle.mdb_model.specs.declared.parameter.Parameter.{Parameter}
-use Rattle.mdb_model.specs.Database.{Database, IsDatabase, row_count, table_len}
-use Rattle.mdb_model.specs.ParameterRows.{admits, reference_to, table_at, table_of}
-use Rattle.mdb_model.specs.Structure.{IsTable}
+use Rattle.mdb_items.specs.declared.calibration.Calibration.{Calibration}
+use Rattle.mdb_items.specs.declared.calibration.Table.{Table}
+use Rattle.mdb_items.specs.declared.calibration.Table.TheVariants.{Poly, Points, Enum}
+use Rattle.mdb_items.specs.declared.parameter.Parameter.{Parameter}
+use Rattle.mdb_items.specs.Database.{Database, IsDatabase, row_count, table_len}
+use Rattle.mdb_items.specs.ParameterRows.{admits, reference_to, table_at, table_of}
+use Rattle.mdb_items.specs.Structure.{IsTable}
 use Rattle.mdb_model.proofs.Structure.{structured}
 use Rattle.calibration.specs.Admitted.{IsAdmitted, IsInWidth, KeepsRules}
 use Rattle.calibration.specs.Calibrated.{calibration_at}

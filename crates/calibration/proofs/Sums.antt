@@ -6,8 +6,8 @@ use Rattle.std.proofs.Math.Nat.{le-max_left, le-max_right, mul-le-mul_left, pow-
 use Rattle.std.proofs.lemmas.Int.{fits_signed_from_abs, to_z-of_z}
 use Rattle.std.proofs.lemmas.List.Sums.{fold_more, get_or-le-sum_by, sum_by-take-le}
 use Rattle.std.proofs.lemmas.Nat.{pow_pos}
-use Rattle.mdb_model.specs.declared.calibration.PolyRow.{PolyRow}
-use Rattle.mdb_model.specs.ParameterRows.{degree, reach}
+use Rattle.mdb_items.specs.declared.calibration.PolyRow.{PolyRow}
+use Rattle.mdb_items.specs.ParameterRows.{degree, reach}
 use Rattle.calibration.specs.Calibrated.{polynomial, term}
 use Rattle.calibration.specs.Carried.{AreCarried, IsCarried}
 use Rattle.calibration.proofs.Bounds.{polynomial_within, pow_within, term_within}

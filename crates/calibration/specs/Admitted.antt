@@ -1,14 +1,14 @@
 -- The raw numbers for which the rules of the sheets admit a calibration.
 use Rattle.std.specs.Prelude.{◌≡◌, ℕ, ◌-◌, ◌≤◌, ◌^◌, length, true, Option, Some, None, ℤ, pos, neg_ℤ, ◌≤ℤ◌, ◌<ℤ◌}
 use Rattle.std.specs.List.{AllByRecursion}
-use Rattle.mdb_model.specs.declared.calibration.Calibration.{Calibration}
-use Rattle.mdb_model.specs.declared.calibration.Table.{Table}
-use Rattle.mdb_model.specs.declared.calibration.Table.TheVariants.{Poly, Points, Enum}
-use Rattle.mdb_model.specs.declared.parameter.Coding.{Coding}
-use Rattle.mdb_model.specs.declared.parameter.Coding.TheVariants.{Uint, Int, UintLe, IntLe}
-use Rattle.mdb_model.specs.declared.parameter.Parameter.{Parameter}
-use Rattle.mdb_model.specs.ParameterRows.{admits, table_of}
-use Rattle.mdb_model.specs.Structure.{IsPoint, IsRising}
+use Rattle.mdb_items.specs.declared.calibration.Calibration.{Calibration}
+use Rattle.mdb_items.specs.declared.calibration.Table.{Table}
+use Rattle.mdb_items.specs.declared.calibration.Table.TheVariants.{Poly, Points, Enum}
+use Rattle.mdb_items.specs.declared.parameter.Coding.{Coding}
+use Rattle.mdb_items.specs.declared.parameter.Coding.TheVariants.{Uint, Int, UintLe, IntLe}
+use Rattle.mdb_items.specs.declared.parameter.Parameter.{Parameter}
+use Rattle.mdb_items.specs.ParameterRows.{admits, table_of}
+use Rattle.mdb_items.specs.Structure.{IsPoint, IsRising}
 
 -- below 2^bits
 abbrev pub IsUnsigned : ℕ → ℤ → Type 0

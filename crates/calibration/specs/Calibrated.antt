@@ -5,12 +5,12 @@ use Rattle.std.specs.List.{position, prefix_len}
 use Rattle.std.specs.Ordering.{int_eq}
 use Rattle.arch_types.specs.declared.cell.Eng.{Eng}
 use Rattle.arch_types.specs.declared.cell.Eng.TheVariants.{Whole, Fixed, Label, Undef}
-use Rattle.mdb_model.specs.declared.calibration.Calibration.{Calibration}
-use Rattle.mdb_model.specs.declared.calibration.PointsRow.{PointsRow}
-use Rattle.mdb_model.specs.declared.calibration.PolyRow.{PolyRow}
-use Rattle.mdb_model.specs.declared.calibration.Table.{Table}
-use Rattle.mdb_model.specs.declared.calibration.Table.TheVariants.{Poly, Points, Enum}
-use Rattle.mdb_model.specs.Lists.{last_of}
+use Rattle.mdb_items.specs.declared.calibration.Calibration.{Calibration}
+use Rattle.mdb_items.specs.declared.calibration.PointsRow.{PointsRow}
+use Rattle.mdb_items.specs.declared.calibration.PolyRow.{PolyRow}
+use Rattle.mdb_items.specs.declared.calibration.Table.{Table}
+use Rattle.mdb_items.specs.declared.calibration.Table.TheVariants.{Poly, Points, Enum}
+use Rattle.mdb_items.specs.Lists.{last_of}
 
 -- a coefficient times its power of the raw number, in millionths
 abbrev pub term : ℤ → PolyRow → ℤ

@@ -1,9 +1,9 @@
 -- How far a polynomial carries a raw number, and where a raw number lies among points.
 use Rattle.std.specs.Prelude.{ℕ, ◌*◌, ◌^◌, ◌<◌, ◌≤◌, List, Option, Some, None, sum_by, unsigned_abs, ℤ, ◌≤ℤ◌, ◌<ℤ◌}
-use Rattle.mdb_model.specs.declared.calibration.PointsRow.{PointsRow}
-use Rattle.mdb_model.specs.declared.calibration.PolyRow.{PolyRow}
-use Rattle.mdb_model.specs.ParameterRows.{degree, reach}
-use Rattle.mdb_model.specs.Structure.{IsPoint}
+use Rattle.mdb_items.specs.declared.calibration.PointsRow.{PointsRow}
+use Rattle.mdb_items.specs.declared.calibration.PolyRow.{PolyRow}
+use Rattle.mdb_items.specs.ParameterRows.{degree, reach}
+use Rattle.mdb_items.specs.Structure.{IsPoint}
 
 -- the raw number has at most so many bits, and the coefficient carries it no further than 2^63 millionths
 pub record IsCarried (raw : ℤ) (row : PolyRow) : Type 0 where

@@ -1,9 +1,9 @@
 //! Lines through points.
 
 ghost use Rattle.std.specs.Prelude.{◌≡◌, ◌≤◌, length, slice_get, take, None, pos, option_copied};
-ghost use Rattle.mdb_model.specs.Lists.{last_of};
+ghost use Rattle.mdb_items.specs.Lists.{last_of};
 ghost use Rattle.std.specs.List.{AllByRecursion};
-ghost use Rattle.mdb_model.specs.Structure.{IsPoint, IsRising};
+ghost use Rattle.mdb_items.specs.Structure.{IsPoint, IsRising};
 ghost use Rattle.calibration.specs.Calibrated.{between, on_line, on_points};
 ghost use Rattle.calibration.specs.Carried.{AreNeighbours, IsBetween};
 

@@ -84,8 +84,11 @@ pub fn job_of<'a>(alloc: Global, words: &'a [String]) -> Result<Job<'a>, Refusal
 
 /// The job of the words behind `scan`.
 fn scan_job<'a>(alloc: Global, words: &'a [String]) -> Result<Job<'a>, Refusal>
-    ensures job { IfOk result (λ job. option_and_then scan_of (rows_of_words scan_app (map (λ w. string_bytes w) words.entry.now)) ≡ Some (job_view job)) }
-    ensures none { IfErr result (IsNoJob (option_and_then scan_of (rows_of_words scan_app (map (λ w. string_bytes w) words.entry.now)))) }
+    ensures job { IfOk result (λ job.
+        option_and_then scan_of (rows_of_words scan_app (map (λ w. string_bytes w) words.entry.now)) ≡ Some
+        (job_view job)) }
+    ensures none { IfErr result
+        (IsNoJob (option_and_then scan_of (rows_of_words scan_app (map (λ w. string_bytes w) words.entry.now)))) }
 {
     let found = found_words(alloc, "scan", &["dump"], words)?;
     let dump = word_of(&found, "dump")?;
@@ -94,8 +97,11 @@ fn scan_job<'a>(alloc: Global, words: &'a [String]) -> Result<Job<'a>, Refusal>
 
 /// The job of the words behind `values`.
 fn values_job<'a>(alloc: Global, words: &'a [String]) -> Result<Job<'a>, Refusal>
-    ensures job { IfOk result (λ job. option_and_then values_of (rows_of_words values_app (map (λ w. string_bytes w) words.entry.now)) ≡ Some (job_view job)) }
-    ensures none { IfErr result (IsNoJob (option_and_then values_of (rows_of_words values_app (map (λ w. string_bytes w) words.entry.now)))) }
+    ensures job { IfOk result (λ job.
+        option_and_then values_of (rows_of_words values_app (map (λ w. string_bytes w) words.entry.now)) ≡ Some
+        (job_view job)) }
+    ensures none { IfErr result
+        (IsNoJob (option_and_then values_of (rows_of_words values_app (map (λ w. string_bytes w) words.entry.now)))) }
 {
     let found = found_words(
         alloc,
@@ -119,8 +125,11 @@ fn values_job<'a>(alloc: Global, words: &'a [String]) -> Result<Job<'a>, Refusal
 
 /// The job of the words behind `create`.
 fn create_job<'a>(alloc: Global, words: &'a [String]) -> Result<Job<'a>, Refusal>
-    ensures job { IfOk result (λ job. option_and_then create_of (rows_of_words create_app (map (λ w. string_bytes w) words.entry.now)) ≡ Some (job_view job)) }
-    ensures none { IfErr result (IsNoJob (option_and_then create_of (rows_of_words create_app (map (λ w. string_bytes w) words.entry.now)))) }
+    ensures job { IfOk result (λ job.
+        option_and_then create_of (rows_of_words create_app (map (λ w. string_bytes w) words.entry.now)) ≡ Some
+        (job_view job)) }
+    ensures none { IfErr result
+        (IsNoJob (option_and_then create_of (rows_of_words create_app (map (λ w. string_bytes w) words.entry.now)))) }
 {
     let found = found_words(
         alloc,
@@ -140,8 +149,11 @@ fn create_job<'a>(alloc: Global, words: &'a [String]) -> Result<Job<'a>, Refusal
 
 /// The job of the words behind `load`.
 fn load_job<'a>(alloc: Global, words: &'a [String]) -> Result<Job<'a>, Refusal>
-    ensures job { IfOk result (λ job. option_and_then load_of (rows_of_words load_app (map (λ w. string_bytes w) words.entry.now)) ≡ Some (job_view job)) }
-    ensures none { IfErr result (IsNoJob (option_and_then load_of (rows_of_words load_app (map (λ w. string_bytes w) words.entry.now)))) }
+    ensures job { IfOk result (λ job.
+        option_and_then load_of (rows_of_words load_app (map (λ w. string_bytes w) words.entry.now)) ≡ Some
+        (job_view job)) }
+    ensures none { IfErr result
+        (IsNoJob (option_and_then load_of (rows_of_words load_app (map (λ w. string_bytes w) words.entry.now)))) }
 {
     let found = found_words_and_option(alloc, "load", &["dump"], "link", words)?;
     let dump = word_of(&found, "dump")?;
@@ -153,8 +165,11 @@ fn load_job<'a>(alloc: Global, words: &'a [String]) -> Result<Job<'a>, Refusal>
 
 /// The job of the words behind `query`.
 fn query_job<'a>(alloc: Global, words: &'a [String]) -> Result<Job<'a>, Refusal>
-    ensures job { IfOk result (λ job. option_and_then query_of (rows_of_words query_app (map (λ w. string_bytes w) words.entry.now)) ≡ Some (job_view job)) }
-    ensures none { IfErr result (IsNoJob (option_and_then query_of (rows_of_words query_app (map (λ w. string_bytes w) words.entry.now)))) }
+    ensures job { IfOk result (λ job.
+        option_and_then query_of (rows_of_words query_app (map (λ w. string_bytes w) words.entry.now)) ≡ Some
+        (job_view job)) }
+    ensures none { IfErr result
+        (IsNoJob (option_and_then query_of (rows_of_words query_app (map (λ w. string_bytes w) words.entry.now)))) }
 {
     let found = found_option(alloc, "query", "ask", words)?;
     let asks = word_of(&found, "ask")?;
@@ -163,8 +178,12 @@ fn query_job<'a>(alloc: Global, words: &'a [String]) -> Result<Job<'a>, Refusal>
 
 /// The job of no words behind `recover`.
 fn recover_job<'a>(alloc: Global, words: &'a [String]) -> Result<Job<'a>, Refusal>
-    ensures job { IfOk result (λ job. option_and_then recover_of (rows_of_words recover_app (map (λ w. string_bytes w) words.entry.now)) ≡ Some (job_view job)) }
-    ensures none { IfErr result (IsNoJob (option_and_then recover_of (rows_of_words recover_app (map (λ w. string_bytes w) words.entry.now)))) }
+    ensures job { IfOk result (λ job.
+        option_and_then recover_of (rows_of_words recover_app (map (λ w. string_bytes w) words.entry.now)) ≡ Some
+        (job_view job)) }
+    ensures none { IfErr result
+        (IsNoJob (option_and_then recover_of
+        (rows_of_words recover_app (map (λ w. string_bytes w) words.entry.now)))) }
 {
     let _found = found_words(alloc, "recover", &[], words)?;
     Ok(Job::Recover)

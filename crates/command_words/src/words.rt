@@ -60,7 +60,8 @@ fn option<'a>(alloc: Global, id: &'a str, wanted: bool) -> Arg<'a>
 
 /// A command of one level that wants an option, and has no words.
 fn option_command<'a>(alloc: Global, name: &'a str, id: &'a str) -> Result<Command<'a>, AllocError>
-    ensures { IfOk result (λ command. app_of command ≡ with_rule (plain_app name.entry.now) (option_rule id.entry.now true)) }
+    ensures { IfOk result (λ command. app_of command ≡ with_rule (plain_app name.entry.now)
+        (option_rule id.entry.now true)) }
 {
     plain_command(alloc, name).arg(option(alloc, id, true))
 }
@@ -72,7 +73,9 @@ fn words_and_option_command<'a>(
     ids: &[&'a str],
     id: &'a str,
 ) -> Result<Command<'a>, AllocError>
-    ensures { IfOk result (λ command. app_of command ≡ with_rule (words_app name.entry.now (map (λ id. id.now) ids.now)) (option_rule id.entry.now false)) }
+    ensures { IfOk result (λ command.
+        app_of command ≡ with_rule (words_app name.entry.now (map (λ id. id.now) ids.now))
+        (option_rule id.entry.now false)) }
 {
     words_command(alloc, name, ids)?.arg(option(alloc, id, false))
 }
@@ -86,8 +89,12 @@ pub fn found_option<'a>(
 ) -> Result<ArgMatches<'a>, Refusal>
     requires simple { is_simple (with_rule (plain_app name.now) (option_rule id.now true)) ≡ true }
     requires free { is_simple_and_free (with_rule (plain_app name.now) (option_rule id.now true)) ≡ true }
-    ensures found { IfOk result (λ found. rows_of_words (with_rule (plain_app name.entry.now) (option_rule id.entry.now true)) (map (λ w. string_bytes w) words.entry.now) ≡ Some (rows_of (found_of found))) }
-    ensures none { IfErr result (IsNotFound (rows_of_words (with_rule (plain_app name.entry.now) (option_rule id.entry.now true)) (map (λ w. string_bytes w) words.entry.now))) }
+    ensures found { IfOk result (λ found.
+        rows_of_words (with_rule (plain_app name.entry.now) (option_rule id.entry.now true)) (map (λ w.
+        string_bytes w) words.entry.now) ≡ Some (rows_of (found_of found))) }
+    ensures none { IfErr result
+        (IsNotFound (rows_of_words (with_rule (plain_app name.entry.now) (option_rule id.entry.now true)) (map (λ w.
+        string_bytes w) words.entry.now))) }
 {
     match option_command(alloc, name, id) {
         Ok(command) => read_words(command, words),
@@ -104,8 +111,10 @@ pub fn found_words<'a>(
 ) -> Result<ArgMatches<'a>, Refusal>
     requires simple { is_simple (words_app name.now (map (λ id. id.now) ids.now)) ≡ true }
     requires free { is_simple_and_free (words_app name.now (map (λ id. id.now) ids.now)) ≡ true }
-    ensures found { IfOk result (λ found. rows_of_words (words_app name.entry.now (map (λ id. id.now) ids.now)) (map (λ w. string_bytes w) words.entry.now) ≡ Some (rows_of (found_of found))) }
-    ensures none { IfErr result (IsNotFound (rows_of_words (words_app name.entry.now (map (λ id. id.now) ids.now)) (map (λ w. string_bytes w) words.entry.now))) }
+    ensures found { IfOk result (λ found. rows_of_words (words_app name.entry.now (map (λ id. id.now) ids.now))
+        (map (λ w. string_bytes w) words.entry.now) ≡ Some (rows_of (found_of found))) }
+    ensures none { IfErr result (IsNotFound (rows_of_words (words_app name.entry.now (map (λ id. id.now) ids.now))
+        (map (λ w. string_bytes w) words.entry.now))) }
 {
     match words_command(alloc, name, ids) {
         Ok(command) => read_words(command, words),
@@ -121,10 +130,17 @@ pub fn found_words_and_option<'a>(
     id: &'a str,
     words: &'a [String],
 ) -> Result<ArgMatches<'a>, Refusal>
-    requires simple { is_simple (with_rule (words_app name.now (map (λ id. id.now) ids.now)) (option_rule id.now false)) ≡ true }
-    requires free { is_simple_and_free (with_rule (words_app name.now (map (λ id. id.now) ids.now)) (option_rule id.now false)) ≡ true }
-    ensures found { IfOk result (λ found. rows_of_words (with_rule (words_app name.entry.now (map (λ id. id.now) ids.now)) (option_rule id.entry.now false)) (map (λ w. string_bytes w) words.entry.now) ≡ Some (rows_of (found_of found))) }
-    ensures none { IfErr result (IsNotFound (rows_of_words (with_rule (words_app name.entry.now (map (λ id. id.now) ids.now)) (option_rule id.entry.now false)) (map (λ w. string_bytes w) words.entry.now))) }
+    requires simple { is_simple (with_rule (words_app name.now (map (λ id. id.now) ids.now))
+        (option_rule id.now false)) ≡ true }
+    requires free { is_simple_and_free (with_rule (words_app name.now (map (λ id. id.now) ids.now))
+        (option_rule id.now false)) ≡ true }
+    ensures found { IfOk result (λ found.
+        rows_of_words (with_rule (words_app name.entry.now (map (λ id. id.now) ids.now))
+        (option_rule id.entry.now false)) (map (λ w. string_bytes w) words.entry.now) ≡ Some
+        (rows_of (found_of found))) }
+    ensures none { IfErr result
+        (IsNotFound (rows_of_words (with_rule (words_app name.entry.now (map (λ id. id.now) ids.now))
+        (option_rule id.entry.now false)) (map (λ w. string_bytes w) words.entry.now))) }
 {
     match words_and_option_command(alloc, name, ids, id) {
         Ok(command) => read_words(command, words),
@@ -135,7 +151,8 @@ pub fn found_words_and_option<'a>(
 /// The word that was found for an id.
 pub fn word_of<'a>(found: &ArgMatches<'a>, id: &str) -> Result<&'a str, Refusal>
     ensures word { IfOk result (λ word. first_of id.now (rows_of (found_of found.now)) ≡ Some word.now) }
-    ensures none { IfErr result (λ refusal. (refusal ≡ Refusal.Usage) × (first_of id.now (rows_of (found_of found.now)) ≡ None)) }
+    ensures none { IfErr result (λ refusal. (refusal ≡ Refusal.Usage) ×
+        (first_of id.now (rows_of (found_of found.now)) ≡ None)) }
 {
     match found.get_str(id) {
         Some(word) => Ok(word),
@@ -154,8 +171,11 @@ pub fn given_word<'a>(found: &ArgMatches<'a>, id: &str) -> Option<&'a str>
 fn read_words<'a>(command: Command<'a>, words: &'a [String]) -> Result<ArgMatches<'a>, Refusal>
     requires simple { is_simple (app_of command) ≡ true }
     requires free { is_simple_and_free (app_of command) ≡ true }
-    ensures found { IfOk result (λ found. rows_of_words (app_of command.entry) (map (λ w. string_bytes w) words.entry.now) ≡ Some (rows_of (found_of found))) }
-    ensures none { IfErr result (IsNotFound (rows_of_words (app_of command.entry) (map (λ w. string_bytes w) words.entry.now))) }
+    ensures found { IfOk result (λ found.
+        rows_of_words (app_of command.entry) (map (λ w. string_bytes w) words.entry.now) ≡ Some
+        (rows_of (found_of found))) }
+    ensures none { IfErr result
+        (IsNotFound (rows_of_words (app_of command.entry) (map (λ w. string_bytes w) words.entry.now))) }
 {
     if !are_plain(words) {
         return Err(Refusal::Usage);
@@ -235,4 +255,3 @@ fn first_equals(word: &str) -> Option<usize>
 {
     word.as_bytes().iter().position(|octet| *octet == b'=')
 }
-

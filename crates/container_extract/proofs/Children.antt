@@ -3,7 +3,7 @@ use Rattle.std.proofs.Common.{◌≡◌, ◌∙◌, ◌+◌, ℕ, suc, List, [],
 use Rattle.std.specs.Prelude.{option_map}
 use Rattle.std.specs.List.{find, position}
 use Rattle.std.proofs.lemmas.Bool.{cases_Bool}
-use Rattle.mdb_model.specs.declared.container.Container.{Container}
+use Rattle.mdb_items.specs.declared.container.Container.{Container}
 use Rattle.mdb_model.specs.Children.{children_from, children_of, is_parent_of}
 use Rattle.container_extract.specs.declared.values.ParameterValue.{ParameterValue}
 use Rattle.container_extract.specs.Chain.{first_child, is_number, is_taken}

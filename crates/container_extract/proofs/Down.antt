@@ -2,7 +2,7 @@
 use Rattle.std.proofs.Common.{◌≡◌, ◌∙◌, ◌+◌, ◌-◌, ◌<◌, ◌≤◌, ℕ, List, [], ◌∷◌, ◌++◌, length, Some, None, ap, sym, arith, subst, take}
 use Rattle.std.specs.Prelude.{sum_by}
 use Rattle.std.proofs.lemmas.List.{take_all}
-use Rattle.mdb_model.specs.Database.{Database, IsDatabase, entry_count}
+use Rattle.mdb_items.specs.Database.{Database, IsDatabase, entry_count}
 use Rattle.mdb_model.proofs.Structure.{structured}
 use Rattle.container_extract.specs.declared.values.ParameterValue.{ParameterValue}
 use Rattle.container_extract.specs.Chain.{IsChain, chain_of, entries_at}

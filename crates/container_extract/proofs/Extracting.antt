@@ -4,11 +4,11 @@ use Rattle.std.specs.Prelude.{flat_map, nat_eq, slice_get}
 use Rattle.std.specs.List.{AllByRecursion, IsDistinct, prefix_len}
 use Rattle.std.proofs.lemmas.List.{length-map}
 use Rattle.std.proofs.lemmas.Nat.{mod_below, pow_pos}
-use Rattle.mdb_model.specs.declared.container.Entry.{Entry}
-use Rattle.mdb_model.specs.declared.parameter.Parameter.{Parameter}
-use Rattle.mdb_model.specs.Database.{Database, IsDatabase}
-use Rattle.mdb_model.specs.Paths.{bits_of_parameter}
-use Rattle.mdb_model.specs.Structure.{AreDistinctEntries, IsEntry}
+use Rattle.mdb_items.specs.declared.container.Entry.{Entry}
+use Rattle.mdb_items.specs.declared.parameter.Parameter.{Parameter}
+use Rattle.mdb_items.specs.Database.{Database, IsDatabase}
+use Rattle.mdb_items.specs.Paths.{bits_of_parameter}
+use Rattle.mdb_items.specs.Structure.{AreDistinctEntries, IsEntry}
 use Rattle.mdb_model.proofs.Structure.{structured}
 use Rattle.calibration.specs.Admitted.{IsInWidth}
 use Rattle.container_extract.specs.Bits.{bits_at, field_at}

@@ -4,9 +4,9 @@ use Rattle.std.specs.Prelude.{slice_get, unwrap_or}
 use Rattle.std.specs.List.{filter}
 use Rattle.std.proofs.lemmas.List.{append-nil}
 use Rattle.std.proofs.lemmas.List.Elements.{filter_more}
-use Rattle.mdb_model.specs.declared.container.Container.{Container}
-use Rattle.mdb_model.specs.Lists.{last_of}
-use Rattle.mdb_model.proofs.Ends.{last_of-push}
+use Rattle.mdb_items.specs.declared.container.Container.{Container}
+use Rattle.mdb_items.specs.Lists.{last_of}
+use Rattle.mdb_rules.proofs.Ends.{last_of-push}
 use Rattle.container_extract.specs.Chain.{has_archive, name_along}
 
 abbrev flagged : List Container → ℕ → Bool

@@ -2,15 +2,15 @@
 use Rattle.std.proofs.Common.{◌≡◌, ◌∙◌, ◌+◌, ◌<◌, ◌≤◌, ℕ, suc, List, [], ◌∷◌, ◌++◌, length, Option, Some, None, refl, ap, sym, arith, subst, append_assoc, append-nil}
 use Rattle.std.specs.Prelude.{flat_map, slice_get}
 use Rattle.std.specs.List.{AllByRecursion}
-use Rattle.mdb_model.specs.declared.container.Container.{Container}
-use Rattle.mdb_model.specs.declared.container.Entry.{Entry}
-use Rattle.mdb_model.specs.Database.{Database, IsDatabase}
-use Rattle.mdb_model.specs.Paths.{ContainerPath, path_at, path_below, paths_of}
-use Rattle.mdb_model.specs.Structure.{IsBelowParent, IsEntry, IsPath}
-use Rattle.mdb_model.specs.Totals.{AreEarlier, parent_of}
-use Rattle.mdb_model.proofs.Ancestry.{path_here}
+use Rattle.mdb_items.specs.declared.container.Container.{Container}
+use Rattle.mdb_items.specs.declared.container.Entry.{Entry}
+use Rattle.mdb_items.specs.Database.{Database, IsDatabase}
+use Rattle.mdb_items.specs.Paths.{ContainerPath, path_at, path_below, paths_of}
+use Rattle.mdb_items.specs.Structure.{IsBelowParent, IsEntry, IsPath}
+use Rattle.mdb_rules.specs.Totals.{AreEarlier, parent_of}
+use Rattle.mdb_rules.proofs.Ancestry.{path_here}
 use Rattle.mdb_model.proofs.DatabaseFits.{all_join}
-use Rattle.mdb_model.proofs.Ends.{item_at}
+use Rattle.mdb_rules.proofs.Ends.{item_at}
 use Rattle.mdb_model.proofs.Structure.{structured}
 use Rattle.container_extract.specs.Chain.{IsChain, IsChainFrom, chain_of, entries_at, entries_of}
 use Rattle.container_extract.proofs.Chains.{chain_is_one, child_of}

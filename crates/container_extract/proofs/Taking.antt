@@ -8,13 +8,13 @@ use Rattle.std.proofs.lemmas.List.Sums.{take_while-cons}
 use Rattle.std.proofs.lemmas.Nat.{mod_below, pow_pos}
 use Rattle.std.proofs.lemmas.Option.{slice_get_read}
 use Rattle.arch_types.specs.declared.cell.Eng.{Eng}
-use Rattle.mdb_model.specs.declared.calibration.Calibration.{Calibration}
-use Rattle.mdb_model.specs.declared.container.Container.{Container}
-use Rattle.mdb_model.specs.declared.container.Entry.{Entry}
-use Rattle.mdb_model.specs.declared.parameter.Parameter.{Parameter}
-use Rattle.mdb_model.specs.Database.{Database, IsDatabase}
-use Rattle.mdb_model.specs.Paths.{bits_of_parameter}
-use Rattle.mdb_model.specs.Structure.{IsEntry}
+use Rattle.mdb_items.specs.declared.calibration.Calibration.{Calibration}
+use Rattle.mdb_items.specs.declared.container.Container.{Container}
+use Rattle.mdb_items.specs.declared.container.Entry.{Entry}
+use Rattle.mdb_items.specs.declared.parameter.Parameter.{Parameter}
+use Rattle.mdb_items.specs.Database.{Database, IsDatabase}
+use Rattle.mdb_items.specs.Paths.{bits_of_parameter}
+use Rattle.mdb_items.specs.Structure.{IsEntry}
 use Rattle.mdb_model.proofs.Structure.{structured}
 use Rattle.calibration.specs.Admitted.{IsAdmitted, IsInWidth}
 use Rattle.calibration.specs.Calibrated.{calibrated, calibration_at}

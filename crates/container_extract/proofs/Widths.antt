@@ -4,9 +4,9 @@ use Rattle.std.specs.Prelude.{◌==◌, ◌&&◌, ◌||◌, not, Some, nat_le, n
 use Rattle.std.proofs.Math.Nat.{pow-suc}
 use Rattle.std.proofs.lemmas.Bool.{cases_Bool, eqb-true, leb-true, ltb-true, ltb-false}
 use Rattle.std.proofs.lemmas.Int.{ints}
-use Rattle.mdb_model.specs.declared.parameter.Coding.{Coding}
-use Rattle.mdb_model.specs.declared.parameter.Coding.TheVariants.{Uint, Int, UintLe, IntLe}
-use Rattle.mdb_model.specs.ParameterRows.{fits_coding, is_le}
+use Rattle.mdb_items.specs.declared.parameter.Coding.{Coding}
+use Rattle.mdb_items.specs.declared.parameter.Coding.TheVariants.{Uint, Int, UintLe, IntLe}
+use Rattle.mdb_items.specs.ParameterRows.{fits_coding, is_le}
 use Rattle.calibration.specs.Admitted.{IsInWidth, IsSigned, IsUnsigned}
 use Rattle.container_extract.specs.Bits.{coded_as, reversed, twos_complement}
 use Rattle.container_extract.proofs.Numbers.{octets_are_bits, reversed_below}

@@ -1,7 +1,7 @@
 -- The bit fields of a packet, which is taken as one number.
 use Rattle.std.specs.Prelude.{ℕ, zero, suc, ◌+◌, ◌-◌, ◌*◌, ◌/◌, ◌%◌, ◌^◌, List, length, fold, if◌then◌else◌, nat_lt, ℤ, pos, ◌-ℤ◌}
-use Rattle.mdb_model.specs.declared.parameter.Coding.{Coding}
-use Rattle.mdb_model.specs.declared.parameter.Coding.TheVariants.{Uint, Int, UintLe, IntLe}
+use Rattle.mdb_items.specs.declared.parameter.Coding.{Coding}
+use Rattle.mdb_items.specs.declared.parameter.Coding.TheVariants.{Uint, Int, UintLe, IntLe}
 
 -- octets as one number, the first octet the highest
 abbrev pub number_of : List ℕ → ℕ

@@ -1,10 +1,10 @@
 -- The chain of a packet's containers.
 use Rattle.std.specs.Prelude.{◌≡◌, ℕ, zero, suc, ◌==◌, ◌&&◌, Bool, false, List, [], ◌∷◌, ◌++◌, length, map, slice_get, Option, Some, None, unwrap_or, if◌then◌else◌}
 use Rattle.std.specs.List.{list_all, filter, position}
-use Rattle.mdb_model.specs.declared.container.Container.{Container}
-use Rattle.mdb_model.specs.declared.container.Entry.{Entry}
-use Rattle.mdb_model.specs.Database.{Database}
-use Rattle.mdb_model.specs.Lists.{last_of}
+use Rattle.mdb_items.specs.declared.container.Container.{Container}
+use Rattle.mdb_items.specs.declared.container.Entry.{Entry}
+use Rattle.mdb_items.specs.Database.{Database}
+use Rattle.mdb_items.specs.Lists.{last_of}
 use Rattle.container_extract.specs.declared.values.ParameterValue.{ParameterValue}
 use Rattle.container_extract.specs.Values.{fits, holds, value_of}
 

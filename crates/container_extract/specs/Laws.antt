@@ -1,8 +1,8 @@
 -- What holds of chains and extractions.
 use Rattle.std.specs.Prelude.{◌≡◌, ◌<◌, ◌≤◌, ℕ, List, Some, length, map, nat_eq, slice_get}
 use Rattle.std.specs.List.{AllByRecursion, IsDistinct}
-use Rattle.mdb_model.specs.declared.parameter.Parameter.{Parameter}
-use Rattle.mdb_model.specs.Database.{Database, IsDatabase}
+use Rattle.mdb_items.specs.declared.parameter.Parameter.{Parameter}
+use Rattle.mdb_items.specs.Database.{Database, IsDatabase}
 use Rattle.calibration.specs.Admitted.{IsInWidth}
 use Rattle.calibration.specs.Calibrated.{calibrated, calibration_at}
 use Rattle.container_extract.specs.declared.values.ParameterValue.{ParameterValue}

@@ -1,8 +1,8 @@
 -- One step from a container to the next.
 use Rattle.std.specs.Prelude.{◌≡◌, ℕ, Bool, false, List, ◌++◌, map, slice_get, Option, Some, None, if◌then◌else◌}
 use Rattle.std.specs.List.{list_all, take_while}
-use Rattle.mdb_model.specs.declared.container.Container.{Container}
-use Rattle.mdb_model.specs.Database.{Database}
+use Rattle.mdb_items.specs.declared.container.Container.{Container}
+use Rattle.mdb_items.specs.Database.{Database}
 use Rattle.container_extract.specs.declared.values.ParameterValue.{ParameterValue}
 use Rattle.container_extract.specs.Chain.{entries_at, first_child}
 use Rattle.container_extract.specs.Values.{fits, holds, value_of}

@@ -2,15 +2,15 @@
 use Rattle.std.specs.Prelude.{ℕ, ◌+◌, ◌*◌, ◌==◌, Bool, false, not, List, length, slice_get, Option, Some, None, nat_le, ℤ, int_le, int_lt}
 use Rattle.std.specs.List.{find, list_all}
 use Rattle.std.specs.Ordering.{int_eq}
-use Rattle.mdb_model.specs.declared.container.Comparison.{Comparison}
-use Rattle.mdb_model.specs.declared.container.Entry.{Entry}
-use Rattle.mdb_model.specs.declared.container.Operator.{Operator}
-use Rattle.mdb_model.specs.declared.container.Operator.TheVariants.{Equal, NotEqual, Less, LessOrEqual, Greater, GreaterOrEqual}
-use Rattle.mdb_model.specs.declared.parameter.Coding.{Coding}
-use Rattle.mdb_model.specs.declared.parameter.Coding.TheVariants.{Uint}
-use Rattle.mdb_model.specs.declared.parameter.Parameter.{Parameter}
-use Rattle.mdb_model.specs.Database.{Database}
-use Rattle.mdb_model.specs.Paths.{bits_of_parameter}
+use Rattle.mdb_items.specs.declared.container.Comparison.{Comparison}
+use Rattle.mdb_items.specs.declared.container.Entry.{Entry}
+use Rattle.mdb_items.specs.declared.container.Operator.{Operator}
+use Rattle.mdb_items.specs.declared.container.Operator.TheVariants.{Equal, NotEqual, Less, LessOrEqual, Greater, GreaterOrEqual}
+use Rattle.mdb_items.specs.declared.parameter.Coding.{Coding}
+use Rattle.mdb_items.specs.declared.parameter.Coding.TheVariants.{Uint}
+use Rattle.mdb_items.specs.declared.parameter.Parameter.{Parameter}
+use Rattle.mdb_items.specs.Database.{Database}
+use Rattle.mdb_items.specs.Paths.{bits_of_parameter}
 use Rattle.calibration.specs.Calibrated.{calibrated, calibration_at}
 use Rattle.container_extract.specs.declared.values.ParameterValue.{ParameterValue}
 use Rattle.container_extract.specs.Bits.{bits_at}

@@ -2,7 +2,7 @@
 
 ghost use Rattle.std.specs.Prelude.{◌≡◌, ◌<◌, ◌≤◌, ◌+◌, length, slice_get, option_copied, IfOk};
 ghost use Rattle.std.specs.List.{find};
-ghost use Rattle.mdb_model.specs.Database.{IsDatabase};
+ghost use Rattle.mdb_items.specs.Database.{IsDatabase};
 ghost use Rattle.container_extract.specs.Chain.{entries_at, first_child, has_archive, name_along};
 ghost use Rattle.container_extract.specs.Step.{IsStep, holds_at};
 

@@ -54,7 +54,8 @@ pub(crate) fn take_entries(
 ) -> Result<bool, AllocError>
     requires known { All (λ e. e.parameter < length mdb.now.parameters) entries.now }
     requires room { length values.old + length entries.now ≤ 65536 }
-    ensures taken { IfOk result (λ whole. values.new ≡ values.old ++ map (value_of mdb.now packet.now) (take_while (fits mdb.now packet.now) entries.now)) }
+    ensures taken { IfOk result (λ whole. values.new ≡ values.old ++ map (value_of mdb.now packet.now)
+        (take_while (fits mdb.now packet.now) entries.now)) }
     ensures whole { IfOk result (λ whole. whole ≡ list_all (fits mdb.now packet.now) entries.now) }
 {
     for entry in entries {

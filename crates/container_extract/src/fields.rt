@@ -1,7 +1,7 @@
 //! Bit fields.
 
 ghost use Rattle.std.specs.Prelude.{◌≡◌, ◌+◌, ◌*◌, ◌^◌, ◌<◌, ◌≤◌, length, true, Some};
-ghost use Rattle.mdb_model.specs.ParameterRows.{fits_coding};
+ghost use Rattle.mdb_items.specs.ParameterRows.{fits_coding};
 ghost use Rattle.container_extract.specs.Bits.{bits_at, field_at, number_of, reversed, twos_complement};
 
 use mdb_model::Coding;

@@ -5,8 +5,8 @@
 //! folder that the environment's `YARCH_HOME` names, or else `yarch`; that it isn't there is met by the first call that wants it.
 #![tactic(auto)]
 
-use archive_cli::{Ended, FaultText, run};
 use arch_types::refusal::Refusal;
+use archive_cli::{Ended, FaultText, run};
 use outer_real::{RealClock, RealDisk, RealInputs, RealSink, StandardStreams};
 use std::env::{self, VarError};
 use std::process::ExitCode;

@@ -41,17 +41,23 @@ impl Journal {
 
         // and all other files as a crash at its start would have.
         ensures elsewhere { LeavesOnly D.device disk.old disk.new (IsOldBut D.device (file_of self.old) disk.old) }
-        ensures reads { IsTrue D.device.is_transparent → AgreesBut (file_of self.old) (D.device.reads disk.old) (D.device.reads disk.new) }
+        ensures reads { IsTrue D.device.is_transparent → AgreesBut (file_of self.old) (D.device.reads disk.old)
+            (D.device.reads disk.new) }
 
         ensures only { IfErr result IsAppendFault }
         ensures needs_reopen { asks_reopen result ≡ unhealed_fault self.old }
-        ensures limit { (result ≡ Err JournalFault.Limit) ↔ ((unhealed_fault self.old ≡ None) × (2 ^ 32 - 1 ≤ count_of self.old)) }
-        ensures cause { result ≡ Err JournalFault.DiskFault → raised (D.device.fault_count disk.old) ≤ D.device.fault_count disk.new }
-        ensures pending_fault { result ≡ Err JournalFault.DiskFault → unhealed_fault self.new ≡ Some (min (D.device.fault_count disk.new) (2 ^ 64 - 1)) }
+        ensures limit { (result ≡ Err JournalFault.Limit) ↔ ((unhealed_fault self.old ≡ None) ×
+            (2 ^ 32 - 1 ≤ count_of self.old)) }
+        ensures cause { result ≡ Err JournalFault.DiskFault →
+            raised (D.device.fault_count disk.old) ≤ D.device.fault_count disk.new }
+        ensures pending_fault { result ≡ Err JournalFault.DiskFault →
+            unhealed_fault self.new ≡ Some (min (D.device.fault_count disk.new) (2 ^ 64 - 1)) }
         ensures no_pending_fault { OnOk result (unhealed_fault self.new ≡ None) }
         ensures later { D.device.fault_count disk.old ≤ D.device.fault_count disk.new }
-        ensures writes { (D.device.failed_writes disk.new ≢ D.device.failed_writes disk.old) → result ≡ Err JournalFault.DiskFault }
-        ensures counted { result ≡ Err JournalFault.DiskFault → D.device.failed_writes disk.new ≡ raised (D.device.failed_writes disk.old) }
+        ensures writes { (D.device.failed_writes disk.new ≢ D.device.failed_writes disk.old) →
+            result ≡ Err JournalFault.DiskFault }
+        ensures counted { result ≡ Err JournalFault.DiskFault →
+            D.device.failed_writes disk.new ≡ raised (D.device.failed_writes disk.old) }
         ensures no_failed_write { OnOk result (D.device.failed_writes disk.new ≡ D.device.failed_writes disk.old) }
         ensures file { file_of self.new ≡ file_of self.old }
     {
@@ -101,7 +107,8 @@ impl Journal {
             → HasOnDisk D.device self.old bodies pending disk.old
             → LeavesOnly D.device disk.old disk.new (λ c. IsBeforeOrAfter bodies pending (c (file_of self.old))) }
         ensures elsewhere { LeavesOnly D.device disk.old disk.new (IsOldBut D.device (file_of self.old) disk.old) }
-        ensures reads { IsTrue D.device.is_transparent → AgreesBut (file_of self.old) (D.device.reads disk.old) (D.device.reads disk.new) }
+        ensures reads { IsTrue D.device.is_transparent → AgreesBut (file_of self.old) (D.device.reads disk.old)
+            (D.device.reads disk.new) }
 
         ensures no_call { unhealed_fault self.old ≡ None → disk.new ≡ disk.old }
         ensures writes { CountsFailure D.device disk.old disk.new result }

@@ -39,8 +39,11 @@ pub struct Journal {
 
 // The length of a file that begins with an open gate, and has an octet behind it.
 pub(crate) fn begins_open<D: Disk>(disk: &mut D, file: u32) -> Result<Option<u64>, Failed>
-    ensures none { IsTrue D.device.is_transparent → IfOk result (λ len. len ≡ None → HoldsNone (D.device.reads disk.old file)) }
-    ensures some { IsTrue D.device.is_transparent → IfOk result (λ len. IfSome len (λ n. (n ≡ length (D.device.reads disk.old file)) × (2 ≤ n) × (get_or (D.device.reads disk.old file) 0 0 ≡ 1))) }
+    ensures none { IsTrue D.device.is_transparent → IfOk result (λ len. len ≡ None →
+        HoldsNone (D.device.reads disk.old file)) }
+    ensures some { IsTrue D.device.is_transparent →
+        IfOk result (λ len. IfSome len (λ n. (n ≡ length (D.device.reads disk.old file)) × (2 ≤ n) ×
+        (get_or (D.device.reads disk.old file) 0 0 ≡ 1))) }
     ensures two { IfOk result (λ len. IfSome len (λ n. 2 ≤ n)) }
     ensures looked { OnlyReads D.device disk.old disk.new }
     ensures cause { HasCause D.device disk.old disk.new result }
@@ -58,15 +61,22 @@ pub(crate) fn begins_open<D: Disk>(disk: &mut D, file: u32) -> Result<Option<u64
 
 // Makes a file that holds no archive begin with a closed gate.
 fn prepare<D: Disk>(disk: &mut D, file: u32) -> Result<(), JournalFault>
-    ensures ready { IsTrue D.device.is_transparent → OnOk result (HasRecords (D.device.reads disk.new file) [] × IsDurable D.device file (D.device.reads disk.new file) disk.new) }
+    ensures ready { IsTrue D.device.is_transparent → OnOk result (HasRecords (D.device.reads disk.new file) [] ×
+        IsDurable D.device file (D.device.reads disk.new file) disk.new) }
     ensures none { IsTrue D.device.is_transparent → OnOk result (HoldsNone (D.device.reads disk.old file)) }
-    ensures exists { IsTrue D.device.is_transparent → result ≡ Err JournalFault.Exists → (2 ≤ length (D.device.reads disk.old file)) × (get_or (D.device.reads disk.old file) 0 0 ≡ 1) × (D.device.reads disk.new ≡ D.device.reads disk.old) }
-    ensures moments { IsTrue D.device.is_transparent → HoldsNone (D.device.reads disk.old file) → LeavesOnly D.device disk.old disk.new (λ c. D.device.images disk.old c ⊎ HoldsNone (c file)) }
+    ensures exists { IsTrue D.device.is_transparent → result ≡ Err JournalFault.Exists →
+        (2 ≤ length (D.device.reads disk.old file)) × (get_or (D.device.reads disk.old file) 0 0 ≡ 1) ×
+        (D.device.reads disk.new ≡ D.device.reads disk.old) }
+    ensures moments { IsTrue D.device.is_transparent → HoldsNone (D.device.reads disk.old file) →
+        LeavesOnly D.device disk.old disk.new (λ c. D.device.images disk.old c ⊎ HoldsNone (c file)) }
     ensures elsewhere { LeavesOnly D.device disk.old disk.new (IsOldBut D.device file disk.old) }
-    ensures reads { IsTrue D.device.is_transparent → AgreesBut file (D.device.reads disk.old) (D.device.reads disk.new) }
+    ensures reads { IsTrue D.device.is_transparent →
+        AgreesBut file (D.device.reads disk.old) (D.device.reads disk.new) }
     ensures only { IfErr result (λ e. (e ≡ JournalFault.Exists) ⊎ (e ≡ JournalFault.DiskFault)) }
-    ensures kept { IsTrue D.device.is_transparent → 2 ≤ length (D.device.reads disk.old file) → get_or (D.device.reads disk.old file) 0 0 ≡ 1 → IsUntouched D.device disk.old disk.new }
-    ensures cause { result ≡ Err JournalFault.DiskFault → raised (D.device.fault_count disk.old) ≤ D.device.fault_count disk.new }
+    ensures kept { IsTrue D.device.is_transparent → 2 ≤ length (D.device.reads disk.old file) →
+        get_or (D.device.reads disk.old file) 0 0 ≡ 1 → IsUntouched D.device disk.old disk.new }
+    ensures cause { result ≡ Err JournalFault.DiskFault →
+        raised (D.device.fault_count disk.old) ≤ D.device.fault_count disk.new }
     ensures later { D.device.fault_count disk.old ≤ D.device.fault_count disk.new }
     ensures writes { (D.device.failed_writes disk.new ≡ D.device.failed_writes disk.old)
         ⊎ ((result ≡ Err JournalFault.DiskFault) × (D.device.failed_writes disk.new ≡ raised (D.device.failed_writes disk.old))) }
@@ -94,35 +104,44 @@ impl Journal {
         file: u32,
         first: &Frame,
     ) -> Result<Journal, JournalFault>
-        ensures ok { IsTrue D.device.is_transparent → IfOk result (λ journal. HasOnDisk D.device journal (first.now ∷ []) [] disk.new) }
+        ensures ok { IsTrue D.device.is_transparent →
+            IfOk result (λ journal. HasOnDisk D.device journal (first.now ∷ []) [] disk.new) }
         ensures still { IsTrue D.device.is_transparent → IfOk result (λ journal. IsOnDisk D.device journal disk.new) }
         ensures no_pending_fault { IfOk result (λ journal. (unhealed_fault journal ≡ None) × (file_of journal ≡ file)) }
         ensures count { IfOk result (λ journal. count_of journal ≡ 1) }
 
         // Exists comes exactly where the file has two octets at least and the first is 1.
         ensures none { IsTrue D.device.is_transparent → OnOk result (HoldsNone (D.device.reads disk.old file)) }
-        ensures exists { IsTrue D.device.is_transparent → result ≡ Err JournalFault.Exists → (2 ≤ length (D.device.reads disk.old file)) × (get_or (D.device.reads disk.old file) 0 0 ≡ 1) × (D.device.reads disk.new ≡ D.device.reads disk.old) }
+        ensures exists { IsTrue D.device.is_transparent → result ≡ Err JournalFault.Exists →
+            (2 ≤ length (D.device.reads disk.old file)) × (get_or (D.device.reads disk.old file) 0 0 ≡ 1) ×
+            (D.device.reads disk.new ≡ D.device.reads disk.old) }
 
         // A file that holds a journal is left as it is, whatever the call answers.
-        ensures kept { IsTrue D.device.is_transparent → 2 ≤ length (D.device.reads disk.old file) → get_or (D.device.reads disk.old file) 0 0 ≡ 1 → IsUntouched D.device disk.old disk.new }
+        ensures kept { IsTrue D.device.is_transparent → 2 ≤ length (D.device.reads disk.old file) →
+            get_or (D.device.reads disk.old file) 0 0 ≡ 1 → IsUntouched D.device disk.old disk.new }
 
         // A crash at any moment of the call leaves no archive or one record, or what it could have left before.
         ensures any_moment { IsTrue D.device.is_transparent → HoldsNone (D.device.reads disk.old file)
             → LeavesOnly D.device disk.old disk.new (λ c. D.device.images disk.old c ⊎ (HoldsNone (c file) ⊎ HasRecords (c file) (first.now ∷ []))) }
         ensures elsewhere { LeavesOnly D.device disk.old disk.new (IsOldBut D.device file disk.old) }
-        ensures reads { IsTrue D.device.is_transparent → AgreesBut file (D.device.reads disk.old) (D.device.reads disk.new) }
+        ensures reads { IsTrue D.device.is_transparent →
+            AgreesBut file (D.device.reads disk.old) (D.device.reads disk.new) }
 
         // After a failure with fewer than two faults a crash leaves no archive, or what it could have left before.
-        ensures closed { IsTrue D.device.is_transparent → HoldsNone (D.device.reads disk.old file) → result ≡ Err JournalFault.DiskFault
+        ensures closed { IsTrue D.device.is_transparent → HoldsNone (D.device.reads disk.old file) →
+            result ≡ Err JournalFault.DiskFault
             → D.device.fault_count disk.new < raised (raised (D.device.fault_count disk.old))
             → (c : Image) → D.device.images disk.new c → D.device.images disk.old c ⊎ HoldsNone (c file) }
 
-        ensures only { IfErr result (λ e. (e ≡ JournalFault.Exists) ⊎ ((e ≡ JournalFault.DiskFault) ⊎ (e ≡ JournalFault.OutOfMemory))) }
-        ensures cause { result ≡ Err JournalFault.DiskFault → raised (D.device.fault_count disk.old) ≤ D.device.fault_count disk.new }
+        ensures only { IfErr result (λ e.
+            (e ≡ JournalFault.Exists) ⊎ ((e ≡ JournalFault.DiskFault) ⊎ (e ≡ JournalFault.OutOfMemory))) }
+        ensures cause { result ≡ Err JournalFault.DiskFault →
+            raised (D.device.fault_count disk.old) ≤ D.device.fault_count disk.new }
         ensures later { D.device.fault_count disk.old ≤ D.device.fault_count disk.new }
         ensures writes_later { D.device.failed_writes disk.old ≤ D.device.failed_writes disk.new }
         ensures writes_most { D.device.failed_writes disk.new ≤ raised (raised (D.device.failed_writes disk.old)) }
-        ensures writes { (D.device.failed_writes disk.new ≢ D.device.failed_writes disk.old) → result ≡ Err JournalFault.DiskFault }
+        ensures writes { (D.device.failed_writes disk.new ≢ D.device.failed_writes disk.old) →
+            result ≡ Err JournalFault.DiskFault }
         ensures no_failed_write { OnOk result (D.device.failed_writes disk.new ≡ D.device.failed_writes disk.old) }
         ensures memory { result ≡ Err JournalFault.OutOfMemory → disk.new ≡ disk.old }
     {
@@ -145,14 +164,18 @@ impl Journal {
         requires room { HasRoom self.old }
         requires no_pending_fault { (unhealed_fault self.old ≡ None) × (count_of self.old ≡ 0) }
         requires kept { IsTrue D.device.is_transparent → HasOnDisk D.device self.old [] [] disk.old }
-        ensures ok { IsTrue D.device.is_transparent → OnOk result (HasOnDisk D.device self.new (first.now ∷ []) [] disk.new) }
+        ensures ok { IsTrue D.device.is_transparent →
+            OnOk result (HasOnDisk D.device self.new (first.now ∷ []) [] disk.new) }
         ensures no_pending_fault { OnOk result ((unhealed_fault self.new ≡ None) × (count_of self.new ≡ 1)) }
         ensures file { file_of self.new ≡ file_of self.old }
-        ensures any_moment { IsTrue D.device.is_transparent → LeavesOnly D.device disk.old disk.new (λ c. IsBeforeOrAfter [] first.now (c (file_of self.old))) }
-        ensures closed { IsTrue D.device.is_transparent → OnErr result (D.device.fault_count disk.new < raised (raised (D.device.fault_count disk.old))
+        ensures any_moment { IsTrue D.device.is_transparent → LeavesOnly D.device disk.old disk.new (λ c.
+            IsBeforeOrAfter [] first.now (c (file_of self.old))) }
+        ensures closed { IsTrue D.device.is_transparent →
+            OnErr result (D.device.fault_count disk.new < raised (raised (D.device.fault_count disk.old))
             → (c : Image) → D.device.images disk.new c → HoldsNone (c (file_of self.old))) }
         ensures elsewhere { LeavesOnly D.device disk.old disk.new (IsOldBut D.device (file_of self.old) disk.old) }
-        ensures reads { IsTrue D.device.is_transparent → AgreesBut (file_of self.old) (D.device.reads disk.old) (D.device.reads disk.new) }
+        ensures reads { IsTrue D.device.is_transparent → AgreesBut (file_of self.old) (D.device.reads disk.old)
+            (D.device.reads disk.new) }
         ensures cause { HasCause D.device disk.old disk.new result }
         ensures no_failed_write { OnOk result (D.device.failed_writes disk.new ≡ D.device.failed_writes disk.old) }
         ensures counted { OnErr result ((raised (D.device.failed_writes disk.old) ≤ D.device.failed_writes disk.new)
@@ -170,24 +193,28 @@ impl Journal {
 
     /// Opens the journal in a file. It begins with a sync, and reads of each record the gate and the length.
     pub fn open<D: Disk>(alloc: Global, disk: &mut D, file: u32) -> Result<Journal, JournalFault>
-        ensures records { IsTrue D.device.is_transparent → IfOk result (λ journal. (bodies : List (List ℕ)) × HasRecords (D.device.reads disk.old file) bodies × HasOnDisk D.device journal bodies [] disk.new) }
+        ensures records { IsTrue D.device.is_transparent → IfOk result (λ journal. (bodies : List (List ℕ)) ×
+            HasRecords (D.device.reads disk.old file) bodies × HasOnDisk D.device journal bodies [] disk.new) }
         ensures still { IsTrue D.device.is_transparent → IfOk result (λ journal. IsOnDisk D.device journal disk.new) }
         ensures no_pending_fault { IfOk result (λ journal. (unhealed_fault journal ≡ None) × (file_of journal ≡ file)) }
         ensures reads { D.device.reads disk.new ≡ D.device.reads disk.old }
 
         // NoArchive comes exactly where the file doesn't have two octets at least of which the first is 1.
-        ensures none { IsTrue D.device.is_transparent → result ≡ Err JournalFault.NoArchive → HoldsNone (D.device.reads disk.old file) }
+        ensures none { IsTrue D.device.is_transparent → result ≡ Err JournalFault.NoArchive →
+            HoldsNone (D.device.reads disk.old file) }
         ensures some { IsTrue D.device.is_transparent → OnOk result (get_or (D.device.reads disk.old file) 0 0 ≡ 1) }
 
         // Damaged comes exactly where an open record, with the gate octet after it, passes the end, and names its gate.
         ensures damaged { IsTrue D.device.is_transparent → (at : ℕ) → result ≡ Err (JournalFault.Damaged at)
             → (get_or (D.device.reads disk.old file) 0 0 ≡ 1) × (2 ≤ length (D.device.reads disk.old file)) × IsDamagedAt (D.device.reads disk.old file) at }
-        ensures exactly { IsTrue D.device.is_transparent → 2 ≤ length (D.device.reads disk.old file) → get_or (D.device.reads disk.old file) 0 0 ≡ 1
+        ensures exactly { IsTrue D.device.is_transparent → 2 ≤ length (D.device.reads disk.old file) →
+            get_or (D.device.reads disk.old file) 0 0 ≡ 1
             → (at : ℕ) → IsDamagedAt (D.device.reads disk.old file) at → IsErrAnd result (IsDamagedOrFault at) }
 
         ensures moments { LeavesOnly D.device disk.old disk.new (D.device.images disk.old) }
         ensures only { IfErr result IsOpenFault }
-        ensures cause { result ≡ Err JournalFault.DiskFault → raised (D.device.fault_count disk.old) ≤ D.device.fault_count disk.new }
+        ensures cause { result ≡ Err JournalFault.DiskFault →
+            raised (D.device.fault_count disk.old) ≤ D.device.fault_count disk.new }
         ensures later { D.device.fault_count disk.old ≤ D.device.fault_count disk.new }
 
         // A write failed only where the sync at the beginning did.
@@ -228,7 +255,8 @@ impl Journal {
             → IfOk result (λ body. slice_get bodies i ≡ Some body.items) }
         ensures looked { OnlyReads D.device disk.old disk.new }
         ensures only { IfErr result (λ e. (e ≡ JournalFault.DiskFault) ⊎ (e ≡ JournalFault.OutOfMemory)) }
-        ensures cause { result ≡ Err JournalFault.DiskFault → raised (D.device.fault_count disk.old) ≤ D.device.fault_count disk.new }
+        ensures cause { result ≡ Err JournalFault.DiskFault →
+            raised (D.device.fault_count disk.old) ≤ D.device.fault_count disk.new }
     {
         let extent = self.extents[i as usize];
         octets_at(alloc, disk, self.file, extent.at, extent.len)

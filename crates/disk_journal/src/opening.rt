@@ -28,15 +28,19 @@ impl Opening {
 
     /// Begins at the first record, with a sync.
     pub fn begin<D: Disk>(alloc: Global, disk: &mut D, file: u32) -> Result<Opening, JournalFault>
-        ensures at { IsTrue D.device.is_transparent → IfOk result (λ opening. IsAt opening (D.device.reads disk.old file) []) }
+        ensures at { IsTrue D.device.is_transparent →
+            IfOk result (λ opening. IsAt opening (D.device.reads disk.old file) []) }
         ensures file { IfOk result (λ opening. file_read opening ≡ file) }
-        ensures open { IsTrue D.device.is_transparent → OnOk result ((2 ≤ length (D.device.reads disk.old file)) × (get_or (D.device.reads disk.old file) 0 0 ≡ 1)) }
-        ensures none { IsTrue D.device.is_transparent → result ≡ Err JournalFault.NoArchive → HoldsNone (D.device.reads disk.old file) }
+        ensures open { IsTrue D.device.is_transparent → OnOk result ((2 ≤ length (D.device.reads disk.old file)) ×
+            (get_or (D.device.reads disk.old file) 0 0 ≡ 1)) }
+        ensures none { IsTrue D.device.is_transparent → result ≡ Err JournalFault.NoArchive →
+            HoldsNone (D.device.reads disk.old file) }
         ensures durable { OnOk result (IsDurable D.device file (D.device.reads disk.new file) disk.new) }
         ensures reads { D.device.reads disk.new ≡ D.device.reads disk.old }
         ensures moments { LeavesOnly D.device disk.old disk.new (D.device.images disk.old) }
         ensures only { IfErr result (λ e. (e ≡ NoArchive) ⊎ (e ≡ DiskFault)) }
-        ensures cause { result ≡ Err JournalFault.DiskFault → raised (D.device.fault_count disk.old) ≤ D.device.fault_count disk.new }
+        ensures cause { result ≡ Err JournalFault.DiskFault →
+            raised (D.device.fault_count disk.old) ≤ D.device.fault_count disk.new }
         ensures later { D.device.fault_count disk.old ≤ D.device.fault_count disk.new }
         ensures writes { (D.device.failed_writes disk.new ≡ D.device.failed_writes disk.old)
             ⊎ ((result ≡ Err JournalFault.DiskFault) × (D.device.failed_writes disk.new ≡ raised (D.device.failed_writes disk.old))) }
@@ -57,16 +61,23 @@ impl Opening {
 
     // Where the body of the next record stands; None at a closed gate.
     fn read_header<D: Disk>(&self, disk: &mut D) -> Result<Option<Extent>, JournalFault>
-        requires { IsTrue D.device.is_transparent → (self.now.len ≡ length (D.device.reads disk.old self.now.file)) × (self.now.at < self.now.len)
+        requires { IsTrue D.device.is_transparent → (self.now.len ≡ length (D.device.reads disk.old self.now.file)) ×
+            (self.now.at < self.now.len)
             × (self.now.at ≡ 0 → get_or (D.device.reads disk.old self.now.file) self.now.at 0 ≡ 1) }
-        ensures some { IsTrue D.device.is_transparent → IfOk result (λ next. IfSome next (λ extent. IsWholeAt (D.device.reads disk.old self.now.file) self.now.at extent)) }
-        ensures none { IsTrue D.device.is_transparent → IfOk result (λ next. next ≡ None → get_or (D.device.reads disk.old self.now.file) self.now.at 0 ≢ 1) }
-        ensures within { IfOk result (λ next. IfSome next (λ extent. (extent.at ≡ self.now.at + 5) × (self.now.at + 5 + extent.len < 2 ^ 64))) }
-        ensures damaged { IsTrue D.device.is_transparent → (bodies : List (List ℕ)) → IsAt self.now (D.device.reads disk.old self.now.file) bodies
+        ensures some { IsTrue D.device.is_transparent →
+            IfOk result (λ next. IfSome next (λ extent. IsWholeAt (D.device.reads disk.old self.now.file) self.now.at
+            extent)) }
+        ensures none { IsTrue D.device.is_transparent → IfOk result (λ next. next ≡ None →
+            get_or (D.device.reads disk.old self.now.file) self.now.at 0 ≢ 1) }
+        ensures within { IfOk result (λ next. IfSome next (λ extent. (extent.at ≡ self.now.at + 5) ×
+            (self.now.at + 5 + extent.len < 2 ^ 64))) }
+        ensures damaged { IsTrue D.device.is_transparent → (bodies : List (List ℕ)) →
+            IsAt self.now (D.device.reads disk.old self.now.file) bodies
             → (at : ℕ) → result ≡ Err (JournalFault.Damaged at) → (at ≡ self.now.at) × IsCutShortAt (D.device.reads disk.old self.now.file) bodies }
         ensures looked { OnlyReads D.device disk.old disk.new }
         ensures only { IfErr result IsReadFault }
-        ensures cause { result ≡ Err JournalFault.DiskFault → raised (D.device.fault_count disk.old) ≤ D.device.fault_count disk.new }
+        ensures cause { result ≡ Err JournalFault.DiskFault →
+            raised (D.device.fault_count disk.old) ≤ D.device.fault_count disk.new }
     {
         if self.at > 0 && octet_at(disk, self.file, self.at)? != 1 {
             return Ok(None);
@@ -88,7 +99,8 @@ impl Opening {
     // Takes in the record that was looked at.
     fn advance(&mut self, extent: Extent) -> Result<(), AllocError>
         requires { extent.at + extent.len < 2 ^ 64 }
-        ensures at { (content : List ℕ) (bodies : List (List ℕ)) → IsAt self.old content bodies → IsWholeAt content self.old.at extent
+        ensures at { (content : List ℕ) (bodies : List (List ℕ)) → IsAt self.old content bodies →
+            IsWholeAt content self.old.at extent
             → OnOk result (IsAt self.new content (bodies ++ take extent.len (drop extent.at content) ∷ [])) }
         ensures moves { OnOk result (self.new.at ≡ extent.at + extent.len) }
         ensures file { file_read self.new ≡ file_read self.old }
@@ -104,18 +116,24 @@ impl Opening {
         alloc: Global,
         disk: &mut D,
     ) -> Result<Option<Vec<u8>>, JournalFault>
-        requires { IsTrue D.device.is_transparent → (bodies : List (List ℕ)) × IsAt self.old (D.device.reads disk.old (file_read self.old)) bodies }
-        ensures some { IsTrue D.device.is_transparent → (bodies : List (List ℕ)) → IsAt self.old (D.device.reads disk.old (file_read self.old)) bodies
+        requires { IsTrue D.device.is_transparent → (bodies : List (List ℕ)) ×
+            IsAt self.old (D.device.reads disk.old (file_read self.old)) bodies }
+        ensures some { IsTrue D.device.is_transparent → (bodies : List (List ℕ)) →
+            IsAt self.old (D.device.reads disk.old (file_read self.old)) bodies
             → IfOk result (λ next. IfSome next (λ body. IsAt self.new (D.device.reads disk.old (file_read self.old)) (bodies ++ body.items ∷ []))) }
-        ensures none { IsTrue D.device.is_transparent → (bodies : List (List ℕ)) → IsAt self.old (D.device.reads disk.old (file_read self.old)) bodies
+        ensures none { IsTrue D.device.is_transparent → (bodies : List (List ℕ)) →
+            IsAt self.old (D.device.reads disk.old (file_read self.old)) bodies
             → IfOk result (λ next. next ≡ None → HasRecords (D.device.reads disk.old (file_read self.old)) bodies × IsAt self.new (D.device.reads disk.old (file_read self.old)) bodies) }
-        ensures damaged { IsTrue D.device.is_transparent → (bodies : List (List ℕ)) → IsAt self.old (D.device.reads disk.old (file_read self.old)) bodies
+        ensures damaged { IsTrue D.device.is_transparent → (bodies : List (List ℕ)) →
+            IsAt self.old (D.device.reads disk.old (file_read self.old)) bodies
             → (at : ℕ) → result ≡ Err (JournalFault.Damaged at) → (at ≡ place_of self.old) × IsCutShortAt (D.device.reads disk.old (file_read self.old)) bodies }
-        ensures moves { IfOk result (λ next. IfSome next (λ body. (place_of self.old < place_of self.new) × (length body.items < 2 ^ 32))) }
+        ensures moves { IfOk result (λ next. IfSome next (λ body. (place_of self.old < place_of self.new) ×
+            (length body.items < 2 ^ 32))) }
         ensures file { file_read self.new ≡ file_read self.old }
         ensures looked { OnlyReads D.device disk.old disk.new }
         ensures only { IfErr result IsReadFault }
-        ensures cause { result ≡ Err JournalFault.DiskFault → raised (D.device.fault_count disk.old) ≤ D.device.fault_count disk.new }
+        ensures cause { result ≡ Err JournalFault.DiskFault →
+            raised (D.device.fault_count disk.old) ≤ D.device.fault_count disk.new }
     {
         match self.read_header(disk)? {
             None => Ok(None),
@@ -130,12 +148,16 @@ impl Opening {
     // Reads on to the closed gate that ends the records, over the bodies.
     pub(crate) fn finish_all<D: Disk>(mut self, disk: &mut D) -> Result<Journal, JournalFault>
         requires { IsTrue D.device.is_transparent → IsAt self (D.device.reads disk.old (file_read self)) [] }
-        ensures records { IsTrue D.device.is_transparent → IfOk result (IsReadFrom (D.device.reads disk.old (file_read self))) }
-        ensures no_pending_fault { IfOk result (λ journal. (unhealed_fault journal ≡ None) × (file_of journal ≡ file_read self)) }
-        ensures damaged { IsTrue D.device.is_transparent → (at : ℕ) → result ≡ Err (JournalFault.Damaged at) → IsDamagedAt (D.device.reads disk.old (file_read self)) at }
+        ensures records { IsTrue D.device.is_transparent →
+            IfOk result (IsReadFrom (D.device.reads disk.old (file_read self))) }
+        ensures no_pending_fault { IfOk result (λ journal. (unhealed_fault journal ≡ None) ×
+            (file_of journal ≡ file_read self)) }
+        ensures damaged { IsTrue D.device.is_transparent → (at : ℕ) → result ≡ Err (JournalFault.Damaged at) →
+            IsDamagedAt (D.device.reads disk.old (file_read self)) at }
         ensures only { IfErr result IsReadFault }
         ensures looked { OnlyReads D.device disk.old disk.new }
-        ensures cause { result ≡ Err JournalFault.DiskFault → raised (D.device.fault_count disk.old) ≤ D.device.fault_count disk.new }
+        ensures cause { result ≡ Err JournalFault.DiskFault →
+            raised (D.device.fault_count disk.old) ≤ D.device.fault_count disk.new }
     {
         'records: while let Some(extent) = self.read_header(disk)? {
             self.advance(extent)?;

@@ -12,8 +12,10 @@ use std::alloc::Global;
 // A write and a sync.
 pub fn put<D: Disk>(disk: &mut D, file: u32, at: u64, octets: &[u8]) -> Result<(), Failed>
     requires { IsTrue D.device.is_transparent → at ≤ length (D.device.reads disk.old file) }
-    ensures written { OnOk result (IsTrue D.device.is_transparent → InFile (Becomes (overwritten at octets.now)) file (D.device.reads disk.old) (D.device.reads disk.new)) }
-    ensures reads { IsTrue D.device.is_transparent → AgreesBut file (D.device.reads disk.old) (D.device.reads disk.new) }
+    ensures written { OnOk result (IsTrue D.device.is_transparent →
+        InFile (Becomes (overwritten at octets.now)) file (D.device.reads disk.old) (D.device.reads disk.new)) }
+    ensures reads { IsTrue D.device.is_transparent →
+        AgreesBut file (D.device.reads disk.old) (D.device.reads disk.new) }
     ensures durable { OnOk result (IsDurable D.device file (D.device.reads disk.new file) disk.new) }
 
     // A crash at any moment leaves the range torn.
@@ -41,7 +43,8 @@ pub fn flush<D: Disk>(disk: &mut D, file: u32) -> Result<(), Failed>
 // One octet.
 pub fn octet_at<D: Disk>(disk: &mut D, file: u32, at: u64) -> Result<u8, Failed>
     requires { IsTrue D.device.is_transparent → at < length (D.device.reads disk.old file) }
-    ensures octet { IfOk result (λ octet. IsTrue D.device.is_transparent → octet ≡ get_or (D.device.reads disk.old file) at 0) }
+    ensures octet { IfOk result (λ octet. IsTrue D.device.is_transparent →
+        octet ≡ get_or (D.device.reads disk.old file) at 0) }
     ensures looked { OnlyReads D.device disk.old disk.new }
     ensures cause { HasCause D.device disk.old disk.new result }
 {
@@ -62,8 +65,10 @@ fn number_of(octets: &[u8]) -> u32
 // A number of four octets.
 pub fn number_at<D: Disk>(disk: &mut D, file: u32, at: u64) -> Result<u32, Failed>
     requires { IsTrue D.device.is_transparent → at + 4 ≤ length (D.device.reads disk.old file) }
-    ensures number { IfOk result (λ number. IsTrue D.device.is_transparent → number ≡ from_be_bytes w32 (take 4 (drop at (D.device.reads disk.old file)))) }
-    ensures octets { IfOk result (λ number. IsTrue D.device.is_transparent → to_be_bytes w32 number ≡ take 4 (drop at (D.device.reads disk.old file))) }
+    ensures number { IfOk result (λ number. IsTrue D.device.is_transparent →
+        number ≡ from_be_bytes w32 (take 4 (drop at (D.device.reads disk.old file)))) }
+    ensures octets { IfOk result (λ number. IsTrue D.device.is_transparent →
+        to_be_bytes w32 number ≡ take 4 (drop at (D.device.reads disk.old file))) }
     ensures looked { OnlyReads D.device disk.old disk.new }
     ensures cause { HasCause D.device disk.old disk.new result }
 {
@@ -90,11 +95,13 @@ pub fn octets_at<D: Disk>(
     size: u32,
 ) -> Result<Vec<u8>, JournalFault>
     requires { IsTrue D.device.is_transparent → at + size ≤ length (D.device.reads disk.old file) }
-    ensures octets { IfOk result (λ octets. IsTrue D.device.is_transparent → octets.items ≡ take size (drop at (D.device.reads disk.old file))) }
+    ensures octets { IfOk result (λ octets. IsTrue D.device.is_transparent →
+        octets.items ≡ take size (drop at (D.device.reads disk.old file))) }
     ensures long { IfOk result (λ octets. length octets.items ≡ size) }
     ensures looked { OnlyReads D.device disk.old disk.new }
     ensures only { IfErr result (λ e. (e ≡ DiskFault) ⊎ (e ≡ OutOfMemory)) }
-    ensures cause { result ≡ Err JournalFault.DiskFault → raised (D.device.fault_count disk.old) ≤ D.device.fault_count disk.new }
+    ensures cause { result ≡ Err JournalFault.DiskFault →
+        raised (D.device.fault_count disk.old) ≤ D.device.fault_count disk.new }
 {
     let Ok(mut octets) = vec![in alloc; 0u8; size as usize] else {
         return Err(JournalFault::OutOfMemory);

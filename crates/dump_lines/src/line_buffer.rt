@@ -89,7 +89,8 @@ impl LineBuffer {
     /// Adds the first half of the last line.
     fn put_kept(&mut self, packets: u64, rows: u64)
         requires { length self.old < 65536 }
-        ensures text { self.new ≡ self.old ++ codes "scan packets " ++ decimal packets ++ codes " rows " ++ decimal rows }
+        ensures text { self.new ≡ self.old ++ codes "scan packets " ++ decimal packets ++ codes " rows " ++ decimal
+            rows }
         ensures short { length self.new < 65664 }
     {
         self.put_number(b"scan packets ", packets);
@@ -99,7 +100,8 @@ impl LineBuffer {
     /// Adds the second half of the last line.
     fn put_left_out(&mut self, duplicates: u64, idle: u64)
         requires { length self.old < 65664 }
-        ensures { self.new ≡ self.old ++ codes " duplicates " ++ decimal duplicates ++ codes " idle " ++ decimal idle ++ codes "\n" }
+        ensures { self.new ≡ self.old ++ codes " duplicates " ++ decimal duplicates ++ codes " idle " ++ decimal idle
+            ++ codes "\n" }
     {
         self.put_number(b" duplicates ", duplicates);
         self.put_number(b" idle ", idle);

@@ -74,7 +74,8 @@ fn add_packet(
     requires shown { AllByRecursion IsVisible table.old.stored }
     requires part { IsPart dump.now part.start part.end }
     requires room { 0 < table.old.room }
-    ensures added { IfOk result (IsAdded table.old.stored table.new.stored moment (slice_range dump.now part.start part.end)) }
+    ensures added { IfOk result (IsAdded table.old.stored table.new.stored moment (slice_range dump.now part.start
+        part.end)) }
 {
     let packet = dump.part(part.start, part.end)?;
     if is_idle_packet(packet.as_slice()) {

@@ -4,19 +4,19 @@ use Rattle.std.specs.Prelude.{sum_by}
 use Rattle.std.specs.Int.{w8, w16, w32, w64, w128}
 use Rattle.std.specs.List.{AllByRecursion, flat_map}
 use Rattle.std.proofs.lemmas.List.Sums.{sum_by-cons}
-use Rattle.mdb_model.specs.declared.calibration.Calibration.{Calibration}
-use Rattle.mdb_model.specs.declared.calibration.EnumRow.{EnumRow}
-use Rattle.mdb_model.specs.declared.calibration.PointsRow.{PointsRow}
-use Rattle.mdb_model.specs.declared.calibration.PolyRow.{PolyRow}
-use Rattle.mdb_model.specs.declared.calibration.Table.{Table}
-use Rattle.mdb_model.specs.declared.calibration.Table.TheVariants.{Poly, Points, Enum}
-use Rattle.mdb_model.specs.declared.container.Comparison.{Comparison}
-use Rattle.mdb_model.specs.declared.container.Container.{Container}
-use Rattle.mdb_model.specs.declared.container.Entry.{Entry}
-use Rattle.mdb_model.specs.declared.parameter.Parameter.{Parameter}
-use Rattle.mdb_model.specs.Database.{Database, IsDatabase, entry_count, row_count, table_len}
-use Rattle.mdb_model.specs.Spelling.{FitsCalibration, FitsContainer, FitsDatabase, FitsEnum, FitsParameter, FitsTable, archive_code, calibration_octets, coding_code, comparison_octets, container_octets, database_octets, entry_octets, enum_octets, kind_code, link, operator_code, parameter_octets, points_octets, poly_octets, rows_octets}
-use Rattle.mdb_model.specs.Structure.{IsStructured}
+use Rattle.mdb_items.specs.declared.calibration.Calibration.{Calibration}
+use Rattle.mdb_items.specs.declared.calibration.EnumRow.{EnumRow}
+use Rattle.mdb_items.specs.declared.calibration.PointsRow.{PointsRow}
+use Rattle.mdb_items.specs.declared.calibration.PolyRow.{PolyRow}
+use Rattle.mdb_items.specs.declared.calibration.Table.{Table}
+use Rattle.mdb_items.specs.declared.calibration.Table.TheVariants.{Poly, Points, Enum}
+use Rattle.mdb_items.specs.declared.container.Comparison.{Comparison}
+use Rattle.mdb_items.specs.declared.container.Container.{Container}
+use Rattle.mdb_items.specs.declared.container.Entry.{Entry}
+use Rattle.mdb_items.specs.declared.parameter.Parameter.{Parameter}
+use Rattle.mdb_items.specs.Database.{Database, IsDatabase, entry_count, row_count, table_len}
+use Rattle.mdb_octets.specs.Spelling.{FitsCalibration, FitsContainer, FitsDatabase, FitsEnum, FitsParameter, FitsTable, archive_code, calibration_octets, coding_code, comparison_octets, container_octets, database_octets, entry_octets, enum_octets, kind_code, link, operator_code, parameter_octets, points_octets, poly_octets, rows_octets}
+use Rattle.mdb_items.specs.Structure.{IsStructured}
 use Rattle.mdb_model.proofs.DatabaseOctets.{database_fits}
 use Rattle.mdb_model.proofs.Structure.{structured}
 use Rattle.octet_fields.specs.Spelling.{counted, name, number, signed}

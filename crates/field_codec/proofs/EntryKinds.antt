@@ -2,10 +2,10 @@
 use Rattle.std.proofs.Common.{◌≡◌, ℕ, ◌<◌, ◌^◌, List, [], ◌∷◌, ◌++◌, Option, Some, None, Err, refl, sym, ap, subst, ◌∙◌, append-nil, arith}
 use Rattle.std.specs.Int.{w8}
 use Rattle.arch_types.specs.declared.row.Row.{Row}
-use Rattle.mdb_model.specs.Database.{Database, IsDatabase}
-use Rattle.mdb_model.specs.Spelling.{database_octets}
+use Rattle.mdb_items.specs.Database.{Database, IsDatabase}
+use Rattle.mdb_octets.specs.Spelling.{database_octets}
 use Rattle.mdb_model.proofs.DatabaseOctets.{database_fits}
-use Rattle.mdb_model.proofs.ItemOctets.{database_exact}
+use Rattle.mdb_octets.proofs.ItemOctets.{database_exact}
 use Rattle.octet_fields.specs.declared.fault.DecodeError.{DecodeError}
 use Rattle.octet_fields.specs.declared.fault.DecodeError.TheVariants as fields
 use Rattle.octet_fields.specs.Answers.{Fails}

@@ -5,8 +5,8 @@ use Rattle.std.specs.List.{AllByRecursion, flat_map}
 use Rattle.arch_types.specs.declared.row.Row.{Row}
 use Rattle.text_forms.specs.Names.{is_name}
 use Rattle.arch_types.specs.Packet.{IsPacket}
-use Rattle.mdb_model.specs.Database.{Database, IsDatabase}
-use Rattle.mdb_model.specs.Spelling.{database_octets}
+use Rattle.mdb_items.specs.Database.{Database, IsDatabase}
+use Rattle.mdb_octets.specs.Spelling.{database_octets}
 use Rattle.octet_fields.specs.Exact.{IsOctets}
 use Rattle.octet_fields.specs.Spelling.{counted, name, number, signed}
 use Rattle.field_codec.specs.declared.entry.Entry.{Entry}

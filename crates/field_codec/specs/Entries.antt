@@ -6,7 +6,7 @@ use Rattle.arch_types.specs.GenerationTime.{key_of}
 use Rattle.text_forms.specs.Names.{is_name}
 use Rattle.text_forms.specs.ClockTime.{IsClockTime}
 use Rattle.arch_types.specs.Packet.{IsPacket, is_idle}
-use Rattle.mdb_model.specs.Database.{IsDatabase}
+use Rattle.mdb_items.specs.Database.{IsDatabase}
 use Rattle.field_codec.specs.declared.entry.Entry.{Entry}
 use Rattle.field_codec.specs.declared.entry.Entry.TheVariants.{Head, Rows}
 

@@ -1,6 +1,6 @@
 -- Why octets are no entry, by why a field or the database of them was not read.
-use Rattle.mdb_model.specs.declared.not_mdb.NotMdb.{NotMdb}
-use Rattle.mdb_model.specs.declared.not_mdb.NotMdb.TheVariants as database
+use Rattle.mdb_items.specs.declared.not_mdb.NotMdb.{NotMdb}
+use Rattle.mdb_items.specs.declared.not_mdb.NotMdb.TheVariants as database
 use Rattle.octet_fields.specs.declared.fault.DecodeError.{DecodeError}
 use Rattle.octet_fields.specs.declared.fault.DecodeError.TheVariants as fields
 use Rattle.field_codec.specs.declared.fault.NotAnEntry.{NotAnEntry}

@@ -10,7 +10,7 @@ use Rattle.text_forms.specs.ClockTime.{is_clock_time}
 use Rattle.arch_types.specs.Packet.{packet_length, is_idle}
 use Rattle.octet_fields.specs.Reading.{Reader, both_at, counted_at, mapped_at, name_at, number_at, signed_at, tested_at, times_at}
 use Rattle.field_codec.specs.declared.rows.Fields.{Fields as StoredFields}
-use Rattle.mdb_model.specs.Database.{Database, IsDatabase}
+use Rattle.mdb_items.specs.Database.{Database, IsDatabase}
 use Rattle.field_codec.specs.Entries.{tm, AreTables}
 use Rattle.field_codec.specs.Spelling.{head_octets}
 

@@ -2,8 +2,8 @@
 use Rattle.std.specs.Prelude.{ℕ, List, ◌++◌}
 use Rattle.std.specs.Int.{w8, w16, w64}
 use Rattle.arch_types.specs.declared.row.Row.{Row}
-use Rattle.mdb_model.specs.Database.{Database}
-use Rattle.mdb_model.specs.Spelling.{database_octets}
+use Rattle.mdb_items.specs.Database.{Database}
+use Rattle.mdb_octets.specs.Spelling.{database_octets}
 use Rattle.octet_fields.specs.Spelling.{counted, name, number, signed}
 use Rattle.field_codec.specs.declared.entry.Entry.{Entry}
 use Rattle.field_codec.specs.declared.entry.Entry.TheVariants.{Head, Rows}

@@ -43,7 +43,8 @@ pub(crate) fn absorb(
 ) -> Result<Span, AllocError>
     requires some { 0 < count }
     requires fits { current_count current + count < 2 ^ 64 }
-    ensures walked { IfOk result (λ span. (later : List ℤ) → spans.new ++ continued span later ≡ spans.old ++ rest_of current (replicate count time ++ later)) }
+    ensures walked { IfOk result (λ span. (later : List ℤ) → spans.new ++ continued span later ≡ spans.old ++ rest_of
+        current (replicate count time ++ later)) }
     ensures counted { IfOk result (λ span. span.count ≤ current_count current + count) }
 {
     let next = Span {

@@ -8,28 +8,28 @@ use Rattle.std.proofs.lemmas.Cmp.{int_eq_equiv, nat_eq_equiv}
 use Rattle.std.proofs.lemmas.List.{map-append}
 use Rattle.std.proofs.lemmas.Option.{same_Some, slice_get_within}
 use Rattle.text_forms.specs.Names.{is_name}
-use Rattle.mdb_model.specs.declared.calibration.Calibration.{Calibration}
-use Rattle.mdb_model.specs.declared.calibration.EnumRow.{EnumRow}
-use Rattle.mdb_model.specs.declared.calibration.PointsRow.{PointsRow}
-use Rattle.mdb_model.specs.declared.calibration.PolyRow.{PolyRow}
-use Rattle.mdb_model.specs.declared.calibration.Table.{Table}
-use Rattle.mdb_model.specs.declared.calibration.Table.TheVariants.{Poly, Points, Enum}
-use Rattle.mdb_model.specs.declared.rows.RowValues.{RowValues}
-use Rattle.mdb_model.specs.declared.rows.RowValues.TheVariants.{Unread, Coefficient, Point, Label}
-use Rattle.mdb_model.specs.CalibrationRows.{CalibrationRow, calibration_checks, calibrations_of, continued, empty_table, has_x, has_y, is_named, is_other_kind, is_point, is_unread, repeats, rows_of_calibration, table_named, with_calibration_row, with_name, with_new_row, with_row}
-use Rattle.mdb_model.specs.Checks.{first_broken}
-use Rattle.mdb_model.specs.Database.{Database, IsDatabase, table_len}
-use Rattle.mdb_model.specs.Lists.{at_last, last_of}
+use Rattle.mdb_items.specs.declared.calibration.Calibration.{Calibration}
+use Rattle.mdb_items.specs.declared.calibration.EnumRow.{EnumRow}
+use Rattle.mdb_items.specs.declared.calibration.PointsRow.{PointsRow}
+use Rattle.mdb_items.specs.declared.calibration.PolyRow.{PolyRow}
+use Rattle.mdb_items.specs.declared.calibration.Table.{Table}
+use Rattle.mdb_items.specs.declared.calibration.Table.TheVariants.{Poly, Points, Enum}
+use Rattle.mdb_items.specs.declared.rows.RowValues.{RowValues}
+use Rattle.mdb_items.specs.declared.rows.RowValues.TheVariants.{Unread, Coefficient, Point, Label}
+use Rattle.mdb_items.specs.CalibrationRows.{CalibrationRow, calibration_checks, calibrations_of, continued, empty_table, has_x, has_y, is_named, is_other_kind, is_point, is_unread, repeats, rows_of_calibration, table_named, with_calibration_row, with_name, with_new_row, with_row}
+use Rattle.mdb_items.specs.Checks.{first_broken}
+use Rattle.mdb_items.specs.Database.{Database, IsDatabase, table_len}
+use Rattle.mdb_items.specs.Lists.{at_last, last_of}
 use Rattle.mdb_model.specs.Rechecking.{are_sound, calibration_fault_before, calibrations_sound, first_name}
-use Rattle.mdb_model.specs.Structure.{AreDistinctExponents, AreDistinctNames, AreDistinctNumbers, IsCalibration, IsLabelled, IsName, IsPoint, IsRising, IsTable, IsTerm}
-use Rattle.mdb_model.specs.Texts.{Text, place_of}
-use Rattle.mdb_model.proofs.CalibrationSpelling.{last_named, own_kind}
+use Rattle.mdb_items.specs.Structure.{AreDistinctExponents, AreDistinctNames, AreDistinctNumbers, IsCalibration, IsLabelled, IsName, IsPoint, IsRising, IsTable, IsTerm}
+use Rattle.mdb_items.specs.Texts.{Text, place_of}
+use Rattle.mdb_rules.proofs.CalibrationSpelling.{last_named, own_kind}
 use Rattle.mdb_model.proofs.ContainersFit.{both_true, none_is}
 use Rattle.mdb_model.proofs.DatabaseFits.{all_join, all_split, item_of}
 use Rattle.mdb_model.proofs.DatabaseOctets.{calibrations_are_sound, parts_of}
 use Rattle.mdb_model.proofs.Distinct.{new_name, rises_more, text_equiv, with_new, with_other}
-use Rattle.mdb_model.proofs.Ends.{at_last-push, last_of-push, length-push, slice_get-end, slice_get-left, snoc}
-use Rattle.mdb_model.proofs.Passing.{all_pass, is_true}
+use Rattle.mdb_rules.proofs.Ends.{at_last-push, last_of-push, length-push, slice_get-end, slice_get-left, snoc}
+use Rattle.mdb_rules.proofs.Passing.{all_pass, is_true}
 
 -- ---- one more row of a table
 

@@ -1,24 +1,24 @@
 -- The three sheets together.
 use Rattle.std.proofs.Common.{◌≡◌, ◌∙◌, List, [], map, drop, Option, None, Result, Ok, Err, refl, ap, sym, subst}
-use Rattle.mdb_model.specs.declared.calibration.Calibration.{Calibration}
-use Rattle.mdb_model.specs.declared.calibration_rows.Calibrations.{Calibrations}
-use Rattle.mdb_model.specs.declared.container.Container.{Container}
-use Rattle.mdb_model.specs.declared.container_rows.Containers.{Containers}
-use Rattle.mdb_model.specs.declared.fault.MdbFault.{MdbFault}
-use Rattle.mdb_model.specs.declared.fault.MdbFault.TheVariants.{Bad, Limit, OutOfMemory}
-use Rattle.mdb_model.specs.declared.fault.MdbSheet.TheVariants as sheet
-use Rattle.mdb_model.specs.declared.parameter.Parameter.{Parameter}
-use Rattle.mdb_model.specs.declared.parameter_rows.Parameters.{Parameters}
-use Rattle.mdb_model.specs.declared.sheet.RawMdb.{RawMdb}
-use Rattle.mdb_model.specs.CalibrationRows.{CalibrationRow, calibrations_of}
-use Rattle.mdb_model.specs.Checks.{or_else}
-use Rattle.mdb_model.specs.ContainerRows.{containers_of}
-use Rattle.mdb_model.specs.Database.{Broken, Database, calibrations_fault, containers_fault, parameters_fault}
+use Rattle.mdb_items.specs.declared.calibration.Calibration.{Calibration}
+use Rattle.mdb_rules.specs.declared.calibration_rows.Calibrations.{Calibrations}
+use Rattle.mdb_items.specs.declared.container.Container.{Container}
+use Rattle.mdb_rules.specs.declared.container_rows.Containers.{Containers}
+use Rattle.mdb_items.specs.declared.fault.MdbFault.{MdbFault}
+use Rattle.mdb_items.specs.declared.fault.MdbFault.TheVariants.{Bad, Limit, OutOfMemory}
+use Rattle.mdb_items.specs.declared.fault.MdbSheet.TheVariants as sheet
+use Rattle.mdb_items.specs.declared.parameter.Parameter.{Parameter}
+use Rattle.mdb_rules.specs.declared.parameter_rows.Parameters.{Parameters}
+use Rattle.mdb_items.specs.declared.sheet.RawMdb.{RawMdb}
+use Rattle.mdb_items.specs.CalibrationRows.{CalibrationRow, calibrations_of}
+use Rattle.mdb_items.specs.Checks.{or_else}
+use Rattle.mdb_items.specs.ContainerRows.{containers_of}
+use Rattle.mdb_items.specs.Database.{Broken, Database, calibrations_fault, containers_fault, parameters_fault}
 use Rattle.mdb_model.specs.SheetResults.{AreSpelledLists, IsCalibrationSheetResult, IsContainerSheetResult, IsParameterSheetResult, IsLimitsResult, database_from}
-use Rattle.mdb_model.specs.ParameterRows.{parameters_of}
+use Rattle.mdb_items.specs.ParameterRows.{parameters_of}
 use Rattle.mdb_model.specs.Sheets.{IsCheckResult, is_calibration_header, is_container_header, is_parameter_header, read_calibration, read_containers, read_parameter, rows_of_sheets, sheet_fault, sheets_database, sheets_fault}
-use Rattle.mdb_model.specs.Steps.{Refuses}
-use Rattle.mdb_model.specs.Texts.{Text}
+use Rattle.mdb_rules.specs.Steps.{Refuses}
+use Rattle.mdb_items.specs.Texts.{Text}
 
 -- the earlier sheet refuses
 refused : (a b : Option Broken) (f : MdbFault) → Refuses a f → Refuses (or_else a b) f
@@ -120,8 +120,6 @@ all_given raw c p k g h i =
       sound = both_none (calibrations_fault rows.calibrations) (or_else (parameters_fault cs rows.parameters) (containers_fault (parameters_from raw) rows.containers)) g.1
           (both_none (parameters_fault cs rows.parameters) (containers_fault (parameters_from raw) rows.containers) (second_rows raw c p g h) third);
       spelled = spelled_database raw c p k g h i;
-      parameter_names = h.3;
-      container_names = i.3.names;
       earlier = i.3.earlier;
     }
 

@@ -1,16 +1,16 @@
 -- One record of the containers sheet: its columns before the entry, and then its entry.
 use Rattle.std.proofs.Common.{◌≡◌, ◌∙◌, ℕ, List, ◌∷◌, length, map, Option, None, Result, Bool, ap, subst}
 use Rattle.std.specs.Prelude.{IfOk, not, ◌==◌}
-use Rattle.mdb_model.specs.declared.container.Container.{Container}
-use Rattle.mdb_model.specs.declared.parameter.Parameter.{Parameter}
-use Rattle.mdb_model.specs.declared.rows.ContainerColumns.{ContainerColumns}
-use Rattle.mdb_model.specs.declared.rows.Position.{Position}
-use Rattle.mdb_model.specs.declared.rows.Reference.{Reference}
-use Rattle.mdb_model.specs.Checks.{first_broken, or_else}
-use Rattle.mdb_model.specs.ContainerRows.{entry_checks, columns_checks, is_continuing, last_path, row_fault, with_columns}
-use Rattle.mdb_model.specs.Paths.{path_end}
+use Rattle.mdb_items.specs.declared.container.Container.{Container}
+use Rattle.mdb_items.specs.declared.parameter.Parameter.{Parameter}
+use Rattle.mdb_items.specs.declared.rows.ContainerColumns.{ContainerColumns}
+use Rattle.mdb_items.specs.declared.rows.Position.{Position}
+use Rattle.mdb_items.specs.declared.rows.Reference.{Reference}
+use Rattle.mdb_items.specs.Checks.{first_broken, or_else}
+use Rattle.mdb_items.specs.ContainerRows.{entry_checks, columns_checks, is_continuing, last_path, row_fault, with_columns}
+use Rattle.mdb_items.specs.Paths.{path_end}
 use Rattle.mdb_model.specs.Sheets.{columns_of, name_of_container, name_of_parameter, read_container, read_columns, read_position, read_reference}
-use Rattle.mdb_model.specs.Texts.{Text, field}
+use Rattle.mdb_items.specs.Texts.{Text, field}
 
 -- the names are those of the items
 pub columns_is : (ps : List Parameter) (above : List Container) (names numbers : List Text) (fields : List Text) (columns : ContainerColumns) → names ≡ map name_of_parameter ps → numbers ≡ map name_of_container above

@@ -4,28 +4,28 @@ use Rattle.std.specs.Prelude.{slice_get, flat_map, fold, not, ◌==◌, option_m
 use Rattle.std.proofs.lemmas.Grind.{flat_map-append}
 use Rattle.std.proofs.lemmas.List.{append-nil, map-append}
 use Rattle.std.proofs.lemmas.List.Sums.{fold-append}
-use Rattle.mdb_model.specs.declared.container.Comparison.{Comparison}
-use Rattle.mdb_model.specs.declared.container.Container.{Container}
-use Rattle.mdb_model.specs.declared.container.Entry.{Entry}
-use Rattle.mdb_model.specs.declared.fault.MdbSheet.TheVariants as sheet
-use Rattle.mdb_model.specs.declared.parameter.Parameter.{Parameter}
-use Rattle.mdb_model.specs.declared.rows.NewContainer.{NewContainer}
-use Rattle.mdb_model.specs.declared.rows.ContainerColumns.{ContainerColumns}
-use Rattle.mdb_model.specs.declared.rows.ContainerColumns.TheVariants.{Begins, Continues}
-use Rattle.mdb_model.specs.declared.rows.Position.{Position}
-use Rattle.mdb_model.specs.declared.rows.Position.TheVariants as place
-use Rattle.mdb_model.specs.declared.rows.Position.TheVariants.{At}
-use Rattle.mdb_model.specs.declared.rows.Reference.{Reference}
-use Rattle.mdb_model.specs.declared.rows.Reference.TheVariants.{Nothing, Unknown, Known}
-use Rattle.mdb_model.specs.Checks.{Checks, first_at, first_broken}
-use Rattle.mdb_model.specs.ContainerRows.{ContainerRow, begin_row, new_container_checks, container_fault, container_fault_at, containers_of, entry_checks, entry_row, columns_checks, is_condition, is_continuing, is_parent, last_path, path_up, row_fault, rows_of_container, with_container_row, with_entry, with_columns, with_new_entry}
-use Rattle.mdb_model.specs.Database.{broken_below, containers_fault}
-use Rattle.mdb_model.specs.Paths.{ContainerPath}
-use Rattle.mdb_model.specs.Lists.{is_empty}
-use Rattle.mdb_model.specs.ParameterRows.{number_of}
-use Rattle.mdb_model.specs.Texts.{Text}
-use Rattle.mdb_model.proofs.Ends.{at_last-push, slice_get-end, snoc, take-front}
-use Rattle.mdb_model.proofs.Passing.{AllPass, all_pass, each_none, first_none, is_true, none_broken, or_else-none}
+use Rattle.mdb_items.specs.declared.container.Comparison.{Comparison}
+use Rattle.mdb_items.specs.declared.container.Container.{Container}
+use Rattle.mdb_items.specs.declared.container.Entry.{Entry}
+use Rattle.mdb_items.specs.declared.fault.MdbSheet.TheVariants as sheet
+use Rattle.mdb_items.specs.declared.parameter.Parameter.{Parameter}
+use Rattle.mdb_items.specs.declared.rows.NewContainer.{NewContainer}
+use Rattle.mdb_items.specs.declared.rows.ContainerColumns.{ContainerColumns}
+use Rattle.mdb_items.specs.declared.rows.ContainerColumns.TheVariants.{Begins, Continues}
+use Rattle.mdb_items.specs.declared.rows.Position.{Position}
+use Rattle.mdb_items.specs.declared.rows.Position.TheVariants as place
+use Rattle.mdb_items.specs.declared.rows.Position.TheVariants.{At}
+use Rattle.mdb_items.specs.declared.rows.Reference.{Reference}
+use Rattle.mdb_items.specs.declared.rows.Reference.TheVariants.{Nothing, Unknown, Known}
+use Rattle.mdb_items.specs.Checks.{Checks, first_at, first_broken}
+use Rattle.mdb_items.specs.ContainerRows.{ContainerRow, begin_row, new_container_checks, container_fault, container_fault_at, containers_of, entry_checks, entry_row, columns_checks, is_condition, is_continuing, is_parent, last_path, path_up, row_fault, rows_of_container, with_container_row, with_entry, with_columns, with_new_entry}
+use Rattle.mdb_items.specs.Database.{broken_below, containers_fault}
+use Rattle.mdb_items.specs.Paths.{ContainerPath}
+use Rattle.mdb_items.specs.Lists.{is_empty}
+use Rattle.mdb_items.specs.ParameterRows.{number_of}
+use Rattle.mdb_items.specs.Texts.{Text}
+use Rattle.mdb_rules.proofs.Ends.{at_last-push, slice_get-end, snoc, take-front}
+use Rattle.mdb_rules.proofs.Passing.{AllPass, all_pass, each_none, first_none, is_true, none_broken, or_else-none}
 
 -- the rules of a row's entry
 abbrev checks_of : List Parameter → List Container → ContainerRow → Checks

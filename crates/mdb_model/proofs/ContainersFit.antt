@@ -5,26 +5,26 @@ use Rattle.std.specs.List.{AllByRecursion, list_all}
 use Rattle.std.proofs.lemmas.Bool.{ltb-true, leb-true, leb-false, eqb-true}
 use Rattle.std.proofs.lemmas.List.{append-nil}
 use Rattle.text_forms.specs.Names.{is_name}
-use Rattle.mdb_model.specs.declared.container.Comparison.{Comparison}
-use Rattle.mdb_model.specs.declared.container.Container.{Container}
-use Rattle.mdb_model.specs.declared.container.Entry.{Entry}
-use Rattle.mdb_model.specs.declared.parameter.Parameter.{Parameter}
-use Rattle.mdb_model.specs.declared.rows.NewContainer.{NewContainer}
-use Rattle.mdb_model.specs.declared.rows.ContainerColumns.TheVariants.{Begins, Continues}
-use Rattle.mdb_model.specs.declared.rows.Position.TheVariants as place
-use Rattle.mdb_model.specs.declared.rows.Position.TheVariants.{At}
-use Rattle.mdb_model.specs.declared.rows.Reference.TheVariants.{Nothing, Known}
-use Rattle.mdb_model.specs.Checks.{first_broken}
-use Rattle.mdb_model.specs.ContainerRows.{ContainerRow, begin_row, new_container_checks, compares_other, entry_checks, entry_row, columns_checks, is_condition, is_parent, last_path, path_up, row_fault, rows_of_container, with_container_row, with_columns, with_new_entry}
-use Rattle.mdb_model.specs.Paths.{ContainerPath, bits_at, last_number, path_at, path_below, paths_of, no_path, stands_on, with_path}
-use Rattle.mdb_model.specs.Numbers.{is_in_range}
-use Rattle.mdb_model.specs.ParameterRows.{is_reference, number_of, reference_to}
+use Rattle.mdb_items.specs.declared.container.Comparison.{Comparison}
+use Rattle.mdb_items.specs.declared.container.Container.{Container}
+use Rattle.mdb_items.specs.declared.container.Entry.{Entry}
+use Rattle.mdb_items.specs.declared.parameter.Parameter.{Parameter}
+use Rattle.mdb_items.specs.declared.rows.NewContainer.{NewContainer}
+use Rattle.mdb_items.specs.declared.rows.ContainerColumns.TheVariants.{Begins, Continues}
+use Rattle.mdb_items.specs.declared.rows.Position.TheVariants as place
+use Rattle.mdb_items.specs.declared.rows.Position.TheVariants.{At}
+use Rattle.mdb_items.specs.declared.rows.Reference.TheVariants.{Nothing, Known}
+use Rattle.mdb_items.specs.Checks.{first_broken}
+use Rattle.mdb_items.specs.ContainerRows.{ContainerRow, begin_row, new_container_checks, compares_other, entry_checks, entry_row, columns_checks, is_condition, is_parent, last_path, path_up, row_fault, rows_of_container, with_container_row, with_columns, with_new_entry}
+use Rattle.mdb_items.specs.Paths.{ContainerPath, bits_at, last_number, path_at, path_below, paths_of, no_path, stands_on, with_path}
+use Rattle.mdb_items.specs.Numbers.{is_in_range}
+use Rattle.mdb_items.specs.ParameterRows.{is_reference, number_of, reference_to}
 use Rattle.mdb_model.specs.Rechecking.{are_sound, containers_sound}
-use Rattle.mdb_model.specs.Spelling.{FitsComparison, FitsContainer, FitsEntry, link}
-use Rattle.mdb_model.proofs.Ancestry.{length-paths_of, paths_of-push}
+use Rattle.mdb_octets.specs.Spelling.{FitsComparison, FitsContainer, FitsEntry, link}
+use Rattle.mdb_rules.proofs.Ancestry.{length-paths_of, paths_of-push}
 use Rattle.mdb_model.proofs.DatabaseFits.{all_join, name_short, range_fits}
-use Rattle.mdb_model.proofs.Ends.{at_last-push, length-push, slice_get-end}
-use Rattle.mdb_model.proofs.Passing.{all_pass, is_true, or_else-none}
+use Rattle.mdb_rules.proofs.Ends.{at_last-push, length-push, slice_get-end}
+use Rattle.mdb_rules.proofs.Passing.{all_pass, is_true, or_else-none}
 
 pub none_is : {X : Type 0} (o : Option X) → is_none o ≡ true → o ≡ None
 none_is None e = refl

@@ -5,10 +5,10 @@ use Rattle.std.specs.Str.{bytes_eq}
 use Rattle.std.specs.List.{position_or_len}
 use Rattle.std.proofs.lemmas.Bool.{ltb-false, ltb-true}
 use Rattle.std.proofs.lemmas.Option.{cond_some}
-use Rattle.mdb_model.specs.declared.fault.MdbLimit.{MdbLimit}
-use Rattle.mdb_model.specs.declared.fault.MdbLimit.TheVariants as limit
-use Rattle.mdb_model.specs.Database.{Database, entry_count, limit_passed, row_count}
-use Rattle.mdb_model.specs.Texts.{Text, place_of}
+use Rattle.mdb_items.specs.declared.fault.MdbLimit.{MdbLimit}
+use Rattle.mdb_items.specs.declared.fault.MdbLimit.TheVariants as limit
+use Rattle.mdb_items.specs.Database.{Database, entry_count, limit_passed, row_count}
+use Rattle.mdb_items.specs.Texts.{Text, place_of}
 
 none_passed : {X : Type 0} (b : Bool) (x : X) (rest : Option X) → (if b then Some x else rest) ≡ None → (b ≡ false) × (rest ≡ None)
 none_passed true x rest e = cc

@@ -9,28 +9,28 @@ use Rattle.std.proofs.lemmas.Int.{ints}
 use Rattle.std.proofs.lemmas.List.Sums.{sum_by-cons}
 use Rattle.std.proofs.lemmas.Option.{slice_get-map, slice_get_within}
 use Rattle.text_forms.specs.Names.{is_name}
-use Rattle.mdb_model.specs.declared.calibration.Calibration.{Calibration}
-use Rattle.mdb_model.specs.declared.calibration.EnumRow.{EnumRow}
-use Rattle.mdb_model.specs.declared.calibration.PointsRow.{PointsRow}
-use Rattle.mdb_model.specs.declared.calibration.PolyRow.{PolyRow}
-use Rattle.mdb_model.specs.declared.calibration.Table.{Table}
-use Rattle.mdb_model.specs.declared.calibration.Table.TheVariants.{Poly, Points, Enum}
-use Rattle.mdb_model.specs.declared.parameter.Coding.{Coding}
-use Rattle.mdb_model.specs.declared.parameter.Parameter.{Parameter}
-use Rattle.mdb_model.specs.declared.rows.RowValues.{RowValues}
-use Rattle.mdb_model.specs.declared.rows.RowValues.TheVariants.{Unread, Coefficient, Point, Label}
-use Rattle.mdb_model.specs.declared.rows.ParameterRow.{ParameterRow}
-use Rattle.mdb_model.specs.CalibrationRows.{CalibrationRow, calibration_checks, calibration_fault, calibration_fault_at, calibrations_of, row_values_of, continued, empty_table, has_x, has_y, rows_of_calibration, with_calibration_row, with_new_row, with_row}
-use Rattle.mdb_model.specs.Checks.{first_at, first_broken}
-use Rattle.mdb_model.specs.Lists.{at_last}
-use Rattle.mdb_model.specs.Numbers.{is_in_range}
-use Rattle.mdb_model.specs.ParameterRows.{fits_coding, is_reference, parameter_checks, parameter_fault, parameter_fault_at, parameters_of, reference_to, row_of_parameter}
-use Rattle.mdb_model.specs.Database.{row_count, table_len}
+use Rattle.mdb_items.specs.declared.calibration.Calibration.{Calibration}
+use Rattle.mdb_items.specs.declared.calibration.EnumRow.{EnumRow}
+use Rattle.mdb_items.specs.declared.calibration.PointsRow.{PointsRow}
+use Rattle.mdb_items.specs.declared.calibration.PolyRow.{PolyRow}
+use Rattle.mdb_items.specs.declared.calibration.Table.{Table}
+use Rattle.mdb_items.specs.declared.calibration.Table.TheVariants.{Poly, Points, Enum}
+use Rattle.mdb_items.specs.declared.parameter.Coding.{Coding}
+use Rattle.mdb_items.specs.declared.parameter.Parameter.{Parameter}
+use Rattle.mdb_items.specs.declared.rows.RowValues.{RowValues}
+use Rattle.mdb_items.specs.declared.rows.RowValues.TheVariants.{Unread, Coefficient, Point, Label}
+use Rattle.mdb_items.specs.declared.rows.ParameterRow.{ParameterRow}
+use Rattle.mdb_items.specs.CalibrationRows.{CalibrationRow, calibration_checks, calibration_fault, calibration_fault_at, calibrations_of, row_values_of, continued, empty_table, has_x, has_y, rows_of_calibration, with_calibration_row, with_new_row, with_row}
+use Rattle.mdb_items.specs.Checks.{first_at, first_broken}
+use Rattle.mdb_items.specs.Lists.{at_last}
+use Rattle.mdb_items.specs.Numbers.{is_in_range}
+use Rattle.mdb_items.specs.ParameterRows.{fits_coding, is_reference, parameter_checks, parameter_fault, parameter_fault_at, parameters_of, reference_to, row_of_parameter}
+use Rattle.mdb_items.specs.Database.{row_count, table_len}
 use Rattle.mdb_model.specs.Rechecking.{HasRows}
-use Rattle.mdb_model.specs.Spelling.{FitsCalibration, FitsEnum, FitsParameter, FitsPoints, FitsPoly, FitsTable, link}
-use Rattle.mdb_model.specs.Texts.{Text, is_label}
-use Rattle.mdb_model.proofs.Ends.{at_last-push}
-use Rattle.mdb_model.proofs.Passing.{all_pass, each_none, is_true}
+use Rattle.mdb_octets.specs.Spelling.{FitsCalibration, FitsEnum, FitsParameter, FitsPoints, FitsPoly, FitsTable, link}
+use Rattle.mdb_items.specs.Texts.{Text, is_label}
+use Rattle.mdb_rules.proofs.Ends.{at_last-push}
+use Rattle.mdb_rules.proofs.Passing.{all_pass, each_none, is_true}
 
 -- ---- lists
 

@@ -4,22 +4,22 @@ use Rattle.std.specs.Prelude.{slice_get, option_map, flat_map, sum_by}
 use Rattle.std.proofs.lemmas.Bool.{ltb-false}
 use Rattle.std.proofs.lemmas.List.{map-append}
 use Rattle.std.proofs.lemmas.List.Sums.{fold-append}
-use Rattle.mdb_model.specs.declared.calibration.Calibration.{Calibration}
-use Rattle.mdb_model.specs.declared.fault.MdbSheet.TheVariants as sheet
-use Rattle.mdb_model.specs.declared.parameter.Parameter.{Parameter}
-use Rattle.mdb_model.specs.declared.rows.ParameterRow.{ParameterRow}
-use Rattle.mdb_model.specs.CalibrationRows.{CalibrationRow, calibration_fault_at, calibrations_of, rows_of_calibration, with_calibration_row}
-use Rattle.mdb_model.specs.Checks.{first_at, or_else}
-use Rattle.mdb_model.specs.ContainerRows.{ContainerRow, container_fault_at, containers_of, rows_of_container, with_container_row}
-use Rattle.mdb_model.specs.Database.{Database, IsDatabase, broken_below, calibrations_fault, containers_fault, limit_passed, parameters_fault, row_count, rows_of}
-use Rattle.mdb_model.specs.ParameterRows.{parameter_fault_at, parameter_of, parameters_of, row_of_parameter}
+use Rattle.mdb_items.specs.declared.calibration.Calibration.{Calibration}
+use Rattle.mdb_items.specs.declared.fault.MdbSheet.TheVariants as sheet
+use Rattle.mdb_items.specs.declared.parameter.Parameter.{Parameter}
+use Rattle.mdb_items.specs.declared.rows.ParameterRow.{ParameterRow}
+use Rattle.mdb_items.specs.CalibrationRows.{CalibrationRow, calibration_fault_at, calibrations_of, rows_of_calibration, with_calibration_row}
+use Rattle.mdb_items.specs.Checks.{first_at, or_else}
+use Rattle.mdb_items.specs.ContainerRows.{ContainerRow, container_fault_at, containers_of, rows_of_container, with_container_row}
+use Rattle.mdb_items.specs.Database.{Database, IsDatabase, broken_below, calibrations_fault, containers_fault, limit_passed, parameters_fault, row_count, rows_of}
+use Rattle.mdb_items.specs.ParameterRows.{parameter_fault_at, parameter_of, parameters_of, row_of_parameter}
 use Rattle.mdb_model.specs.Rechecking.{HasRows, calibration_fault_before, calibrations_sound, container_fault_below, containers_sound, parameter_fault_below, parameters_sound, with_parameter_row}
-use Rattle.mdb_model.specs.Spelling.{FitsDatabase}
+use Rattle.mdb_octets.specs.Spelling.{FitsDatabase}
 use Rattle.std.specs.List.{AllByRecursion}
 use Rattle.mdb_model.proofs.ContainersFit.{containers_fit}
 use Rattle.mdb_model.proofs.DatabaseFits.{calibrations_fit, calibrations_have_rows, parameters_fit}
-use Rattle.mdb_model.proofs.Ends.{slice_get-end, take-front}
-use Rattle.mdb_model.proofs.Passing.{or_else-none}
+use Rattle.mdb_rules.proofs.Ends.{slice_get-end, take-front}
+use Rattle.mdb_rules.proofs.Passing.{or_else-none}
 use Rattle.mdb_model.proofs.RowsAgain.{rows_none, rows_sound}
 
 map_none : {X Y : Type 0} (f : X → Y) (o : Option X) → option_map f o ≡ None → o ≡ None

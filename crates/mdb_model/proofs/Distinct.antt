@@ -10,14 +10,14 @@ use Rattle.std.proofs.lemmas.Float.{T_from_true}
 use Rattle.std.proofs.lemmas.Int.{ints}
 use Rattle.std.proofs.lemmas.List.{map-append}
 use Rattle.std.proofs.lemmas.Map.Keys.{IsDistinct-push}
-use Rattle.mdb_model.specs.declared.calibration.PointsRow.{PointsRow}
-use Rattle.mdb_model.specs.CalibrationRows.{is_not_above}
-use Rattle.mdb_model.specs.Lists.{last_of}
-use Rattle.mdb_model.specs.Structure.{IsRising}
-use Rattle.mdb_model.specs.Texts.{Text, place_of}
+use Rattle.mdb_items.specs.declared.calibration.PointsRow.{PointsRow}
+use Rattle.mdb_items.specs.CalibrationRows.{is_not_above}
+use Rattle.mdb_items.specs.Lists.{last_of}
+use Rattle.mdb_items.specs.Structure.{IsRising}
+use Rattle.mdb_items.specs.Texts.{Text, place_of}
 use Rattle.mdb_model.proofs.DatabaseFits.{all_join, all_split}
-use Rattle.mdb_model.proofs.Passing.{is_true}
-use Rattle.mdb_model.proofs.Places.{absent}
+use Rattle.mdb_rules.proofs.Passing.{is_true}
+use Rattle.mdb_rules.proofs.Places.{absent}
 
 pub text_equiv : IsEquivalence bytes_eq
 text_equiv = nat_list_eq_equiv

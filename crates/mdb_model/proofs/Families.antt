@@ -4,11 +4,11 @@ use Rattle.std.specs.Prelude.{slice_get, ◌==◌, if◌then◌else◌}
 use Rattle.std.proofs.lemmas.Bool.{cases_Bool, cases_lt, eqb-true, eqb-false}
 use Rattle.std.proofs.lemmas.List.{append-nil, get_or-set_same, length-set, length-take-le, take_all}
 use Rattle.std.proofs.lemmas.Option.{slice_get-get_or, slice_get_within}
-use Rattle.mdb_model.specs.declared.container.Container.{Container}
+use Rattle.mdb_items.specs.declared.container.Container.{Container}
 use Rattle.mdb_model.specs.Children.{AreChildren, children_from, children_of, if_parent, is_parent_of}
-use Rattle.mdb_model.specs.Totals.{AreEarlier, parent_of}
-use Rattle.mdb_model.proofs.Ends.{length-push, slice_get-end, slice_get-left}
-use Rattle.mdb_model.proofs.Passing.{take-next}
+use Rattle.mdb_rules.specs.Totals.{AreEarlier, parent_of}
+use Rattle.mdb_rules.proofs.Ends.{length-push, slice_get-end, slice_get-left}
+use Rattle.mdb_rules.proofs.Passing.{take-next}
 
 -- ---- one more child
 

@@ -2,19 +2,19 @@
 use Rattle.std.proofs.Common.{◌≡◌, ◌∙◌, List, [], ◌∷◌, length, map, drop, Option, Some, Result, Ok, Err, Bool, true, false, refl, ap, sym, arith, subst}
 use Rattle.std.specs.Prelude.{slice_get}
 use Rattle.std.proofs.lemmas.Option.{same_Some}
-use Rattle.mdb_model.specs.declared.calibration.Calibration.{Calibration}
-use Rattle.mdb_model.specs.declared.calibration_rows.Calibrations.{Calibrations}
-use Rattle.mdb_model.specs.declared.container_rows.Containers.{Containers}
-use Rattle.mdb_model.specs.declared.fault.MdbFault.{MdbFault}
-use Rattle.mdb_model.specs.declared.fault.MdbSheet.{MdbSheet}
-use Rattle.mdb_model.specs.declared.fault.MdbSheet.TheVariants as sheet
-use Rattle.mdb_model.specs.declared.parameter.Parameter.{Parameter}
-use Rattle.mdb_model.specs.declared.parameter_rows.Parameters.{Parameters}
-use Rattle.mdb_model.specs.Database.{Broken, calibrations_fault, containers_fault, parameters_fault}
+use Rattle.mdb_items.specs.declared.calibration.Calibration.{Calibration}
+use Rattle.mdb_rules.specs.declared.calibration_rows.Calibrations.{Calibrations}
+use Rattle.mdb_rules.specs.declared.container_rows.Containers.{Containers}
+use Rattle.mdb_items.specs.declared.fault.MdbFault.{MdbFault}
+use Rattle.mdb_items.specs.declared.fault.MdbSheet.{MdbSheet}
+use Rattle.mdb_items.specs.declared.fault.MdbSheet.TheVariants as sheet
+use Rattle.mdb_items.specs.declared.parameter.Parameter.{Parameter}
+use Rattle.mdb_rules.specs.declared.parameter_rows.Parameters.{Parameters}
+use Rattle.mdb_items.specs.Database.{Broken, calibrations_fault, containers_fault, parameters_fault}
 use Rattle.mdb_model.specs.SheetResults.{IsCalibrationSheetResult, IsContainerSheetResult, IsParameterSheetResult}
 use Rattle.mdb_model.specs.Sheets.{is_calibration_header, is_container_header, is_parameter_header, read_calibration, read_containers, read_parameter, sheet_fault}
-use Rattle.mdb_model.specs.Steps.{IsCalibrationsResult, IsContainersResult, IsParametersResult, Refuses}
-use Rattle.mdb_model.specs.Texts.{Text}
+use Rattle.mdb_rules.specs.Steps.{IsCalibrationsResult, IsContainersResult, IsParametersResult, Refuses}
+use Rattle.mdb_items.specs.Texts.{Text}
 
 -- without a record the header is missing
 pub headless : (s : MdbSheet) (test : List Text → Bool) (records : List (List Text)) (fault : Option Broken) → length records ≡ 0 → sheet_fault s test records fault ≡ Some (record { sheet = s; row = 1; rule = 1 })

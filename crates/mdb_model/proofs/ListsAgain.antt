@@ -3,23 +3,23 @@ use Rattle.std.proofs.Common.{◌≡◌, ◌∙◌, ◌<◌, ℕ, List, [], ◌�
 use Rattle.std.specs.Prelude.{option_map, flat_map, is_some, nat_lt, ◌==◌}
 use Rattle.std.specs.List.{AllByRecursion, list_all}
 use Rattle.std.proofs.lemmas.Bool.{lt-ltb, ltb-true}
-use Rattle.mdb_model.specs.declared.calibration.Calibration.{Calibration}
-use Rattle.mdb_model.specs.declared.container.Container.{Container}
-use Rattle.mdb_model.specs.declared.fault.MdbFault.{MdbFault}
-use Rattle.mdb_model.specs.declared.fault.MdbFault.TheVariants.{Bad, Limit, OutOfMemory}
-use Rattle.mdb_model.specs.declared.fault.MdbSheet.TheVariants as sheet
-use Rattle.mdb_model.specs.declared.parameter.Parameter.{Parameter}
-use Rattle.mdb_model.specs.CalibrationRows.{calibrations_of, rows_of_calibration}
-use Rattle.mdb_model.specs.Checks.{or_else}
-use Rattle.mdb_model.specs.ContainerRows.{containers_of, rows_of_container}
-use Rattle.mdb_model.specs.Database.{Broken, Database, IsDatabase, broken_below, calibrations_fault, containers_fault, database_of, first_fault, limit_passed, parameters_fault, rows_of, table_len}
+use Rattle.mdb_items.specs.declared.calibration.Calibration.{Calibration}
+use Rattle.mdb_items.specs.declared.container.Container.{Container}
+use Rattle.mdb_items.specs.declared.fault.MdbFault.{MdbFault}
+use Rattle.mdb_items.specs.declared.fault.MdbFault.TheVariants.{Bad, Limit, OutOfMemory}
+use Rattle.mdb_items.specs.declared.fault.MdbSheet.TheVariants as sheet
+use Rattle.mdb_items.specs.declared.parameter.Parameter.{Parameter}
+use Rattle.mdb_items.specs.CalibrationRows.{calibrations_of, rows_of_calibration}
+use Rattle.mdb_items.specs.Checks.{or_else}
+use Rattle.mdb_items.specs.ContainerRows.{containers_of, rows_of_container}
+use Rattle.mdb_items.specs.Database.{Broken, Database, IsDatabase, broken_below, calibrations_fault, containers_fault, database_of, first_fault, limit_passed, parameters_fault, rows_of, table_len}
 use Rattle.mdb_model.specs.SheetResults.{IsLimitsResult}
-use Rattle.mdb_model.specs.ParameterRows.{parameters_of, row_of_parameter}
-use Rattle.mdb_model.specs.Reading.{database_at}
+use Rattle.mdb_items.specs.ParameterRows.{parameters_of, row_of_parameter}
+use Rattle.mdb_octets.specs.Reading.{database_at}
 use Rattle.mdb_model.specs.Rechecking.{HasRows, Refused, calibrations_sound, containers_sound, parameters_sound, refusal}
-use Rattle.mdb_model.specs.Spelling.{database_octets}
+use Rattle.mdb_octets.specs.Spelling.{database_octets}
 use Rattle.mdb_model.proofs.DatabaseOctets.{calibrations_are_sound, calibrations_none, containers_are_sound, containers_first, containers_none, database_fits, has_rows, parameters_are_sound, parameters_none, parts_of}
-use Rattle.mdb_model.proofs.ItemOctets.{database_exact}
+use Rattle.mdb_octets.proofs.ItemOctets.{database_exact}
 use Rattle.mdb_model.proofs.RowsAgain.{both_true, parameter_back, refused_as}
 use Rattle.octet_fields.specs.declared.fault.DecodeError.{DecodeError}
 use Rattle.octet_fields.specs.declared.fault.DecodeError.TheVariants as errors

@@ -2,16 +2,16 @@
 use Rattle.std.proofs.Common.{◌≡◌, ℕ, zero, suc, List, [], ◌∷◌, length, map, take, Option, Some, None, true, refl, ap, sym}
 use Rattle.std.specs.Prelude.{slice_get}
 use Rattle.std.proofs.lemmas.Option.{slice_get_within}
-use Rattle.mdb_model.specs.declared.calibration.Calibration.{Calibration}
-use Rattle.mdb_model.specs.declared.parameter.Coding.{Coding}
-use Rattle.mdb_model.specs.declared.parameter.Parameter.{Parameter}
-use Rattle.mdb_model.specs.declared.rows.ParameterRow.{ParameterRow}
-use Rattle.mdb_model.specs.declared.rows.Reference.{Reference}
-use Rattle.mdb_model.specs.declared.rows.Reference.TheVariants.{Nothing, Unknown, Known}
-use Rattle.mdb_model.specs.Checks.{first_at, first_broken}
-use Rattle.mdb_model.specs.ParameterRows.{fits_coding, is_reference, parameter_checks, parameter_fault, parameter_fault_at, parameter_of, parameters_of, row_of_parameter}
-use Rattle.mdb_model.specs.Texts.{Text}
-use Rattle.mdb_model.proofs.Passing.{all_pass, each_none, is_same, is_true}
+use Rattle.mdb_items.specs.declared.calibration.Calibration.{Calibration}
+use Rattle.mdb_items.specs.declared.parameter.Coding.{Coding}
+use Rattle.mdb_items.specs.declared.parameter.Parameter.{Parameter}
+use Rattle.mdb_items.specs.declared.rows.ParameterRow.{ParameterRow}
+use Rattle.mdb_items.specs.declared.rows.Reference.{Reference}
+use Rattle.mdb_items.specs.declared.rows.Reference.TheVariants.{Nothing, Unknown, Known}
+use Rattle.mdb_items.specs.Checks.{first_at, first_broken}
+use Rattle.mdb_items.specs.ParameterRows.{fits_coding, is_reference, parameter_checks, parameter_fault, parameter_fault_at, parameter_of, parameters_of, row_of_parameter}
+use Rattle.mdb_items.specs.Texts.{Text}
+use Rattle.mdb_rules.proofs.Passing.{all_pass, each_none, is_same, is_true}
 
 -- what is undone at each item is undone
 map_back : {X Y : Type 0} (f : X → Y) (g : Y → X) (xs : List X) → ((i : ℕ) (x : X) → slice_get xs i ≡ Some x → g (f x) ≡ x) → map g (map f xs) ≡ xs

@@ -1,18 +1,18 @@
 -- The database that sound rows spell is spelled by its own rows, which are sound.
 use Rattle.std.proofs.Common.{◌≡◌, ◌∙◌, List, length, map, Option, Some, None, refl, ap}
 use Rattle.std.specs.Prelude.{flat_map, option_map}
-use Rattle.mdb_model.specs.declared.container.Container.{Container}
-use Rattle.mdb_model.specs.declared.fault.MdbSheet.TheVariants as sheet
-use Rattle.mdb_model.specs.declared.rows.ParameterRow.{ParameterRow}
-use Rattle.mdb_model.specs.CalibrationRows.{CalibrationRow, calibration_fault_at, calibrations_of, rows_of_calibration}
-use Rattle.mdb_model.specs.Checks.{first_at, or_else}
-use Rattle.mdb_model.specs.ContainerRows.{containers_of, rows_of_container}
-use Rattle.mdb_model.specs.Database.{Broken, Database, IsDatabase, Rows, broken_below, calibrations_fault, containers_fault, database_of, first_fault, limit_passed, parameters_fault, rows_of}
-use Rattle.mdb_model.specs.ParameterRows.{parameter_fault_at, parameters_of, row_of_parameter}
-use Rattle.mdb_model.proofs.CalibrationSpelling.{calibrations_respelled}
+use Rattle.mdb_items.specs.declared.container.Container.{Container}
+use Rattle.mdb_items.specs.declared.fault.MdbSheet.TheVariants as sheet
+use Rattle.mdb_items.specs.declared.rows.ParameterRow.{ParameterRow}
+use Rattle.mdb_items.specs.CalibrationRows.{CalibrationRow, calibration_fault_at, calibrations_of, rows_of_calibration}
+use Rattle.mdb_items.specs.Checks.{first_at, or_else}
+use Rattle.mdb_items.specs.ContainerRows.{containers_of, rows_of_container}
+use Rattle.mdb_items.specs.Database.{Broken, Database, IsDatabase, Rows, broken_below, calibrations_fault, containers_fault, database_of, first_fault, limit_passed, parameters_fault, rows_of}
+use Rattle.mdb_items.specs.ParameterRows.{parameter_fault_at, parameters_of, row_of_parameter}
+use Rattle.mdb_rules.proofs.CalibrationSpelling.{calibrations_respelled}
 use Rattle.mdb_model.proofs.ContainerSpelling.{containers_respelled}
 use Rattle.mdb_model.proofs.ParameterSpelling.{parameters_respelled}
-use Rattle.mdb_model.proofs.Passing.{or_else-none}
+use Rattle.mdb_rules.proofs.Passing.{or_else-none}
 
 map_none : {X Y : Type 0} (f : X → Y) (o : Option X) → option_map f o ≡ None → o ≡ None
 map_none f None e = refl

@@ -7,33 +7,33 @@ use Rattle.std.proofs.lemmas.Grind.{flat_map-append}
 use Rattle.std.proofs.lemmas.List.{append-nil, map-append, length-map, take_all, drop_all, length-drop}
 use Rattle.std.proofs.lemmas.List.Sums.{fold-append}
 use Rattle.std.proofs.lemmas.Option.{slice_get_within, get_or_from_slice_get}
-use Rattle.mdb_model.specs.declared.calibration.Calibration.{Calibration}
-use Rattle.mdb_model.specs.declared.calibration.Table.{Table}
-use Rattle.mdb_model.specs.declared.calibration.Table.TheVariants.{Poly, Points, Enum}
-use Rattle.mdb_model.specs.declared.calibration_rows.Calibrations.{Calibrations}
-use Rattle.mdb_model.specs.declared.container.Container.{Container}
-use Rattle.mdb_model.specs.declared.container.Entry.{Entry}
-use Rattle.mdb_model.specs.declared.parameter.Parameter.{Parameter}
-use Rattle.mdb_model.specs.declared.rows.RowValues.{RowValues}
-use Rattle.mdb_model.specs.declared.rows.ParameterRow.{ParameterRow}
+use Rattle.mdb_items.specs.declared.calibration.Calibration.{Calibration}
+use Rattle.mdb_items.specs.declared.calibration.Table.{Table}
+use Rattle.mdb_items.specs.declared.calibration.Table.TheVariants.{Poly, Points, Enum}
+use Rattle.mdb_rules.specs.declared.calibration_rows.Calibrations.{Calibrations}
+use Rattle.mdb_items.specs.declared.container.Container.{Container}
+use Rattle.mdb_items.specs.declared.container.Entry.{Entry}
+use Rattle.mdb_items.specs.declared.parameter.Parameter.{Parameter}
+use Rattle.mdb_items.specs.declared.rows.RowValues.{RowValues}
+use Rattle.mdb_items.specs.declared.rows.ParameterRow.{ParameterRow}
 use Rattle.octet_fields.specs.declared.fault.DecodeError.{DecodeError}
 use Rattle.octet_fields.specs.declared.fault.DecodeError.TheVariants as errors
-use Rattle.mdb_model.specs.CalibrationRows.{CalibrationRow, calibration_checks, calibrations_of, row_values_of, rows_of_calibration, with_calibration_row}
-use Rattle.mdb_model.specs.Checks.{first_at, first_broken, or_else}
-use Rattle.mdb_model.specs.declared.container_rows.Containers.{Containers}
-use Rattle.mdb_model.specs.declared.rows.NewContainer.{NewContainer}
-use Rattle.mdb_model.specs.declared.rows.ContainerColumns.TheVariants.{Begins, Continues}
-use Rattle.mdb_model.specs.declared.rows.Position.TheVariants as place
-use Rattle.mdb_model.specs.declared.rows.Position.TheVariants.{At}
-use Rattle.mdb_model.specs.declared.rows.Reference.TheVariants.{Nothing, Known}
-use Rattle.mdb_model.specs.ContainerRows.{ContainerRow, begin_row, containers_of, entry_checks, entry_row, columns_checks, last_path, row_fault, rows_of_container, with_container_row, with_entry, with_columns, with_new_entry}
-use Rattle.mdb_model.specs.Database.{table_len}
-use Rattle.mdb_model.specs.ParameterRows.{number_of, parameter_checks, parameter_of, reference_to, row_of_parameter}
+use Rattle.mdb_items.specs.CalibrationRows.{CalibrationRow, calibration_checks, calibrations_of, row_values_of, rows_of_calibration, with_calibration_row}
+use Rattle.mdb_items.specs.Checks.{first_at, first_broken, or_else}
+use Rattle.mdb_rules.specs.declared.container_rows.Containers.{Containers}
+use Rattle.mdb_items.specs.declared.rows.NewContainer.{NewContainer}
+use Rattle.mdb_items.specs.declared.rows.ContainerColumns.TheVariants.{Begins, Continues}
+use Rattle.mdb_items.specs.declared.rows.Position.TheVariants as place
+use Rattle.mdb_items.specs.declared.rows.Position.TheVariants.{At}
+use Rattle.mdb_items.specs.declared.rows.Reference.TheVariants.{Nothing, Known}
+use Rattle.mdb_items.specs.ContainerRows.{ContainerRow, begin_row, containers_of, entry_checks, entry_row, columns_checks, last_path, row_fault, rows_of_container, with_container_row, with_entry, with_columns, with_new_entry}
+use Rattle.mdb_items.specs.Database.{table_len}
+use Rattle.mdb_items.specs.ParameterRows.{number_of, parameter_checks, parameter_of, reference_to, row_of_parameter}
 use Rattle.mdb_model.specs.Rechecking.{CalibrationsRechecked, ContainersRechecked, HasRows, ParametersRechecked, Refused, RowsRechecked, CalibrationRechecked, are_sound, calibration_fault_before, calibrations_sound, container_fault_below, containers_sound, first_name, parameter_fault_below, parameters_sound, row_with, with_parameter_row}
-use Rattle.mdb_model.specs.Steps.{IsInStep}
-use Rattle.mdb_model.specs.Texts.{Text, place_of}
-use Rattle.mdb_model.proofs.Ends.{length-at_last}
-use Rattle.mdb_model.proofs.Passing.{all_pass, each_none, first_none, take-next}
+use Rattle.mdb_rules.specs.Steps.{IsInStep}
+use Rattle.mdb_items.specs.Texts.{Text, place_of}
+use Rattle.mdb_rules.proofs.Ends.{length-at_last}
+use Rattle.mdb_rules.proofs.Passing.{all_pass, each_none, first_none, take-next}
 
 -- ---- any rows
 

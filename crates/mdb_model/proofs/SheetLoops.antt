@@ -5,19 +5,19 @@ use Rattle.std.proofs.lemmas.Bool.{cases_lt}
 use Rattle.std.proofs.lemmas.List.{map-append, take-map}
 use Rattle.std.proofs.lemmas.List.Sums.{fold-append}
 use Rattle.std.proofs.lemmas.Option.{same_Some, slice_get-map}
-use Rattle.mdb_model.specs.declared.calibration.Calibration.{Calibration}
-use Rattle.mdb_model.specs.declared.container.Container.{Container}
-use Rattle.mdb_model.specs.declared.fault.MdbSheet.{MdbSheet}
-use Rattle.mdb_model.specs.declared.fault.MdbSheet.TheVariants as sheet
-use Rattle.mdb_model.specs.declared.parameter.Parameter.{Parameter}
-use Rattle.mdb_model.specs.CalibrationRows.{calibration_fault, calibration_fault_at, calibrations_of, with_calibration_row}
-use Rattle.mdb_model.specs.Checks.{first_at}
-use Rattle.mdb_model.specs.ContainerRows.{ContainerRow, container_fault, container_fault_at, containers_of, row_fault, with_container_row}
-use Rattle.mdb_model.specs.Database.{broken_below, containers_fault}
-use Rattle.mdb_model.specs.ParameterRows.{parameter_fault, parameter_fault_at, parameter_of, parameters_of}
+use Rattle.mdb_items.specs.declared.calibration.Calibration.{Calibration}
+use Rattle.mdb_items.specs.declared.container.Container.{Container}
+use Rattle.mdb_items.specs.declared.fault.MdbSheet.{MdbSheet}
+use Rattle.mdb_items.specs.declared.fault.MdbSheet.TheVariants as sheet
+use Rattle.mdb_items.specs.declared.parameter.Parameter.{Parameter}
+use Rattle.mdb_items.specs.CalibrationRows.{calibration_fault, calibration_fault_at, calibrations_of, with_calibration_row}
+use Rattle.mdb_items.specs.Checks.{first_at}
+use Rattle.mdb_items.specs.ContainerRows.{ContainerRow, container_fault, container_fault_at, containers_of, row_fault, with_container_row}
+use Rattle.mdb_items.specs.Database.{broken_below, containers_fault}
+use Rattle.mdb_items.specs.ParameterRows.{parameter_fault, parameter_fault_at, parameter_of, parameters_of}
 use Rattle.mdb_model.specs.Sheets.{read_calibration, read_container, read_containers, read_parameter}
-use Rattle.mdb_model.specs.Texts.{Text}
-use Rattle.mdb_model.proofs.Passing.{first_none, first_some, take-next}
+use Rattle.mdb_items.specs.Texts.{Text}
+use Rattle.mdb_rules.proofs.Passing.{first_none, first_some, take-next}
 
 -- the rows before a place are sound
 abbrev pub SoundBelow : (ℕ → Option ℕ) → ℕ → Type 0

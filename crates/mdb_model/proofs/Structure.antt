@@ -8,35 +8,35 @@ use Rattle.std.proofs.lemmas.List.{append-nil}
 use Rattle.std.proofs.lemmas.List.Sums.{fold-append}
 use Rattle.std.proofs.lemmas.Option.{slice_get-map, slice_get_within}
 use Rattle.text_forms.specs.Names.{is_name}
-use Rattle.mdb_model.specs.declared.calibration.Calibration.{Calibration}
-use Rattle.mdb_model.specs.declared.container.Comparison.{Comparison}
-use Rattle.mdb_model.specs.declared.container.Container.{Container}
-use Rattle.mdb_model.specs.declared.container.Entry.{Entry}
-use Rattle.mdb_model.specs.declared.parameter.Parameter.{Parameter}
-use Rattle.mdb_model.specs.declared.rows.ContainerColumns.TheVariants.{Begins, Continues}
-use Rattle.mdb_model.specs.declared.rows.ParameterRow.{ParameterRow}
-use Rattle.mdb_model.specs.declared.rows.Position.TheVariants as place
-use Rattle.mdb_model.specs.declared.rows.Position.TheVariants.{At}
-use Rattle.mdb_model.specs.declared.rows.Reference.TheVariants.{Nothing, Known}
-use Rattle.mdb_model.specs.Checks.{first_at, first_broken}
-use Rattle.mdb_model.specs.ContainerRows.{ContainerRow, begin_row, new_container_checks, compares_other, entry_checks, entry_row, columns_checks, is_condition, is_nothing, is_parent, last_path, path_up, row_fault, rows_of_container, with_container_row, with_columns, with_new_entry}
-use Rattle.mdb_model.specs.Database.{Database, IsDatabase, containers_fault}
-use Rattle.mdb_model.specs.Paths.{ContainerPath, bits_at, path_at, path_below, paths_of, no_path, stands_on, with_path}
-use Rattle.mdb_model.specs.Lists.{is_empty}
-use Rattle.mdb_model.specs.Numbers.{is_in_range}
-use Rattle.mdb_model.specs.ParameterRows.{admits, fits_coding, is_reference, parameter_checks, parameter_fault, parameter_fault_at, parameters_of, reference_to, row_of_parameter, table_at}
+use Rattle.mdb_items.specs.declared.calibration.Calibration.{Calibration}
+use Rattle.mdb_items.specs.declared.container.Comparison.{Comparison}
+use Rattle.mdb_items.specs.declared.container.Container.{Container}
+use Rattle.mdb_items.specs.declared.container.Entry.{Entry}
+use Rattle.mdb_items.specs.declared.parameter.Parameter.{Parameter}
+use Rattle.mdb_items.specs.declared.rows.ContainerColumns.TheVariants.{Begins, Continues}
+use Rattle.mdb_items.specs.declared.rows.ParameterRow.{ParameterRow}
+use Rattle.mdb_items.specs.declared.rows.Position.TheVariants as place
+use Rattle.mdb_items.specs.declared.rows.Position.TheVariants.{At}
+use Rattle.mdb_items.specs.declared.rows.Reference.TheVariants.{Nothing, Known}
+use Rattle.mdb_items.specs.Checks.{first_at, first_broken}
+use Rattle.mdb_items.specs.ContainerRows.{ContainerRow, begin_row, new_container_checks, compares_other, entry_checks, entry_row, columns_checks, is_condition, is_nothing, is_parent, last_path, path_up, row_fault, rows_of_container, with_container_row, with_columns, with_new_entry}
+use Rattle.mdb_items.specs.Database.{Database, IsDatabase, containers_fault}
+use Rattle.mdb_items.specs.Paths.{ContainerPath, bits_at, path_at, path_below, paths_of, no_path, stands_on, with_path}
+use Rattle.mdb_items.specs.Lists.{is_empty}
+use Rattle.mdb_items.specs.Numbers.{is_in_range}
+use Rattle.mdb_items.specs.ParameterRows.{admits, fits_coding, is_reference, parameter_checks, parameter_fault, parameter_fault_at, parameters_of, reference_to, row_of_parameter, table_at}
 use Rattle.mdb_model.specs.Rechecking.{are_sound, containers_sound, parameters_sound, with_parameter_row}
-use Rattle.mdb_model.specs.Structure.{AreDistinctEntries, AreDistinctNames, IsBelowParent, IsContainer, IsEntry, IsParameter, IsPath, IsStructured, IsWhole}
-use Rattle.mdb_model.specs.Texts.{Text}
-use Rattle.mdb_model.proofs.Ancestry.{length-paths_of, paths_extend, paths_of-push}
+use Rattle.mdb_items.specs.Structure.{AreDistinctEntries, AreDistinctNames, IsBelowParent, IsContainer, IsEntry, IsParameter, IsPath, IsStructured, IsWhole}
+use Rattle.mdb_items.specs.Texts.{Text}
+use Rattle.mdb_rules.proofs.Ancestry.{length-paths_of, paths_extend, paths_of-push}
 use Rattle.mdb_model.proofs.CalibrationTables.{calibrations_are}
 use Rattle.mdb_model.proofs.ContainersFit.{begin_step, new_container_of, both_true, last_path-push, none_is, number_back, with_entries}
 use Rattle.mdb_model.proofs.Counts.{counts}
 use Rattle.mdb_model.proofs.DatabaseFits.{all_join}
 use Rattle.mdb_model.proofs.DatabaseOctets.{containers_are_sound, containers_first, parameters_are_sound, parts_of}
 use Rattle.mdb_model.proofs.Distinct.{new_name, text_equiv, with_new, with_other}
-use Rattle.mdb_model.proofs.Ends.{at_last-push, length-push, slice_get-end}
-use Rattle.mdb_model.proofs.Passing.{all_pass, each_none, is_true, or_else-none}
+use Rattle.mdb_rules.proofs.Ends.{at_last-push, length-push, slice_get-end}
+use Rattle.mdb_rules.proofs.Passing.{all_pass, each_none, is_true, or_else-none}
 use Rattle.mdb_model.proofs.RowsAgain.{parameter_back}
 
 -- ---- parameters

@@ -1,6 +1,6 @@
 -- The containers directly below a container.
 use Rattle.std.specs.Prelude.{◌≡◌, ◌<◌, ℕ, suc, ◌==◌, Bool, false, List, [], ◌∷◌, length, slice_get, Option, Some, None, if◌then◌else◌}
-use Rattle.mdb_model.specs.declared.container.Container.{Container}
+use Rattle.mdb_items.specs.declared.container.Container.{Container}
 
 -- the number is that of the parent
 abbrev pub is_parent_of : ℕ → Option ℕ → Bool

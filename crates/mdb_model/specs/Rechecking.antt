@@ -1,23 +1,23 @@
 -- Rows taken in one after the other, below what those before them spell.
 use Rattle.std.specs.Prelude.{◌≡◌, ◌<◌, ◌&&◌, ℕ, Bool, true, false, List, [], ◌∷◌, ◌++◌, map, flat_map, fold, slice_get, option_map, is_none, Option, None, Result, Ok, Err}
-use Rattle.mdb_model.specs.declared.calibration.Calibration.{Calibration}
-use Rattle.mdb_model.specs.declared.calibration_rows.Calibrations.{Calibrations}
-use Rattle.mdb_model.specs.declared.container.Container.{Container}
-use Rattle.mdb_model.specs.declared.container_rows.Containers.{Containers}
-use Rattle.mdb_model.specs.declared.fault.MdbFault.{MdbFault}
-use Rattle.mdb_model.specs.declared.fault.MdbFault.TheVariants.{Bad, Limit, OutOfMemory}
-use Rattle.mdb_model.specs.declared.parameter.Parameter.{Parameter}
-use Rattle.mdb_model.specs.declared.parameter_rows.Parameters.{Parameters}
-use Rattle.mdb_model.specs.declared.rows.RowValues.{RowValues}
-use Rattle.mdb_model.specs.declared.rows.ParameterRow.{ParameterRow}
-use Rattle.mdb_model.specs.CalibrationRows.{CalibrationRow, calibration_checks, calibrations_of, rows_of_calibration, with_calibration_row}
-use Rattle.mdb_model.specs.Checks.{first_broken}
-use Rattle.mdb_model.specs.ContainerRows.{ContainerRow, containers_of, row_fault, rows_of_container, with_container_row}
-use Rattle.mdb_model.specs.Database.{Database, IsDatabase, table_len}
-use Rattle.mdb_model.specs.ParameterRows.{parameter_checks, parameter_of, row_of_parameter}
-use Rattle.mdb_model.specs.Totals.{HasPaths}
-use Rattle.mdb_model.specs.Steps.{IsInStep}
-use Rattle.mdb_model.specs.Texts.{Text}
+use Rattle.mdb_items.specs.declared.calibration.Calibration.{Calibration}
+use Rattle.mdb_rules.specs.declared.calibration_rows.Calibrations.{Calibrations}
+use Rattle.mdb_items.specs.declared.container.Container.{Container}
+use Rattle.mdb_rules.specs.declared.container_rows.Containers.{Containers}
+use Rattle.mdb_items.specs.declared.fault.MdbFault.{MdbFault}
+use Rattle.mdb_items.specs.declared.fault.MdbFault.TheVariants.{Bad, Limit, OutOfMemory}
+use Rattle.mdb_items.specs.declared.parameter.Parameter.{Parameter}
+use Rattle.mdb_rules.specs.declared.parameter_rows.Parameters.{Parameters}
+use Rattle.mdb_items.specs.declared.rows.RowValues.{RowValues}
+use Rattle.mdb_items.specs.declared.rows.ParameterRow.{ParameterRow}
+use Rattle.mdb_items.specs.CalibrationRows.{CalibrationRow, calibration_checks, calibrations_of, rows_of_calibration, with_calibration_row}
+use Rattle.mdb_items.specs.Checks.{first_broken}
+use Rattle.mdb_items.specs.ContainerRows.{ContainerRow, containers_of, row_fault, rows_of_container, with_container_row}
+use Rattle.mdb_items.specs.Database.{Database, IsDatabase, table_len}
+use Rattle.mdb_items.specs.ParameterRows.{parameter_checks, parameter_of, row_of_parameter}
+use Rattle.mdb_rules.specs.Totals.{HasPaths}
+use Rattle.mdb_rules.specs.Steps.{IsInStep}
+use Rattle.mdb_items.specs.Texts.{Text}
 use Rattle.octet_fields.specs.declared.fault.DecodeError.{DecodeError}
 use Rattle.octet_fields.specs.declared.fault.DecodeError.TheVariants as errors
 

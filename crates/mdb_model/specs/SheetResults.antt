@@ -1,21 +1,21 @@
 -- What the sheets give one by one.
 use Rattle.std.specs.Prelude.{◌≡◌, List, [], map, drop, Some, None, Result, Ok, Err}
-use Rattle.mdb_model.specs.declared.calibration.Calibration.{Calibration}
-use Rattle.mdb_model.specs.declared.calibration_rows.Calibrations.{Calibrations}
-use Rattle.mdb_model.specs.declared.container_rows.Containers.{Containers}
-use Rattle.mdb_model.specs.declared.fault.MdbFault.{MdbFault}
-use Rattle.mdb_model.specs.declared.fault.MdbFault.TheVariants.{Bad, Limit, OutOfMemory}
-use Rattle.mdb_model.specs.declared.fault.MdbSheet.TheVariants as sheet
-use Rattle.mdb_model.specs.declared.parameter.Parameter.{Parameter}
-use Rattle.mdb_model.specs.declared.parameter_rows.Parameters.{Parameters}
-use Rattle.mdb_model.specs.CalibrationRows.{calibrations_of}
-use Rattle.mdb_model.specs.ContainerRows.{containers_of}
-use Rattle.mdb_model.specs.Database.{Database, Rows, calibrations_fault, containers_fault, database_of, first_fault, limit_passed, parameters_fault}
-use Rattle.mdb_model.specs.ParameterRows.{parameters_of}
+use Rattle.mdb_items.specs.declared.calibration.Calibration.{Calibration}
+use Rattle.mdb_rules.specs.declared.calibration_rows.Calibrations.{Calibrations}
+use Rattle.mdb_rules.specs.declared.container_rows.Containers.{Containers}
+use Rattle.mdb_items.specs.declared.fault.MdbFault.{MdbFault}
+use Rattle.mdb_items.specs.declared.fault.MdbFault.TheVariants.{Bad, Limit, OutOfMemory}
+use Rattle.mdb_items.specs.declared.fault.MdbSheet.TheVariants as sheet
+use Rattle.mdb_items.specs.declared.parameter.Parameter.{Parameter}
+use Rattle.mdb_rules.specs.declared.parameter_rows.Parameters.{Parameters}
+use Rattle.mdb_items.specs.CalibrationRows.{calibrations_of}
+use Rattle.mdb_items.specs.ContainerRows.{containers_of}
+use Rattle.mdb_items.specs.Database.{Database, Rows, calibrations_fault, containers_fault, database_of, first_fault, limit_passed, parameters_fault}
+use Rattle.mdb_items.specs.ParameterRows.{parameters_of}
 use Rattle.mdb_model.specs.Sheets.{is_calibration_header, is_container_header, is_parameter_header, read_calibration, read_containers, read_parameter, sheet_fault}
-use Rattle.mdb_model.specs.Totals.{AreEarlier, HasPaths}
-use Rattle.mdb_model.specs.Steps.{IsInStep, Refuses}
-use Rattle.mdb_model.specs.Texts.{Text}
+use Rattle.mdb_rules.specs.Totals.{AreEarlier, HasPaths}
+use Rattle.mdb_rules.specs.Steps.{IsInStep, Refuses}
+use Rattle.mdb_items.specs.Texts.{Text}
 
 -- the calibrations that the records of a sheet spell, header first, or the first rule that they break
 abbrev pub IsCalibrationSheetResult : List (List Text) → Result Calibrations MdbFault → Type 0
@@ -42,13 +42,11 @@ IsContainerSheetResult parameters records (Err fault) = Refuses (sheet_fault she
 abbrev pub database_from : Calibrations → Parameters → Containers → Database
 database_from calibrations parameters containers = record { parameters = parameters.items.items; calibrations = calibrations.items.items; containers = containers.items.items }
 
--- sound rows spell the three lists, the names are those of the items, and each parent stands earlier
+-- sound rows spell the three lists, and each parent stands earlier
 pub record AreSpelledLists (calibrations : Calibrations) (parameters : Parameters) (containers : Containers) : Type 0 where
   pub rows : Rows
   pub sound : first_fault rows ≡ None
   pub spelled : database_of rows ≡ database_from calibrations parameters containers
-  pub parameter_names : parameters.names ≡ map (λ p. p.name) parameters.items.items
-  pub container_names : containers.names ≡ map (λ c. c.name) containers.items.items
   pub earlier : AreEarlier containers.items.items
 
 -- the database, or the first limit that it passes; for want of memory nothing is said

@@ -1,34 +1,34 @@
 -- The three sheets: what their texts say, and the database that they spell.
 use Rattle.std.specs.Prelude.{◌≡◌, ℕ, ◌+◌, ◌==◌, ◌&&◌, ◌||◌, not, Bool, true, false, List, [], ◌∷◌, length, map, drop, Option, Some, None, Result, Ok, Err, if◌then◌else◌, codes, option_map}
 use Rattle.std.specs.Str.{bytes_eq}
-use Rattle.mdb_model.specs.declared.container.Container.{Container}
-use Rattle.mdb_model.specs.declared.fault.MdbFault.{MdbFault}
-use Rattle.mdb_model.specs.declared.fault.MdbFault.TheVariants.{Bad, Limit, OutOfMemory}
-use Rattle.mdb_model.specs.declared.fault.MdbSheet.{MdbSheet}
-use Rattle.mdb_model.specs.declared.fault.MdbSheet.TheVariants.{Parameters, Calibrations, Containers}
-use Rattle.mdb_model.specs.declared.parameter.Coding.{Coding}
-use Rattle.mdb_model.specs.declared.parameter.Coding.TheVariants.{Uint, Int, UintLe, IntLe}
-use Rattle.mdb_model.specs.declared.parameter.Parameter.{Parameter}
-use Rattle.mdb_model.specs.declared.rows.RowValues.{RowValues}
-use Rattle.mdb_model.specs.declared.rows.RowValues.TheVariants.{Unread, Coefficient, Point, Label}
-use Rattle.mdb_model.specs.declared.rows.ContainerColumns.{ContainerColumns}
-use Rattle.mdb_model.specs.declared.rows.ContainerColumns.TheVariants.{Begins, Continues}
-use Rattle.mdb_model.specs.declared.rows.ParameterRow.{ParameterRow}
-use Rattle.mdb_model.specs.declared.rows.Position.{Position}
-use Rattle.mdb_model.specs.declared.rows.Position.TheVariants as place
-use Rattle.mdb_model.specs.declared.rows.Position.TheVariants.{At}
-use Rattle.mdb_model.specs.declared.rows.Reference.{Reference}
-use Rattle.mdb_model.specs.declared.rows.Reference.TheVariants.{Nothing, Unknown, Known}
-use Rattle.mdb_model.specs.declared.sheet.RawMdb.{RawMdb}
-use Rattle.mdb_model.specs.CalibrationRows.{CalibrationRow, calibrations_of}
-use Rattle.mdb_model.specs.Checks.{or_else}
-use Rattle.mdb_model.specs.Conditions.{condition}
-use Rattle.mdb_model.specs.ContainerRows.{ContainerRow, is_nothing, last_path, with_container_row, with_columns}
-use Rattle.mdb_model.specs.Database.{Broken, Database, Rows, calibrations_fault, containers_fault, database_of, limit_passed, parameters_fault}
-use Rattle.mdb_model.specs.Paths.{path_end}
-use Rattle.mdb_model.specs.Lists.{is_empty}
-use Rattle.mdb_model.specs.ParameterRows.{parameters_of}
-use Rattle.mdb_model.specs.Texts.{Text, decimal_number, field, offset, place_of, small_number, whole_number}
+use Rattle.mdb_items.specs.declared.container.Container.{Container}
+use Rattle.mdb_items.specs.declared.fault.MdbFault.{MdbFault}
+use Rattle.mdb_items.specs.declared.fault.MdbFault.TheVariants.{Bad, Limit, OutOfMemory}
+use Rattle.mdb_items.specs.declared.fault.MdbSheet.{MdbSheet}
+use Rattle.mdb_items.specs.declared.fault.MdbSheet.TheVariants.{Parameters, Calibrations, Containers}
+use Rattle.mdb_items.specs.declared.parameter.Coding.{Coding}
+use Rattle.mdb_items.specs.declared.parameter.Coding.TheVariants.{Uint, Int, UintLe, IntLe}
+use Rattle.mdb_items.specs.declared.parameter.Parameter.{Parameter}
+use Rattle.mdb_items.specs.declared.rows.RowValues.{RowValues}
+use Rattle.mdb_items.specs.declared.rows.RowValues.TheVariants.{Unread, Coefficient, Point, Label}
+use Rattle.mdb_items.specs.declared.rows.ContainerColumns.{ContainerColumns}
+use Rattle.mdb_items.specs.declared.rows.ContainerColumns.TheVariants.{Begins, Continues}
+use Rattle.mdb_items.specs.declared.rows.ParameterRow.{ParameterRow}
+use Rattle.mdb_items.specs.declared.rows.Position.{Position}
+use Rattle.mdb_items.specs.declared.rows.Position.TheVariants as place
+use Rattle.mdb_items.specs.declared.rows.Position.TheVariants.{At}
+use Rattle.mdb_items.specs.declared.rows.Reference.{Reference}
+use Rattle.mdb_items.specs.declared.rows.Reference.TheVariants.{Nothing, Unknown, Known}
+use Rattle.mdb_items.specs.declared.sheet.RawMdb.{RawMdb}
+use Rattle.mdb_items.specs.CalibrationRows.{CalibrationRow, calibrations_of}
+use Rattle.mdb_items.specs.Checks.{or_else}
+use Rattle.mdb_items.specs.Conditions.{condition}
+use Rattle.mdb_items.specs.ContainerRows.{ContainerRow, is_nothing, last_path, with_container_row, with_columns}
+use Rattle.mdb_items.specs.Database.{Broken, Database, Rows, calibrations_fault, containers_fault, database_of, limit_passed, parameters_fault}
+use Rattle.mdb_items.specs.Paths.{path_end}
+use Rattle.mdb_items.specs.Lists.{is_empty}
+use Rattle.mdb_items.specs.ParameterRows.{parameters_of}
+use Rattle.mdb_items.specs.Texts.{Text, decimal_number, field, offset, place_of, small_number, whole_number}
 use Rattle.text_forms.specs.Digits.{digits_at_most}
 
 -- what the columns kind, x and y say

@@ -2,10 +2,10 @@
 
 ghost use Rattle.std.specs.Prelude.{◌≡◌, ◌<◌, ◌≤◌, ◌++◌, ℕ, List, length, slice_get, Some, OnOk, IfOk};
 ghost use Rattle.mdb_model.specs.Children.{AreChildren, if_parent};
-ghost use Rattle.mdb_model.specs.Totals.{AreEarlier};
+ghost use Rattle.mdb_rules.specs.Totals.{AreEarlier};
 
-use crate::container::Container;
 use item_list::items::Items;
+use mdb_items::container::Container;
 use std::alloc::{AllocError, Global};
 
 /// Puts a container behind the children of its parent.
@@ -16,7 +16,8 @@ fn adopt(
 ) -> Result<(), AllocError>
     requires { (p : ℕ) → parent ≡ Some p → p < length children.old.items }
     ensures count { OnOk result (length children.new.items ≡ length children.old.items) }
-    ensures each { OnOk result ((n : ℕ) (xs : List ℕ) → slice_get children.old.items n ≡ Some xs → slice_get children.new.items n ≡ Some (xs ++ if_parent n parent number)) }
+    ensures each { OnOk result ((n : ℕ) (xs : List ℕ) → slice_get children.old.items n ≡ Some xs →
+        slice_get children.new.items n ≡ Some (xs ++ if_parent n parent number)) }
 {
     match parent {
         None => Ok(()),

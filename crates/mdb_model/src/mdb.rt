@@ -1,46 +1,49 @@
 //! The checked mission database.
 
-ghost use Rattle.std.specs.Prelude.{◌≡◌, ◌<◌, IfOk, Some, is_some, length, map, slice_get};
-ghost use Rattle.mdb_model.specs.declared.not_mdb.NotMdb.TheVariants.{OutOfMemory};
+ghost use Rattle.std.specs.Prelude.{◌≡◌, ◌<◌, IfOk, Some, is_some, length, map, option_copied, slice_get};
+ghost use Rattle.mdb_items.specs.declared.not_mdb.NotMdb.TheVariants.{OutOfMemory};
 ghost use Rattle.mdb_model.specs.Children.{children_of};
-ghost use Rattle.mdb_model.specs.Database.{IsDatabase, limit_passed};
+ghost use Rattle.mdb_items.specs.Database.{IsDatabase, limit_passed};
+ghost use Rattle.mdb_model.specs.Lookups.{calibration_at, calibration_of};
 ghost use Rattle.mdb_model.specs.SheetResults.{AreSpelledLists, IsCalibrationSheetResult, IsContainerSheetResult, IsParameterSheetResult, IsLimitsResult, database_from};
 ghost use Rattle.mdb_model.specs.Rechecking.{ListsRechecked, refusal};
 ghost use Rattle.mdb_model.specs.Sheets.{IsCheckResult};
-ghost use Rattle.mdb_model.specs.Spelling.{database_octets};
-ghost use Rattle.mdb_model.specs.Texts.{place_of};
+ghost use Rattle.mdb_octets.specs.Spelling.{database_octets};
+ghost use Rattle.mdb_items.specs.Texts.{place_of};
 ghost use Rattle.octet_fields.specs.Answers.{ReadsEach, ReadsOnly};
 
-use crate::calibration::Calibration;
-use crate::calibration_rows::Calibrations;
 use crate::children::children_of;
-use crate::container::Container;
-use crate::container_rows::Containers;
-use crate::copies::{calibrations_copy, children_copy, containers_copy, parameters_copy};
-use crate::fault::{MdbFault, MdbLimit, MdbSheet};
-use item_list::items::Items;
-use crate::limits::limit_passed;
-use crate::names::Names;
-use crate::not_mdb::NotMdb;
-use crate::parameter::Parameter;
-use crate::parameter_rows::Parameters;
-use crate::reading::{ItemLists, item_lists};
+use crate::name_order::{name_order, number_of};
 use crate::rechecking::{
     have_rows, rechecked_calibrations, rechecked_containers, rechecked_parameters,
 };
-use crate::sheet::{RawMdb, Record};
 use crate::sheet_rows::{is_calibration_header, is_container_header, is_parameter_header};
 use crate::sheets::{calibrations_of, containers_of, parameters_of};
-use crate::spelling::spelling;
+use item_list::items::Items;
+use mdb_items::calibration::Calibration;
+use mdb_items::container::Container;
+use mdb_items::fault::{MdbFault, MdbLimit, MdbSheet};
+use mdb_items::not_mdb::NotMdb;
+use mdb_items::parameter::Parameter;
+use mdb_items::sheet::{RawMdb, Record};
+use mdb_octets::reading::{ItemLists, item_lists};
+use mdb_octets::spelling::spelling;
+use mdb_rules::calibration_rows::Calibrations;
+use mdb_rules::container_rows::Containers;
+use mdb_rules::limits::limit_passed;
+use mdb_rules::parameter_rows::Parameters;
 use octet_fields::DecodeError;
 use std::alloc::{AllocError, Global};
 use std::marker::Model;
+use std::sync::Arc;
 
-/// A mission database that breaks no rule and passes no limit.
+/// The items of a database, and what finds them.
 #[derive(Drop)]
-pub struct Mdb {
-    parameter_names: Names,
-    container_names: Names,
+struct Inner {
+    /// The numbers of the parameters in the order of their names.
+    parameter_order: Vec<u16>,
+    /// The numbers of the containers in the order of their names.
+    container_order: Vec<u16>,
     parameters: Vec<Parameter>,
     calibrations: Vec<Calibration>,
     containers: Vec<Container>,
@@ -48,8 +51,8 @@ pub struct Mdb {
     children: Vec<Items<u16>>,
 }
 
-impl Model for Mdb {
-    ghost use Rattle.mdb_model.specs.Database.{Database};
+impl Model for Inner {
+    ghost use Rattle.mdb_items.specs.Database.{Database};
 
     ghost Value = { Database };
 
@@ -58,6 +61,21 @@ impl Model for Mdb {
     ghost view = { database_inside };
 
     ghost invariant = { MdbInvariant };
+}
+
+/// A mission database that breaks no rule and passes no limit. Copies share its items.
+#[derive(Drop)]
+pub struct Mdb {
+    inner: Arc<Inner, Global>,
+}
+
+impl Model for Mdb {
+    ghost use Rattle.mdb_items.specs.Database.{Database};
+    ghost use Rattle.std.specs.Arc.{arc_value};
+
+    ghost Value = { Database };
+
+    ghost view = { λ m. arc_value m.inner };
 }
 
 /// The refusal of a sheet without its header.
@@ -134,6 +152,15 @@ fn limit_of(
     )
 }
 
+/// The database of items.
+fn shared(alloc: Global, inner: Inner) -> Result<Mdb, AllocError>
+    ensures { IfOk result (λ mdb. mdb ≡ inner) }
+{
+    Ok(Mdb {
+        inner: Arc::new(alloc, inner)?,
+    })
+}
+
 /// The database of sound rows, or the first limit that they pass.
 pub(crate) fn within_limits(
     alloc: Global,
@@ -147,15 +174,21 @@ pub(crate) fn within_limits(
     if let Some((which, number)) = limit_of(&calibrations, &parameters, &containers) {
         return Err(MdbFault::Limit { which, number });
     }
+    let parameter_order = name_order(alloc, parameters.items.as_slice())?;
+    let container_order = name_order(alloc, containers.items.as_slice())?;
     let children = children_of(alloc, containers.items.as_slice())?;
-    Ok(Mdb {
-        parameter_names: parameters.names,
-        container_names: containers.names,
-        parameters: parameters.items,
-        calibrations: calibrations.items,
-        containers: containers.items,
-        children,
-    })
+    let mdb = shared(
+        alloc,
+        Inner {
+            parameter_order,
+            container_order,
+            parameters: parameters.items,
+            calibrations: calibrations.items,
+            containers: containers.items,
+            children,
+        },
+    )?;
+    Ok(mdb)
 }
 
 impl Mdb {
@@ -175,41 +208,45 @@ impl Mdb {
     pub fn parameters(&self) -> u16
         ensures { result ≡ length self.now.parameters }
     {
-        self.parameters.len() as u16
+        self.inner.parameters.len() as u16
     }
 
     /// How many calibrations there are.
     pub fn calibrations(&self) -> u16
         ensures { result ≡ length self.now.calibrations }
     {
-        self.calibrations.len() as u16
+        self.inner.calibrations.len() as u16
     }
 
     /// How many containers there are.
     pub fn containers(&self) -> u16
         ensures { result ≡ length self.now.containers }
     {
-        self.containers.len() as u16
+        self.inner.containers.len() as u16
     }
 
     /// The number of the parameter that has a name.
     pub fn parameter_number(&self, name: &str) -> Option<u16>
         ensures { result ≡ place_of name.now (map (λ p. p.name) self.now.parameters) }
     {
-        match self.parameter_names.number(name.as_bytes()) {
-            Some(number) => Some(number as u16),
-            None => None,
-        }
+        let inner = &*self.inner;
+        number_of(
+            inner.parameters.as_slice(),
+            inner.parameter_order.as_slice(),
+            name.as_bytes(),
+        )
     }
 
     /// The number of the container that has a name.
     pub fn container_number(&self, name: &str) -> Option<u16>
         ensures { result ≡ place_of name.now (map (λ c. c.name) self.now.containers) }
     {
-        match self.container_names.number(name.as_bytes()) {
-            Some(number) => Some(number as u16),
-            None => None,
-        }
+        let inner = &*self.inner;
+        number_of(
+            inner.containers.as_slice(),
+            inner.container_order.as_slice(),
+            name.as_bytes(),
+        )
     }
 
     /// The parameter with a number.
@@ -217,7 +254,7 @@ impl Mdb {
         requires { n < length self.now.parameters }
         ensures { slice_get self.now.parameters n ≡ Some result.now }
     {
-        &self.parameters[n as usize]
+        &self.inner.parameters[n as usize]
     }
 
     /// The calibration with a number.
@@ -225,7 +262,7 @@ impl Mdb {
         requires { n < length self.now.calibrations }
         ensures { slice_get self.now.calibrations n ≡ Some result.now }
     {
-        &self.calibrations[n as usize]
+        &self.inner.calibrations[n as usize]
     }
 
     /// The container with a number.
@@ -233,7 +270,7 @@ impl Mdb {
         requires { n < length self.now.containers }
         ensures { slice_get self.now.containers n ≡ Some result.now }
     {
-        &self.containers[n as usize]
+        &self.inner.containers[n as usize]
     }
 
     /// The parameters in the order of their sheet.
@@ -241,7 +278,19 @@ impl Mdb {
         ensures value { result.now ≡ self.now.parameters }
         ensures sound { IsDatabase self.now }
     {
-        self.parameters.as_slice()
+        self.inner.parameters.as_slice()
+    }
+
+    /// The calibration of the parameter with a number, where it has one.
+    pub fn calibration_of(&self, parameter: u16) -> Option<&Calibration>
+        requires { parameter < length self.now.parameters }
+        ensures { option_copied result ≡ calibration_of self.now parameter }
+    {
+        let inner = &*self.inner;
+        calibration_at(
+            inner.calibrations.as_slice(),
+            inner.parameters[parameter as usize].calibration,
+        )
     }
 
     /// The calibrations in the order of their sheet.
@@ -249,7 +298,7 @@ impl Mdb {
         ensures value { result.now ≡ self.now.calibrations }
         ensures sound { IsDatabase self.now }
     {
-        self.calibrations.as_slice()
+        self.inner.calibrations.as_slice()
     }
 
     /// The containers in the order of their sheet.
@@ -257,7 +306,7 @@ impl Mdb {
         ensures value { result.now ≡ self.now.containers }
         ensures sound { IsDatabase self.now }
     {
-        self.containers.as_slice()
+        self.inner.containers.as_slice()
     }
 
     /// The numbers of the containers directly below the one with a number, in the order of their sheet.
@@ -265,29 +314,31 @@ impl Mdb {
         requires { n < length self.now.containers }
         ensures { result.now ≡ children_of self.now.containers n }
     {
-        self.children[n as usize].as_slice()
+        self.inner.children[n as usize].as_slice()
     }
 
     /// The database keeps the rules and the limits. This does nothing but tell a proof so.
     pub fn is_sound(&self)
         ensures { IsDatabase self.now }
     {
-        let _ = &self.parameters;
+        let _ = &self.inner.parameters;
     }
 
-    /// An equal value.
-    pub fn copy(&self, alloc: Global) -> Result<Mdb, AllocError>
+    /// An equal value, which shares the items.
+    pub fn copy(&self) -> Result<Mdb, AllocError>
         ensures { IfOk result (λ copy. copy ≡ self.now) }
     {
         Ok(Mdb {
-            parameter_names: self.parameter_names.copy()?,
-            container_names: self.container_names.copy()?,
-            parameters: parameters_copy(alloc, self.parameters.as_slice())?,
-            calibrations: calibrations_copy(alloc, self.calibrations.as_slice())?,
-            containers: containers_copy(alloc, self.containers.as_slice())?,
-            children: children_copy(alloc, self.children.as_slice())?,
+            inner: Arc::try_clone(&self.inner)?,
         })
     }
+}
+
+/// The calibration with a number, where there is a number.
+fn calibration_at(calibrations: &[Calibration], number: Option<usize>) -> Option<&Calibration>
+    ensures { option_copied result ≡ calibration_at calibrations.now number }
+{
+    calibrations.get(number?)
 }
 
 /// How octets are refused whose lists make no database.
@@ -303,7 +354,12 @@ fn refusal(fault: MdbFault) -> DecodeError
 
 /// The decoded lists pass a limit.
 fn pass_limit(lists: &ItemLists) -> bool
-    ensures { result ≡ is_some (limit_passed (record { parameters = lists.now.parameters.items; calibrations = lists.now.calibrations.items; containers = lists.now.containers.items })) }
+    ensures { result ≡ is_some
+        (limit_passed (record {
+          parameters = lists.now.parameters.items;
+          calibrations = lists.now.calibrations.items;
+          containers = lists.now.containers.items;
+        })) }
 {
     limit_passed(&lists.parameters, &lists.calibrations, &lists.containers).is_some()
 }
@@ -312,7 +368,12 @@ impl Mdb {
     /// The database of decoded lists, whose items are taken in again by the rules of the sheets, once the limits were
     /// asked.
     fn of_lists(alloc: Global, lists: &ItemLists) -> Result<Mdb, DecodeError>
-        ensures { ListsRechecked (record { parameters = lists.now.parameters.items; calibrations = lists.now.calibrations.items; containers = lists.now.containers.items }) result }
+        ensures { ListsRechecked (record {
+          parameters = lists.now.parameters.items;
+          calibrations =
+              lists.now.calibrations.items;
+          containers = lists.now.containers.items;
+        }) result }
     {
         if pass_limit(lists) {
             return Err(DecodeError::Malformed);
@@ -335,7 +396,10 @@ impl Mdb {
             &lists.containers,
         )?;
         match within_limits(alloc, calibrations, parameters, containers) {
-            Ok(mdb) => Ok(mdb),
+            Ok(mdb) => {
+                mdb.is_sound();
+                Ok(mdb)
+            }
             Err(fault) => Err(refusal(fault)),
         }
     }
@@ -359,11 +423,12 @@ impl Mdb {
     pub fn to_bytes(&self, alloc: Global) -> Result<Vec<u8>, AllocError>
         ensures { IfOk result (λ v. v.items ≡ database_octets self.now) }
     {
+        let inner = &*self.inner;
         spelling(
             alloc,
-            self.parameters.as_slice(),
-            self.calibrations.as_slice(),
-            self.containers.as_slice(),
+            inner.parameters.as_slice(),
+            inner.calibrations.as_slice(),
+            inner.containers.as_slice(),
         )
     }
 }

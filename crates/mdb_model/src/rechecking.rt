@@ -2,24 +2,26 @@
 
 ghost use Rattle.std.specs.Prelude.{◌≡◌, ◌<◌, ◌∷◌, ◌++◌, [], length, map, drop, take, flat_map, fold, slice_get, option_copied, option_map, None, Some, IfOk, nat_lt, true, false};
 ghost use Rattle.std.specs.List.{AllByRecursion, list_all};
-ghost use Rattle.mdb_model.specs.CalibrationRows.{row_values_of, rows_of_calibration, with_calibration_row};
-ghost use Rattle.mdb_model.specs.ContainerRows.{begin_row, entry_row, rows_of_container, with_container_row};
-ghost use Rattle.mdb_model.specs.Database.{table_len};
-ghost use Rattle.mdb_model.specs.ParameterRows.{reference_to, row_of_parameter};
+ghost use Rattle.mdb_items.specs.CalibrationRows.{row_values_of, rows_of_calibration, with_calibration_row};
+ghost use Rattle.mdb_items.specs.ContainerRows.{begin_row, entry_row, rows_of_container, with_container_row};
+ghost use Rattle.mdb_items.specs.Database.{table_len};
+ghost use Rattle.mdb_items.specs.ParameterRows.{reference_to, row_of_parameter};
 ghost use Rattle.mdb_model.specs.Rechecking.{CalibrationsRechecked, ContainersRechecked, HasRows, ParameterRechecked, ParametersRechecked, RowsRechecked, CalibrationRowRechecked, CalibrationRechecked, row_with};
-ghost use Rattle.mdb_model.specs.Totals.{HasPaths};
-ghost use Rattle.mdb_model.specs.Steps.{IsInStep};
+ghost use Rattle.mdb_rules.specs.Totals.{HasPaths};
+ghost use Rattle.mdb_rules.specs.Steps.{IsInStep};
 
-use crate::calibration::{Calibration, Table};
-use crate::calibration_rows::Calibrations;
-use crate::container::{Container, Entry};
-use crate::container_rows::Containers;
 use item_list::items::Items;
-use crate::limits::table_len;
-use crate::name::MdbName;
-use crate::parameter::Parameter;
-use crate::parameter_rows::Parameters;
-use crate::rows::{ContainerColumns, NewContainer, ParameterRow, Position, Reference, RowValues};
+use mdb_items::calibration::{Calibration, Table};
+use mdb_items::container::{Container, Entry};
+use mdb_items::name::MdbName;
+use mdb_items::parameter::Parameter;
+use mdb_items::rows::{
+    ContainerColumns, NewContainer, ParameterRow, Position, Reference, RowValues,
+};
+use mdb_rules::calibration_rows::Calibrations;
+use mdb_rules::container_rows::Containers;
+use mdb_rules::limits::table_len;
+use mdb_rules::parameter_rows::Parameters;
 use octet_fields::DecodeError;
 use std::alloc::{AllocError, Global};
 
@@ -54,7 +56,8 @@ fn recheck_row(
     next: Option<&[u8]>,
 ) -> Result<(), DecodeError>
     requires { IsInStep calibrations.old }
-    ensures { CalibrationRowRechecked calibrations.old calibrations.new (row_with name.now row_values) (option_copied next.entry) result }
+    ensures { CalibrationRowRechecked calibrations.old calibrations.new (row_with name.now row_values)
+        (option_copied next.entry) result }
 {
     if calibrations.broken(4, name, &row_values, next).is_some() {
         return Err(DecodeError::Malformed);
@@ -183,7 +186,13 @@ pub(crate) fn rechecked_parameters(
 }
 
 fn begun(alloc: Global, c: &Container) -> Result<NewContainer, AllocError>
-    ensures { IfOk result (λ b. b ≡ record { name = c.now.name; parent = reference_to c.now.parent; condition = Some c.now.condition; archive = Some c.now.archive }) }
+    ensures { IfOk result (λ b. b ≡ record {
+      name = c.now.name;
+      parent = reference_to c.now.parent;
+      condition = Some
+          c.now.condition;
+      archive = Some c.now.archive;
+    }) }
 {
     Ok(NewContainer {
         name: MdbName::from_slice(alloc, c.name.as_bytes())?,
@@ -240,7 +249,8 @@ fn recheck_entries(
 ) -> Result<(), DecodeError>
     requires path { HasPaths parameters.now containers.old }
     requires begun { 0 < length containers.old.items.items }
-    ensures { RowsRechecked parameters.now containers.old containers.new (flat_map (λ e. entry_row e ∷ []) entries.now) result }
+    ensures { RowsRechecked parameters.now containers.old containers.new (flat_map (λ e.
+        entry_row e ∷ []) entries.now) result }
 {
     for e in entries {
         recheck_entry(parameters, containers, e)?;

@@ -1,19 +1,21 @@
 //! What the texts of a sheet's records say.
 
 ghost use Rattle.std.specs.Prelude.{◌≡◌, ◌||◌, not, map, length, option_map, ◌+◌, ◌<◌, ◌^◌, IfOk};
-ghost use Rattle.mdb_model.specs.ContainerRows.{is_nothing};
-ghost use Rattle.mdb_model.specs.Lists.{is_empty};
+ghost use Rattle.mdb_items.specs.ContainerRows.{is_nothing};
+ghost use Rattle.mdb_items.specs.Lists.{is_empty};
 ghost use Rattle.mdb_model.specs.Sheets.{are_texts, is_calibration_header, is_container_header, is_parameter_header, position_from, read_archive, read_calibration, read_row_values, read_coding, read_columns, read_parameter, read_position, read_reference, reference_from};
-ghost use Rattle.mdb_model.specs.Texts.{field, offset};
+ghost use Rattle.mdb_items.specs.Texts.{field, offset};
 ghost use Rattle.text_forms.specs.Digits.{digits_at_most};
 
-use crate::condition::condition;
-use crate::name::MdbName;
-use crate::names::Names;
-use crate::parameter::Coding;
-use crate::rows::{ContainerColumns, NewContainer, ParameterRow, Position, Reference, RowValues};
-use crate::sheet::Record;
-use crate::texts::{decimal_number, offset, small_number, whole_number};
+use mdb_items::name::MdbName;
+use mdb_items::parameter::Coding;
+use mdb_items::rows::{
+    ContainerColumns, NewContainer, ParameterRow, Position, Reference, RowValues,
+};
+use mdb_items::sheet::Record;
+use mdb_items::texts::{decimal_number, offset, small_number, whole_number};
+use mdb_rules::condition::condition;
+use mdb_rules::names::Names;
 use std::alloc::{AllocError, Global};
 use text_forms::digits_at_most;
 
@@ -111,7 +113,8 @@ pub(crate) fn read_columns(
     above: &Names,
     fields: &Record,
 ) -> Result<ContainerColumns, AllocError>
-    ensures { IfOk result (λ columns. columns ≡ read_columns parameters.now above.now (field fields.now 0) (field fields.now 1) (field fields.now 2) (field fields.now 3)) }
+    ensures { IfOk result (λ columns. columns ≡ read_columns parameters.now above.now (field fields.now 0)
+        (field fields.now 1) (field fields.now 2) (field fields.now 3)) }
 {
     let name = fields.field(0);
     let parent = fields.field(1);

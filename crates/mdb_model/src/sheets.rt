@@ -1,22 +1,22 @@
 //! The three sheets, checked one after the other.
 
 ghost use Rattle.std.specs.Prelude.{◌≡◌, ◌∷◌, ◌++◌, [], None, Some, Ok, option_copied, option_map, map, slice_get, IfOk};
-ghost use Rattle.mdb_model.specs.CalibrationRows.{calibration_fault, with_calibration_row};
-ghost use Rattle.mdb_model.specs.ContainerRows.{row_fault, with_container_row};
-ghost use Rattle.mdb_model.specs.ParameterRows.{parameter_fault, parameter_of};
+ghost use Rattle.mdb_items.specs.CalibrationRows.{calibration_fault, with_calibration_row};
+ghost use Rattle.mdb_items.specs.ContainerRows.{row_fault, with_container_row};
+ghost use Rattle.mdb_items.specs.ParameterRows.{parameter_fault, parameter_of};
 ghost use Rattle.mdb_model.specs.Sheets.{read_calibration, read_container, read_containers, read_parameter};
-ghost use Rattle.mdb_model.specs.Totals.{HasPaths};
-ghost use Rattle.mdb_model.specs.Steps.{IsCalibrationsResult, IsContainersResult, IsInStep, IsParametersResult};
-ghost use Rattle.mdb_model.specs.Texts.{field};
+ghost use Rattle.mdb_rules.specs.Totals.{HasPaths};
+ghost use Rattle.mdb_rules.specs.Steps.{IsCalibrationsResult, IsContainersResult, IsInStep, IsParametersResult};
+ghost use Rattle.mdb_items.specs.Texts.{field};
 
-use crate::calibration_rows::Calibrations;
-use crate::container_rows::{Containers, is_continuing};
-use crate::fault::{MdbFault, MdbSheet};
-use crate::parameter_rows::Parameters;
-use crate::sheet::Record;
 use crate::sheet_rows::{
     read_columns, read_parameter, read_position, read_reference, read_row_values,
 };
+use mdb_items::fault::{MdbFault, MdbSheet};
+use mdb_items::sheet::Record;
+use mdb_rules::calibration_rows::Calibrations;
+use mdb_rules::container_rows::{Containers, is_continuing};
+use mdb_rules::parameter_rows::Parameters;
 use std::alloc::{AllocError, Global};
 
 /// The first field of a record, if there is a record.
@@ -44,8 +44,11 @@ fn take_calibration(
     next: Option<&Record>,
 ) -> Result<Option<u8>, AllocError>
     requires { IsInStep calibrations.old }
-    ensures fault { IfOk result (λ rule. rule ≡ calibration_fault calibrations.old.items.items (Some (read_calibration fields.now)) (option_map read_calibration (option_copied next.entry))) }
-    ensures added { result ≡ Ok None → calibrations.new.items.items ≡ with_calibration_row calibrations.old.items.items (read_calibration fields.now) }
+    ensures fault { IfOk result (λ rule. rule ≡ calibration_fault calibrations.old.items.items
+        (Some (read_calibration fields.now)) (option_map read_calibration (option_copied next.entry))) }
+    ensures added { result ≡ Ok None →
+        calibrations.new.items.items ≡ with_calibration_row calibrations.old.items.items
+        (read_calibration fields.now) }
     ensures step { result ≡ Ok None → IsInStep calibrations.new }
 {
     let count = fields.len();
@@ -86,8 +89,11 @@ fn take_parameter(
     fields: &Record,
 ) -> Result<Option<u8>, AllocError>
     requires names { parameters.old.names ≡ map (λ p. p.name) parameters.old.items.items }
-    ensures fault { IfOk result (λ rule. rule ≡ parameter_fault calibrations.now.items.items parameters.old.items.items (Some (read_parameter calibrations.now.names fields.now))) }
-    ensures added { result ≡ Ok None → parameters.new.items.items ≡ parameters.old.items.items ++ parameter_of (read_parameter calibrations.now.names fields.now) ∷ [] }
+    ensures fault { IfOk result (λ rule.
+        rule ≡ parameter_fault calibrations.now.items.items parameters.old.items.items
+        (Some (read_parameter calibrations.now.names fields.now))) }
+    ensures added { result ≡ Ok None → parameters.new.items.items ≡ parameters.old.items.items ++ parameter_of
+        (read_parameter calibrations.now.names fields.now) ∷ [] }
     ensures names { result ≡ Ok None → parameters.new.names ≡ map (λ p. p.name) parameters.new.items.items }
 {
     let row = read_parameter(alloc, &calibrations.names, fields)?;
@@ -105,7 +111,8 @@ pub(crate) fn parameters_of(
     calibrations: &Calibrations,
     records: &[Record],
 ) -> Result<Parameters, MdbFault>
-    ensures { IsParametersResult calibrations.now.items.items (map (read_parameter calibrations.now.names) records.now) result }
+    ensures { IsParametersResult calibrations.now.items.items (map (read_parameter calibrations.now.names)
+        records.now) result }
 {
     let mut parameters = Parameters::new(alloc);
     for (i, fields) in records.iter().enumerate() {
@@ -129,8 +136,10 @@ fn take_container(
 ) -> Result<Option<u8>, AllocError>
     requires path { HasPaths parameters.now.items.items containers.old }
     requires names { parameters.now.names ≡ map (λ p. p.name) parameters.now.items.items }
-    ensures fault { IfOk result (λ rule. rule ≡ row_fault parameters.now.items.items containers.old.items.items (read_container parameters.now.items.items containers.old.items.items fields.now)) }
-    ensures added { result ≡ Ok None → containers.new.items.items ≡ with_container_row containers.old.items.items (read_container parameters.now.items.items containers.old.items.items fields.now) }
+    ensures fault { IfOk result (λ rule. rule ≡ row_fault parameters.now.items.items containers.old.items.items
+        (read_container parameters.now.items.items containers.old.items.items fields.now)) }
+    ensures added { result ≡ Ok None → containers.new.items.items ≡ with_container_row containers.old.items.items
+        (read_container parameters.now.items.items containers.old.items.items fields.now) }
     ensures path { result ≡ Ok None → HasPaths parameters.now.items.items containers.new }
 {
     let columns = read_columns(alloc, &parameters.names, &containers.names, fields)?;
@@ -154,7 +163,8 @@ pub(crate) fn containers_of(
     records: &[Record],
 ) -> Result<Containers, MdbFault>
     requires { parameters.now.names ≡ map (λ p. p.name) parameters.now.items.items }
-    ensures { IsContainersResult parameters.now.items.items (read_containers parameters.now.items.items [] records.now) result }
+    ensures { IsContainersResult parameters.now.items.items (read_containers parameters.now.items.items []
+        records.now) result }
 {
     if records.is_empty() {
         return Err(MdbFault::Bad {

@@ -423,7 +423,7 @@ fn children(mdb: &Mdb, number: u16) -> &[u16] {
 fn each(alloc: Global) -> Result<Mdb, MdbFault> {
     let mdb = check(alloc, EACH_PARAMETER, EACH_CALIBRATION, EACH_CONTAINER)?;
     mdb.is_sound();
-    Ok(mdb.copy(alloc)?)
+    Ok(mdb.copy()?)
 }
 
 #[test]

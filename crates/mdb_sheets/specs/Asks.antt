@@ -10,10 +10,10 @@ use Rattle.arch_types.specs.declared.refusal.Which.TheVariants.{SheetOctets}
 use Rattle.arch_types.specs.declared.refusal.Which.TheVariants as which
 use Rattle.arch_types.specs.Limits.{limit_of}
 use Rattle.text_forms.specs.Names.{is_name}
-use Rattle.mdb_model.specs.Checks.{Checks, first_broken, or_else}
-use Rattle.mdb_model.specs.Lists.{is_empty}
+use Rattle.mdb_items.specs.Checks.{Checks, first_broken, or_else}
+use Rattle.mdb_items.specs.Lists.{is_empty}
 use Rattle.mdb_model.specs.Sheets.{are_texts}
-use Rattle.mdb_model.specs.Texts.{field}
+use Rattle.mdb_items.specs.Texts.{field}
 use Rattle.text_forms.specs.Digits.{digits_at_most}
 use Rattle.outer_traits.specs.Outside.{HasRisen}
 use Rattle.time_text.specs.TimeText.{time_of}

@@ -6,7 +6,7 @@ use Rattle.arch_types.specs.declared.refusal.Refusal.TheVariants.{Missing, ReadF
 use Rattle.arch_types.specs.declared.refusal.Which.TheVariants.{SheetOctets}
 use Rattle.arch_types.specs.Limits.{limit_of}
 use Rattle.csv.specs.Reading.{default_config, records, strip_bom}
-use Rattle.mdb_model.specs.declared.sheet.RawMdb.{RawMdb}
+use Rattle.mdb_items.specs.declared.sheet.RawMdb.{RawMdb}
 use Rattle.outer_traits.specs.Outside.{Files, HasRisen, IsOneMoreAtMost, Stays, one_more}
 use Rattle.outer_traits.specs.Whole.{IsThere}
 

@@ -98,10 +98,12 @@ fn asks_in(alloc: Global, octets: &[u8]) -> Result<Asks, Refusal>
 pub fn read_asks<S: Source>(alloc: Global, source: &mut S) -> Result<Asks, Refusal>
     ensures asks { IfOk result (AreAsks (S.left source.old)) }
     ensures refused { IfErr result (IsAsksRefusal (S.left source.old) (S.faults source.old) (S.faults source.new)) }
-    ensures within { IsErrOf result Refusal.ReadFault → TookAtMost (limit_of SheetOctets) (S.left source.old) (S.left source.new) }
+    ensures within { IsErrOf result Refusal.ReadFault → TookAtMost (limit_of SheetOctets) (S.left source.old)
+        (S.left source.new) }
     ensures counted { ReadsCounted (result_err result) (S.faults source.old) (S.faults source.new) }
     ensures later { S.faults source.old ≤ S.faults source.new }
-    ensures reliable { S.never_fails source.old → S.never_fails source.new × Stays (S.faults source.old) (S.faults source.new) }
+    ensures reliable { S.never_fails source.old → S.never_fails source.new ×
+        Stays (S.faults source.old) (S.faults source.new) }
 {
     match read_whole(alloc, source, Which::SheetOctets.limit() as usize) {
         Ok(octets) => asks_in(alloc, octets.as_slice()),

@@ -30,7 +30,8 @@ pub fn read_mdb<I: Inputs>(
     ensures closed { I.open_sources inputs.old + 1 < 2 ^ 64 → I.open_sources inputs.new ≡ I.open_sources inputs.old }
     ensures counted { ReadsCounted (result_err result) (I.faults inputs.old) (I.faults inputs.new) }
     ensures later { I.faults inputs.old ≤ I.faults inputs.new }
-    ensures reliable { I.never_fails inputs.old → I.never_fails inputs.new × Stays (I.faults inputs.old) (I.faults inputs.new) }
+    ensures reliable { I.never_fails inputs.old → I.never_fails inputs.new ×
+        Stays (I.faults inputs.old) (I.faults inputs.new) }
 {
     let parameter_sheet = read_sheet(alloc, inputs, parameters)?;
     let calibration_sheet = read_sheet(alloc, inputs, calibrations)?;

@@ -28,7 +28,8 @@ pub(crate) fn read_sheet<I: Inputs>(
     ensures closed { I.open_sources inputs.old + 1 < 2 ^ 64 → I.open_sources inputs.new ≡ I.open_sources inputs.old }
     ensures counted { ReadsCounted (result_err result) (I.faults inputs.old) (I.faults inputs.new) }
     ensures later { I.faults inputs.old ≤ I.faults inputs.new }
-    ensures reliable { I.never_fails inputs.old → I.never_fails inputs.new × Stays (I.faults inputs.old) (I.faults inputs.new) }
+    ensures reliable { I.never_fails inputs.old → I.never_fails inputs.new ×
+        Stays (I.faults inputs.old) (I.faults inputs.new) }
 {
     match read_input(alloc, inputs, name, Which::SheetOctets.limit() as usize) {
         Ok(octets) => match records(alloc, octets.as_slice()) {

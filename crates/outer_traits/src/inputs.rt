@@ -31,7 +31,8 @@ pub trait Inputs {
     fn open(&mut self, alloc: Global, name: &str) -> Result<Self::Source, OpenFault>
         ensures found { IfOk result (λ source. Gives (files self.old) name.now (Self.Source.left source)) }
         ensures fresh { IfOk result (λ source. Self.Source.faults source ≡ 0) }
-        ensures missing { IfSome (files self.old) (λ all. IsErrOf result OpenFault.Missing ↔ IsNone (get all name.now)) }
+        ensures missing { IfSome (files self.old) (λ all. IsErrOf result OpenFault.Missing ↔
+            IsNone (get all name.now)) }
         ensures same { files self.new ≡ files self.old }
         ensures later { faults self.old ≤ faults self.new }
         ensures opened { OnOk result (open_sources self.new ≡ one_more (open_sources self.old)) }
@@ -50,5 +51,6 @@ pub trait Inputs {
         ensures gave_none { given self.new ≡ given self.old }
         ensures kept { Self.Source.faults source ≡ 0 → Stays (faults self.old) (faults self.new) }
         ensures risen { 0 < Self.Source.faults source → HasRisen (faults self.old) (faults self.new) }
-        ensures reliable { never_fails self.old → Self.Source.faults source ≡ 0 → never_fails self.new × Stays (faults self.old) (faults self.new) };
+        ensures reliable { never_fails self.old → Self.Source.faults source ≡ 0 → never_fails self.new ×
+            Stays (faults self.old) (faults self.new) };
 }

@@ -96,7 +96,8 @@ impl Source for MemSource {
         ensures later { self.old.faults ≤ self.new.faults }
         ensures failed { IsErr result → HasRisen self.old.faults self.new.faults }
         ensures no_fault { OnOk result (Stays self.old.faults self.new.faults) }
-        ensures reliable { self.old.calls.items ≡ [] → (self.new.calls.items ≡ []) × Stays self.old.faults self.new.faults }
+        ensures reliable { self.old.calls.items ≡ [] → (self.new.calls.items ≡ []) ×
+            Stays self.old.faults self.new.faults }
     {
         self.reads = self.reads.saturating_add(1);
         if is_listed(self.calls.as_slice(), self.opening, self.reads) {
@@ -164,7 +165,8 @@ impl Inputs for MemInputs {
         ensures numbered { self.new.opened ≡ one_more self.old.opened }
         ensures listed_fails { is_listed self.old.calls.items self.new.opened 0 ≡ true
             → IsSome (get (files_of self.old.files.items) name.now) → IsErrOf result OpenFault.Failed }
-        ensures unlisted_never_fails { is_listed self.old.calls.items self.new.opened 0 ≡ false → IsErrOf result OpenFault.Failed → ⊥ }
+        ensures unlisted_never_fails { is_listed self.old.calls.items self.new.opened 0 ≡ false →
+            IsErrOf result OpenFault.Failed → ⊥ }
         ensures known { IfOk result (λ source.
             (source.opening ≡ self.new.opened) × (source.calls.items ≡ self.old.calls.items)) }
         ensures unread { IfOk result (λ source. source.reads ≡ 0) }
@@ -180,7 +182,8 @@ impl Inputs for MemInputs {
         ensures gave { OnOk result (self.new.given ≡ one_more self.old.given) }
         ensures gave_none { OnErr result (self.new.given ≡ self.old.given) }
         ensures counted { OpeningCounted result self.old.faults self.new.faults }
-        ensures reliable { self.old.calls.items ≡ [] → (self.new.calls.items ≡ []) × Stays self.old.faults self.new.faults }
+        ensures reliable { self.old.calls.items ≡ [] → (self.new.calls.items ≡ []) ×
+            Stays self.old.faults self.new.faults }
         ensures reliable_source { self.old.calls.items ≡ [] → IfOk result (λ source. source.calls.items ≡ []) }
     {
         self.opened = self.opened.saturating_add(1);

@@ -67,7 +67,8 @@ impl Sink for MemSink {
         ensures same_calls { self.new.calls ≡ self.old.calls }
         ensures whole { IfOk result (λ n. n ≡ length piece.now) }
         ensures count { IfOk result (λ n. n ≤ length piece.now) }
-        ensures appended { IfOk result (λ n. Writes (Some self.old.octets.items) (Some self.new.octets.items) n piece.now) }
+        ensures appended { IfOk result (λ n. Writes (Some self.old.octets.items) (Some self.new.octets.items) n
+            piece.now) }
         ensures some { OnErr result (WritesSome (Some self.old.octets.items) (Some self.new.octets.items) piece.now) }
         ensures later { self.old.faults ≤ self.new.faults }
         ensures failed { IsErr result → HasRisen self.old.faults self.new.faults }

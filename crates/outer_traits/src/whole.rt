@@ -44,13 +44,15 @@ pub fn read_input<I: Inputs>(
 ) -> Result<Vec<u8>, ReadFault>
     ensures whole { IfOk result (λ octets. IsInput (I.files inputs.old) name.now octets.items) }
     ensures short { IfOk result (λ octets. vec_len octets ≤ limit) }
-    ensures fault { IfErr result (IsReadFault (I.files inputs.old) name.now limit (I.faults inputs.old) (I.faults inputs.new)) }
+    ensures fault { IfErr result (IsReadFault (I.files inputs.old) name.now limit (I.faults inputs.old)
+        (I.faults inputs.new)) }
     ensures same { I.files inputs.new ≡ I.files inputs.old }
     ensures closed { I.open_sources inputs.old + 1 < 2 ^ 64 → I.open_sources inputs.new ≡ I.open_sources inputs.old }
     ensures gave { ReadingGiven result (I.given inputs.old) (I.given inputs.new) }
     ensures counted { ReadingCounted result (I.faults inputs.old) (I.faults inputs.new) }
     ensures later { I.faults inputs.old ≤ I.faults inputs.new }
-    ensures reliable { I.never_fails inputs.old → I.never_fails inputs.new × Stays (I.faults inputs.old) (I.faults inputs.new) }
+    ensures reliable { I.never_fails inputs.old → I.never_fails inputs.new ×
+        Stays (I.faults inputs.old) (I.faults inputs.new) }
 {
     match inputs.open(alloc, name) {
         Ok(opened) => {
@@ -79,7 +81,8 @@ pub fn read_whole<S: Source>(
     ensures counted { ReadingCounted result (S.faults source.old) (S.faults source.new) }
     ensures not_missing { IsErrOf result ReadFault.Missing → ⊥ }
     ensures later { S.faults source.old ≤ S.faults source.new }
-    ensures reliable { S.never_fails source.old → S.never_fails source.new × Stays (S.faults source.old) (S.faults source.new) }
+    ensures reliable { S.never_fails source.old → S.never_fails source.new ×
+        Stays (S.faults source.old) (S.faults source.new) }
 {
     let mut octets = Vec::new(alloc);
     let mut piece = zeros(alloc, PIECE)?;

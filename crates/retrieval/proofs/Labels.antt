@@ -3,13 +3,13 @@ use Rattle.std.proofs.Common.{◌≡◌, ◌≤◌, ℕ, List, [], ◌∷◌, le
 use Rattle.std.specs.Prelude.{slice_get}
 use Rattle.std.specs.List.{AllByRecursion}
 use Rattle.calibration.specs.Calibrated.{calibration_at}
-use Rattle.mdb_model.specs.declared.calibration.Calibration.{Calibration}
-use Rattle.mdb_model.specs.declared.calibration.EnumRow.{EnumRow}
-use Rattle.mdb_model.specs.declared.calibration.Table.{Table}
-use Rattle.mdb_model.specs.declared.calibration.Table.TheVariants.{Poly, Points, Enum}
-use Rattle.mdb_model.specs.Database.{Database, IsDatabase}
-use Rattle.mdb_model.specs.Structure.{IsLabelled, IsTable}
-use Rattle.mdb_model.specs.Texts.{is_label}
+use Rattle.mdb_items.specs.declared.calibration.Calibration.{Calibration}
+use Rattle.mdb_items.specs.declared.calibration.EnumRow.{EnumRow}
+use Rattle.mdb_items.specs.declared.calibration.Table.{Table}
+use Rattle.mdb_items.specs.declared.calibration.Table.TheVariants.{Poly, Points, Enum}
+use Rattle.mdb_items.specs.Database.{Database, IsDatabase}
+use Rattle.mdb_items.specs.Structure.{IsLabelled, IsTable}
+use Rattle.mdb_items.specs.Texts.{is_label}
 use Rattle.mdb_model.proofs.Structure.{structured}
 use Rattle.retrieval.specs.CellText.{HasShortLabels, rows_of_table}
 

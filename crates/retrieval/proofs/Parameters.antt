@@ -3,15 +3,15 @@ use Rattle.std.proofs.Common.{◌≡◌, ◌∙◌, ◌<◌, ℕ, List, length, 
 use Rattle.std.specs.Str.{bytes_eq}
 use Rattle.std.proofs.lemmas.List.{length-map}
 use Rattle.calibration.proofs.Admission.{place_within}
-use Rattle.mdb_model.specs.declared.parameter.Parameter.{Parameter}
+use Rattle.mdb_items.specs.declared.parameter.Parameter.{Parameter}
 use Rattle.std.specs.Prelude.{Ok, Err}
 use Rattle.arch_types.specs.declared.refusal.Refusal.{Refusal}
 use Rattle.arch_types.specs.declared.refusal.Refusal.TheVariants as refused
-use Rattle.mdb_model.specs.declared.fault.MdbFault.{MdbFault}
-use Rattle.mdb_model.specs.declared.fault.MdbFault.TheVariants.{Bad, Limit, OutOfMemory}
-use Rattle.mdb_model.specs.declared.fault.MdbLimit.{MdbLimit}
-use Rattle.mdb_model.specs.declared.sheet.RawMdb.{RawMdb}
-use Rattle.mdb_model.specs.Database.{Broken, Database, limit_passed}
+use Rattle.mdb_items.specs.declared.fault.MdbFault.{MdbFault}
+use Rattle.mdb_items.specs.declared.fault.MdbFault.TheVariants.{Bad, Limit, OutOfMemory}
+use Rattle.mdb_items.specs.declared.fault.MdbLimit.{MdbLimit}
+use Rattle.mdb_items.specs.declared.sheet.RawMdb.{RawMdb}
+use Rattle.mdb_items.specs.Database.{Broken, Database, limit_passed}
 use Rattle.mdb_model.specs.Sheets.{IsCheckResult, sheets_database}
 use Rattle.retrieval.specs.Parameter.{IsNoParameter, IsParameter, first_refusal, number_named, parameter_refusal, refusal_of_sheets}
 

@@ -9,8 +9,8 @@ use Rattle.arch_types.specs.declared.row.Row.{Row}
 use Rattle.arch_types.specs.declared.refusal.Refusal.{Refusal}
 use Rattle.arch_types.specs.declared.refusal.Refusal.TheVariants.{UnknownParameter, BadRange}
 use Rattle.archive_core.specs.Items.{Item, rows_in}
-use Rattle.mdb_model.specs.Checks.{or_else}
-use Rattle.mdb_model.specs.Database.{Database}
+use Rattle.mdb_items.specs.Checks.{or_else}
+use Rattle.mdb_items.specs.Database.{Database}
 use Rattle.container_extract.specs.Extraction.{values_of}
 use Rattle.retrieval.specs.declared.answer.ParameterAnswer.{ParameterAnswer}
 use Rattle.retrieval.specs.Parameter.{number_named}

@@ -6,8 +6,8 @@ use Rattle.arch_types.specs.declared.row.Row.{Row}
 use Rattle.arch_types.specs.Arrivals.{arrivals}
 use Rattle.arch_types.specs.History.{firsts}
 use Rattle.arch_types.specs.Table.{table_of}
-use Rattle.mdb_model.specs.declared.calibration.Calibration.{Calibration}
-use Rattle.mdb_model.specs.Database.{Database}
+use Rattle.mdb_items.specs.declared.calibration.Calibration.{Calibration}
+use Rattle.mdb_items.specs.Database.{Database}
 use Rattle.calibration.specs.Calibrated.{calibration_at}
 use Rattle.container_extract.specs.Chain.{packet_name_of}
 use Rattle.container_extract.specs.Extraction.{cell_of}

@@ -78,7 +78,9 @@ fn plan_cells(
     number: u16,
     request: &Request,
 ) -> Result<Cells, AllocError>
-    ensures { IfOk result (λ cells. cells ≡ truncated request.now.limit (in_asked_order request.now.descending (filter_map (cell_of (arc_value plan.now.mdb) number) (rows_of_parts plan.now.parts)))) }
+    ensures { IfOk result (λ cells.
+        cells ≡ truncated request.now.limit (in_asked_order request.now.descending
+        (filter_map (cell_of (arc_value plan.now.mdb) number) (rows_of_parts plan.now.parts)))) }
 {
     let parts = plan.parts.as_slice();
     if request.descending {
@@ -97,7 +99,8 @@ fn first_cells(
     parts: &[Part],
     limit: Option<u64>,
 ) -> Result<Vec<Cell>, AllocError>
-    ensures { IfOk result (λ cells. cells.items ≡ truncated limit (filter_map (cell_of mdb.now number) (rows_of_parts parts.now))) }
+    ensures { IfOk result (λ cells.
+        cells.items ≡ truncated limit (filter_map (cell_of mdb.now number) (rows_of_parts parts.now))) }
 {
     let mut cells = Vec::new(alloc);
     for part in parts {
@@ -114,7 +117,9 @@ fn last_cells(
     parts: &[Part],
     limit: Option<u64>,
 ) -> Result<Vec<Cell>, AllocError>
-    ensures { IfOk result (λ cells. cells.items ≡ truncated limit (in_asked_order true (filter_map (cell_of mdb.now number) (rows_of_parts parts.now)))) }
+    ensures { IfOk result (λ cells.
+        cells.items ≡ truncated limit
+        (in_asked_order true (filter_map (cell_of mdb.now number) (rows_of_parts parts.now)))) }
 {
     let mut cells = Vec::new(alloc);
     for part in parts.iter().rev() {
@@ -133,7 +138,8 @@ fn add_cells(
     cells: &mut Vec<Cell>,
 ) -> Result<(), AllocError>
     requires { truncated limit cells.old.items ≡ cells.old.items }
-    ensures { OnOk result (cells.new.items ≡ truncated limit (cells.old.items ++ filter_map (cell_of mdb.now number) rows.now)) }
+    ensures { OnOk result (cells.new.items ≡ truncated limit (cells.old.items ++ filter_map (cell_of mdb.now number)
+        rows.now)) }
 {
     for row in rows {
         if is_full(cells.as_slice(), limit) {
@@ -154,7 +160,8 @@ fn add_last_cells(
     cells: &mut Vec<Cell>,
 ) -> Result<(), AllocError>
     requires { truncated limit cells.old.items ≡ cells.old.items }
-    ensures { OnOk result (cells.new.items ≡ truncated limit (cells.old.items ++ filter_map (cell_of mdb.now number) (reverse rows.now))) }
+    ensures { OnOk result (cells.new.items ≡ truncated limit (cells.old.items ++ filter_map (cell_of mdb.now number)
+        (reverse rows.now))) }
 {
     for row in rows.iter().rev() {
         if is_full(cells.as_slice(), limit) {

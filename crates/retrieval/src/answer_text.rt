@@ -9,8 +9,8 @@ ghost use Rattle.dump_lines.specs.Output.{IsBuffered};
 
 use crate::answer::ParameterAnswer;
 use crate::cells::calibration_of;
-use dump_lines::line_buffer::LineBuffer;
 use arch_types::cell::Cell;
+use dump_lines::line_buffer::LineBuffer;
 use mdb_model::Calibration;
 use outer_traits::fault::Failed;
 use outer_traits::sink::Sink;
@@ -24,9 +24,12 @@ pub fn print_found<K: Sink>(
 ) -> Result<(), Failed>
     requires room { length line_buffer.old < 65536 }
     requires number { found.now.number < length (arc_value found.now.mdb).parameters }
-    ensures buffered { OnOk result (IsBuffered (K.written sink.old) (K.written sink.new) (line_buffer.old ++ answer_lines k found.now.answer.front (arc_value found.now.mdb) found.now.number found.now.answer.cells) line_buffer.new) }
+    ensures buffered { OnOk result (IsBuffered (K.written sink.old) (K.written sink.new)
+        (line_buffer.old ++ answer_lines k found.now.answer.front (arc_value found.now.mdb) found.now.number
+        found.now.answer.cells) line_buffer.new) }
     ensures room { OnOk result (length line_buffer.new < 65536) }
-    ensures some { OnErr result (WritesSome (K.written sink.old) (K.written sink.new) (line_buffer.old ++ answer_lines k found.now.answer.front (arc_value found.now.mdb) found.now.number found.now.answer.cells)) }
+    ensures some { OnErr result (WritesSome (K.written sink.old) (K.written sink.new) (line_buffer.old ++ answer_lines
+        k found.now.answer.front (arc_value found.now.mdb) found.now.number found.now.answer.cells)) }
     ensures later { K.faults sink.old ≤ K.faults sink.new }
     ensures failed { IsErr result → HasRisen (K.faults sink.old) (K.faults sink.new) }
     ensures no_fault { OnOk result (Stays (K.faults sink.old) (K.faults sink.new)) }
@@ -49,9 +52,11 @@ fn print_cells<K: Sink>(
 ) -> Result<(), Failed>
     requires room { length line_buffer.old < 65536 }
     requires labels { HasShortLabels (option_copied calibration) }
-    ensures buffered { OnOk result (IsBuffered (K.written sink.old) (K.written sink.new) (line_buffer.old ++ flat_map (cell_line (option_copied calibration.entry)) cells.now) line_buffer.new) }
+    ensures buffered { OnOk result (IsBuffered (K.written sink.old) (K.written sink.new)
+        (line_buffer.old ++ flat_map (cell_line (option_copied calibration.entry)) cells.now) line_buffer.new) }
     ensures room { OnOk result (length line_buffer.new < 65536) }
-    ensures some { OnErr result (WritesSome (K.written sink.old) (K.written sink.new) (line_buffer.old ++ flat_map (cell_line (option_copied calibration.entry)) cells.now)) }
+    ensures some { OnErr result (WritesSome (K.written sink.old) (K.written sink.new)
+        (line_buffer.old ++ flat_map (cell_line (option_copied calibration.entry)) cells.now)) }
     ensures later { K.faults sink.old ≤ K.faults sink.new }
     ensures failed { IsErr result → HasRisen (K.faults sink.old) (K.faults sink.new) }
     ensures no_fault { OnOk result (Stays (K.faults sink.old) (K.faults sink.new)) }

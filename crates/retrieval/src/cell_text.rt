@@ -5,8 +5,8 @@ ghost use Rattle.std.specs.List.{AllByRecursion};
 ghost use Rattle.retrieval.specs.CellText.{cell_line, eng_text, fixed_text, label_text, labels_of, sign_text, six_digits, HasShortLabels};
 ghost use Rattle.retrieval.specs.ValuesText.{values_line};
 
-use dump_lines::line_buffer::LineBuffer;
 use arch_types::cell::{Cell, Eng};
+use dump_lines::line_buffer::LineBuffer;
 use itoa::Buffer;
 use mdb_model::{Calibration, EnumRow, Table};
 

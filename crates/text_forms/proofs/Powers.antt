@@ -8,4 +8,3 @@ digits_small n len most less fits =
     let p : 0 < 10 = omega arith in
     let up : 10 ^ len ≤ 10 ^ most = pow-le-pow_right {n = 10} p fits in
     omega arith
-

@@ -87,7 +87,8 @@ fn next_seen<'a>(
 ) -> Option<&'a Row>
     requires { AreRising stored.now entries.old }
     ensures rising { AreRising stored.now entries.new }
-    ensures taken { TakesFirst deref (rows_left stored.now window.now.front window.now.end entries.old) result (rows_left stored.now window.now.front window.now.end entries.new) }
+    ensures taken { TakesFirst deref (rows_left stored.now window.now.front window.now.end entries.old) result
+        (rows_left stored.now window.now.front window.now.end entries.new) }
 {
     while let Some(entry) = entries.next() {
         if !is_within(entry, window) {

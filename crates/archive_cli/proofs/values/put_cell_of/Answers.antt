@@ -1,6 +1,6 @@
 use Rattle.std.proofs.Common.{◌≡◌, ◌∙◌, ◌++◌, ap, append-nil, sym, Option, Some, None}
 use Rattle.arch_types.specs.declared.cell.Cell.{Cell}
-use Rattle.mdb_model.specs.declared.calibration.Calibration.{Calibration}
+use Rattle.mdb_items.specs.declared.calibration.Calibration.{Calibration}
 use Rattle.container_extract.specs.Extraction.{cell_of}
 use Rattle.retrieval.specs.CellText.{cell_line}
 use Rattle.archive_cli.specs.ValuesPrinting.{count_if, count_of, line_if, line_of}

@@ -2,7 +2,7 @@ use Rattle.std.proofs.Common.{◌≡◌, ◌∙◌, List, length, Option, Some, 
 use Rattle.std.specs.Prelude.{slice_get, option_map, if◌then◌else◌}
 use Rattle.std.proofs.lemmas.Option.{slice_get_read}
 use Rattle.text_forms.specs.Names.{is_name}
-use Rattle.mdb_model.specs.declared.container.Container.{Container}
+use Rattle.mdb_items.specs.declared.container.Container.{Container}
 use Rattle.mdb_model.proofs.Structure.{structured}
 use Rattle.archive_store.proofs.retrieving.container_names.Goals as goal
 

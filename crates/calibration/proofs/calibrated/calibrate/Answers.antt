@@ -5,9 +5,9 @@ use Rattle.std.specs.Int.{w128}
 use Rattle.std.specs.List.{position}
 use Rattle.std.specs.Ordering.{int_eq}
 use Rattle.std.proofs.lemmas.Int.{to_z-of_z}
-use Rattle.mdb_model.specs.declared.calibration.EnumRow.{EnumRow}
-use Rattle.mdb_model.specs.declared.calibration.Table.{Table}
-use Rattle.mdb_model.specs.declared.calibration.Table.TheVariants.{Poly, Enum}
+use Rattle.mdb_items.specs.declared.calibration.EnumRow.{EnumRow}
+use Rattle.mdb_items.specs.declared.calibration.Table.{Table}
+use Rattle.mdb_items.specs.declared.calibration.Table.TheVariants.{Poly, Enum}
 use Rattle.calibration.specs.Admitted.{IsAdmitted}
 use Rattle.calibration.specs.Calibrated.{calibrated, label_at, value_by}
 use Rattle.calibration.specs.Carried.{AreCarried}

@@ -4,7 +4,7 @@ use Rattle.std.specs.Int.{w128}
 use Rattle.std.specs.List.{position}
 use Rattle.std.specs.Ordering.{int_eq}
 use Rattle.std.proofs.lemmas.Int.{to_z-of_z}
-use Rattle.mdb_model.specs.declared.calibration.EnumRow.{EnumRow}
+use Rattle.mdb_items.specs.declared.calibration.EnumRow.{EnumRow}
 use Rattle.calibration.specs.Calibrated.{label_at}
 use Rattle.calibration.proofs.calibrated.label.Goals as goal
 

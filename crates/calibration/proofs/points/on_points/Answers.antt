@@ -4,7 +4,7 @@ use Rattle.std.specs.Prelude.{int_le}
 use Rattle.std.specs.Int.{w128}
 use Rattle.std.proofs.lemmas.Int.{to_z-of_z}
 use Rattle.std.proofs.lemmas.List.Sorted.{IsPartitionPoint-from_clause}
-use Rattle.mdb_model.specs.declared.calibration.PointsRow.{PointsRow}
+use Rattle.mdb_items.specs.declared.calibration.PointsRow.{PointsRow}
 use Rattle.calibration.proofs.Line.{plain}
 use Rattle.calibration.proofs.Neighbours.{neighbours, reached_is, value_is}
 use Rattle.calibration.proofs.Rising.{parted}

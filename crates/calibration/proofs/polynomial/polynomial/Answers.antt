@@ -4,7 +4,7 @@ use Rattle.std.specs.Prelude.{ℤ, pos}
 use Rattle.std.specs.Int.{w128}
 use Rattle.std.proofs.lemmas.Int.{to_z-of_z}
 use Rattle.std.proofs.lemmas.List.{take_all}
-use Rattle.mdb_model.specs.declared.calibration.PolyRow.{PolyRow}
+use Rattle.mdb_items.specs.declared.calibration.PolyRow.{PolyRow}
 use Rattle.calibration.specs.Calibrated.{polynomial}
 use Rattle.calibration.specs.Carried.{AreCarried}
 use Rattle.calibration.proofs.Line.{plain}

@@ -1,7 +1,7 @@
 use Rattle.std.proofs.Common.{◌≡◌, ◌∙◌, ap, sym, List, rules}
 use Rattle.std.specs.Prelude.{option_copied}
 use Rattle.std.specs.List.{find}
-use Rattle.mdb_model.specs.declared.container.Container.{Container}
+use Rattle.mdb_items.specs.declared.container.Container.{Container}
 use Rattle.container_extract.specs.Step.{holds_at}
 use Rattle.container_extract.proofs.Children.{first_of_children}
 use Rattle.container_extract.proofs.containers.first_child.Goals as goal

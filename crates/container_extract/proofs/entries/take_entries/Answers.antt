@@ -1,7 +1,7 @@
 use Rattle.std.proofs.Common.{◌≡◌, ◌∙◌, ◌++◌, ap, sym, rules, map, List, true, false}
 use Rattle.std.specs.List.{list_all}
 use Rattle.std.proofs.lemmas.List.{take_all}
-use Rattle.mdb_model.specs.declared.container.Entry.{Entry}
+use Rattle.mdb_items.specs.declared.container.Entry.{Entry}
 use Rattle.container_extract.specs.Values.{fits, value_of}
 use Rattle.container_extract.proofs.Taking.{cut_here}
 use Rattle.container_extract.proofs.Walk.{take_while_all}

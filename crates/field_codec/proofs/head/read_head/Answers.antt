@@ -1,6 +1,6 @@
 use Rattle.std.proofs.Common.{ap, ◌∙◌, sym, arith, ◌≡◌, List, ℕ}
 use Rattle.std.proofs.lemmas.Result.{err_from_is_err_and}
-use Rattle.mdb_model.specs.Database.{Database}
+use Rattle.mdb_items.specs.Database.{Database}
 use Rattle.field_codec.specs.Faults.{fault_of, fault_of_database}
 use Rattle.field_codec.proofs.EntryKinds.{head_whole, opening_memory, opening_read}
 use Rattle.field_codec.proofs.head.read_head.Goals as goal

@@ -1,24 +1,28 @@
-use Rattle.std.proofs.Common.{◌≡◌, ◌∙◌, List, None, ap, sym, subst}
-use Rattle.mdb_model.specs.declared.container.Container.{Container}
+use Rattle.std.proofs.Common.{◌≡◌, ◌∙◌, List, map, None, ap, sym, subst}
+use Rattle.mdb_items.specs.declared.container.Container.{Container}
 use Rattle.mdb_model.specs.Children.{AreChildren}
-use Rattle.mdb_model.specs.Database.{Database, IsDatabase, database_of, limit_passed}
-use Rattle.mdb_model.specs.Totals.{AreEarlier}
+use Rattle.mdb_items.specs.Database.{Database, IsDatabase, database_of, limit_passed}
+use Rattle.mdb_model.specs.NameOrder.{IsNameOrder}
+use Rattle.mdb_items.specs.declared.parameter.Parameter.{Parameter}
+use Rattle.mdb_rules.specs.Totals.{AreEarlier}
 use Rattle.mdb_model.proofs.Respelling.{is_database}
 use Rattle.mdb_model.proofs.mdb.within_limits.Goals as goal
 
 pub children_of-requires-clause-earlier : goal.children_of-requires-clause-earlier
 children_of-requires-clause-earlier c =
     let P : List Container → Type 0 = λ cs. AreEarlier cs in
-    subst P (sym c.as_slice.ensures.value) c.requires.earlier
+    subst P (sym c.as_slice-3.ensures.value) c.requires.earlier
 
-pub invariant_of-result : goal.invariant_of-result
-invariant_of-result c =
+pub invariant_of-shared : goal.invariant_of-shared
+invariant_of-shared c =
     let small : limit_passed (database_of c.requires.rows) ≡ None = ap limit_passed c.requires.spelled ∙ sym c.limit_of.ensures ∙ c.in_default.is in
     let P : Database → Type 0 = λ d. IsDatabase d in
     let Q : List Container → Type 0 = λ cs. AreChildren cs c.in_ok-children.children.items in
+    let R : List Parameter → Type 0 = λ ps. IsNameOrder (map (λ p. p.name) ps) c.in_ok-parameter_order.parameter_order.items in
+    let S : List Container → Type 0 = λ cs. IsNameOrder (map (λ k. k.name) cs) c.in_ok-container_order.container_order.items in
     record {
       kept = subst P c.requires.spelled (is_database c.requires.rows c.requires.sound small);
-      parameter_names = c.requires.parameter_names;
-      container_names = c.requires.container_names;
-      children = subst Q c.as_slice.ensures.value c.in_ok-children.ensures;
+      parameter_order = subst R c.as_slice.ensures.value c.in_ok-parameter_order.ensures;
+      container_order = subst S c.as_slice-2.ensures.value c.in_ok-container_order.ensures;
+      children = subst Q c.as_slice-3.ensures.value c.in_ok-children.ensures;
     }

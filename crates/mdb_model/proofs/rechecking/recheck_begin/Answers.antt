@@ -1,10 +1,10 @@
 use Rattle.std.proofs.Common.{◌∙◌, ◌∷◌, ℕ, Option, Ok, ap, sym}
 use Rattle.std.specs.Prelude.{not, ◌==◌}
-use Rattle.mdb_model.specs.declared.rows.NewContainer.{NewContainer}
-use Rattle.mdb_model.specs.declared.rows.ContainerColumns.TheVariants.{Begins}
-use Rattle.mdb_model.specs.Checks.{first_broken}
-use Rattle.mdb_model.specs.ContainerRows.{columns_checks, with_columns}
-use Rattle.mdb_model.proofs.ContainerSteps.{none_of}
+use Rattle.mdb_items.specs.declared.rows.NewContainer.{NewContainer}
+use Rattle.mdb_items.specs.declared.rows.ContainerColumns.TheVariants.{Begins}
+use Rattle.mdb_items.specs.Checks.{first_broken}
+use Rattle.mdb_items.specs.ContainerRows.{columns_checks, with_columns}
+use Rattle.mdb_rules.proofs.ContainerSteps.{none_of}
 use Rattle.mdb_model.proofs.RowsAgain.{begin_fails, begin_taken}
 use Rattle.mdb_model.proofs.rechecking.recheck_begin.Goals as goal
 

@@ -1,7 +1,7 @@
 use Rattle.std.proofs.Common.{List, [], ◌∷◌, subst}
 use Rattle.std.specs.Prelude.{flat_map}
-use Rattle.mdb_model.specs.declared.container.Entry.{Entry}
-use Rattle.mdb_model.specs.ContainerRows.{entry_row}
+use Rattle.mdb_items.specs.declared.container.Entry.{Entry}
+use Rattle.mdb_items.specs.ContainerRows.{entry_row}
 use Rattle.mdb_model.specs.Rechecking.{RowsRechecked}
 use Rattle.mdb_model.proofs.RowsAgain.{container_rest}
 use Rattle.mdb_model.proofs.rechecking.recheck_container.Goals as goal

@@ -1,9 +1,9 @@
 use Rattle.std.proofs.Common.{◌∷◌, []}
 use Rattle.std.specs.Prelude.{flat_map}
 use Rattle.std.proofs.lemmas.Option.{slice_get-get_or}
-use Rattle.mdb_model.specs.ContainerRows.{entry_row}
+use Rattle.mdb_items.specs.ContainerRows.{entry_row}
 use Rattle.mdb_model.specs.Rechecking.{RowsRechecked}
-use Rattle.mdb_model.proofs.Outcomes.{at_err}
+use Rattle.mdb_rules.proofs.Outcomes.{at_err}
 use Rattle.mdb_model.proofs.RowsAgain.{entered_length, left_done, left_more, left_refused}
 use Rattle.mdb_model.proofs.rechecking.recheck_entries.Goals as goal
 

@@ -1,6 +1,6 @@
 use Rattle.std.proofs.Common.{◌<◌, ◌∷◌, [], length}
-use Rattle.mdb_model.specs.ContainerRows.{entry_row}
-use Rattle.mdb_model.specs.Totals.{HasPaths}
+use Rattle.mdb_items.specs.ContainerRows.{entry_row}
+use Rattle.mdb_rules.specs.Totals.{HasPaths}
 use Rattle.mdb_model.proofs.RowsAgain.{Left}
 use Rattle.mdb_model.proofs.rechecking.recheck_entries.Given as goal
 

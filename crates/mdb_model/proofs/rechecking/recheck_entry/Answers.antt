@@ -1,9 +1,9 @@
 use Rattle.std.proofs.Common.{◌∙◌, ℕ, Option, Ok, true, ap, sym}
-use Rattle.mdb_model.specs.declared.rows.Position.TheVariants.{At}
-use Rattle.mdb_model.specs.declared.rows.Reference.TheVariants.{Known}
-use Rattle.mdb_model.specs.Checks.{first_broken}
-use Rattle.mdb_model.specs.ContainerRows.{entry_checks, last_path, with_entry}
-use Rattle.mdb_model.proofs.ContainerSteps.{none_of}
+use Rattle.mdb_items.specs.declared.rows.Position.TheVariants.{At}
+use Rattle.mdb_items.specs.declared.rows.Reference.TheVariants.{Known}
+use Rattle.mdb_items.specs.Checks.{first_broken}
+use Rattle.mdb_items.specs.ContainerRows.{entry_checks, last_path, with_entry}
+use Rattle.mdb_rules.proofs.ContainerSteps.{none_of}
 use Rattle.mdb_model.proofs.RowsAgain.{entry_fails, entry_taken}
 use Rattle.mdb_model.proofs.rechecking.recheck_entry.Goals as goal
 

@@ -1,6 +1,6 @@
 use Rattle.std.proofs.Common.{option_copied}
 use Rattle.mdb_model.specs.Rechecking.{CalibrationRechecked}
-use Rattle.mdb_model.proofs.Outcomes.{at_err}
+use Rattle.mdb_rules.proofs.Outcomes.{at_err}
 use Rattle.mdb_model.proofs.RowsAgain.{row_more, row_refused}
 use Rattle.mdb_model.proofs.rechecking.recheck_rows.Goals as goal
 

@@ -1,6 +1,6 @@
 use Rattle.std.proofs.Common.{option_copied}
-use Rattle.mdb_model.specs.CalibrationRows.{row_values_of}
-use Rattle.mdb_model.specs.Steps.{IsInStep}
+use Rattle.mdb_items.specs.CalibrationRows.{row_values_of}
+use Rattle.mdb_rules.specs.Steps.{IsInStep}
 use Rattle.mdb_model.proofs.RowsAgain.{RowsLeft}
 use Rattle.mdb_model.proofs.rechecking.recheck_rows.Given as goal
 

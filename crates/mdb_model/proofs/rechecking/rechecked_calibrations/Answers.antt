@@ -1,9 +1,9 @@
 use Rattle.std.proofs.Common.{◌∙◌, ◌<◌, length, refl, ap, arith}
 use Rattle.std.specs.Prelude.{option_copied, option_map}
 use Rattle.std.proofs.lemmas.Option.{slice_get_read}
-use Rattle.mdb_model.specs.declared.calibration.Calibration.{Calibration}
+use Rattle.mdb_items.specs.declared.calibration.Calibration.{Calibration}
 use Rattle.mdb_model.specs.Rechecking.{CalibrationsRechecked}
-use Rattle.mdb_model.proofs.Outcomes.{at_err}
+use Rattle.mdb_rules.proofs.Outcomes.{at_err}
 use Rattle.mdb_model.proofs.RowsAgain.{calibration_more, calibration_refused, calibrations_done}
 use Rattle.mdb_model.proofs.rechecking.rechecked_calibrations.Goals as goal
 

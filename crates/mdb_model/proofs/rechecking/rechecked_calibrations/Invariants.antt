@@ -1,4 +1,4 @@
-use Rattle.mdb_model.specs.Steps.{IsInStep}
+use Rattle.mdb_rules.specs.Steps.{IsInStep}
 use Rattle.mdb_model.proofs.RowsAgain.{CalibrationsLeft}
 use Rattle.mdb_model.proofs.rechecking.rechecked_calibrations.Given as goal
 

@@ -1,10 +1,10 @@
 use Rattle.std.proofs.Common.{List, [], subst, sym}
-use Rattle.mdb_model.specs.declared.container.Container.{Container}
-use Rattle.mdb_model.specs.ContainerRows.{rows_of_container}
+use Rattle.mdb_items.specs.declared.container.Container.{Container}
+use Rattle.mdb_items.specs.ContainerRows.{rows_of_container}
 use Rattle.mdb_model.specs.Rechecking.{ContainersRechecked}
-use Rattle.mdb_model.proofs.Outcomes.{at_err}
+use Rattle.mdb_rules.proofs.Outcomes.{at_err}
 use Rattle.mdb_model.proofs.RowsAgain.{Left, at_index, containers_done, containers_refused, left_begin, left_more, left_refused}
-use Rattle.mdb_model.proofs.TotalsSteps.{in_path_at_first}
+use Rattle.mdb_rules.proofs.TotalsSteps.{in_path_at_first}
 use Rattle.mdb_model.proofs.rechecking.rechecked_containers.Goals as goal
 
 pub loop-c-init : goal.loop-c-init

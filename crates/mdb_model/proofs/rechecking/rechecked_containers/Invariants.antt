@@ -1,6 +1,6 @@
 use Rattle.std.proofs.Common.{[]}
-use Rattle.mdb_model.specs.ContainerRows.{rows_of_container}
-use Rattle.mdb_model.specs.Totals.{HasPaths}
+use Rattle.mdb_items.specs.ContainerRows.{rows_of_container}
+use Rattle.mdb_rules.specs.Totals.{HasPaths}
 use Rattle.mdb_model.proofs.RowsAgain.{Left}
 use Rattle.mdb_model.proofs.rechecking.rechecked_containers.Given as goal
 

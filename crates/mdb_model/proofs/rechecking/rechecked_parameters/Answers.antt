@@ -1,5 +1,5 @@
 use Rattle.mdb_model.specs.Rechecking.{ParametersRechecked}
-use Rattle.mdb_model.proofs.Outcomes.{at_err}
+use Rattle.mdb_rules.proofs.Outcomes.{at_err}
 use Rattle.mdb_model.proofs.RowsAgain.{at_index, parameter_more, parameter_refused, parameters_done}
 use Rattle.mdb_model.proofs.rechecking.rechecked_parameters.Goals as goal
 

@@ -2,11 +2,11 @@ use Rattle.std.proofs.Common.{◌≡◌, ◌∙◌, ◌<◌, ℕ, List, Option, 
 use Rattle.std.specs.Prelude.{option_map}
 use Rattle.std.proofs.lemmas.List.{take_all}
 use Rattle.std.proofs.lemmas.Option.{slice_get_read}
-use Rattle.mdb_model.specs.declared.fault.MdbSheet.TheVariants as sheet
-use Rattle.mdb_model.specs.CalibrationRows.{calibration_fault, calibration_fault_at, calibrations_of}
+use Rattle.mdb_items.specs.declared.fault.MdbSheet.TheVariants as sheet
+use Rattle.mdb_items.specs.CalibrationRows.{calibration_fault, calibration_fault_at, calibrations_of}
 use Rattle.mdb_model.specs.Sheets.{read_calibration}
-use Rattle.mdb_model.specs.Texts.{Text}
-use Rattle.mdb_model.proofs.Ends.{length-mapped}
+use Rattle.mdb_items.specs.Texts.{Text}
+use Rattle.mdb_rules.proofs.Ends.{length-mapped}
 use Rattle.mdb_model.proofs.SheetLoops.{calibration_here, calibration_more, found, sound_all, sound_more}
 use Rattle.mdb_model.proofs.sheets.calibrations_of.Goals as goal
 

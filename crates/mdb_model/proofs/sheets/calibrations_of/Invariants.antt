@@ -1,7 +1,7 @@
 use Rattle.std.proofs.Common.{◌≡◌, map, take}
-use Rattle.mdb_model.specs.CalibrationRows.{calibration_fault_at, calibrations_of}
+use Rattle.mdb_items.specs.CalibrationRows.{calibration_fault_at, calibrations_of}
 use Rattle.mdb_model.specs.Sheets.{read_calibration}
-use Rattle.mdb_model.specs.Steps.{IsInStep}
+use Rattle.mdb_rules.specs.Steps.{IsInStep}
 use Rattle.mdb_model.proofs.SheetLoops.{SoundBelow}
 use Rattle.mdb_model.proofs.sheets.calibrations_of.Given as goal
 

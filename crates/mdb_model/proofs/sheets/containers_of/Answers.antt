@@ -1,11 +1,11 @@
 use Rattle.std.proofs.Common.{◌≡◌, ◌∙◌, ◌<◌, ℕ, [], Option, Some, None, Ok, length, take, refl, ap, sym, arith}
 use Rattle.std.proofs.lemmas.List.{take_all}
 use Rattle.std.proofs.lemmas.Option.{slice_get_read}
-use Rattle.mdb_model.specs.declared.fault.MdbSheet.TheVariants as sheet
-use Rattle.mdb_model.specs.ContainerRows.{container_fault_at, containers_of}
+use Rattle.mdb_items.specs.declared.fault.MdbSheet.TheVariants as sheet
+use Rattle.mdb_items.specs.ContainerRows.{container_fault_at, containers_of}
 use Rattle.mdb_model.specs.Sheets.{read_containers}
 use Rattle.mdb_model.proofs.SheetLoops.{container_here, container_more, containers_fault_is, found, length-read_containers, some_row, sound_all, sound_more}
-use Rattle.mdb_model.proofs.TotalsSteps.{in_path_at_first}
+use Rattle.mdb_rules.proofs.TotalsSteps.{in_path_at_first}
 use Rattle.mdb_model.proofs.sheets.containers_of.Goals as goal
 
 pub loop-i-init : goal.loop-i-init

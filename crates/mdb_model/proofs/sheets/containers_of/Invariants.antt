@@ -1,7 +1,7 @@
 use Rattle.std.proofs.Common.{◌≡◌, take, []}
-use Rattle.mdb_model.specs.ContainerRows.{container_fault_at, containers_of}
+use Rattle.mdb_items.specs.ContainerRows.{container_fault_at, containers_of}
 use Rattle.mdb_model.specs.Sheets.{read_containers}
-use Rattle.mdb_model.specs.Totals.{HasPaths}
+use Rattle.mdb_rules.specs.Totals.{HasPaths}
 use Rattle.mdb_model.proofs.SheetLoops.{SoundBelow}
 use Rattle.mdb_model.proofs.sheets.containers_of.Given as goal
 

@@ -1,11 +1,11 @@
 use Rattle.std.proofs.Common.{◌≡◌, ◌∙◌, ◌<◌, ℕ, List, Option, Some, None, Ok, length, map, take, refl, ap, sym, arith}
 use Rattle.std.proofs.lemmas.List.{take_all}
 use Rattle.std.proofs.lemmas.Option.{slice_get_read}
-use Rattle.mdb_model.specs.declared.fault.MdbSheet.TheVariants as sheet
-use Rattle.mdb_model.specs.ParameterRows.{parameter_fault_at, parameters_of}
+use Rattle.mdb_items.specs.declared.fault.MdbSheet.TheVariants as sheet
+use Rattle.mdb_items.specs.ParameterRows.{parameter_fault_at, parameters_of}
 use Rattle.mdb_model.specs.Sheets.{read_parameter}
-use Rattle.mdb_model.specs.Texts.{Text}
-use Rattle.mdb_model.proofs.Ends.{length-mapped}
+use Rattle.mdb_items.specs.Texts.{Text}
+use Rattle.mdb_rules.proofs.Ends.{length-mapped}
 use Rattle.mdb_model.proofs.SheetLoops.{found, parameter_here, parameter_more, sound_all, sound_more}
 use Rattle.mdb_model.proofs.sheets.parameters_of.Goals as goal
 

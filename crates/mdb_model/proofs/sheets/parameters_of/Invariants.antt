@@ -1,5 +1,5 @@
 use Rattle.std.proofs.Common.{◌≡◌, map, take}
-use Rattle.mdb_model.specs.ParameterRows.{parameter_fault_at, parameters_of}
+use Rattle.mdb_items.specs.ParameterRows.{parameter_fault_at, parameters_of}
 use Rattle.mdb_model.specs.Sheets.{read_parameter}
 use Rattle.mdb_model.proofs.SheetLoops.{SoundBelow}
 use Rattle.mdb_model.proofs.sheets.parameters_of.Given as goal

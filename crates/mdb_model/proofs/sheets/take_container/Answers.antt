@@ -1,12 +1,12 @@
 use Rattle.std.proofs.Common.{◌∙◌, ℕ, List, ◌∷◌, Option, Ok, ap, sym}
 use Rattle.std.specs.Prelude.{not, ◌==◌}
-use Rattle.mdb_model.specs.Checks.{first_broken}
-use Rattle.mdb_model.specs.ContainerRows.{columns_checks, last_path}
-use Rattle.mdb_model.specs.Paths.{path_at, path_end, paths_of}
+use Rattle.mdb_items.specs.Checks.{first_broken}
+use Rattle.mdb_items.specs.ContainerRows.{columns_checks, last_path}
+use Rattle.mdb_items.specs.Paths.{path_at, path_end, paths_of}
 use Rattle.mdb_model.specs.Sheets.{read_position, read_reference}
-use Rattle.mdb_model.specs.Texts.{Text}
+use Rattle.mdb_items.specs.Texts.{Text}
 use Rattle.mdb_model.proofs.ContainerRecords.{entry_answers, columns_is}
-use Rattle.mdb_model.proofs.ContainerSteps.{none_of}
+use Rattle.mdb_rules.proofs.ContainerSteps.{none_of}
 use Rattle.mdb_model.proofs.sheets.take_container.Goals as goal
 
 pub returns-clause-fault : goal.returns-clause-fault

@@ -1,6 +1,6 @@
 use Rattle.std.proofs.Common.{◌≡◌, ◌∙◌, Option, ap, sym, subst}
 use Rattle.std.specs.Prelude.{option_copied}
-use Rattle.mdb_model.specs.declared.parameter.Parameter.{Parameter}
+use Rattle.mdb_items.specs.declared.parameter.Parameter.{Parameter}
 use Rattle.calibration.specs.Calibrated.{calibration_at}
 use Rattle.container_extract.specs.Values.{calibration_of}
 use Rattle.retrieval.specs.CellText.{HasShortLabels}

@@ -1,9 +1,9 @@
 use Rattle.std.proofs.Common.{List, Ok, Err, subst}
 use Rattle.mdb_model.specs.SheetResults.{IsCalibrationSheetResult, IsContainerSheetResult, IsParameterSheetResult}
 use Rattle.mdb_model.specs.Sheets.{IsCheckResult}
-use Rattle.mdb_model.specs.Texts.{Text}
+use Rattle.mdb_items.specs.Texts.{Text}
 use Rattle.mdb_model.proofs.Checking.{all_given, containers_refuse, limits_give, parameters_refuse}
-use Rattle.mdb_model.proofs.Outcomes.{at_err}
+use Rattle.mdb_rules.proofs.Outcomes.{at_err}
 use Rattle.mdb_model.proofs.mdb.Mdb.check.Goals as goal
 
 pub returns-in_err-parameters : goal.returns-in_err-parameters

@@ -2,12 +2,12 @@ use Rattle.std.proofs.Common.{◌≡◌, ◌∙◌, Bool, true, false, refl, ap,
 use Rattle.std.specs.Prelude.{not}
 use Rattle.std.specs.Cmp.Lexicographic.{other_text, same_text}
 use Rattle.std.specs.Result.{MatchResult}
-use Rattle.mdb_model.specs.Database.{Database, IsDatabase}
-use Rattle.mdb_model.specs.Spelling.{database_octets}
-use Rattle.mdb_model.specs.declared.not_mdb.NotMdb.TheVariants.{OutOfMemory}
-use Rattle.mdb_model.specs.Refusals.{refusal_of}
+use Rattle.mdb_items.specs.Database.{Database, IsDatabase}
+use Rattle.mdb_octets.specs.Spelling.{database_octets}
+use Rattle.mdb_items.specs.declared.not_mdb.NotMdb.TheVariants.{OutOfMemory}
+use Rattle.mdb_items.specs.Refusals.{refusal_of}
 use Rattle.mdb_model.proofs.ListsAgain.{again_memory, is_given, lists_memory}
-use Rattle.mdb_model.proofs.Outcomes.{at_err}
+use Rattle.mdb_rules.proofs.Outcomes.{at_err}
 use Rattle.mdb_model.proofs.mdb.Mdb.from_bytes.Goals as goal
 
 unlike : (b : Bool) → not b ≡ true → false ≡ b

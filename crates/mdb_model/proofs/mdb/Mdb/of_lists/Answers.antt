@@ -1,17 +1,17 @@
 use Rattle.std.proofs.Common.{◌≡◌, ◌∙◌, List, [], true, false, length, map, ap, sym, subst, rules}
 use Rattle.std.specs.Prelude.{flat_map, is_some, nat_lt, ◌==◌}
 use Rattle.std.specs.List.{AllByRecursion, list_all}
-use Rattle.mdb_model.specs.declared.calibration.Calibration.{Calibration}
-use Rattle.mdb_model.specs.declared.container.Container.{Container}
-use Rattle.mdb_model.specs.declared.parameter.Parameter.{Parameter}
-use Rattle.mdb_model.specs.CalibrationRows.{calibrations_of, rows_of_calibration}
-use Rattle.mdb_model.specs.ContainerRows.{containers_of, rows_of_container}
-use Rattle.mdb_model.specs.Database.{Database, IsDatabase, limit_passed, rows_of, table_len}
+use Rattle.mdb_items.specs.declared.calibration.Calibration.{Calibration}
+use Rattle.mdb_items.specs.declared.container.Container.{Container}
+use Rattle.mdb_items.specs.declared.parameter.Parameter.{Parameter}
+use Rattle.mdb_items.specs.CalibrationRows.{calibrations_of, rows_of_calibration}
+use Rattle.mdb_items.specs.ContainerRows.{containers_of, rows_of_container}
+use Rattle.mdb_items.specs.Database.{Database, IsDatabase, limit_passed, rows_of, table_len}
 use Rattle.octet_fields.specs.declared.fault.DecodeError.{DecodeError}
-use Rattle.mdb_model.specs.ParameterRows.{row_of_parameter}
+use Rattle.mdb_items.specs.ParameterRows.{row_of_parameter}
 use Rattle.mdb_model.specs.Rechecking.{HasRows, ListsRechecked, Refused, calibrations_sound, containers_sound, parameters_sound}
 use Rattle.mdb_model.proofs.ListsAgain.{all_sound, all_spelled, each_has_rows, refuse_calibrations, refuse_containers, refuse_empty, refuse_limits, refuse_parameters, refuse_passed, refuse_rowless, same_lists, some_item, some_rowless}
-use Rattle.mdb_model.proofs.Outcomes.{at_err}
+use Rattle.mdb_rules.proofs.Outcomes.{at_err}
 use Rattle.mdb_model.proofs.mdb.Mdb.of_lists.Goals as goal
 
 pub returns-then-pass_limit : goal.returns-then-pass_limit
@@ -96,8 +96,6 @@ within_limits-requires c =
       sound = all_sound d cs ps ec ep (some_item d.containers some) (subst P c.deref-2.ensures.value c.in_ok-calibrations.ensures.0) (subst R c.deref-3.ensures.value (subst Q c.as_slice.ensures.value c.in_ok-parameters.ensures.0))
           (subst T c.deref-4.ensures.value (subst S c.as_slice-2.ensures.value c.in_ok-containers.ensures.0));
       spelled = all_spelled d cs ps ks ec ep ek;
-      parameter_names = c.in_ok-parameters.ensures.2;
-      container_names = c.in_ok-containers.ensures.2.names;
       earlier = c.in_ok-containers.ensures.2.earlier;
     }
 

@@ -1,0 +1,82 @@
+-- That a store may go to another thread, by its parts, since one search through all of them runs out of steps.
+use denote.RattleType.{RattleType}
+use denote.Param.Send.{IsSend, IsSync, sendable}
+use Rattle.std.proofs.Crossing.{crosses}
+use Rattle.arch_disk.specs.declared.disk.Disk as disk
+use Rattle.arch_types.specs.contracts.row.Row as Row
+use Rattle.archive_core.specs.contracts.fills.Fill as Fill
+use Rattle.archive_store.specs.contracts.history.History as History
+use Rattle.archive_store.specs.contracts.limit_counts.LimitCounts as LimitCounts
+use Rattle.archive_store.specs.contracts.store.Store as Store
+use Rattle.archive_store.specs.contracts.table_set.TableSet as TableSet
+use Rattle.mdb_items.specs.contracts.calibration.Calibration as Calibration
+use Rattle.mdb_items.specs.contracts.container.Container as Container
+use Rattle.mdb_model.specs.contracts.mdb.Mdb as Mdb
+use Rattle.mdb_items.specs.contracts.name.MdbName as MdbName
+use Rattle.mdb_rules.specs.contracts.names.Names as Names
+use Rattle.mdb_items.specs.contracts.parameter.Parameter as Parameter
+use Rattle.yarch_table.specs.contracts.table.Stored as Stored
+use Rattle.yarch_table.specs.contracts.table.Table as Table
+
+-- ---- the mission database, which plans share
+name_send : IsSend MdbName.the_row
+name_send = search (crosses, sendable) depth 60
+
+name_sync : IsSync MdbName.the_row
+name_sync = search (crosses, sendable) depth 60
+
+names_send : IsSend Names.the_row
+names_send = search (crosses, sendable) depth 60
+
+names_sync : IsSync Names.the_row
+names_sync = search (crosses, sendable) depth 60
+
+parameter_send : IsSend Parameter.the_row
+parameter_send = search (crosses, name_send, sendable) depth 60
+
+parameter_sync : IsSync Parameter.the_row
+parameter_sync = search (crosses, name_sync, sendable) depth 60
+
+calibration_send : IsSend Calibration.the_row
+calibration_send = search (crosses, name_send, sendable) depth 60
+
+calibration_sync : IsSync Calibration.the_row
+calibration_sync = search (crosses, name_sync, sendable) depth 60
+
+container_send : IsSend Container.the_row
+container_send = search (crosses, name_send, sendable) depth 60
+
+container_sync : IsSync Container.the_row
+container_sync = search (crosses, name_sync, sendable) depth 60
+
+mdb_send : IsSend Mdb.the_row
+mdb_send = search (crosses, names_send, parameter_send, calibration_send, container_send, sendable) depth 60
+
+mdb_sync : IsSync Mdb.the_row
+mdb_sync = search (crosses, names_sync, parameter_sync, calibration_sync, container_sync, sendable) depth 60
+
+-- ---- the history
+row_send : IsSend Row.the_row
+row_send = search (crosses, sendable) depth 60
+
+stored_send : IsSend Stored.the_row
+stored_send = search (crosses, sendable) depth 60
+
+table_send : IsSend Table.the_row
+table_send = search (crosses, stored_send, sendable) depth 60 fits 10000
+
+table_set_send : IsSend TableSet.the_row
+table_set_send = search (crosses, table_send, sendable) depth 60
+
+counts_send : IsSend LimitCounts.the_row
+counts_send = search (crosses, sendable) depth 60
+
+history_send : IsSend History.the_row
+history_send = search (crosses, table_set_send, counts_send, sendable) depth 60
+
+fill_send : IsSend Fill.the_row
+fill_send = search (crosses, row_send, sendable) depth 60
+
+-- ---- the store: it may go where its disk may
+pub store_send : (D : RattleType) (device : disk.Ghosts D.Denot) → IsSend D → IsSend (Store.the_row D device)
+store_send D device sent = search (crosses, mdb_send, mdb_sync, history_send, fill_send, sendable) depth 60

@@ -1,0 +1,210 @@
+// Calls of a store in a row, each with its answer.
+use crate::parts::{
+    Incoming, batch, created, head, mdb_octets, octets_of, opened, request, text_of,
+};
+use arch_disk::Disk;
+use arch_types::inserted::Inserted;
+use arch_types::name::Names;
+use arch_types::row::Row;
+use archive_store::{Head, Part, Store};
+use std::alloc::Global;
+use std::test::Fail;
+
+/// The packets of an interval.
+pub type IntervalPackets = (i64, &'static [u64]);
+
+/// A call of a store, and what it answers.
+pub enum Step {
+    /// What becomes of packets.
+    Ingest(Incoming, &'static [Inserted]),
+    /// Why packets are refused.
+    Refused(Incoming, &'static str),
+    /// A reopen that succeeds.
+    Reopen,
+    /// A reopen that is refused by a fault of the disk.
+    NoReopen,
+    /// The front, and the packets of each interval with `from <= time < to`.
+    Plan(i64, i64, u64, &'static [IntervalPackets]),
+    /// Why there is no plan of a parameter over a range.
+    NoPlan(&'static [u8], i64, i64, &'static str),
+    /// The name of the one container.
+    Name(&'static [u8]),
+}
+
+/// Whether packets become this.
+fn becomes<D: Disk>(
+    alloc: Global,
+    store: &mut Store<D>,
+    incoming: &Incoming,
+    outcomes: &[Inserted],
+) -> Result<bool, Fail> {
+    let batch = batch(alloc, store.head(), incoming)?;
+    match store.ingest(alloc, &batch) {
+        Ok(ingested) => Ok(ingested.outcomes.as_slice() == outcomes),
+        Err(_) => Ok(false),
+    }
+}
+
+/// What an ingest answers.
+pub fn ingest_answer<D: Disk>(
+    alloc: Global,
+    store: &mut Store<D>,
+    incoming: &Incoming,
+) -> Result<&'static str, Fail> {
+    let batch = batch(alloc, store.head(), incoming)?;
+    match store.ingest(alloc, &batch) {
+        Ok(_ingested) => Ok("an ingest"),
+        Err(refusal) => Ok(text_of(&refusal)),
+    }
+}
+
+/// What a plan of a parameter over a range answers.
+fn plan_answer<D: Disk>(
+    alloc: Global,
+    store: &mut Store<D>,
+    name: &[u8],
+    from: i64,
+    to: i64,
+) -> Result<&'static str, Fail> {
+    let request = request(alloc, name, from, to)?;
+    match store.plan(alloc, &request) {
+        Ok(_plan) => Ok("a plan"),
+        Err(refusal) => Ok(text_of(&refusal)),
+    }
+}
+
+/// Whether a reopen succeeds.
+pub fn is_reopened<D: Disk>(store: &mut Store<D>) -> bool {
+    store.reopen().is_ok()
+}
+
+/// Whether names are this one.
+fn are_name(names: &Names, name: &[u8]) -> bool {
+    match names.as_slice() {
+        [one] => one.as_slice() == name,
+        _ => false,
+    }
+}
+
+/// Whether the packet names are this one.
+fn is_name<D: Disk>(alloc: Global, store: &Store<D>, name: &[u8]) -> bool {
+    match store.names(alloc) {
+        Ok(names) => are_name(&names, name),
+        Err(_) => false,
+    }
+}
+
+/// Whether a head is that of the tests.
+fn is_head(alloc: Global, head: &Head) -> Result<bool, Fail> {
+    let mdb = head.mdb.to_bytes(alloc)?;
+    match head.tables.as_slice() {
+        [tm, hk] => Ok(
+            tm.as_slice() == b"tm".as_slice()
+                && hk.as_slice() == b"hk".as_slice()
+                && mdb.as_slice() == mdb_octets(),
+        ),
+        _ => Ok(false),
+    }
+}
+
+/// Whether rows are the packets of these numbers.
+fn are_packets(alloc: Global, rows: &[Row], numbers: &[u64]) -> Result<bool, Fail> {
+    for (row, number) in rows.iter().zip(numbers) {
+        if row.packet.as_slice() != octets_of(alloc, *number)?.as_slice() {
+            return Ok(false);
+        }
+    }
+    Ok(rows.len() == numbers.len())
+}
+
+/// Whether parts are those of these intervals.
+fn are_parts(alloc: Global, parts: &[Part], expected: &[IntervalPackets]) -> Result<bool, Fail> {
+    for (part, (interval, numbers)) in parts.iter().zip(expected) {
+        if part.interval.0 != *interval || !are_packets(alloc, part.rows.as_slice(), numbers)? {
+            return Ok(false);
+        }
+    }
+    Ok(parts.len() == expected.len())
+}
+
+/// Whether a store has the head of the tests and a plan shows this.
+pub fn shows<D: Disk>(
+    alloc: Global,
+    store: &mut Store<D>,
+    from: i64,
+    to: i64,
+    front: u64,
+    parts: &[IntervalPackets],
+) -> Result<bool, Fail> {
+    if !is_head(alloc, store.head())? {
+        return Ok(false);
+    }
+    let request = request(alloc, b"v", from, to)?;
+    match store.plan(alloc, &request) {
+        Ok(plan) => Ok(plan.front == front && are_parts(alloc, plan.parts.as_slice(), parts)?),
+        Err(_) => Ok(false),
+    }
+}
+
+/// Whether a call is answered as it is to be.
+fn is_answered<D: Disk>(alloc: Global, store: &mut Store<D>, step: &Step) -> Result<bool, Fail> {
+    match step {
+        Step::Ingest(incoming, outcomes) => becomes(alloc, store, incoming, outcomes),
+        Step::Refused(incoming, why) => Ok(ingest_answer(alloc, store, incoming)? == *why),
+        Step::Reopen => Ok(is_reopened(store)),
+        Step::NoReopen => Ok(!is_reopened(store)),
+        Step::Plan(from, to, front, parts) => shows(alloc, store, *from, *to, *front, parts),
+        Step::NoPlan(name, from, to, why) => {
+            Ok(plan_answer(alloc, store, name, *from, *to)? == *why)
+        }
+        Step::Name(name) => Ok(is_name(alloc, store, name)),
+    }
+}
+
+/// The place of the first of these calls that is answered otherwise.
+pub fn other_answer<D: Disk>(
+    alloc: Global,
+    store: &mut Store<D>,
+    steps: &[Step],
+) -> Result<Option<usize>, Fail> {
+    let mut place = 0usize;
+    for step in steps {
+        if !is_answered(alloc, store, step)? {
+            return Ok(Some(place));
+        }
+        place = place.saturating_add(1);
+    }
+    Ok(None)
+}
+
+/// The same of a store that is given up, and its disk.
+fn of_store<D: Disk + Drop>(
+    alloc: Global,
+    store: Store<D>,
+    steps: &[Step],
+) -> Result<(Option<usize>, D), Fail> {
+    let mut store = store;
+    let other = other_answer(alloc, &mut store, steps)?;
+    Ok((other, store.into_disk()))
+}
+
+/// The same of a new archive.
+pub fn of_new<D: Disk + Drop>(
+    alloc: Global,
+    disk: D,
+    steps: &[Step],
+) -> Result<(Option<usize>, D), Fail> {
+    match created(alloc, disk, head(alloc)?) {
+        Ok(store) => of_store(alloc, store, steps),
+        Err((_disk, refusal)) => Err(Fail::from(refusal)),
+    }
+}
+
+/// The same of the archive of a disk.
+pub fn of_opened<D: Disk + Drop>(
+    alloc: Global,
+    disk: D,
+    steps: &[Step],
+) -> Result<(Option<usize>, D), Fail> {
+    of_store(alloc, opened(alloc, disk)?, steps)
+}

@@ -1,0 +1,12 @@
+pub mod Texts
+pub mod Numbers
+pub mod Conditions
+pub mod Checks
+pub mod Lists
+pub mod CalibrationRows
+pub mod ParameterRows
+pub mod Paths
+pub mod ContainerRows
+pub mod Database
+pub mod Refusals
+pub mod Structure

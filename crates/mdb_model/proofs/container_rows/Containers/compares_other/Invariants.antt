@@ -1,7 +1,0 @@
-use Rattle.std.proofs.Common.{◌≡◌, false, take}
-use Rattle.mdb_model.specs.ContainerRows.{compares_other}
-use Rattle.mdb_model.specs.Paths.{path_at, paths_of}
-use Rattle.mdb_model.proofs.container_rows.Containers.compares_other.Given as goal
-
-abbrev pub invariant-loop-comparison : goal.invariant-loop-comparison
-invariant-loop-comparison l = compares_other (path_at (paths_of l.self.items.items) l.number).entries (take l.comparison-index l.comparisons) ≡ false

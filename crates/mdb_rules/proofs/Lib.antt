@@ -1,0 +1,11 @@
+pub mod Places
+pub mod Degrees
+pub mod Outcomes
+pub mod Pieces
+pub mod Ends
+pub mod Ancestry
+pub mod TotalsSteps
+pub mod ContainerSteps
+pub mod Passing
+pub mod CalibrationSpelling
+pub mod CalibrationSteps
