@@ -5,10 +5,10 @@ use Rattle.std.proofs.Crossing.{crosses}
 use Rattle.arch_disk.specs.declared.disk.Disk as disk
 use Rattle.arch_types.specs.contracts.row.Row as Row
 use Rattle.archive_core.specs.contracts.fills.Fill as Fill
-use Rattle.archive_store.specs.contracts.history.History as History
-use Rattle.archive_store.specs.contracts.limit_counts.LimitCounts as LimitCounts
+use Rattle.archive_history.specs.contracts.history.History as History
+use Rattle.archive_history.specs.contracts.limit_counts.LimitCounts as LimitCounts
 use Rattle.archive_store.specs.contracts.store.Store as Store
-use Rattle.archive_store.specs.contracts.table_set.TableSet as TableSet
+use Rattle.archive_history.specs.contracts.table_set.TableSet as TableSet
 use Rattle.mdb_items.specs.contracts.calibration.Calibration as Calibration
 use Rattle.mdb_items.specs.contracts.container.Container as Container
 use Rattle.mdb_model.specs.contracts.mdb.Mdb as Mdb
