@@ -3,7 +3,7 @@
 set -eu
 here=$(cd "$(dirname "$0")" && pwd)
 dir=${BENCH_DIR:-/tmp/cudrakh-bench}
-program=$here/../crates/archive_cli/out/archive_cli
+program=$here/../crates/cudrakh/out/cudrakh
 mkdir -p "$dir"
 for name in dumps plain; do
   [ "$dir/$name" -nt "$here/$name.rs" ] || rustc --edition 2021 -C opt-level=3 -o "$dir/$name" "$here/$name.rs"

@@ -17,7 +17,7 @@ use Rattle.archive_store.specs.declared.batch.Arrival.{Arrival}
 use Rattle.archive_store.specs.declared.batch.Batch.{Batch}
 use Rattle.archive_store.specs.declared.head.Head.{Head}
 use Rattle.archive_store.specs.Batches.{arrival_rows, IsArrival}
-use Rattle.archive_store.proofs.Steps.{few_filter}
+use Rattle.archive_history.proofs.Steps.{few_filter}
 use Rattle.archive_cli.specs.Batches.{arrival_from, arrivals_with, arrived, first_table, rows_of_link, IsBatchOf}
 use Rattle.archive_cli.specs.LoadEnding.{link_rows}
 

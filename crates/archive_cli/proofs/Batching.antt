@@ -29,7 +29,7 @@ use Rattle.space_packet.proofs.Cuts.{cut_whole}
 use Rattle.archive_store.specs.declared.head.Head.{Head}
 use Rattle.archive_store.specs.Answers.{asks_reopen, IsIngestRefusal}
 use Rattle.archive_store.specs.Batches.{batch_rows}
-use Rattle.archive_store.specs.Limits.{IsLimit}
+use Rattle.archive_history.specs.Limits.{IsLimit}
 use Rattle.archive_store.specs.StoreView.{StoreView, AddsFault}
 use Rattle.archive_cli.specs.declared.batches.NextBatch.{NextBatch}
 use Rattle.archive_cli.specs.Batches.{arrivals_with, arrived, batch_at, rows_of_link, IsNextBatch, HasIngested, IsIngested, IsStopped, IsRefusedFor}

@@ -24,11 +24,11 @@ use Rattle.mdb_items.specs.Database.{Database}
 use Rattle.outer_traits.specs.Outside.{Files}
 use Rattle.outer_traits.specs.Whole.{IsThere}
 use Rattle.archive_store.specs.Entries.{Archive}
-use Rattle.archive_store.specs.Limits.{IsLimit, IsWithin}
+use Rattle.archive_history.specs.Limits.{IsLimit, IsWithin}
 use Rattle.archive_store.specs.Stands.{StandsFor, IsDamagedAt}
 use Rattle.archive_store.proofs.Admitting.{passed_not_within}
 use Rattle.archive_store.proofs.Exact.{damaged_once, none_not_damaged, none_not_stands, stands_not_damaged, stands_once}
-use Rattle.archive_store.proofs.Sums.{within_less}
+use Rattle.archive_history.proofs.Sums.{within_less}
 use Rattle.archive_cli.specs.declared.report.Report.{Report}
 use Rattle.archive_cli.specs.ArchiveExpected.{NoDiskFault}
 use Rattle.archive_cli.specs.Batches.{batch_at}

@@ -17,7 +17,7 @@ use Rattle.archive_core.proofs.Outcomes.{fresh_added}
 use Rattle.outer_traits.specs.Whole.{IsInput}
 use Rattle.archive_store.specs.declared.head.Head.{Head}
 use Rattle.archive_store.specs.Entries.{archive}
-use Rattle.archive_store.specs.Limits.{IsLimit}
+use Rattle.archive_history.specs.Limits.{IsLimit}
 use Rattle.archive_store.specs.StoreView.{StoreView, archive_of, FaultInvariant, CrashInvariant}
 use Rattle.archive_store.specs.Stands.{StandsFor}
 use Rattle.archive_cli.specs.declared.report.Report.{Report}

@@ -17,7 +17,7 @@ use Rattle.archive_store.specs.declared.batch.Arrival.{Arrival}
 use Rattle.archive_store.specs.declared.batch.Batch.{Batch}
 use Rattle.archive_store.specs.declared.head.Head.{Head}
 use Rattle.archive_store.specs.Batches.{batch_rows, IsBatch}
-use Rattle.archive_store.specs.Limits.{IsLimit}
+use Rattle.archive_history.specs.Limits.{IsLimit}
 use Rattle.archive_store.specs.StoreView.{StoreView}
 use Rattle.archive_cli.specs.declared.batches.NextBatch.{NextBatch}
 use Rattle.archive_cli.specs.declared.batches.DumpSummary.{DumpSummary}

@@ -18,7 +18,7 @@ use Rattle.container_extract.specs.Chain.{packet_name_of}
 use Rattle.mdb_items.specs.Database.{Database}
 use Rattle.outer_traits.specs.Whole.{IsThere}
 use Rattle.archive_store.specs.Entries.{Archive, archive}
-use Rattle.archive_store.specs.Limits.{IsLimit}
+use Rattle.archive_history.specs.Limits.{IsLimit}
 use Rattle.archive_store.specs.Stands.{StandsFor}
 use Rattle.archive_cli.specs.declared.report.Report.{Report}
 use Rattle.archive_cli.specs.Batches.{arrived, batch_at}

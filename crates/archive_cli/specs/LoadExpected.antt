@@ -10,7 +10,7 @@ use Rattle.arch_types.specs.Limits.{limit_of}
 use Rattle.disk_journal.specs.Format.{HoldsNone}
 use Rattle.outer_traits.specs.Outside.{Files}
 use Rattle.archive_store.specs.Entries.{Archive}
-use Rattle.archive_store.specs.Limits.{IsWithin}
+use Rattle.archive_history.specs.Limits.{IsWithin}
 use Rattle.archive_store.specs.Stands.{StandsFor, IsDamagedAt}
 use Rattle.archive_cli.specs.ArchiveExpected.{NoDiskFault}
 use Rattle.archive_cli.specs.Call.{Call, IsMomentOf}

@@ -26,6 +26,7 @@ use mdb_sheets::read_mdb;
 use outer_traits::clock::Clock;
 use outer_traits::inputs::Inputs;
 use outer_traits::sink::Sink;
+use retrieval::cell_text::{put_cell, put_values};
 use retrieval::cells::{calibration_of, cell_of};
 use retrieval::parameter::{KnownParameter, known_parameter};
 use space_packet::dump::Why;
@@ -123,7 +124,7 @@ fn put_end(line_buffer: &mut LineBuffer, why: Why, count: u64)
     ensures { line_buffer.new ≡ line_buffer.old ++ end_of_cells why count }
 {
     match why {
-        Why::End => line_buffer.put_values(count),
+        Why::End => put_values(line_buffer, count),
         Why::Version | Why::Truncated => {}
     }
 }
@@ -177,7 +178,7 @@ fn put_cell_of(
     match cell {
         None => Ok(0),
         Some(cell) => {
-            line_buffer.put_cell(cell, calibration_of(&known.mdb, known.number));
+            put_cell(line_buffer, cell, calibration_of(&known.mdb, known.number));
             Ok(1)
         }
     }

@@ -13,7 +13,7 @@ use Rattle.field_codec.specs.Spelling.{entry_octets}
 use Rattle.field_codec.proofs.EntryKinds.{one_spelling}
 use Rattle.archive_store.specs.declared.head.Head.{Head}
 use Rattle.archive_store.specs.Entries.{Archive, archive, Applies, IsPlaced, AreAdmitted}
-use Rattle.archive_store.specs.Limits.{IsWithin, PassesFirst, IsLimit}
+use Rattle.archive_history.specs.Limits.{IsWithin, PassesFirst, IsLimit}
 use Rattle.archive_store.specs.Stands.{Breaks}
 use Rattle.archive_store.proofs.Exact.{takes_entry}
 

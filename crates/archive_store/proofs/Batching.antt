@@ -17,7 +17,7 @@ use Rattle.archive_store.specs.declared.batch.Batch.{Batch}
 use Rattle.archive_store.specs.declared.head.Head.{Head}
 use Rattle.archive_store.specs.Batches.{arrival_row, arrival_rows, batch_rows, IsArrival, IsBatch}
 use Rattle.archive_store.specs.Entries.{archive, IsPlaced, AreAdmitted}
-use Rattle.archive_store.specs.Limits.{IsWithin}
+use Rattle.archive_history.specs.Limits.{IsWithin}
 
 all_answered : (P : Row → Type 0) (outcomes : List Inserted) (rows : List Row) → AllByRecursion P rows → AllByRecursion P (answered_new outcomes rows)
 all_answered P [] rows all = tt

@@ -8,7 +8,7 @@ use Rattle.arch_types.specs.Limits.{limit_of}
 use Rattle.archive_core.specs.Items.{Item, items_of}
 use Rattle.archive_core.specs.Outcomes.{fresh_of}
 use Rattle.archive_core.proofs.Outcomes.{fresh_added}
-use Rattle.archive_store.specs.Limits.{IsWithin, IsBelow}
+use Rattle.archive_history.specs.Limits.{IsWithin, IsBelow}
 
 -- the history with the new rows is the ingested one
 pub added : (history : List Item) (rows fresh : List Row) → fresh ≡ fresh_of history rows → history ++ items_of fresh ≡ ingested history rows

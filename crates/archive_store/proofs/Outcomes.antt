@@ -23,7 +23,7 @@ use Rattle.arch_types.proofs.Histories.{keeps_history}
 use Rattle.archive_core.specs.Items.{Item}
 use Rattle.archive_core.specs.Outcomes.{Says, outcome_of, outcomes_of, fresh_of, answered_new}
 use Rattle.archive_core.proofs.Outcomes.{outcomes_say, outcomes-append, length-outcomes, fresh_added}
-use Rattle.archive_store.specs.TableSet.{is_at_key}
+use Rattle.archive_history.specs.TableSet.{is_at_key}
 use Rattle.archive_store.specs.Classifying.{at_cmp, IsFoundAt, IndexesByKey}
 use Rattle.archive_store.specs.declared.classifying.TableKey.{TableKey}
 

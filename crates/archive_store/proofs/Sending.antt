@@ -5,15 +5,15 @@ use Rattle.std.proofs.Crossing.{crosses}
 use Rattle.arch_disk.specs.declared.disk.Disk as disk
 use Rattle.arch_types.specs.contracts.row.Row as Row
 use Rattle.archive_core.specs.contracts.fills.Fill as Fill
-use Rattle.archive_store.specs.contracts.history.History as History
-use Rattle.archive_store.specs.contracts.limit_counts.LimitCounts as LimitCounts
+use Rattle.archive_history.specs.contracts.history.History as History
+use Rattle.archive_history.specs.contracts.limit_counts.LimitCounts as LimitCounts
 use Rattle.archive_store.specs.contracts.store.Store as Store
-use Rattle.archive_store.specs.contracts.table_set.TableSet as TableSet
+use Rattle.archive_history.specs.contracts.table_set.TableSet as TableSet
 use Rattle.mdb_items.specs.contracts.calibration.Calibration as Calibration
 use Rattle.mdb_items.specs.contracts.container.Container as Container
+use Rattle.mdb_model.specs.contracts.mdb.Inner as Inner
 use Rattle.mdb_model.specs.contracts.mdb.Mdb as Mdb
 use Rattle.mdb_items.specs.contracts.name.MdbName as MdbName
-use Rattle.mdb_rules.specs.contracts.names.Names as Names
 use Rattle.mdb_items.specs.contracts.parameter.Parameter as Parameter
 use Rattle.yarch_table.specs.contracts.table.Stored as Stored
 use Rattle.yarch_table.specs.contracts.table.Table as Table
@@ -24,12 +24,6 @@ name_send = search (crosses, sendable) depth 60
 
 name_sync : IsSync MdbName.the_row
 name_sync = search (crosses, sendable) depth 60
-
-names_send : IsSend Names.the_row
-names_send = search (crosses, sendable) depth 60
-
-names_sync : IsSync Names.the_row
-names_sync = search (crosses, sendable) depth 60
 
 parameter_send : IsSend Parameter.the_row
 parameter_send = search (crosses, name_send, sendable) depth 60
@@ -49,11 +43,17 @@ container_send = search (crosses, name_send, sendable) depth 60
 container_sync : IsSync Container.the_row
 container_sync = search (crosses, name_sync, sendable) depth 60
 
+inner_send : IsSend Inner.the_row
+inner_send = search (crosses, parameter_send, calibration_send, container_send, sendable) depth 60
+
+inner_sync : IsSync Inner.the_row
+inner_sync = search (crosses, parameter_sync, calibration_sync, container_sync, sendable) depth 60
+
 mdb_send : IsSend Mdb.the_row
-mdb_send = search (crosses, names_send, parameter_send, calibration_send, container_send, sendable) depth 60
+mdb_send = search (crosses, inner_send, inner_sync, sendable) depth 60
 
 mdb_sync : IsSync Mdb.the_row
-mdb_sync = search (crosses, names_sync, parameter_sync, calibration_sync, container_sync, sendable) depth 60
+mdb_sync = search (crosses, inner_send, inner_sync, sendable) depth 60
 
 -- ---- the history
 row_send : IsSend Row.the_row

@@ -9,7 +9,7 @@ use Rattle.arch_types.specs.Order.{key_cmp}
 use Rattle.arch_types.specs.declared.row.Row.{Row}
 use Rattle.archive_core.specs.Items.{Item}
 use Rattle.archive_core.specs.Outcomes.{outcomes_of, fresh_of}
-use Rattle.archive_store.specs.TableSet.{is_at_key}
+use Rattle.archive_history.specs.TableSet.{is_at_key}
 use Rattle.archive_store.specs.declared.classifying.ClassifiedBatch.{ClassifiedBatch}
 use Rattle.archive_store.specs.declared.classifying.TableKey.{TableKey}
 

@@ -8,7 +8,7 @@ use Rattle.field_codec.specs.declared.entry.Entry.{Entry}
 use Rattle.field_codec.specs.declared.entry.Entry.TheVariants as entries
 use Rattle.field_codec.specs.Entries.{IsEntry}
 use Rattle.archive_store.specs.declared.head.Head.{Head}
-use Rattle.archive_store.specs.Limits.{IsWithin}
+use Rattle.archive_history.specs.Limits.{IsWithin}
 
 -- what a disk stands for: the head of its archive, and the history
 pub record Archive : Type 0 where

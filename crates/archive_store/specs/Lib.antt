@@ -1,14 +1,10 @@
 pub mod Answers
 pub mod Batches
 pub mod Entries
-pub mod History
 pub mod Inside
 pub mod Laws
-pub mod Limits
 pub mod PartialArchive
 pub mod Plans
 pub mod StoreView
-pub mod TableSet
-pub mod LimitCounts
 pub mod Classifying
 pub mod Stands

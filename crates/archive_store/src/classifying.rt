@@ -7,16 +7,16 @@ ghost use Rattle.arch_types.specs.History.{IsHistory};
 ghost use Rattle.arch_types.specs.Packet.{IsPacket};
 ghost use Rattle.archive_core.specs.Items.{Item};
 ghost use Rattle.archive_core.specs.Outcomes.{Says};
-ghost use Rattle.archive_store.specs.TableSet.{is_at_key};
+ghost use Rattle.archive_history.specs.TableSet.{is_at_key};
 ghost use Rattle.archive_store.specs.Classifying.{IsClassified, IndexesByKey};
 ghost use Rattle.archive_store.specs.Batches.{arrival_row, arrival_rows, batch_rows};
 ghost use Rattle.arch_types.specs.GenerationTime.{key_of};
 
 use crate::batch::{Arrival, Batch};
-use crate::history::History;
 use arch_types::inserted::{Inserted, Outcomes};
 use arch_types::key::Key;
 use arch_types::row::{Row, Rows};
+use archive_history::history::History;
 use block_map::index::Index;
 use space_packet::key::key_of;
 use std::alloc::{AllocError, Global};

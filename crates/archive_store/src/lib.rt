@@ -10,22 +10,19 @@
 // faults stand to the disk's counts (`FaultInvariant`), of the value alone. So `front` and `into_disk` hand both out, and each call proves one step:
 // a record more, an unacknowledged record, a record taken back (proofs/Kept.antt, proofs/Healing.antt).
 //
-// In memory the rows stand in a `Table` for each table, and a list of places names them in the order of the history (src/table_set.rt).
-// To be changed together: `Applies` in specs/Entries.antt, src/reading.rt and `IsBatch`; the limits in specs/Limits.antt and src/history.rt.
+// In memory the rows stand in a `Table` for each table, and a list of places names them in the order of the history (archive_history).
+// To be changed together: `Applies` in specs/Entries.antt, src/reading.rt and `IsBatch`; the limits, in archive_history.
 #![tactic(auto)]
 
 mod batch;
 mod classifying;
 mod head;
-mod history;
 mod ingest;
 pub mod laws;
-mod limit_counts;
 mod plan;
 mod reading;
 mod retrieving;
 mod store;
-mod table_set;
 
 pub use batch::{Arrival, Arrivals, Batch, Ingested};
 pub use head::Head;

@@ -16,11 +16,11 @@ ghost use Rattle.archive_store.specs.PartialArchive.{archive_made, HasTables, re
 ghost use Rattle.archive_store.specs.Stands.{IsDamagedAt, Breaks};
 
 use crate::head::Head;
-use crate::history::History;
 use arch_disk::Disk;
 use arch_types::octets::Octets;
 use arch_types::refusal::Refusal;
 use arch_types::row::{Row, Rows};
+use archive_history::history::History;
 use disk_journal::{Journal, JournalFault, Opening};
 use field_codec::{Entry, NotAnEntry, read_shared};
 use std::alloc::{AllocError, Global};

@@ -10,7 +10,6 @@ ghost use Rattle.arch_types.specs.Table.{range_of};
 ghost use Rattle.archive_store.specs.Plans.{rows_of_parts, IsPart, AreRising};
 ghost use Rattle.std.specs.Arc.{arc_value};
 
-use crate::history::{History, interval_of_row};
 use crate::plan::{Part, Parts, Plan};
 use crate::store::Store;
 use arch_disk::Disk;
@@ -19,6 +18,7 @@ use arch_types::name::{Name, Names};
 use arch_types::octets::Octets;
 use arch_types::refusal::Refusal;
 use arch_types::row::{Row, Rows};
+use archive_history::history::{History, interval_of_row};
 use mdb_model::Mdb;
 use std::alloc::{AllocError, Global};
 use std::sync::Arc;

@@ -8,6 +8,7 @@ ghost use Rattle.retrieval.specs.CellText.{HasShortLabels, cell_line};
 ghost use Rattle.dump_lines.specs.Output.{IsBuffered};
 
 use crate::answer::ParameterAnswer;
+use crate::cell_text::put_cell;
 use crate::cells::calibration_of;
 use arch_types::cell::Cell;
 use dump_lines::line_buffer::LineBuffer;
@@ -62,7 +63,7 @@ fn print_cells<K: Sink>(
     ensures no_fault { OnOk result (Stays (K.faults sink.old) (K.faults sink.new)) }
 {
     for cell in cells {
-        line_buffer.put_cell(*cell, calibration);
+        put_cell(line_buffer, *cell, calibration);
         line_buffer.flush_if_full(sink)?;
     }
     Ok(())

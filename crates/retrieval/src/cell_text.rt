@@ -10,71 +10,69 @@ use dump_lines::line_buffer::LineBuffer;
 use itoa::Buffer;
 use mdb_model::{Calibration, EnumRow, Table};
 
-impl LineBuffer {
-    /// Adds the line of a cell of a parameter with this calibration.
-    pub fn put_cell(&mut self, cell: Cell, calibration: Option<&Calibration>)
-        requires room { length self.old < 65536 }
-        requires labels { HasShortLabels (option_copied calibration) }
-        ensures { self.new ≡ self.old ++ cell_line (option_copied calibration.entry) cell }
-    {
-        self.put_number(b"cell ", cell.key.time);
-        self.put_number(b" ", cell.key.seq);
-        self.put_number(b" ", cell.raw);
-        self.put(b" ");
-        self.put_eng(cell, calibration);
-        self.put(b"\n");
-    }
+/// Adds the line of a cell of a parameter with this calibration.
+pub fn put_cell(line_buffer: &mut LineBuffer, cell: Cell, calibration: Option<&Calibration>)
+    requires room { length line_buffer.old < 65536 }
+    requires labels { HasShortLabels (option_copied calibration) }
+    ensures { line_buffer.new ≡ line_buffer.old ++ cell_line (option_copied calibration.entry) cell }
+{
+    line_buffer.put_number(b"cell ", cell.key.time);
+    line_buffer.put_number(b" ", cell.key.seq);
+    line_buffer.put_number(b" ", cell.raw);
+    line_buffer.put(b" ");
+    put_eng(line_buffer, cell, calibration);
+    line_buffer.put(b"\n");
+}
 
-    /// Adds an engineering value.
-    fn put_eng(&mut self, cell: Cell, calibration: Option<&Calibration>)
-        requires room { length self.old < 65700 }
-        requires labels { HasShortLabels (option_copied calibration) }
-        ensures text { self.new ≡ self.old ++ eng_text (option_copied calibration.entry) cell.raw cell.eng }
-        ensures short { length self.new ≤ length self.old + 82 }
-    {
-        match cell.eng {
-            Eng::Whole => self.put_number(b"", cell.raw),
-            Eng::Fixed(millionths) => self.put_fixed(millionths),
-            Eng::Label(row) => self.put(label_of(calibration, row)),
-            Eng::Undef => self.put(b"UNDEF"),
-        }
+/// Adds an engineering value.
+fn put_eng(line_buffer: &mut LineBuffer, cell: Cell, calibration: Option<&Calibration>)
+    requires room { length line_buffer.old < 65700 }
+    requires labels { HasShortLabels (option_copied calibration) }
+    ensures text { line_buffer.new ≡ line_buffer.old ++ eng_text (option_copied calibration.entry) cell.raw cell.eng }
+    ensures short { length line_buffer.new ≤ length line_buffer.old + 82 }
+{
+    match cell.eng {
+        Eng::Whole => line_buffer.put_number(b"", cell.raw),
+        Eng::Fixed(millionths) => put_fixed(line_buffer, millionths),
+        Eng::Label(row) => line_buffer.put(label_of(calibration, row)),
+        Eng::Undef => line_buffer.put(b"UNDEF"),
     }
+}
 
-    /// Adds millionths as a decimal.
-    fn put_fixed(&mut self, millionths: i64)
-        requires { length self.old < 65700 }
-        ensures text { self.new ≡ self.old ++ fixed_text millionths }
-        ensures short { length self.new ≤ length self.old + 82 }
-    {
-        let size = millionths.unsigned_abs();
-        self.put(sign(millionths));
-        self.put_number(b"", size / 1_000_000);
-        self.put_fraction(size % 1_000_000);
-    }
+/// Adds millionths as a decimal.
+fn put_fixed(line_buffer: &mut LineBuffer, millionths: i64)
+    requires { length line_buffer.old < 65700 }
+    ensures text { line_buffer.new ≡ line_buffer.old ++ fixed_text millionths }
+    ensures short { length line_buffer.new ≤ length line_buffer.old + 82 }
+{
+    let size = millionths.unsigned_abs();
+    line_buffer.put(sign(millionths));
+    line_buffer.put_number(b"", size / 1_000_000);
+    put_fraction(line_buffer, size % 1_000_000);
+}
 
-    /// Adds a point and the six digits of a number.
-    #[tactic(auto, using(std::proofs::lemmas::Fmt::decimal_nonempty))]
-    fn put_fraction(&mut self, number: u64)
-        requires room { length self.old < 65750 }
-        requires below { number < 1000000 }
-        ensures text { self.new ≡ self.old ++ codes "." ++ six_digits number }
-        ensures short { length self.new ≤ length self.old + 40 }
-    {
-        let mut buffer = Buffer::new();
-        let digits = buffer.format(1_000_000 + number).as_bytes();
-        let (_, six) = digits.split_at(1);
-        self.put(b".");
-        self.put(six);
-    }
+/// Adds a point and the six digits of a number.
+#[tactic(auto, using(std::proofs::lemmas::Fmt::decimal_nonempty))]
+fn put_fraction(line_buffer: &mut LineBuffer, number: u64)
+    requires room { length line_buffer.old < 65750 }
+    requires below { number < 1000000 }
+    ensures text { line_buffer.new ≡ line_buffer.old ++ codes "." ++ six_digits number }
+    ensures short { length line_buffer.new ≤ length line_buffer.old + 40 }
+{
+    let mut buffer = Buffer::new();
+    let digits = buffer.format(1_000_000 + number).as_bytes();
+    let (_, six) = digits.split_at(1);
+    line_buffer.put(b".");
+    line_buffer.put(six);
+}
 
-    /// Adds the last line.
-    pub fn put_values(&mut self, count: u64)
-        requires { length self.old < 65536 }
-        ensures { self.new ≡ self.old ++ values_line count }
-    {
-        self.put_number(b"values ", count);
-        self.put(b"\n");
-    }
+/// Adds the last line.
+pub fn put_values(line_buffer: &mut LineBuffer, count: u64)
+    requires { length line_buffer.old < 65536 }
+    ensures { line_buffer.new ≡ line_buffer.old ++ values_line count }
+{
+    line_buffer.put_number(b"values ", count);
+    line_buffer.put(b"\n");
 }
 
 /// The sign of a number.

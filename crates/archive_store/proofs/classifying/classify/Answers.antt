@@ -4,7 +4,7 @@ use Rattle.arch_types.specs.declared.row.Row.{Row}
 use Rattle.archive_store.specs.declared.batch.Arrival.{Arrival}
 use Rattle.archive_store.specs.Batches.{arrival_rows}
 use Rattle.archive_store.specs.Classifying.{IsClassified}
-use Rattle.archive_store.proofs.Steps.{flat_more}
+use Rattle.archive_history.proofs.Steps.{flat_more}
 use Rattle.archive_store.proofs.classifying.classify.Goals as goal
 
 pub loop-arrival-preserved : goal.loop-arrival-preserved

@@ -2,7 +2,7 @@ use Rattle.std.proofs.Common.{◌<◌, ◌++◌, ℕ, length, List, map, take, s
 use Rattle.arch_types.specs.declared.row.Row.{Row}
 use Rattle.archive_store.specs.Batches.{arrival_row}
 use Rattle.archive_store.specs.Classifying.{IsClassified}
-use Rattle.archive_store.proofs.Steps.{map_more}
+use Rattle.archive_history.proofs.Steps.{map_more}
 use Rattle.archive_store.proofs.classifying.classify_arrival.Goals as goal
 
 pub loop-table-preserved : goal.loop-table-preserved

@@ -7,10 +7,10 @@ use Rattle.arch_types.specs.declared.key.Key.{Key}
 use Rattle.arch_types.specs.declared.row.Row.{Row}
 use Rattle.archive_core.specs.Outcomes.{Says, fresh_of}
 use Rattle.archive_store.specs.Batches.{arrival_row}
-use Rattle.archive_store.specs.TableSet.{is_at_key}
+use Rattle.archive_history.specs.TableSet.{is_at_key}
 use Rattle.archive_store.specs.Classifying.{IsClassified, IndexesByKey}
 use Rattle.archive_store.proofs.Outcomes.{new_behind, outcomes_more, fresh_more}
-use Rattle.archive_store.proofs.Steps.{on_both}
+use Rattle.archive_history.proofs.Steps.{on_both}
 use Rattle.archive_store.proofs.classifying.classify_row.Goals as goal
 
 pub keep-requires-clause-new : goal.keep-requires-clause-new

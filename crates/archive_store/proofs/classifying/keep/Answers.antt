@@ -6,7 +6,7 @@ use Rattle.arch_types.specs.declared.row.Row.{Row}
 use Rattle.archive_store.specs.Classifying.{at_cmp, IndexesByKey}
 use Rattle.archive_store.specs.declared.classifying.TableKey.{TableKey}
 use Rattle.archive_store.proofs.Outcomes.{found_none, tells_more}
-use Rattle.archive_store.proofs.Steps.{on_ok}
+use Rattle.archive_history.proofs.Steps.{on_ok}
 use Rattle.archive_store.proofs.classifying.keep.Goals as goal
 
 pub returns-clause-places : goal.returns-clause-places

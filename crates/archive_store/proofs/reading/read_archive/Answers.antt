@@ -14,7 +14,7 @@ use Rattle.archive_store.specs.PartialArchive.{archive_made, read_refusal, HasTa
 use Rattle.archive_store.proofs.Archives.{no_entries, opens_some, damaged_short, damaged_wrong, found_is, tables_found}
 use Rattle.archive_store.proofs.Refusals.{read_damaged}
 use Rattle.archive_store.proofs.PendingFaults.{replays_next, bodies_more}
-use Rattle.archive_store.proofs.Steps.{if_ok}
+use Rattle.archive_history.proofs.Steps.{if_ok}
 use Rattle.archive_store.proofs.reading.read_archive.Goals as goal
 
 -- the file that is read, now and at the beginning

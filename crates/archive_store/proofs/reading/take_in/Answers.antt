@@ -10,9 +10,9 @@ use Rattle.archive_store.specs.declared.head.Head.{Head}
 use Rattle.archive_store.specs.declared.reading.PartialArchive.{PartialArchive}
 use Rattle.archive_store.specs.Entries.{Archive, archive, Applies, AreAdmitted}
 use Rattle.archive_store.specs.PartialArchive.{archive_made}
-use Rattle.archive_store.specs.TableSet.{HistoryView}
+use Rattle.archive_history.specs.TableSet.{HistoryView}
 use Rattle.archive_store.proofs.Admitting.{breaks_entry}
-use Rattle.archive_store.proofs.Steps.{if_ok}
+use Rattle.archive_history.proofs.Steps.{if_ok}
 use Rattle.archive_store.proofs.reading.take_in.Goals as goal
 
 -- the octets are an entry that makes this of what was there

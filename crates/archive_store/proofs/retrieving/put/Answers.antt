@@ -6,7 +6,7 @@ use Rattle.arch_types.specs.declared.row.Row.{Row}
 use Rattle.archive_store.specs.Plans.{rows_of_parts, IsPart, AreRising}
 use Rattle.archive_store.specs.declared.plan.Part.{Part}
 use Rattle.archive_store.proofs.Planning.{interval_here, rows_put, each_put, rising_put, bounded_put, bounded, each_begun, rising_begun, bounded_begun, earlier_all}
-use Rattle.archive_store.proofs.Steps.{on_ok, default_free}
+use Rattle.archive_history.proofs.Steps.{on_ok, default_free}
 use Rattle.std.specs.Ordering.{int_eq}
 use Rattle.std.proofs.lemmas.Bool.Decides.{Decides-int_eq}
 use Rattle.archive_store.proofs.retrieving.put.Goals.{else-count-gt0-via-then-count-gt0+else-eq, else-count-gt0-via-else-count-gt0}

@@ -9,13 +9,13 @@ use Rattle.archive_core.specs.Items.{Item}
 use Rattle.archive_core.specs.Outcomes.{outcomes_of, fresh_of}
 use Rattle.archive_store.specs.Batches.{batch_rows, IsBatch}
 use Rattle.archive_store.specs.Entries.{archive, AreAdmitted}
-use Rattle.archive_store.specs.Limits.{IsWithin, IsLimit, IsBelow}
+use Rattle.archive_history.specs.Limits.{IsWithin, IsLimit, IsBelow}
 use Rattle.archive_store.specs.StoreView.{StoreView, CrashInvariant}
 use Rattle.archive_store.specs.Stands.{StandsFor}
 use Rattle.archive_store.proofs.Batching.{admitted, sortable}
 use Rattle.archive_store.proofs.Ingesting.{added, nothing_added, below_none, below_some}
 use Rattle.archive_store.proofs.Kept.{stands_now}
-use Rattle.archive_store.proofs.Steps.{match_known}
+use Rattle.archive_history.proofs.Steps.{match_known}
 use Rattle.archive_store.proofs.store.Store.ingest.Goals as goal
 
 pub classify-requires : goal.classify-requires

@@ -9,7 +9,7 @@ use Rattle.archive_store.specs.StoreView.{StoreView, IsNow, unacknowledged_rows}
 use Rattle.archive_store.specs.Inside.{StoreInvariant}
 use Rattle.archive_store.proofs.Kept.{hand-reopened}
 use Rattle.archive_store.proofs.Healing.{heal_moments, kept_healed, kept_unhealed}
-use Rattle.archive_store.proofs.Steps.{written_back}
+use Rattle.archive_history.proofs.Steps.{written_back}
 use Rattle.archive_store.proofs.store.Store.reopen.Goals as goal
 
 -- the fill list after its failed writes were cleared in their place

@@ -1,0 +1,57 @@
+-- The intervals of rows that come to a history.
+use Rattle.std.proofs.Common.{◌≡◌, ◌⊎◌, inl, inr, ⊎_elim, ℕ, suc, ◌+◌, ◌<◌, ◌≤◌, List, [], ◌∷◌, ◌++◌, length, take, get_or, Bool, true, false, eqb, refl, sym, ◌∙◌, ap, arith}
+use Rattle.std.specs.Prelude.{filter, if◌then◌else◌, ◌&&◌}
+use Rattle.std.specs.Ordering.{int_eq}
+use Rattle.std.specs.List.{AllByRecursion}
+use Rattle.std.proofs.Math.Seq.{take-suc}
+use Rattle.std.proofs.lemmas.Bool.{eqb-true}
+use Rattle.std.proofs.lemmas.Bool.Decides.{Decides-int_eq}
+use Rattle.arch_types.specs.declared.interval.Interval.{Interval}
+use Rattle.arch_types.specs.declared.refusal.Which.TheVariants as limits
+use Rattle.arch_types.specs.declared.row.Row.{Row}
+use Rattle.arch_types.specs.Interval.{interval_of}
+use Rattle.arch_types.specs.Limits.{limit_of}
+use Rattle.archive_core.specs.Items.{Item, is_row_of_interval}
+use Rattle.archive_history.specs.Limits.{octets_of, interval_rows, IsWithin}
+use Rattle.archive_history.proofs.Sums.{octets-append, interval_rows-append, interval_rows-one}
+
+-- ---- one row more
+
+pub take_more : (rows : List Row) (i : ℕ) (d : Row) → i < length rows → take (i + 1) rows ≡ take i rows ++ get_or rows i d ∷ []
+take_more rows i d within =
+    let next : i + 1 ≡ suc i = omega arith in
+    ap (λ (n : ℕ). take n rows) next ∙ take-suc rows i d within
+
+pub octets_more : (rows : List Row) (i : ℕ) (d : Row) → i < length rows → octets_of (take (i + 1) rows) ≡ octets_of (take i rows) + length (get_or rows i d).packet
+octets_more rows i d within = omega (arith, ap octets_of (take_more rows i d within), octets-append (take i rows) (get_or rows i d ∷ []))
+
+pub interval_more : (interval : Interval) (rows : List Row) (i : ℕ) (d : Row) → i < length rows → interval_rows interval (take (i + 1) rows) ≡ interval_rows interval (take i rows) + (if is_row_of_interval interval (get_or rows i d) then 1 else 0)
+interval_more interval rows i d within =
+    omega (arith, ap (interval_rows interval) (take_more rows i d within), interval_rows-append interval (take i rows) (get_or rows i d ∷ []), interval_rows-one interval (get_or rows i d))
+
+-- ---- each interval of the rows
+
+-- the interval of a row of table `tm` has no more rows than it may
+abbrev pub IsCounted : List Item → List Row → Row → Type 0
+IsCounted items rows row = row.table ≡ 0 → (interval : Interval) → interval.0 ≡ interval_of row.key.time → interval_rows interval (items ++ rows) ≤ limit_of limits.IntervalRows
+
+and_true : (a b : Bool) → (a && b) ≡ true → (a ≡ true) × (b ≡ true)
+and_true true b e = (refl, e)
+and_true false b e = absurd cc
+
+-- an interval has none of these rows, or not too many
+none_or_few : (interval : Interval) (items : List Item) (all rows : List Row) → AllByRecursion (IsCounted items all) rows → (interval_rows interval rows ≡ 0) ⊎ (interval_rows interval (items ++ all) ≤ limit_of limits.IntervalRows)
+none_or_few interval items all [] each = inl refl
+none_or_few interval items all (row ∷ rows) each = go (is_row_of_interval interval row) refl (none_or_few interval items all rows each.1)
+  where
+    go : (b : Bool) → is_row_of_interval interval row ≡ b → (interval_rows interval rows ≡ 0) ⊎ (interval_rows interval (items ++ all) ≤ limit_of limits.IntervalRows)
+        → (length (if b then row ∷ filter (is_row_of_interval interval) rows else filter (is_row_of_interval interval) rows) ≡ 0) ⊎ (interval_rows interval (items ++ all) ≤ limit_of limits.IntervalRows)
+    go true is rest =
+        let p = and_true (eqb row.table 0) (int_eq (interval_of row.key.time) interval.0) is in
+        inr (each.0 (eqb-true row.table 0 p.0) interval (sym ((Decides-int_eq (interval_of row.key.time) interval.0).0 p.1)))
+    go false is rest = rest
+
+-- no interval has too many rows after rows whose intervals have not
+pub intervals_within : (items : List Item) (rows : List Row) → IsWithin items → AllByRecursion (IsCounted items rows) rows → (interval : Interval) → interval_rows interval (items ++ rows) ≤ limit_of limits.IntervalRows
+intervals_within items rows within each interval =
+    ⊎_elim (λ none. omega (arith, none, interval_rows-append interval items rows, within.intervals interval)) (λ few. few) (none_or_few interval items rows rows each)

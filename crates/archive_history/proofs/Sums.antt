@@ -1,0 +1,35 @@
+-- What the limits count, over lists that are joined.
+use Rattle.std.proofs.Common.{◌≡◌, ◌+◌, List, [], ◌∷◌, ◌++◌, length, Bool, true, false, cond, refl, arith, length-append}
+use Rattle.std.specs.Prelude.{filter, if◌then◌else◌}
+use Rattle.arch_types.specs.declared.interval.Interval.{Interval}
+use Rattle.arch_types.specs.declared.row.Row.{Row}
+use Rattle.archive_core.specs.Items.{Item, is_row_of_interval}
+use Rattle.archive_history.specs.Limits.{octets_of, interval_rows, IsWithin}
+
+pub octets-append : (a b : List Row) → octets_of (a ++ b) ≡ octets_of a + octets_of b
+octets-append [] b = let none : octets_of b ≡ 0 + octets_of b = omega arith in none
+octets-append (row ∷ a) b = omega (arith, octets-append a b)
+
+one_more : (b : Bool) (item : Item) (items : List Item) → length (cond b (item ∷ items) items) ≡ (if b then 1 else 0) + length items
+one_more true item items = omega arith
+one_more false item items = omega arith
+
+pub interval_rows-append : (interval : Interval) (a b : List Item) → interval_rows interval (a ++ b) ≡ interval_rows interval a + interval_rows interval b
+interval_rows-append interval [] b = let none : interval_rows interval b ≡ 0 + interval_rows interval b = omega arith in none
+interval_rows-append interval (item ∷ a) b =
+    omega (arith, interval_rows-append interval a b, one_more (is_row_of_interval interval item) item (filter (is_row_of_interval interval) (a ++ b)), one_more (is_row_of_interval interval item) item (filter (is_row_of_interval interval) a))
+
+pub interval_rows-one : (interval : Interval) (item : Item) → interval_rows interval (item ∷ []) ≡ (if is_row_of_interval interval item then 1 else 0)
+interval_rows-one interval item = alone (is_row_of_interval interval item)
+  where
+    alone : (b : Bool) → length (cond b (item ∷ []) []) ≡ (if b then 1 else 0)
+    alone true = refl
+    alone false = refl
+
+-- fewer rows pass no limit either
+pub within_less : (a b : List Item) → IsWithin (a ++ b) → IsWithin a
+within_less a b w = record {
+  rows = omega (arith, w.rows, length-append a b);
+  octets = omega (arith, w.octets, octets-append a b);
+  intervals = λ interval. omega (arith, w.intervals interval, interval_rows-append interval a b);
+}

@@ -1,0 +1,78 @@
+use Rattle.std.proofs.Common.{◌≡◌, ◌++◌, [], ◌∷◌, List, length, refl, sym, ◌∙◌, ap, subst, arith, append_assoc}
+use Rattle.arch_types.specs.declared.row.Row.{Row}
+use Rattle.arch_types.specs.History.{ingested, with_row}
+use Rattle.archive_core.specs.Items.{Item}
+use Rattle.archive_history.specs.Limits.{IsWithin}
+use Rattle.archive_history.proofs.Growing.{first_within, table_next, not_all, fresh_next}
+use Rattle.std.proofs.lemmas.List.{append-nil}
+use Rattle.archive_history.proofs.Steps.{ended}
+use Rattle.archive_history.proofs.history.History.add_all.Goals as goal
+
+no_items : (rows : List Row) → length rows ≡ 0 → rows ≡ []
+no_items [] none = refl
+no_items (row ∷ rows) none = absurd (omega (arith, none))
+
+pub loop-row-init : goal.loop-row-init
+loop-row-init c =
+    let gives : c.into_iter-row-iterator.result.rest.items ≡ c.args.rows = (let s = c.into_iter-row-iterator.ensures.into_iter_gives in cc) ∙ c.into_vec-row-items.ensures in
+    record {
+      left = gives;
+      items = sym (append-nil c.args.self.now.items);
+      fresh = sym (append-nil c.args.self.now.items);
+      tables = refl;
+      room = omega (arith, ap length gives, c.requires.room);
+    }
+
+pub add-requires-clause-room : goal.add-requires-clause-room
+add-requires-clause-room c =
+    let step : c.loop-row.row-iterator.rest.items ≡ c.in-Some.row ∷ c.next.new.self.rest.items = let s = c.in-Some.ensures.steps in cc in
+    omega (arith, c.loop-row.invariant.room, ap length step)
+
+pub add-requires-clause-table : goal.add-requires-clause-table
+add-requires-clause-table c =
+    let step : c.loop-row.row-iterator.rest.items ≡ c.in-Some.row ∷ c.next.new.self.rest.items = let s = c.in-Some.ensures.steps in cc in
+    let left = ap (λ (l : List Row). c.loop-row.yielded ++ l) (sym step) ∙ c.loop-row.invariant.left in
+    omega (arith, c.loop-row.invariant.tables, table_next c.args.self.now.tables c.loop-row.yielded c.next.new.self.rest.items c.args.rows c.in-Some.row left c.requires.tables)
+
+pub add-requires-clause-within : goal.add-requires-clause-within
+add-requires-clause-within c =
+    let step : c.loop-row.row-iterator.rest.items ≡ c.in-Some.row ∷ c.next.new.self.rest.items = let s = c.in-Some.ensures.steps in cc in
+    let left = ap (λ (l : List Row). c.loop-row.yielded ++ l) (sym step) ∙ c.loop-row.invariant.left in
+    subst (λ (l : List Item). IsWithin (l ++ c.in-Some.row ∷ [])) (sym c.loop-row.invariant.items)
+    (first_within c.args.self.now.items c.loop-row.yielded c.next.new.self.rest.items c.args.rows c.in-Some.row left c.requires.within)
+
+pub returns-then-not-add-clause-some : goal.returns-then-not-add-clause-some
+returns-then-not-add-clause-some c is =
+    let step : c.loop-row.row-iterator.rest.items ≡ c.in-Some.row ∷ c.next.new.self.rest.items = let s = c.in-Some.ensures.steps in cc in
+    let left = ap (λ (l : List Row). c.loop-row.yielded ++ l) (sym step) ∙ c.loop-row.invariant.left in
+    let known : with_row (c.args.self.now.items ++ c.loop-row.yielded) c.in-Some.row ≡ c.args.self.now.items ++ c.loop-row.yielded =
+    subst (λ (l : List Item). with_row l c.in-Some.row ≡ l) c.loop-row.invariant.items (sym c.add.ensures.items ∙ c.if-not-add.ensures.known refl) in
+    not_all c.args.self.now.items c.loop-row.yielded c.next.new.self.rest.items c.args.rows c.in-Some.row left known
+
+pub returns-then-not-add-clause-tables : goal.returns-then-not-add-clause-tables
+returns-then-not-add-clause-tables c = c.add.ensures.tables ∙ c.loop-row.invariant.tables
+
+pub loop-row-preserved : goal.loop-row-preserved
+loop-row-preserved c =
+    let step : c.loop-row.row-iterator.rest.items ≡ c.in-Some.row ∷ c.next.new.self.rest.items = let s = c.in-Some.ensures.steps in cc in
+    let row = c.in-Some.row in
+    let inv = c.loop-row.invariant in
+    let grown = c.if-not-add.ensures.fresh refl in
+    let new : with_row (c.args.self.now.items ++ c.loop-row.yielded) row ≡ (c.args.self.now.items ++ c.loop-row.yielded) ++ row ∷ [] =
+    subst (λ (l : List Item). with_row l row ≡ l ++ row ∷ []) inv.items (sym c.add.ensures.items ∙ grown) in
+    record {
+      left = append_assoc c.loop-row.yielded (row ∷ []) c.next.new.self.rest.items ∙ ap (λ (l : List Row). c.loop-row.yielded ++ l) (sym step) ∙ inv.left;
+      items = grown ∙ ap (λ (l : List Item). l ++ row ∷ []) inv.items ∙ append_assoc c.args.self.now.items c.loop-row.yielded (row ∷ []);
+      fresh = fresh_next c.args.self.now.items c.loop-row.yielded row inv.fresh new;
+      tables = c.add.ensures.tables ∙ inv.tables;
+      room = omega (arith, inv.room, ap length step, c.add.ensures.room);
+    }
+
+pub returns-clause-all : goal.returns-clause-all
+returns-clause-all c is =
+    let none : c.loop-row.row-iterator.rest.items ≡ [] = no_items c.loop-row.row-iterator.rest.items (omega (arith, c.in-None.ensures.steps.0, c.loop-row.row-iterator.rest.ok.0)) in
+    let all : c.loop-row.yielded ≡ c.args.rows = ended c.loop-row.yielded c.loop-row.row-iterator.rest.items c.args.rows c.loop-row.invariant.left none in
+    (subst (λ (l : List Row). ingested c.args.self.now.items l ≡ c.args.self.now.items ++ l) all c.loop-row.invariant.fresh, c.loop-row.invariant.items ∙ ap (λ (l : List Row). c.args.self.now.items ++ l) all)
+
+pub returns-clause-tables : goal.returns-clause-tables
+returns-clause-tables c = c.loop-row.invariant.tables

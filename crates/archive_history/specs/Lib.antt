@@ -1,0 +1,4 @@
+pub mod History
+pub mod Limits
+pub mod TableSet
+pub mod LimitCounts

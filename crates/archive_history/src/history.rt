@@ -1,0 +1,225 @@
+//! A history in memory, within its limits.
+
+ghost use Rattle.std.specs.Prelude.{◌≡◌, ◌+◌, ◌*◌, ◌<◌, ◌≤◌, ◌^◌, ◌++◌, [], ◌∷◌, true, false, length, max, IfOk, IfSome, IfNone, OnOk, OnErr, slice_get, Some};
+ghost use Rattle.std.specs.List.{list_any, AllByRecursion};
+ghost use Rattle.arch_types.specs.declared.interval.Interval.{Interval as AnInterval};
+ghost use Rattle.arch_types.specs.History.{ingested, with_row, IsHistory};
+ghost use Rattle.arch_types.specs.Interval.{interval_of};
+ghost use Rattle.arch_types.specs.Table.{range_of};
+ghost use Rattle.archive_core.specs.Items.{Item, items_of};
+ghost use Rattle.archive_history.specs.TableSet.{is_at_key};
+ghost use Rattle.arch_types.specs.Limits.{limit_of};
+ghost use Rattle.arch_types.specs.declared.refusal.Which.TheVariants as limits;
+ghost use Rattle.archive_history.specs.Limits.{octets_of, interval_rows, IsWithin, PassesFirst};
+ghost use Rattle.archive_history.specs.LimitCounts.{count_of};
+
+use crate::limit_counts::LimitCounts;
+use crate::table_set::TableSet;
+use arch_types::interval::Interval;
+use arch_types::key::Key;
+use arch_types::refusal::Which;
+use arch_types::row::{Row, Rows};
+use std::alloc::{AllocError, Global};
+use std::marker::Model;
+use yarch_table::rows::TableRows;
+
+/// The number of table `tm`.
+pub const TM: u8 = 0;
+
+/// The rows of a history, and what its limits count.
+#[derive(Drop)]
+pub struct History {
+    table_set: TableSet,
+    limit_counts: LimitCounts,
+}
+
+impl Model for History {
+    ghost use Rattle.archive_history.specs.TableSet.{HistoryView};
+    ghost use Rattle.archive_history.specs.History.{HistoryInvariant};
+
+    ghost Value = { HistoryView };
+
+    ghost view = { λ h. h.table_set };
+
+    ghost invariant = { λ h. HistoryInvariant h.table_set h.limit_counts };
+}
+
+/// The interval of a row's time.
+pub fn interval_of_row(row: &Row) -> Interval
+    ensures { result.0 ≡ interval_of row.now.key.time }
+{
+    Interval::of(row.key.time)
+}
+
+/// All octets of the packets of rows.
+fn octets_in(rows: &[Row]) -> u64
+    requires { length rows.now ≤ limit_of limits.Rows }
+    ensures { result ≡ octets_of rows.now }
+{
+    let mut octets = 0;
+    for row in rows {
+        octets += row.packet.len() as u64;
+    }
+    octets
+}
+
+/// How many rows of table `tm` have their time in the interval.
+fn rows_in(rows: &[Row], interval: Interval) -> u64
+    ensures { result ≡ interval_rows interval rows.now }
+{
+    let mut count = 0;
+    for row in rows {
+        if row.table == TM && Interval::of(row.key.time) == interval {
+            count += 1;
+        }
+    }
+    count
+}
+
+/// Whether an interval would have too many rows with these. They are counted only where it comes that close to the limit.
+fn are_too_many(limit_counts: &LimitCounts, interval: Interval, rows: &[Row]) -> bool
+    requires few { length rows.now ≤ limit_of limits.Rows }
+    requires counted { count_of limit_counts.now.rows interval ≤ limit_of limits.IntervalRows }
+    ensures some { result ≡ true → limit_of limits.IntervalRows < count_of limit_counts.now.rows interval +
+        interval_rows interval (items_of rows.now) }
+    ensures none { result ≡ false → count_of limit_counts.now.rows interval + interval_rows interval
+        (items_of rows.now) ≤ limit_of limits.IntervalRows }
+{
+    let known = limit_counts.rows_of(interval);
+    if known + rows.len() as u64 <= Which::IntervalRows.limit() {
+        return false;
+    }
+    known + rows_in(rows, interval) > Which::IntervalRows.limit()
+}
+
+impl History {
+    /// So many tables without rows, and no room. The one error is want of memory.
+    pub fn new(alloc: Global, tables: usize) -> Result<Self, AllocError>
+        ensures { IfOk result (λ h. h ≡ record { items = []; tables = tables; room = 0 }) }
+    {
+        Ok(History {
+            table_set: TableSet::new(alloc, tables)?,
+            limit_counts: LimitCounts::new(alloc)?,
+        })
+    }
+
+    /// The length of the history.
+    pub fn len(&self) -> usize
+        ensures len { result ≡ length self.now.items }
+        ensures within { IsWithin self.now.items }
+        ensures history { IsHistory self.now.items }
+    {
+        self.table_set.len()
+    }
+
+    /// Makes the room at least `rows`. The one error is want of memory, and then all is as before.
+    pub fn reserve(&mut self, rows: usize) -> Result<(), AllocError>
+        ensures ok { OnOk result (self.new ≡ record {
+          items = self.old.items;
+          tables = self.old.tables;
+          room = max
+              self.old.room rows;
+        }) }
+        ensures err { OnErr result (self.new ≡ self.old) }
+    {
+        self.limit_counts.reserve(rows)?;
+        self.table_set.reserve(rows)
+    }
+
+    /// The position of the row that has a key in a table.
+    pub fn position(&self, table: u8, key: Key) -> Option<u64>
+        requires { table < self.now.tables }
+        ensures some { IfSome result (λ p. (there : Item) × (slice_get self.now.items p ≡ Some there) ×
+            (is_at_key table key there ≡ true)) }
+        ensures none { IfNone result (list_any (is_at_key table key) self.now.items ≡ false) }
+    {
+        self.table_set.position(table, key)
+    }
+
+    /// Whether an interval would have too many rows with these.
+    fn passes_interval(&self, rows: &[Row]) -> bool
+        requires { length rows.now ≤ limit_of limits.Rows }
+        ensures some { result ≡ true → (i : AnInterval) ×
+            (limit_of limits.IntervalRows < interval_rows i (self.now.items ++ items_of rows.now)) }
+        ensures none { result ≡ false → (i : AnInterval) → interval_rows i (self.now.items ++ items_of rows.now) ≤
+            limit_of limits.IntervalRows }
+    {
+        let limit_counts = &self.limit_counts;
+        for row in rows {
+            if row.table == TM {
+                let interval = interval_of_row(row);
+                if are_too_many(limit_counts, interval, rows) {
+                    return true;
+                }
+            }
+        }
+        false
+    }
+
+    /// The first limit that the history would pass with these rows.
+    pub fn limit_passed(&self, rows: &[Row]) -> Option<Which>
+        ensures none { IfNone result (IsWithin (self.now.items ++ items_of rows.now)) }
+        ensures first { IfSome result (λ which. PassesFirst which (self.now.items ++ items_of rows.now)) }
+    {
+        if rows.len() as u64 > Which::Rows.limit() - self.table_set.len() as u64 {
+            return Some(Which::Rows);
+        }
+        if octets_in(rows) > Which::HistoryOctets.limit() - self.limit_counts.octets() {
+            return Some(Which::HistoryOctets);
+        }
+        if self.passes_interval(rows) {
+            return Some(Which::IntervalRows);
+        }
+        None
+    }
+
+    /// Adds a row at the end, where its table has no row of its key. Takes no memory.
+    fn add(&mut self, row: Row) -> bool
+        requires room { 0 < self.old.room }
+        requires table { row.table < self.old.tables }
+        requires within { IsWithin (self.old.items ++ row ∷ []) }
+        ensures items { self.new.items ≡ with_row self.old.items row }
+        ensures fresh { result ≡ true → self.new.items ≡ self.old.items ++ row ∷ [] }
+        ensures known { result ≡ false → self.new.items ≡ self.old.items }
+        ensures tables { self.new.tables ≡ self.old.tables }
+        ensures room { self.old.room ≡ self.new.room + 1 }
+    {
+        let octets = row.packet.len();
+        let table = row.table;
+        let interval = interval_of_row(&row);
+        if !self.table_set.add(row) {
+            return false;
+        }
+        self.limit_counts.add_octets(octets);
+        if table == TM {
+            self.limit_counts.add_row(interval);
+        }
+        true
+    }
+
+    /// Adds rows at the end, up to the first whose table has a row of its key. Tells whether all were added. Takes no memory.
+    pub fn add_all(&mut self, rows: Rows) -> bool
+        requires room { length rows ≤ self.old.room }
+        requires tables { AllByRecursion (λ row. row.table < self.old.tables) rows }
+        requires within { IsWithin (self.old.items ++ items_of rows) }
+        ensures all { result ≡ true → (ingested self.old.items rows ≡ self.old.items ++ items_of rows) ×
+            (self.new.items ≡ self.old.items ++ items_of rows) }
+        ensures some { result ≡ false → ingested self.old.items rows ≡ self.old.items ++ items_of rows → ⊥ }
+        ensures tables { self.new.tables ≡ self.old.tables }
+    {
+        for row in rows.into_vec() {
+            if !self.add(row) {
+                return false;
+            }
+        }
+        true
+    }
+
+    /// The rows of table `tm` with `from <= time < to`, in the order of their keys. Times are in milliseconds.
+    pub fn range(&self, from: i64, to: i64) -> TableRows<'_>
+        requires { 0 < self.now.tables }
+        ensures { result ≡ range_of 0 from to self.now.items }
+    {
+        self.table_set.range(TM, from, to)
+    }
+}

@@ -1,0 +1,12 @@
+//! The rows of an archive in memory: a history of tables, and what it counts against the limits.
+//!
+//! Stands for: the list of rows in the order in which they came to stay, the first of each table and key (`specs/History.antt`), with the
+//! rows of each table at a front (`specs/TableSet.antt`), and the octets and rows of intervals that the limits speak of
+//! (`specs/Limits.antt`, `specs/LimitCounts.antt`). A row is added without memory once room was made. Called by the store.
+//!
+//! To be changed together: the limits in specs/Limits.antt and src/history.rt.
+#![tactic(auto)]
+
+pub mod history;
+pub mod limit_counts;
+pub mod table_set;

@@ -1,0 +1,92 @@
+//! What the limits count: octets of packets, and rows in each interval.
+
+ghost use Rattle.std.specs.Prelude.{◌≡◌, ◌+◌, ◌<◌, ◌≤◌, ◌^◌, [], max, IfOk, OnOk, OnErr};
+ghost use Rattle.arch_types.specs.declared.interval.Interval.{Interval as AnInterval};
+ghost use Rattle.archive_history.specs.LimitCounts.{count_of, one_at};
+
+use arch_types::interval::Interval;
+use block_map::index::Index;
+use std::alloc::{AllocError, Global};
+use std::marker::Model;
+
+/// How many octets there are, and how many rows in each interval.
+#[derive(Drop)]
+pub struct LimitCounts {
+    octets: u64,
+    /// The number of rows of each interval that has any.
+    rows: Index<Interval, u64>,
+}
+
+impl Model for LimitCounts {
+    ghost use Rattle.archive_history.specs.LimitCounts.{LimitCountsView};
+
+    ghost Value = { LimitCountsView };
+
+    ghost view = { λ s. record { octets = s.octets; rows = s.rows.entries; room = s.rows.room } };
+}
+
+impl LimitCounts {
+    /// Nothing yet, and no room. The one error is want of memory.
+    pub fn new(alloc: Global) -> Result<Self, AllocError>
+        ensures { IfOk result (λ s. s ≡ record { octets = 0; rows = []; room = 0 }) }
+    {
+        Ok(LimitCounts {
+            octets: 0,
+            rows: Index::new(alloc),
+        })
+    }
+
+    /// Makes room for at least so many more intervals. The one error is want of memory, and then all is as before.
+    pub fn reserve(&mut self, intervals: usize) -> Result<(), AllocError>
+        ensures ok { OnOk result (self.new ≡ record {
+          octets = self.old.octets;
+          rows = self.old.rows;
+          room = max
+              self.old.room intervals;
+        }) }
+        ensures err { OnErr result (self.new ≡ self.old) }
+    {
+        self.rows.reserve(intervals)
+    }
+
+    pub fn octets(&self) -> u64
+        ensures { result ≡ self.now.octets }
+    {
+        self.octets
+    }
+
+    /// How many rows an interval has.
+    pub fn rows_of(&self, interval: Interval) -> u64
+        ensures { result ≡ count_of self.now.rows interval }
+    {
+        match self.rows.get(interval) {
+            Some(rows) => rows,
+            None => 0,
+        }
+    }
+
+    pub fn add_octets(&mut self, octets: usize)
+        requires { self.old.octets + octets < 2 ^ 64 }
+        ensures { self.new ≡ record { octets = self.old.octets + octets; rows = self.old.rows; room = self.old.room } }
+    {
+        self.octets += octets as u64;
+    }
+
+    /// Counts one more row of an interval. Takes no memory.
+    pub fn add_row(&mut self, interval: Interval)
+        requires room { 0 < self.old.room }
+        requires small { count_of self.old.rows interval + 1 < 2 ^ 64 }
+        ensures rows { (i : AnInterval) → count_of self.new.rows i ≡ count_of self.old.rows i + one_at interval i }
+        ensures octets { self.new.octets ≡ self.old.octets }
+        ensures room { self.old.room ≤ self.new.room + 1 }
+    {
+        match self.rows.get(interval) {
+            Some(rows) => {
+                self.rows.replace(interval, rows + 1);
+            }
+            None => {
+                self.rows.insert(interval, 1);
+            }
+        }
+    }
+}

@@ -1,7 +1,0 @@
-use Rattle.std.proofs.Common.{take}
-use Rattle.std.specs.List.{AllByRecursion}
-use Rattle.archive_store.proofs.Intervals.{IsCounted}
-use Rattle.archive_store.proofs.history.History.passes_interval.Given as goal
-
-abbrev pub invariant-loop-row : goal.invariant-loop-row
-invariant-loop-row l = AllByRecursion (IsCounted l.self.items l.rows) (take l.row-index l.rows)
