@@ -1,8 +1,6 @@
 -- The rules admit the calibration of each parameter for its raw values.
-use Rattle.std.proofs.Common.{◌≡◌, ◌∙◌, Option, Some, ap, subst, sym}
-use Rattle.std.specs.Prelude.{slice_get}
+use Rattle.std.proofs.Common.{◌≡◌, ◌∙◌, Option, ap, subst, sym}
 use Rattle.mdb_items.specs.declared.calibration.Calibration.{Calibration}
-use Rattle.mdb_items.specs.declared.parameter.Parameter.{Parameter}
 use Rattle.mdb_items.specs.Database.{Database, IsDatabase}
 use Rattle.mdb_model.specs.Lookups.{calibration_of, calibration_of_parameter}
 use Rattle.mdb_rules.proofs.Ends.{item_at}

@@ -1,9 +1,9 @@
 -- The walk as the code takes it.
-use Rattle.std.proofs.Common.{◌≡◌, ◌∙◌, ◌+◌, ◌-◌, ◌<◌, ◌≤◌, ℕ, List, [], ◌∷◌, ◌++◌, length, Some, None, ap, sym, arith, subst}
+use Rattle.std.proofs.Common.{◌≡◌, ◌∙◌, ◌-◌, ◌<◌, ℕ, List, [], ◌∷◌, ◌++◌, length, Some, None, ap, sym, arith, subst}
 use Rattle.mdb_items.specs.Database.{Database, IsDatabase}
 use Rattle.mdb_model.proofs.Structure.{structured}
 use Rattle.container_extract.specs.declared.values.RawValue.{RawValue}
-use Rattle.container_extract.specs.Chain.{IsChain, chain_of, entries_at}
+use Rattle.container_extract.specs.Chain.{IsChain, chain_of}
 use Rattle.container_extract.specs.Extraction.{raw_extraction, raw_values_along}
 use Rattle.container_extract.specs.Step.{IsStep}
 use Rattle.container_extract.proofs.Chains.{is_chain_of}

@@ -1,7 +1,7 @@
 -- The values of an extraction are sound, and no two are of one parameter.
 use Rattle.std.proofs.Common.{◌≡◌, ◌∙◌, ◌<◌, ◌^◌, ℕ, zero, suc, List, [], ◌∷◌, false, inl, inr, map, take, Option, Some, refl, ap, sym, arith, subst, length-take}
 use Rattle.std.specs.Prelude.{◌==◌, flat_map, nat_eq, option_map, slice_get}
-use Rattle.std.specs.List.{AllByRecursion, IsDistinct, find, prefix_len, take_while}
+use Rattle.std.specs.List.{AllByRecursion, IsDistinct, prefix_len, take_while}
 use Rattle.std.proofs.lemmas.Bool.{cases_Bool}
 use Rattle.std.proofs.lemmas.List.{length-map}
 use Rattle.std.proofs.lemmas.Option.{same_Some}

@@ -1,5 +1,5 @@
 -- The values of entries that are taken.
-use Rattle.std.proofs.Common.{◌≡◌, ◌∙◌, ◌+◌, ◌*◌, ◌^◌, ◌<◌, ◌≤◌, ℕ, zero, suc, List, [], ◌∷◌, ◌++◌, length, map, get_or, take, Option, Some, None, Bool, true, false, cond, refl, ap, sym, arith, subst}
+use Rattle.std.proofs.Common.{◌≡◌, ◌∙◌, ◌+◌, ◌*◌, ◌<◌, ◌≤◌, ℕ, zero, suc, List, [], ◌∷◌, ◌++◌, length, map, get_or, take, Option, Some, None, Bool, true, false, cond, refl, ap, sym, arith, subst}
 use Rattle.std.specs.Prelude.{◌&&◌, slice_get, ℤ}
 use Rattle.std.specs.List.{All, list_all, take_while}
 use Rattle.std.proofs.lemmas.Bool.{leb-true}

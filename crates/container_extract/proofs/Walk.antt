@@ -1,13 +1,12 @@
 -- The walk from the root down.
-use Rattle.std.proofs.Common.{◌≡◌, ◌∙◌, ◌+◌, ◌<◌, ◌≤◌, ℕ, zero, suc, List, [], ◌∷◌, ◌++◌, length, map, Option, Some, None, Bool, true, false, cond, inl, inr, refl, ap, sym, arith, subst, append_assoc, length-append, take}
-use Rattle.std.specs.Prelude.{◌&&◌, flat_map, if◌then◌else◌, slice_get}
+use Rattle.std.proofs.Common.{◌≡◌, ◌∙◌, ◌<◌, ℕ, List, [], ◌∷◌, ◌++◌, length, map, Option, Some, None, Bool, true, false, cond, inl, inr, refl, ap, sym, subst, append_assoc}
+use Rattle.std.specs.Prelude.{◌&&◌, flat_map, if◌then◌else◌}
 use Rattle.std.specs.List.{list_all, take_while}
 use Rattle.std.proofs.lemmas.Bool.{cases_Bool}
 use Rattle.std.proofs.lemmas.Grind.{flat_map-append}
 use Rattle.std.proofs.lemmas.List.{append-nil, map-append}
 use Rattle.std.proofs.lemmas.List.Folds.{list_all-append}
 use Rattle.std.proofs.lemmas.List.Sums.{take_while-cons}
-use Rattle.mdb_items.specs.declared.container.Container.{Container}
 use Rattle.mdb_items.specs.declared.container.Entry.{Entry}
 use Rattle.mdb_items.specs.Database.{Database, IsDatabase}
 use Rattle.mdb_model.proofs.Structure.{structured}

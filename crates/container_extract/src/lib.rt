@@ -23,5 +23,5 @@ pub mod values;
 
 pub use engineering::eng_of;
 pub use extraction::{Extracted, extract, packet_name};
-pub use raw_extraction::{Extractor, RawExtracted};
 pub use fields::bits;
+pub use raw_extraction::{Extractor, RawExtracted};

@@ -113,9 +113,6 @@ impl Extractor {
         ensures { IfOk result (λ name. name ≡ packet_name_of mdb.now packet.now) }
     {
         self.extracted.walk(mdb, packet)?;
-        Ok(name_along(
-            mdb.container_list(),
-            self.extracted.chain.as_slice(),
-        ))
+        Ok(name_along(mdb.container_list(), self.extracted.chain.as_slice()))
     }
 }

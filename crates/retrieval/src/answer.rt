@@ -106,7 +106,14 @@ fn first_cells(
     let mut extractor = Extractor::new(alloc);
     let mut cells = Vec::new(alloc);
     for part in parts {
-        add_cells(&mut extractor, mdb, number, part.rows.as_slice(), limit, &mut cells)?;
+        add_cells(
+            &mut extractor,
+            mdb,
+            number,
+            part.rows.as_slice(),
+            limit,
+            &mut cells,
+        )?;
     }
     Ok(cells)
 }
@@ -126,7 +133,14 @@ fn last_cells(
     let mut extractor = Extractor::new(alloc);
     let mut cells = Vec::new(alloc);
     for part in parts.iter().rev() {
-        add_last_cells(&mut extractor, mdb, number, part.rows.as_slice(), limit, &mut cells)?;
+        add_last_cells(
+            &mut extractor,
+            mdb,
+            number,
+            part.rows.as_slice(),
+            limit,
+            &mut cells,
+        )?;
     }
     Ok(cells)
 }

@@ -1,5 +1,5 @@
 -- Each turn is one step of the walk, and the last one ends it with the chain.
-use Rattle.std.proofs.Common.{◌∙◌, length, Option, subst}
+use Rattle.std.proofs.Common.{length, Option, subst}
 use Rattle.std.specs.Prelude.{ℕ}
 use Rattle.container_extract.specs.Step.{IsStep}
 use Rattle.container_extract.proofs.Down.{goes_on, is_extraction, is_one, smaller}
