@@ -2,7 +2,7 @@
 
 use crate::tests::{fault_of, file_of, words_of};
 use arch_disk::{Crash, Disk, MemDisk};
-use archive_cli::run;
+use archive_cli::run::run;
 use outer_traits::clock::FixedClock;
 use outer_traits::mem_inputs::{FailingCall, File, MemInputs};
 use outer_traits::mem_sink::MemSink;

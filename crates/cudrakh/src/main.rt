@@ -6,7 +6,9 @@
 #![tactic(auto)]
 
 use arch_types::refusal::Refusal;
-use archive_cli::{Ended, FaultText, run};
+use archive_cli::Ended;
+use archive_cli::run::run;
+use dump_lines::text::FaultText;
 use outer_real::{RealClock, RealDisk, RealInputs, RealSink, StandardStreams};
 use std::env::{self, VarError};
 use std::process::ExitCode;
