@@ -3,7 +3,8 @@ ghost use Rattle.std.specs.Prelude.{◌≡◌, ◌<◌, ◌≤◌, [], false, le
 ghost use Rattle.std.specs.List.{AllByRecursion};
 ghost use Rattle.arch_types.specs.Packet.{IsPacket, is_idle};
 ghost use Rattle.field_codec.specs.declared.entry.Entry.TheVariants as entries;
-ghost use Rattle.field_codec.specs.Entries.{IsEntry, IsClockTime};
+ghost use Rattle.field_codec.specs.Entries.{IsEntry};
+ghost use Rattle.text_forms.specs.ClockTime.{IsClockTime};
 ghost use Rattle.archive_store.specs.Batches.{IsArrival, IsBatch};
 
 use arch_disk::{Disk, MemDisk};
