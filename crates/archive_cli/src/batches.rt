@@ -6,7 +6,7 @@ ghost use Rattle.arch_types.specs.Packet.{IsPacket};
 ghost use Rattle.text_forms.specs.ClockTime.{IsClockTime};
 ghost use Rattle.std.specs.Result.{result_err};
 ghost use Rattle.archive_cli.specs.DiskWrites.{ExactlyOne};
-ghost use Rattle.archive_cli.specs.Batches.{arrival_from, arrivals_with, first_table, IsIngested, IsStopped, IsNextBatch};
+ghost use Rattle.archive_cli.specs.Batches.{arrival_from, arrivals_with, first_table, IsIngested, IsStoppedAt, IsNextBatch};
 
 use arch_disk::Disk;
 use arch_types::octets::Octets;
@@ -54,7 +54,7 @@ pub fn ingest_dump<D: Disk>(
     requires moment { IsClockTime moment }
     requires no_failed_write { store.old.fills ≡ [] }
     ensures whole { IfOk result (IsIngested store.old store.new dump.now link moment) }
-    ensures stopped { IfErr result (IsStopped store.old store.new dump.now link moment) }
+    ensures stopped { IfErr result (IsStoppedAt store.old store.new dump.now link moment) }
     ensures disk_writes { ExactlyOne (result_err result) (D.device.failed_writes store.old.disk)
         (D.device.failed_writes store.new.disk) }
 {

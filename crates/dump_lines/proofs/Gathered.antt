@@ -17,7 +17,7 @@ use Rattle.dump_lines.specs.declared.counts.PacketOutcome.{PacketOutcome}
 use Rattle.dump_lines.specs.declared.counts.PacketOutcome.TheVariants.{Idle, New, Duplicate}
 use Rattle.dump_lines.specs.declared.counts.Counts.{Counts}
 use Rattle.dump_lines.specs.Text.{scanned_rows}
-use Rattle.dump_lines.specs.DumpTable.{scanned_row, IsVisible, IsAdded, counted, IsGathered, IsDumpTableTo}
+use Rattle.dump_lines.specs.DumpTable.{scanned_row, IsVisible, IsPacketAdded, counts_with, IsGathered, IsDumpTableTo}
 
 abbrev rows_of_packet : ℤ → List ℕ → List Row
 rows_of_packet moment p = map (row_of 1 moment (λ p. 0) p) (0 ∷ [])
@@ -51,14 +51,14 @@ shown-push [] s all h = (h, tt)
 shown-push (x ∷ xs) s all h = (all.0, shown-push xs s all.1 h)
 
 gathered_idle : (packets : List (List ℕ)) (moment : ℤ) (p : List ℕ) (old new : List Stored) (counts : Counts) →
-    IsGathered packets moment old counts → IsAdded old new moment p Idle → IsGathered (packets ++ p ∷ []) moment new (counted counts Idle)
+    IsGathered packets moment old counts → IsPacketAdded old new moment p Idle → IsGathered (packets ++ p ∷ []) moment new (counts_with counts Idle)
 gathered_idle packets moment p old new counts g a =
     let c = g.counted in let of_packets = c.of_packets in let of_idle = c.of_idle in
     let same = scanned-idle moment packets p a.0 in
     let more = length-append packets (p ∷ []) in record {
       rows_are = rw (a.1, same) g.rows_are;
       shown = rw a.1 g.shown;
-      counted = record {
+      counts_with = record {
         of_packets = rw more (omega arith);
         of_rows = rw same c.of_rows;
         of_duplicates = rw same c.of_duplicates;
@@ -67,7 +67,7 @@ gathered_idle packets moment p old new counts g a =
     }
 
 gathered_new : (packets : List (List ℕ)) (moment : ℤ) (p : List ℕ) (old new : List Stored) (counts : Counts) →
-    IsGathered packets moment old counts → IsAdded old new moment p New → IsGathered (packets ++ p ∷ []) moment new (counted counts New)
+    IsGathered packets moment old counts → IsPacketAdded old new moment p New → IsGathered (packets ++ p ∷ []) moment new (counts_with counts New)
 gathered_new packets moment p old new counts g a =
     let c = g.counted in let of_packets = c.of_packets in let of_rows = c.of_rows in let of_duplicates = c.of_duplicates in let of_idle = c.of_idle in
     let row = scanned_row moment p in
@@ -81,7 +81,7 @@ gathered_new packets moment p old new counts g a =
     let more_kept = length-append (firsts (scanned_rows packets moment)) (scanned_row moment p ∷ []) in record {
       rows_are = rw (a.2.1, rows_of-push old stored, g.rows_are, kept_rows) refl;
       shown = rw a.2.1 (shown-push old stored g.shown a.2.2);
-      counted = record {
+      counts_with = record {
         of_packets = rw more (omega arith);
         of_rows = rw (kept_rows, more_kept) (omega arith);
         of_duplicates = rw (rows, more_rows) (omega arith);
@@ -90,7 +90,7 @@ gathered_new packets moment p old new counts g a =
     }
 
 gathered_duplicate : (packets : List (List ℕ)) (moment : ℤ) (p : List ℕ) (old new : List Stored) (counts : Counts) →
-    IsGathered packets moment old counts → IsAdded old new moment p Duplicate → IsGathered (packets ++ p ∷ []) moment new (counted counts Duplicate)
+    IsGathered packets moment old counts → IsPacketAdded old new moment p Duplicate → IsGathered (packets ++ p ∷ []) moment new (counts_with counts Duplicate)
 gathered_duplicate packets moment p old new counts g a =
     let c = g.counted in let of_packets = c.of_packets in let of_rows = c.of_rows in let of_duplicates = c.of_duplicates in let of_idle = c.of_idle in
     let present : list_any (is_duplicate_of (scanned_row moment p)) (firsts (scanned_rows packets moment)) ≡ true = rw g.rows_are at a.1 in
@@ -101,7 +101,7 @@ gathered_duplicate packets moment p old new counts g a =
     let more_rows = length-append (scanned_rows packets moment) (scanned_row moment p ∷ []) in record {
       rows_are = rw (a.2, kept_rows) g.rows_are;
       shown = rw a.2 g.shown;
-      counted = record {
+      counts_with = record {
         of_packets = rw more (omega arith);
         of_rows = rw kept_rows c.of_rows;
         of_duplicates = rw (rows, more_rows) (omega arith);
@@ -110,7 +110,7 @@ gathered_duplicate packets moment p old new counts g a =
     }
 
 gathered_more : (packets : List (List ℕ)) (moment : ℤ) (p : List ℕ) (old new : List Stored) (counts : Counts) (added : PacketOutcome) →
-    IsGathered packets moment old counts → IsAdded old new moment p added → IsGathered (packets ++ p ∷ []) moment new (counted counts added)
+    IsGathered packets moment old counts → IsPacketAdded old new moment p added → IsGathered (packets ++ p ∷ []) moment new (counts_with counts added)
 gathered_more packets moment p old new counts Idle g a = gathered_idle packets moment p old new counts g a
 gathered_more packets moment p old new counts New g a = gathered_new packets moment p old new counts g a
 gathered_more packets moment p old new counts Duplicate g a = gathered_duplicate packets moment p old new counts g a
@@ -123,8 +123,8 @@ part_rises dump start end part =
 
 -- one packet more
 pub loading_more : (dump : List ℕ) (moment : ℤ) (start end : ℕ) (old new : List Stored) (counts : Counts) (added : PacketOutcome) →
-    IsDumpTableTo dump moment start old counts → IsPart dump start end → IsAdded old new moment (slice_range dump start end) added →
-    IsDumpTableTo dump moment end new (counted counts added)
+    IsDumpTableTo dump moment start old counts → IsPart dump start end → IsPacketAdded old new moment (slice_range dump start end) added →
+    IsDumpTableTo dump moment end new (counts_with counts added)
 loading_more dump moment start end old new counts added l part a =
     let few = l.few in
     let up = part_rises dump start end part in
@@ -141,7 +141,7 @@ loading_none dump moment counts h = rw h (record {
   packets = [];
   cut = record { within = omega arith; joined = refl; each = All-nil IsPacket };
   few = omega arith;
-  gathered = record { rows_are = refl; shown = tt; counted = record { of_packets = refl; of_rows = refl; of_duplicates = refl; of_idle = refl } };
+  gathered = record { rows_are = refl; shown = tt; counts_with = record { of_packets = refl; of_rows = refl; of_duplicates = refl; of_idle = refl } };
 })
 
 -- a row of table 0 is a duplicate where its key is there
