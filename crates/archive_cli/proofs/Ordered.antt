@@ -249,3 +249,14 @@ pub session_fault : {D : Type 0} (device : Device D) (first : D) (old : StoreVie
     (given given' : ℕ) → IsLoadRun device old dump link moment written written' disk report → IsLoadFault given given' first disk report report.refusal
 session_fault device first old dump link moment written written' disk report given given' s =
     went_cases old s.new dump link moment written written' given given' first disk report.refusal report s.went
+
+-- ---- how many sources three sheets give, of which one isn't read
+
+pub unread_few : (files : Option Files) (parameters calibrations containers : List ℕ) (faults faults' given given' : ℕ) (refusal : Refusal)
+    → IsRefusal files parameters calibrations containers faults faults' given given' refusal → given' ≤ given + 3
+unread_few files parameters calibrations containers faults faults' given given' refusal (inl h) =
+    omega (arith, sheet_few given given given' 0 refusal (omega arith) h.1)
+unread_few files parameters calibrations containers faults faults' given given' refusal (inr (inl h)) =
+    omega (arith, sheet_few given (more 1 given) given' 1 refusal (more_few 1 given) h.1.1)
+unread_few files parameters calibrations containers faults faults' given given' refusal (inr (inr h)) =
+    omega (arith, sheet_few given (more 2 given) given' 2 refusal (more_few 2 given) h.2.1)

@@ -1,9 +1,9 @@
 //! A sheet of asks, read to its end.
 
-ghost use Rattle.std.specs.Prelude.{◌≡◌, ◌≤◌, ◌<◌, ◌+◌, ◌^◌, IfOk, IfErr};
+ghost use Rattle.std.specs.Prelude.{◌≡◌, ◌≤◌, ◌<◌, ◌+◌, ◌^◌, IfOk, IfErr, OnOk};
 ghost use Rattle.std.specs.Result.{result_err};
 ghost use Rattle.mdb_sheets.specs.Sheets.{ReadsCounted};
-ghost use Rattle.outer_traits.specs.Outside.{Stays};
+ghost use Rattle.outer_traits.specs.Outside.{Stays, one_more};
 ghost use Rattle.archive_cli.specs.QueryEnding.{IsAskSheet, IsDeferred, IsAskSheetResult, is_deferred};
 ghost use Rattle.archive_cli.specs.Reading.{IsInputRefusal};
 
@@ -31,6 +31,7 @@ pub fn read_sheet<I: Inputs>(alloc: Global, name: &str, inputs: &mut I) -> Resul
     ensures same { I.files inputs.new ≡ I.files inputs.old }
     ensures closed { I.open_sources inputs.old + 1 < 2 ^ 64 → I.open_sources inputs.new ≡ I.open_sources inputs.old }
     ensures gave { I.given inputs.new ≤ I.given inputs.old + 1 }
+    ensures gave_one { OnOk result (I.given inputs.new ≡ one_more (I.given inputs.old)) }
     ensures later { I.faults inputs.old ≤ I.faults inputs.new }
     ensures counted { ReadsCounted (result_err result) (I.faults inputs.old) (I.faults inputs.new) }
     ensures reliable { I.never_fails inputs.old → Stays (I.faults inputs.old) (I.faults inputs.new) }

@@ -4,6 +4,8 @@ ghost use Rattle.std.specs.Prelude.{◌≡◌, ◌+◌, ◌<◌, ◌≤◌, [], 
 ghost use Rattle.arch_types.specs.Dump.{BeginsWithNoPacket};
 ghost use Rattle.arch_types.specs.Packet.{IsPacket};
 ghost use Rattle.text_forms.specs.ClockTime.{IsClockTime};
+ghost use Rattle.std.specs.Result.{result_err};
+ghost use Rattle.archive_cli.specs.DiskWrites.{ExactlyOne};
 ghost use Rattle.archive_cli.specs.Batches.{arrival_from, arrivals_with, first_table, IsIngested, IsStoppedAt, IsNextBatch};
 
 use arch_disk::Disk;
@@ -53,6 +55,8 @@ pub fn ingest_dump<D: Disk>(
     requires no_failed_write { store.old.fills ≡ [] }
     ensures whole { IfOk result (IsIngested store.old store.new dump.now link moment) }
     ensures stopped { IfErr result (IsStoppedAt store.old store.new dump.now link moment) }
+    ensures disk_writes { ExactlyOne (result_err result) (D.device.failed_writes store.old.disk)
+        (D.device.failed_writes store.new.disk) }
 {
     let mut places = DumpPackets::new(dump.as_slice());
     let mut packets = 0;
