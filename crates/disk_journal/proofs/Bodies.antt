@@ -18,7 +18,7 @@ pub record IsLocated (file : List ℕ) (bodies : List (List ℕ)) (at i : ℕ) (
   pub within : offset + e.len ≤ length file
   pub body_is : slice_get bodies i ≡ Some (take e.len (drop offset file))
 
-behind : (body rest : List ℕ) → drop 5 (1 ∷ framed body ++ rest) ≡ body ++ rest
+pub behind : (body rest : List ℕ) → drop 5 (1 ∷ framed body ++ rest) ≡ body ++ rest
 unfolding framed
 behind body rest = refl
 
@@ -76,3 +76,8 @@ weaker (Err e) f p = tt
 pub weaker_2 : {T E : Type 0} {P Q R : T → Type 0} (r : Result T E) → ((x : T) → P x → Q x → R x) → IfOk r P → IfOk r Q → IfOk r R
 weaker_2 (Ok x) f p q = f x p q
 weaker_2 (Err e) f p q = tt
+
+-- a premise before an answer, or in what it says
+pub ok_under : {A T E : Type 0} (P : T → Type 0) (r : Result T E) → (A → IfOk r P) → IfOk r (λ x. A → P x)
+ok_under P (Ok x) f = f
+ok_under P (Err e) f = tt

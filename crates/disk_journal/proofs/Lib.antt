@@ -1,5 +1,6 @@
 pub mod Appending
 pub mod Bodies
+pub mod Calls
 pub mod Elsewhere
 pub mod Files
 pub mod Once

@@ -1,11 +1,12 @@
 -- A file's octets mean one thing.
-use Rattle.std.proofs.Common.{◌≡◌, ℕ, ◌+◌, ◌^◌, ◌<◌, ◌≤◌, List, [], ◌∷◌, ◌++◌, length, take, drop, refl, sym, ◌∙◌, ap, subst, arith, append_assoc, length-append}
+use Rattle.std.proofs.Common.{◌≡◌, ◌⊎◌, inl, inr, ℕ, ◌+◌, ◌^◌, ◌<◌, ◌≤◌, List, [], ◌∷◌, ◌++◌, length, take, drop, refl, sym, ◌∙◌, ap, subst, arith, append_assoc, length-append}
 use Rattle.std.proofs.lemmas.List.{take_at, drop_at}
 use Rattle.std.proofs.lemmas.Nat.{from_be_bytes-to_be_bytes_4}
 use Rattle.std.specs.Int.{w32, to_be_bytes, from_be_bytes}
-use Rattle.disk_journal.specs.Format.{framed, written, AreSmall, IsClosed, HasRecords, IsDamagedAt}
+use Rattle.disk_journal.specs.Format.{framed, written, AreSmall, IsClosed, HasRecords, IsDamagedAt, HoldsNone}
 use Rattle.std.specs.Prelude.{Result, Ok, Err, IfOk, IfErr, IsErrAnd}
-use Rattle.disk_journal.specs.State.{IsReadFrom, IsReadFault, IsDamagedOrFault}
+use Rattle.disk_journal.specs.State.{IsReadFrom, IsReadFault}
+use Rattle.disk_journal.specs.Calls.{BeginsOpen, IsOrFails}
 use Rattle.disk_journal.specs.declared.journal.Journal.{Journal}
 use Rattle.disk_journal.specs.declared.fault.JournalFault.{JournalFault}
 use Rattle.disk_journal.specs.declared.fault.JournalFault.TheVariants.{Exists, NoArchive, Damaged, NeedsReopen, Limit, DiskFault, OutOfMemory}
@@ -94,12 +95,29 @@ pub place_once : (file : List ℕ) (at other : ℕ) → IsDamagedAt file at → 
 place_once file at other d e = d.at_is ∙ same_place d.bodies e.bodies d.rest e.rest d.small e.small d.short e.short (sym d.file_is ∙ e.file_is) ∙ sym e.at_is
 
 -- what reading a damaged file answers
-pub exactly : (at : ℕ) (content : List ℕ) (r : Result Journal JournalFault) → IsDamagedAt content at → IfOk r (IsReadFrom content) → ((other : ℕ) → r ≡ Err (Damaged other) → IsDamagedAt content other) → IfErr r IsReadFault → IsErrAnd r (IsDamagedOrFault at)
+pub exactly : (at : ℕ) (content : List ℕ) (r : Result Journal JournalFault) → IsDamagedAt content at → IfOk r (IsReadFrom content) → ((other : ℕ) → r ≡ Err (Damaged other) → IsDamagedAt content other) → IfErr r IsReadFault → IsErrAnd r (IsOrFails (Damaged at))
 exactly at content (Ok journal) d ok damaged only = absurd (no_records content ok.bodies at ok.has d)
-exactly at content (Err Exists) d ok damaged only = only
-exactly at content (Err NoArchive) d ok damaged only = only
-exactly at content (Err (Damaged other)) d ok damaged only = place_once content other at (damaged other refl) d
-exactly at content (Err (NeedsReopen faults)) d ok damaged only = only
-exactly at content (Err Limit) d ok damaged only = only
-exactly at content (Err DiskFault) d ok damaged only = tt
-exactly at content (Err OutOfMemory) d ok damaged only = tt
+exactly at content (Err Exists) d ok damaged only = absurd only
+exactly at content (Err NoArchive) d ok damaged only = absurd only
+exactly at content (Err (Damaged other)) d ok damaged only = inl (ap Damaged (place_once content other at (damaged other refl) d))
+exactly at content (Err (NeedsReopen faults)) d ok damaged only = absurd only
+exactly at content (Err Limit) d ok damaged only = absurd only
+exactly at content (Err DiskFault) d ok damaged only = inr (inl refl)
+exactly at content (Err OutOfMemory) d ok damaged only = inr (inr refl)
+
+-- and reading one with records
+pub undamaged : (bodies : List (List ℕ)) (content : List ℕ) (r : Result Journal JournalFault) → HasRecords content bodies → ((other : ℕ) → r ≡ Err (Damaged other) → IsDamagedAt content other) → IfErr r IsReadFault → IfErr r (λ fault. (fault ≡ DiskFault) ⊎ (fault ≡ OutOfMemory))
+undamaged bodies content (Ok journal) has damaged only = tt
+undamaged bodies content (Err Exists) has damaged only = absurd only
+undamaged bodies content (Err NoArchive) has damaged only = absurd only
+undamaged bodies content (Err (Damaged other)) has damaged only = absurd (no_records content bodies other has (damaged other refl))
+undamaged bodies content (Err (NeedsReopen faults)) has damaged only = absurd only
+undamaged bodies content (Err Limit) has damaged only = absurd only
+undamaged bodies content (Err DiskFault) has damaged only = inl refl
+undamaged bodies content (Err OutOfMemory) has damaged only = inr refl
+
+-- a file without a journal doesn't begin with an open gate
+pub none_not_open : (content : List ℕ) → HoldsNone content → BeginsOpen content → ⊥
+none_not_open [] none begins = absurd (omega (arith, begins.0))
+none_not_open (gate ∷ []) none begins = absurd (omega (arith, begins.0))
+none_not_open (gate ∷ next ∷ rest) none begins = none begins.1

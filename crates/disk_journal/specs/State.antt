@@ -1,11 +1,11 @@
 -- How a journal in memory and its file belong together.
-use Rattle.std.specs.Prelude.{◌≡◌, ℕ, ◌+◌, ◌<◌, List, [], ◌∷◌, length, Option, Some, None, Result, Err, vec_len, vec_capacity}
+use Rattle.std.specs.Prelude.{◌≡◌, ℕ, ◌+◌, ◌<◌, List, [], ◌∷◌, length, Option, Some, None, vec_len, vec_capacity}
 use Rattle.arch_disk.specs.Image.{Image, AgreesBut}
 use Rattle.arch_disk.specs.Disk.{Device, IsDurable, AddsNoImage, LeavesOnly}
 use Rattle.disk_journal.specs.Format.{written, HasRecords, HasStaged}
 use Rattle.disk_journal.specs.declared.journal.Journal.{Journal}
 use Rattle.disk_journal.specs.declared.fault.JournalFault.{JournalFault}
-use Rattle.disk_journal.specs.declared.fault.JournalFault.TheVariants.{NoArchive, Damaged, NeedsReopen, Limit, DiskFault, OutOfMemory}
+use Rattle.disk_journal.specs.declared.fault.JournalFault.TheVariants.{Damaged, DiskFault, OutOfMemory}
 use Rattle.disk_journal.specs.declared.journal.Extent.{Extent}
 use Rattle.disk_journal.specs.declared.journal.PendingFault.{PendingFault}
 use Rattle.disk_journal.specs.declared.journal.PendingFault.TheVariants.{Absent, GateClosed, GateWritten}
@@ -73,24 +73,6 @@ faults_of (GateWritten faults) = Some faults
 abbrev pub unhealed_fault : Journal → Option ℕ
 unhealed_fault journal = faults_of journal.pending_fault
 
--- the count in a NeedsReopen
-abbrev pub asks_reopen : {T : Type 0} → Result T JournalFault → Option ℕ
-asks_reopen (Err (NeedsReopen faults)) = Some faults
-asks_reopen _ = None
-
--- the errors of an append
-abbrev pub IsAppendFault : JournalFault → Type 0
-IsAppendFault (NeedsReopen faults) = Unit {0}
-IsAppendFault Limit = Unit {0}
-IsAppendFault DiskFault = Unit {0}
-IsAppendFault _ = ⊥
-
--- the error is one that an append answers before any call of the disk
-abbrev pub IsEarly : JournalFault → Type 0
-IsEarly (NeedsReopen faults) = Unit {0}
-IsEarly Limit = Unit {0}
-IsEarly _ = ⊥
-
 -- what reading a file of this content gives
 pub record IsReadFrom (content : List ℕ) (journal : Journal) : Type 0 where
   pub bodies : List (List ℕ)
@@ -104,18 +86,3 @@ IsReadFault (Damaged at) = Unit {0}
 IsReadFault DiskFault = Unit {0}
 IsReadFault OutOfMemory = Unit {0}
 IsReadFault _ = ⊥
-
--- the errors of opening
-abbrev pub IsOpenFault : JournalFault → Type 0
-IsOpenFault NoArchive = Unit {0}
-IsOpenFault (Damaged at) = Unit {0}
-IsOpenFault DiskFault = Unit {0}
-IsOpenFault OutOfMemory = Unit {0}
-IsOpenFault _ = ⊥
-
--- it is damaged at that gate, or the disk failed or memory is wanting
-abbrev pub IsDamagedOrFault : ℕ → JournalFault → Type 0
-IsDamagedOrFault at (Damaged other) = other ≡ at
-IsDamagedOrFault at DiskFault = Unit {0}
-IsDamagedOrFault at OutOfMemory = Unit {0}
-IsDamagedOrFault at _ = ⊥

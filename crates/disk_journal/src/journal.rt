@@ -1,9 +1,10 @@
 // The records of one file.
-ghost use Rattle.std.specs.Prelude.{◌≡◌, ◌≢◌, ◌+◌, ◌<◌, ◌≤◌, ◌⊎◌, ◌++◌, [], ◌∷◌, List, ℕ, None, IsTrue, length, get_or, OnOk, OnErr, IfOk, IfErr, IfSome, IsErrAnd, slice_get};
-ghost use Rattle.arch_disk.specs.Image.{Image, AgreesBut};
+ghost use Rattle.std.specs.Prelude.{◌≡◌, ◌≢◌, ◌+◌, ◌<◌, ◌≤◌, ◌⊎◌, ◌++◌, [], ◌∷◌, List, ℕ, None, IsTrue, length, get_or, OnOk, OnErr, IfOk, IfErr, IfSome, slice_get};
+ghost use Rattle.arch_disk.specs.Image.{Image};
 ghost use Rattle.arch_disk.specs.Disk.{IsDurable, LeavesOnly, OnlyReads, HasCause, raised};
 ghost use Rattle.disk_journal.specs.Format.{HasRecords, IsDamagedAt, HoldsNone, IsBeforeOrAfter};
-ghost use Rattle.disk_journal.specs.State.{IsOldBut, IsUntouched};
+ghost use Rattle.disk_journal.specs.Calls.{LeavesOthers};
+ghost use Rattle.disk_journal.specs.State.{IsUntouched};
 
 use crate::steps::{flush, len_of, octet_at, octets_at, put};
 use crate::{Frame, JournalFault, Opening};
@@ -69,9 +70,7 @@ fn prepare<D: Disk>(disk: &mut D, file: u32) -> Result<(), JournalFault>
         (D.device.reads disk.new ≡ D.device.reads disk.old) }
     ensures moments { IsTrue D.device.is_transparent → HoldsNone (D.device.reads disk.old file) →
         LeavesOnly D.device disk.old disk.new (λ c. D.device.images disk.old c ⊎ HoldsNone (c file)) }
-    ensures elsewhere { LeavesOnly D.device disk.old disk.new (IsOldBut D.device file disk.old) }
-    ensures reads { IsTrue D.device.is_transparent →
-        AgreesBut file (D.device.reads disk.old) (D.device.reads disk.new) }
+    ensures others { LeavesOthers D.device file disk.old disk.new }
     ensures only { IfErr result (λ e. (e ≡ JournalFault.Exists) ⊎ (e ≡ JournalFault.DiskFault)) }
     ensures kept { IsTrue D.device.is_transparent → 2 ≤ length (D.device.reads disk.old file) →
         get_or (D.device.reads disk.old file) 0 0 ≡ 1 → IsUntouched D.device disk.old disk.new }
@@ -94,7 +93,8 @@ fn prepare<D: Disk>(disk: &mut D, file: u32) -> Result<(), JournalFault>
 }
 
 impl Journal {
-    ghost use Rattle.disk_journal.specs.State.{HasOnDisk, IsOnDisk, HasRoom, count_of, file_of, unhealed_fault, IsSame, IsOpenFault, IsDamagedOrFault};
+    ghost use Rattle.disk_journal.specs.State.{HasOnDisk, IsOnDisk, HasRoom, count_of, file_of, unhealed_fault, IsSame};
+    ghost use Rattle.disk_journal.specs.Calls.{BeginsOpen, CountsNeverFall, CrashLeavesFirst, IsDecidedByFile, IsJournalCreated, IsJournalCreateRefusal, IsJournalOpened, IsJournalOpenRefusal, records_of};
 
     /// Makes a journal with one record in a file that holds none. It begins with a sync. Where the record can't be
     /// written it closes the gate again, as far as the disk lets it.
@@ -104,46 +104,23 @@ impl Journal {
         file: u32,
         first: &Frame,
     ) -> Result<Journal, JournalFault>
-        ensures ok { IsTrue D.device.is_transparent →
-            IfOk result (λ journal. HasOnDisk D.device journal (first.now ∷ []) [] disk.new) }
-        ensures still { IsTrue D.device.is_transparent → IfOk result (λ journal. IsOnDisk D.device journal disk.new) }
-        ensures no_pending_fault { IfOk result (λ journal. (unhealed_fault journal ≡ None) × (file_of journal ≡ file)) }
-        ensures count { IfOk result (λ journal. count_of journal ≡ 1) }
+        // Ok: the file held no journal, and holds one of this one record, durably.
+        ensures created { IfOk result (IsJournalCreated D.device file disk.old disk.new first.now) }
 
-        // Exists comes exactly where the file has two octets at least and the first is 1.
-        ensures none { IsTrue D.device.is_transparent → OnOk result (HoldsNone (D.device.reads disk.old file)) }
-        ensures exists { IsTrue D.device.is_transparent → result ≡ Err JournalFault.Exists →
-            (2 ≤ length (D.device.reads disk.old file)) × (get_or (D.device.reads disk.old file) 0 0 ≡ 1) ×
-            (D.device.reads disk.new ≡ D.device.reads disk.old) }
+        // Exists comes exactly where the file begins with an open gate. After one fault alone the gate is closed again.
+        ensures refused { IfErr result (IsJournalCreateRefusal D.device file disk.old disk.new) }
 
         // A file that holds a journal is left as it is, whatever the call answers.
-        ensures kept { IsTrue D.device.is_transparent → 2 ≤ length (D.device.reads disk.old file) →
-            get_or (D.device.reads disk.old file) 0 0 ≡ 1 → IsUntouched D.device disk.old disk.new }
+        ensures kept { IsTrue D.device.is_transparent → BeginsOpen (D.device.reads disk.old file) →
+            IsUntouched D.device disk.old disk.new }
 
-        // A crash at any moment of the call leaves no archive or one record, or what it could have left before.
-        ensures any_moment { IsTrue D.device.is_transparent → HoldsNone (D.device.reads disk.old file)
-            → LeavesOnly D.device disk.old disk.new (λ c. D.device.images disk.old c ⊎ (HoldsNone (c file) ⊎ HasRecords (c file) (first.now ∷ []))) }
-        ensures elsewhere { LeavesOnly D.device disk.old disk.new (IsOldBut D.device file disk.old) }
-        ensures reads { IsTrue D.device.is_transparent →
-            AgreesBut file (D.device.reads disk.old) (D.device.reads disk.new) }
+        // Power lost at any moment of the call leaves no journal or one record, or what it could have left before,
+        ensures crash { CrashLeavesFirst D.device file disk.old disk.new first.now }
 
-        // After a failure with fewer than two faults a crash leaves no archive, or what it could have left before.
-        ensures closed { IsTrue D.device.is_transparent → HoldsNone (D.device.reads disk.old file) →
-            result ≡ Err JournalFault.DiskFault
-            → D.device.fault_count disk.new < raised (raised (D.device.fault_count disk.old))
-            → (c : Image) → D.device.images disk.new c → D.device.images disk.old c ⊎ HoldsNone (c file) }
-
-        ensures only { IfErr result (λ e.
-            (e ≡ JournalFault.Exists) ⊎ ((e ≡ JournalFault.DiskFault) ⊎ (e ≡ JournalFault.OutOfMemory))) }
-        ensures cause { result ≡ Err JournalFault.DiskFault →
-            raised (D.device.fault_count disk.old) ≤ D.device.fault_count disk.new }
-        ensures later { D.device.fault_count disk.old ≤ D.device.fault_count disk.new }
-        ensures writes_later { D.device.failed_writes disk.old ≤ D.device.failed_writes disk.new }
-        ensures writes_most { D.device.failed_writes disk.new ≤ raised (raised (D.device.failed_writes disk.old)) }
-        ensures writes { (D.device.failed_writes disk.new ≢ D.device.failed_writes disk.old) →
-            result ≡ Err JournalFault.DiskFault }
-        ensures no_failed_write { OnOk result (D.device.failed_writes disk.new ≡ D.device.failed_writes disk.old) }
-        ensures memory { result ≡ Err JournalFault.OutOfMemory → disk.new ≡ disk.old }
+        // and all other files as they were.
+        ensures others { LeavesOthers D.device file disk.old disk.new }
+        ensures sound { IsTrue D.device.is_transparent → IfOk result (λ journal. IsOnDisk D.device journal disk.new) }
+        ensures counts { CountsNeverFall D.device disk.old disk.new }
     {
         let _size = first.len();
         let mut journal = Journal {
@@ -173,9 +150,7 @@ impl Journal {
         ensures closed { IsTrue D.device.is_transparent →
             OnErr result (D.device.fault_count disk.new < raised (raised (D.device.fault_count disk.old))
             → (c : Image) → D.device.images disk.new c → HoldsNone (c (file_of self.old))) }
-        ensures elsewhere { LeavesOnly D.device disk.old disk.new (IsOldBut D.device (file_of self.old) disk.old) }
-        ensures reads { IsTrue D.device.is_transparent → AgreesBut (file_of self.old) (D.device.reads disk.old)
-            (D.device.reads disk.new) }
+        ensures others { LeavesOthers D.device (file_of self.old) disk.old disk.new }
         ensures cause { HasCause D.device disk.old disk.new result }
         ensures no_failed_write { OnOk result (D.device.failed_writes disk.new ≡ D.device.failed_writes disk.old) }
         ensures counted { OnErr result ((raised (D.device.failed_writes disk.old) ≤ D.device.failed_writes disk.new)
@@ -193,34 +168,18 @@ impl Journal {
 
     /// Opens the journal in a file. It begins with a sync, and reads of each record the gate and the length.
     pub fn open<D: Disk>(alloc: Global, disk: &mut D, file: u32) -> Result<Journal, JournalFault>
-        ensures records { IsTrue D.device.is_transparent → IfOk result (λ journal. (bodies : List (List ℕ)) ×
-            HasRecords (D.device.reads disk.old file) bodies × HasOnDisk D.device journal bodies [] disk.new) }
-        ensures still { IsTrue D.device.is_transparent → IfOk result (λ journal. IsOnDisk D.device journal disk.new) }
-        ensures no_pending_fault { IfOk result (λ journal. (unhealed_fault journal ≡ None) × (file_of journal ≡ file)) }
-        ensures reads { D.device.reads disk.new ≡ D.device.reads disk.old }
+        // Ok: the journal has just the records of the file.
+        ensures opened { IfOk result (IsJournalOpened D.device file disk.old disk.new) }
 
-        // NoArchive comes exactly where the file doesn't have two octets at least of which the first is 1.
-        ensures none { IsTrue D.device.is_transparent → result ≡ Err JournalFault.NoArchive →
-            HoldsNone (D.device.reads disk.old file) }
-        ensures some { IsTrue D.device.is_transparent → OnOk result (get_or (D.device.reads disk.old file) 0 0 ≡ 1) }
+        // Refused: the file doesn't begin with an open gate, or an open record, with the gate octet after it, passes the
+        // file's end, at the gate that is named; or the disk failed, or memory is wanting.
+        ensures refused { IfErr result (IsJournalOpenRefusal D.device file disk.old disk.new) }
 
-        // Damaged comes exactly where an open record, with the gate octet after it, passes the end, and names its gate.
-        ensures damaged { IsTrue D.device.is_transparent → (at : ℕ) → result ≡ Err (JournalFault.Damaged at)
-            → (get_or (D.device.reads disk.old file) 0 0 ≡ 1) × (2 ≤ length (D.device.reads disk.old file)) × IsDamagedAt (D.device.reads disk.old file) at }
-        ensures exactly { IsTrue D.device.is_transparent → 2 ≤ length (D.device.reads disk.old file) →
-            get_or (D.device.reads disk.old file) 0 0 ≡ 1
-            → (at : ℕ) → IsDamagedAt (D.device.reads disk.old file) at → IsErrAnd result (IsDamagedOrFault at) }
-
-        ensures moments { LeavesOnly D.device disk.old disk.new (D.device.images disk.old) }
-        ensures only { IfErr result IsOpenFault }
-        ensures cause { result ≡ Err JournalFault.DiskFault →
-            raised (D.device.fault_count disk.old) ≤ D.device.fault_count disk.new }
-        ensures later { D.device.fault_count disk.old ≤ D.device.fault_count disk.new }
-
-        // A write failed only where the sync at the beginning did.
-        ensures writes { (D.device.failed_writes disk.new ≡ D.device.failed_writes disk.old)
-            ⊎ ((result ≡ Err JournalFault.DiskFault) × (D.device.failed_writes disk.new ≡ raised (D.device.failed_writes disk.old))) }
-        ensures no_failed_write { OnOk result (D.device.failed_writes disk.new ≡ D.device.failed_writes disk.old) }
+        // What the file holds decides which of these it is, but for a fault of the disk and want of memory.
+        ensures decided { IsTrue D.device.is_transparent → IsDecidedByFile (D.device.reads disk.old file) result }
+        ensures untouched { IsUntouched D.device disk.old disk.new }
+        ensures sound { IsTrue D.device.is_transparent → IfOk result (λ journal. IsOnDisk D.device journal disk.new) }
+        ensures counts { CountsNeverFall D.device disk.old disk.new }
     {
         let opening = Opening::begin(alloc, disk, file)?;
         opening.finish_all(disk)
@@ -249,10 +208,9 @@ impl Journal {
         i: u64,
     ) -> Result<Vec<u8>, JournalFault>
         requires place { i < count_of self.now }
-        requires kept { IsTrue D.device.is_transparent → IsOnDisk D.device self.now disk.old }
-        ensures body { IsTrue D.device.is_transparent → (bodies : List (List ℕ)) (pending : List ℕ)
-            → HasOnDisk D.device self.now bodies pending disk.old
-            → IfOk result (λ body. slice_get bodies i ≡ Some body.items) }
+        requires sound { IsTrue D.device.is_transparent → IsOnDisk D.device self.now disk.old }
+        ensures body { IsTrue D.device.is_transparent →
+            IfOk result (λ body. slice_get (records_of D.device self.now disk.old) i ≡ Some body.items) }
         ensures looked { OnlyReads D.device disk.old disk.new }
         ensures only { IfErr result (λ e. (e ≡ JournalFault.DiskFault) ⊎ (e ≡ JournalFault.OutOfMemory)) }
         ensures cause { result ≡ Err JournalFault.DiskFault →

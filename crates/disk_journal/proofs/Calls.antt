@@ -1,0 +1,184 @@
+-- The records of a journal as a function of what its file reads as, and what the words on its calls say of any records that it has.
+use Rattle.std.proofs.Common.{◌≡◌, ◌⊎◌, inl, inr, ⊎_elim, ℕ, ◌+◌, ◌-◌, ◌^◌, ◌<◌, ◌≤◌, List, [], ◌∷◌, ◌++◌, length, map, take, drop, get_or, None, refl, sym, ◌∙◌, ap, subst, arith, append_assoc, length-append}
+use Rattle.std.specs.Prelude.{IsTrue, Result, Ok, Err, IfErr, IsErrAnd}
+use Rattle.std.specs.Int.{w32, from_be_bytes}
+use Rattle.std.proofs.lemmas.List.{append-nil, take_at, drop_at, drop-drop}
+use Rattle.arch_disk.specs.Image.{Image}
+use Rattle.arch_disk.specs.Disk.{Device, LeavesOnly, raised}
+use Rattle.arch_disk.proofs.Moments.{weakens, at_end}
+use Rattle.disk_journal.specs.Format.{framed, written, HasRecords, HasStaged, HoldsNone, IsBeforeOrAfter}
+use Rattle.disk_journal.specs.State.{HasOnDisk, IsOnDisk, StateIs, extents_from, faults_of, file_of, count_of, unhealed_fault}
+use Rattle.disk_journal.specs.Calls.{body_of, records_of, body_behind, next_body_of, if_gate_written, unhealed_records_of, CrashLeavesRecords, LeavesOthers, IsAppended, IsAppendFailed, IsAppendRefusal, IsHealed, IsHealFailed, IsJournalCreateRefusal}
+use Rattle.disk_journal.specs.declared.journal.Extent.{Extent}
+use Rattle.disk_journal.specs.declared.journal.Journal.{Journal}
+use Rattle.disk_journal.specs.declared.journal.PendingFault.{PendingFault}
+use Rattle.disk_journal.specs.declared.journal.PendingFault.TheVariants.{Absent, GateClosed, GateWritten}
+use Rattle.disk_journal.specs.declared.fault.JournalFault.{JournalFault}
+use Rattle.disk_journal.specs.declared.fault.JournalFault.TheVariants.{Exists, NoArchive, Damaged, NeedsReopen, Limit, DiskFault, OutOfMemory}
+use Rattle.disk_journal.proofs.Files.{length-framed, staged_either}
+use Rattle.disk_journal.proofs.Bodies.{behind, begins}
+use Rattle.disk_journal.proofs.Once.{frame_size, frame_tail}
+use Rattle.disk_journal.proofs.Appending.{touched_state, elsewhere_on}
+
+-- the bodies at the extents of records that stand somewhere in a file
+pub bodies_at : (bodies : List (List ℕ)) (front tail : List ℕ) (at : ℕ) → at ≡ length front → map (body_of (front ++ (written bodies ++ tail))) (extents_from at bodies) ≡ bodies
+bodies_at [] front tail at is = refl
+bodies_at (body ∷ bodies) front tail at is =
+    let record_here : List ℕ = 1 ∷ framed body in
+    let rest : List ℕ = written bodies ++ tail in
+    let file : List ℕ = front ++ (written (body ∷ bodies) ++ tail) in
+    let whole : file ≡ front ++ (record_here ++ rest) = ap (λ (l : List ℕ). front ++ l) (append_assoc record_here (written bodies) tail) in
+    let split : file ≡ (front ++ record_here) ++ rest = whole ∙ sym (append_assoc front record_here rest) in
+    let size : at + 5 + length body ≡ length (front ++ record_here) = omega (arith, is, length-append front record_here, length-framed body) in
+    let drops : drop (at + 5) file ≡ body ++ rest = sym (drop-drop 5 at file) ∙ ap (drop 5) (ap (drop at) whole ∙ drop_at front (record_here ++ rest) at (sym is)) ∙ behind body rest in
+    let here : take (length body) (drop (at + 5) file) ≡ body = ap (take (length body)) drops ∙ take_at body rest (length body) refl in
+    let more : map (body_of file) (extents_from (at + 5 + length body) bodies) ≡ bodies =
+    ap (λ (f : List ℕ). map (body_of f) (extents_from (at + 5 + length body) bodies)) split ∙ bodies_at bodies (front ++ record_here) tail (at + 5 + length body) size in
+    ap (λ (b : List ℕ). b ∷ map (body_of file) (extents_from (at + 5 + length body) bodies)) here ∙ ap (λ (l : List (List ℕ)). body ∷ l) more
+
+-- the body of a record that stands whole behind any gate
+pub body_behind_is : (content : List ℕ) (bodies : List (List ℕ)) (body tail : List ℕ) (gate end : ℕ) → content ≡ written bodies ++ (gate ∷ framed body ++ tail) → end ≡ length (written bodies) → length body < 2 ^ 32 → body_behind content end ≡ body
+body_behind_is content bodies body tail gate end is end_is small =
+    let split : content ≡ (written bodies ++ gate ∷ []) ++ (framed body ++ tail) = is ∙ sym (append_assoc (written bodies) (gate ∷ []) (framed body ++ tail)) in
+    let size : length (written bodies ++ gate ∷ []) ≡ end + 1 = omega (arith, length-append (written bodies) (gate ∷ []), end_is) in
+    let one : drop (end + 1) content ≡ framed body ++ tail = ap (drop (end + 1)) split ∙ drop_at (written bodies ++ gate ∷ []) (framed body ++ tail) (end + 1) size in
+    let sum : end + 5 ≡ end + 1 + 4 = omega arith in
+    let five : drop (end + 5) content ≡ body ++ tail = ap (λ (n : ℕ). drop n content) sum ∙ sym (drop-drop 4 (end + 1) content) ∙ ap (drop 4) one ∙ frame_tail body tail in
+    let len : from_be_bytes w32 (take 4 (drop (end + 1) content)) ≡ length body = ap (λ (l : List ℕ). from_be_bytes w32 (take 4 l)) one ∙ frame_size body tail small in
+    ap (λ (n : ℕ). take n (drop (end + 5) content)) len ∙ ap (take (length body)) five ∙ take_at body tail (length body) refl
+
+-- what holds of the error that a `?` hands on
+pub handed_on : {T : Type 0} (r : Result T JournalFault) (fault : JournalFault) (P : JournalFault → Type 0) → IsErrAnd r (λ e. e ≡ fault) → P fault → IfErr r P
+handed_on (Ok x) fault P is p = absurd is
+handed_on (Err e) fault P is p = subst P (sym is) p
+
+module _ {D : Type 0} (device : Device D) where
+  -- the records that a journal has on a disk are those that its extents name
+  pub records_are : (journal : Journal) (bodies : List (List ℕ)) (pending : List ℕ) (disk : D) → IsTrue device.is_transparent → HasOnDisk device journal bodies pending disk → records_of device journal disk ≡ bodies
+  records_are journal bodies pending disk transparent keeps =
+      let b = begins device journal.pending_fault journal.file bodies pending disk keeps.state transparent in
+      ap (λ (l : List Extent). map (body_of (device.reads disk journal.file)) l) keeps.extents ∙ ap (λ (content : List ℕ). map (body_of content) (extents_from 0 bodies)) b.1 ∙ bodies_at bodies [] b.0 0 refl
+
+  -- and the one whose gate may have been written stands behind the next gate
+  pub next_body_is : (journal : Journal) (bodies : List (List ℕ)) (pending : List ℕ) (disk : D) (faults : ℕ) → IsTrue device.is_transparent → HasOnDisk device journal bodies pending disk → journal.pending_fault ≡ GateWritten faults → next_body_of device journal disk ≡ pending
+  next_body_is journal bodies pending disk faults transparent keeps is =
+      let s = touched_state device journal bodies pending disk faults is keeps (device.reads disk) (device.reads_as_image disk transparent) in
+      body_behind_is (device.reads disk journal.file) bodies pending s.tail s.gate journal.end s.file_is keeps.end s.small_too
+
+  other_state : (t : PendingFault) (file : ℕ) (bodies : List (List ℕ)) (pending other : List ℕ) (disk : D) → ((faults : ℕ) → t ≡ GateWritten faults → pending ≡ other) → StateIs device t file bodies pending disk → StateIs device t file bodies other disk
+  other_state Absent file bodies pending other disk same state = state
+  other_state (GateClosed faults) file bodies pending other disk same state = state
+  other_state (GateWritten faults) file bodies pending other disk same state = subst (λ (b : List ℕ). (c : Image) → device.images disk c → HasStaged (c file) bodies b) (same faults refl) state
+
+  -- what is pending tells only where a gate may have been written
+  pub other_pending : (journal : Journal) (bodies : List (List ℕ)) (pending other : List ℕ) (disk : D) → ((faults : ℕ) → journal.pending_fault ≡ GateWritten faults → pending ≡ other) → HasOnDisk device journal bodies pending disk → HasOnDisk device journal bodies other disk
+  other_pending journal bodies pending other disk same keeps = record {
+    extents = keeps.extents;
+    end = keeps.end;
+    state = other_state journal.pending_fault journal.file bodies pending other disk same keeps.state;
+  }
+
+  -- no gate is written where no failure is pending
+  not_written : {A : Type 0} (journal : Journal) (faults : ℕ) → faults_of journal.pending_fault ≡ None → journal.pending_fault ≡ GateWritten faults → A
+  not_written journal faults none is = absurd (cc (ap faults_of is, none))
+
+  -- a journal has its records
+  pub has_records : (journal : Journal) (disk : D) → IsTrue device.is_transparent → IsOnDisk device journal disk → HasOnDisk device journal (records_of device journal disk) (next_body_of device journal disk) disk
+  has_records journal disk transparent k =
+      subst (λ (l : List (List ℕ)). HasOnDisk device journal l (next_body_of device journal disk) disk) (sym (records_are journal k.bodies k.pending disk transparent k.keeps))
+      (other_pending journal k.bodies k.pending (next_body_of device journal disk) disk (λ faults is. sym (next_body_is journal k.bodies k.pending disk faults transparent k.keeps is)) k.keeps)
+
+  -- and no more where no failure is pending
+  pub alone : (journal : Journal) (disk : D) → IsTrue device.is_transparent → IsOnDisk device journal disk → faults_of journal.pending_fault ≡ None → HasOnDisk device journal (records_of device journal disk) [] disk
+  alone journal disk transparent k none =
+      other_pending journal (records_of device journal disk) (next_body_of device journal disk) [] disk (λ faults is. not_written journal faults none is) (has_records journal disk transparent k)
+
+  -- what a crash now leaves of the journal's file
+  either_state : (t : PendingFault) (file : ℕ) (bodies : List (List ℕ)) (pending : List ℕ) (disk : D) → StateIs device t file bodies pending disk → (c : Image) → device.images disk c → HasRecords (c file) bodies ⊎ HasRecords (c file) (bodies ++ if_gate_written t pending)
+  either_state Absent file bodies pending disk state c left = inl (subst (λ (l : List ℕ). HasRecords l bodies) (sym (state.1 c left)) state.0)
+  either_state (GateClosed faults) file bodies pending disk state c left = inl (state c left)
+  either_state (GateWritten faults) file bodies pending disk state c left = staged_either (c file) bodies pending (state c left)
+
+  pub left_now : (journal : Journal) (disk : D) → IsTrue device.is_transparent → IsOnDisk device journal disk → (c : Image) → device.images disk c → HasRecords (c (file_of journal)) (records_of device journal disk) ⊎ HasRecords (c (file_of journal)) (records_of device journal disk ++ unhealed_records_of device journal disk)
+  left_now journal disk transparent k c left = either_state journal.pending_fault journal.file (records_of device journal disk) (next_body_of device journal disk) disk (has_records journal disk transparent k).state c left
+
+  -- also while the gate is written again
+  pub left_staged : (journal : Journal) (disk : D) (faults : ℕ) (content : List ℕ) → journal.pending_fault ≡ GateWritten faults → HasStaged content (records_of device journal disk) (next_body_of device journal disk) → HasRecords content (records_of device journal disk) ⊎ HasRecords content (records_of device journal disk ++ unhealed_records_of device journal disk)
+  left_staged journal disk faults content is staged =
+      subst (λ (t : PendingFault). HasRecords content (records_of device journal disk) ⊎ HasRecords content (records_of device journal disk ++ if_gate_written t (next_body_of device journal disk))) (sym is)
+      (staged_either content (records_of device journal disk) (next_body_of device journal disk) staged)
+
+  -- an append to a journal that is healed and not full is refused only where the disk failed
+  pub refusal_failed : (old new : Journal) (before after : D) (body : List ℕ) (fault : JournalFault) → unhealed_fault old ≡ None → count_of old < 2 ^ 32 - 1 → IsAppendRefusal device old new before after body fault → (fault ≡ DiskFault) × IsAppendFailed device old new before after body
+  refusal_failed old new before after body Exists none below refusal = absurd refusal
+  refusal_failed old new before after body NoArchive none below refusal = absurd refusal
+  refusal_failed old new before after body (Damaged at) none below refusal = absurd refusal
+  refusal_failed old new before after body (NeedsReopen faults) none below refusal = absurd (cc (refusal.0, none))
+  refusal_failed old new before after body Limit none below refusal = absurd (omega (arith, refusal.1, below))
+  refusal_failed old new before after body DiskFault none below refusal = (refl, refusal)
+  refusal_failed old new before after body OutOfMemory none below refusal = absurd refusal
+
+  -- no journal is made in a file that couldn't be made ready
+  pub not_prepared : (file : ℕ) (before after : D) (fault : JournalFault) → (fault ≡ Exists) ⊎ (fault ≡ DiskFault)
+      → (IsTrue device.is_transparent → fault ≡ Exists → (2 ≤ length (device.reads before file)) × (get_or (device.reads before file) 0 0 ≡ 1) × (device.reads after ≡ device.reads before))
+      → (fault ≡ DiskFault → raised (device.fault_count before) ≤ device.fault_count after)
+      → (device.failed_writes after ≡ device.failed_writes before) ⊎ ((fault ≡ DiskFault) × (device.failed_writes after ≡ raised (device.failed_writes before)))
+      → (IsTrue device.is_transparent → HoldsNone (device.reads before file) → LeavesOnly device before after (λ c. device.images before c ⊎ HoldsNone (c file)))
+      → IsJournalCreateRefusal device file before after fault
+  not_prepared file before after fault only exists cause writes moments =
+      ⊎_elim (λ is. subst (IsJournalCreateRefusal device file before after) (sym is) (where_exists is)) (λ is. subst (IsJournalCreateRefusal device file before after) (sym is) (where_failed is)) only
+    where
+      where_exists : fault ≡ Exists → IsJournalCreateRefusal device file before after Exists
+      where_exists is = (λ transparent. let e = exists transparent is in ((e.0, e.1), e.2), ⊎_elim (λ same. same) (λ failed. absurd (cc (failed.0, is))) writes)
+
+      where_failed : fault ≡ DiskFault → IsJournalCreateRefusal device file before after DiskFault
+      where_failed is = record {
+        rose = cause is;
+        wrote_most = ⊎_elim (λ same. omega (arith, same)) (λ failed. omega (arith, failed.1)) writes;
+        closed = λ few transparent none c left. at_end device before after _ (moments transparent none) c left;
+      }
+
+  -- other files over two runs of calls
+  pub others_on : (old mid new : D) (file : ℕ) → LeavesOthers device file old mid → LeavesOthers device file mid new → LeavesOthers device file old new
+  others_on old mid new file first second = record {
+    reads = λ transparent g ne. second.reads transparent g ne ∙ first.reads transparent g ne;
+    crash = elsewhere_on device old mid new file first.crash second.crash;
+  }
+
+  module _ (old : Journal) (bodies : List (List ℕ)) (pending : List ℕ) (before : D) (transparent : IsTrue device.is_transparent) (keeps : HasOnDisk device old bodies pending before) where
+    -- an append, where these are the records before it
+    pub appended_on : (new : Journal) (after : D) (body : List ℕ) (place : ℕ) → IsAppended device old new before after body place → HasOnDisk device new (bodies ++ body ∷ []) pending after
+    appended_on new after body place a =
+        subst (λ (l : List (List ℕ)). HasOnDisk device new (l ++ body ∷ []) pending after) (records_are old bodies pending before transparent keeps)
+        (other_pending new (records_of device old before ++ body ∷ []) [] pending after (λ faults is. not_written new faults a.no_pending_fault is) (a.records transparent))
+
+    pub append_failed_on : (new : Journal) (after : D) (body : List ℕ) → IsAppendFailed device old new before after body → HasOnDisk device new bodies body after
+    append_failed_on new after body f = subst (λ (l : List (List ℕ)). HasOnDisk device new l body after) (records_are old bodies pending before transparent keeps) (f.records transparent)
+
+    pub append_crash_on : (after : D) (body : List ℕ) → CrashLeavesRecords device old before after (body ∷ []) → LeavesOnly device before after (λ c. IsBeforeOrAfter bodies body (c (file_of old)))
+    append_crash_on after body crash = subst (λ (l : List (List ℕ)). LeavesOnly device before after (λ c. IsBeforeOrAfter l body (c (file_of old)))) (records_are old bodies pending before transparent keeps) (crash transparent)
+
+    -- and a heal
+    pub healed_on : (new : Journal) (after : D) → IsHealed device old new before after → HasOnDisk device new bodies pending after
+    healed_on new after h =
+        subst (λ (l : List (List ℕ)). HasOnDisk device new l pending after) (records_are old bodies pending before transparent keeps)
+        (other_pending new (records_of device old before) [] pending after (λ faults is. not_written new faults (ap (λ (j : Journal). faults_of j.pending_fault) h.journal) is) (h.records transparent))
+
+    pub heal_failed_on : (new : Journal) (after : D) → IsHealFailed device old new before after → HasOnDisk device new bodies pending after
+    heal_failed_on new after f =
+        subst (λ (l : List (List ℕ)). HasOnDisk device new l pending after) (records_are old bodies pending before transparent keeps)
+        (other_pending new (records_of device old before) (next_body_of device old before) pending after
+        (λ faults is. next_body_is old bodies pending before faults transparent keeps (ap (λ (j : Journal). j.pending_fault) (sym f.journal) ∙ is)) (f.records transparent))
+
+    pub heal_crash_on : (after : D) → CrashLeavesRecords device old before after (unhealed_records_of device old before) → LeavesOnly device before after (λ c. IsBeforeOrAfter bodies pending (c (file_of old)))
+    heal_crash_on after crash = weakens device before after _ _ (crash transparent) (λ c either. ⊎_elim (λ alone. inl (first c alone)) (λ more. go old.pending_fault refl c more) either)
+      where
+        first : (c : Image) → HasRecords (c (file_of old)) (records_of device old before) → HasRecords (c (file_of old)) bodies
+        first c alone = subst (HasRecords (c (file_of old))) (records_are old bodies pending before transparent keeps) alone
+
+        go : (t : PendingFault) → old.pending_fault ≡ t → (c : Image) → HasRecords (c (file_of old)) (records_of device old before ++ if_gate_written t (next_body_of device old before)) → IsBeforeOrAfter bodies pending (c (file_of old))
+        go Absent is c more = inl (first c (subst (HasRecords (c (file_of old))) (append-nil (records_of device old before)) more))
+        go (GateClosed faults) is c more = inl (first c (subst (HasRecords (c (file_of old))) (append-nil (records_of device old before)) more))
+        go (GateWritten faults) is c more =
+            inr (subst (λ (l : List (List ℕ)). HasRecords (c (file_of old)) (l ++ pending ∷ [])) (records_are old bodies pending before transparent keeps)
+            (subst (λ (b : List ℕ). HasRecords (c (file_of old)) (records_of device old before ++ b ∷ [])) (next_body_is old bodies pending before faults transparent keeps is) more))
