@@ -231,7 +231,7 @@ fn are_whole(words: &[String]) -> bool
 }
 
 /// Whether a word may stand where options may: it's no lone `-`, and no option with an empty value.
-#[tactic(auto, unfolding(crate::specs::Words::is_whole))]
+#[tactic(auto, unfolding(crate::specs::Words::is_whole_word))]
 fn is_whole(word: &str) -> bool
     ensures { result ≡ is_whole_word word.now }
 {

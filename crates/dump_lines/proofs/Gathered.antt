@@ -58,7 +58,7 @@ gathered_idle packets moment p old new counts g a =
     let more = length-append packets (p ∷ []) in record {
       rows_are = rw (a.1, same) g.rows_are;
       shown = rw a.1 g.shown;
-      counts_with = record {
+      counted = record {
         of_packets = rw more (omega arith);
         of_rows = rw same c.of_rows;
         of_duplicates = rw same c.of_duplicates;
@@ -81,7 +81,7 @@ gathered_new packets moment p old new counts g a =
     let more_kept = length-append (firsts (scanned_rows packets moment)) (scanned_row moment p ∷ []) in record {
       rows_are = rw (a.2.1, rows_of-push old stored, g.rows_are, kept_rows) refl;
       shown = rw a.2.1 (shown-push old stored g.shown a.2.2);
-      counts_with = record {
+      counted = record {
         of_packets = rw more (omega arith);
         of_rows = rw (kept_rows, more_kept) (omega arith);
         of_duplicates = rw (rows, more_rows) (omega arith);
@@ -101,7 +101,7 @@ gathered_duplicate packets moment p old new counts g a =
     let more_rows = length-append (scanned_rows packets moment) (scanned_row moment p ∷ []) in record {
       rows_are = rw (a.2, kept_rows) g.rows_are;
       shown = rw a.2 g.shown;
-      counts_with = record {
+      counted = record {
         of_packets = rw more (omega arith);
         of_rows = rw kept_rows c.of_rows;
         of_duplicates = rw (rows, more_rows) (omega arith);
@@ -141,7 +141,7 @@ loading_none dump moment counts h = rw h (record {
   packets = [];
   cut = record { within = omega arith; joined = refl; each = All-nil IsPacket };
   few = omega arith;
-  gathered = record { rows_are = refl; shown = tt; counts_with = record { of_packets = refl; of_rows = refl; of_duplicates = refl; of_idle = refl } };
+  gathered = record { rows_are = refl; shown = tt; counted = record { of_packets = refl; of_rows = refl; of_duplicates = refl; of_idle = refl } };
 })
 
 -- a row of table 0 is a duplicate where its key is there

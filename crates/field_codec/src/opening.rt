@@ -80,7 +80,7 @@ fn this_at(number: u8, octets: &[u8]) -> Result<(u8, &[u8]), DecodeError>
     Ok((found, rest))
 }
 
-#[tactic(auto, unfolding(crate::specs::Reading::table_at))]
+#[tactic(auto, unfolding(crate::specs::Reading::table_name_at))]
 fn table_at(alloc: Global, octets: &[u8]) -> Result<(Name, &[u8]), DecodeError>
     ensures { Gives (λ x. (x.0, x.1.now)) result (table_name_at octets.now) }
 {

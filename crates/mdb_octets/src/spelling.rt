@@ -202,7 +202,7 @@ fn put_condition(out: &mut Vec<u8>, condition: &[Comparison]) -> Result<(), Allo
     put_comparisons(out, condition)
 }
 
-#[tactic(auto, unfolding(crate::specs::Spelling::entry_octets))]
+#[tactic(auto, unfolding(crate::specs::Spelling::container_entry_octets))]
 fn put_entry(out: &mut Vec<u8>, e: &Entry) -> Result<(), AllocError>
     requires { FitsEntry e.now }
     ensures { OnOk result (out.new.items ≡ out.old.items ++ container_entry_octets e.now) }

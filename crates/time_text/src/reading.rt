@@ -38,7 +38,7 @@ pub fn read_time_octets(text: &[u8]) -> Result<i64, BadTime>
 }
 
 /// A count of milliseconds.
-#[tactic(auto, unfolding(crate::specs::TimeText::count_of))]
+#[tactic(auto, unfolding(crate::specs::TimeText::signed_number_of))]
 fn count(text: &[u8]) -> Option<i64>
     ensures { result ≡ signed_number_of text.now }
 {
