@@ -8,7 +8,7 @@ use Rattle.arch_disk.specs.Disk.{Device, LeavesOnly, raised}
 use Rattle.arch_disk.proofs.Moments.{weakens, at_end}
 use Rattle.disk_journal.specs.Format.{framed, written, HasRecords, HasStaged, HoldsNone, IsBeforeOrAfter}
 use Rattle.disk_journal.specs.State.{HasOnDisk, IsOnDisk, StateIs, extents_from, faults_of, file_of, count_of, unhealed_fault}
-use Rattle.disk_journal.specs.Calls.{body_of, records_of, body_behind, next_body_of, if_gate_written, unhealed_records_of, CrashLeavesRecords, LeavesOthers, IsAppended, IsAppendFailed, IsAppendRefusal, IsHealed, IsHealFailed, IsJournalCreateRefusal}
+use Rattle.disk_journal.specs.Calls.{body_of, records_of, body_behind, next_body_of, if_gate_written, unhealed_records_of, CrashLeavesRecords, LeavesOthers, IsAppended, IsAppendFailed, IsAppendRefusal, IsHealed, IsHealFailed, IsHealRefusal, IsJournalCreateRefusal}
 use Rattle.disk_journal.specs.declared.journal.Extent.{Extent}
 use Rattle.disk_journal.specs.declared.journal.Journal.{Journal}
 use Rattle.disk_journal.specs.declared.journal.PendingFault.{PendingFault}
@@ -117,6 +117,15 @@ module _ {D : Type 0} (device : Device D) where
   refusal_failed old new before after body Limit none below refusal = absurd (omega (arith, refusal.1, below))
   refusal_failed old new before after body DiskFault none below refusal = (refl, refusal)
   refusal_failed old new before after body OutOfMemory none below refusal = absurd refusal
+
+  pub heal_refusal_failed : (old new : Journal) (before after : D) (fault : JournalFault) → IsHealRefusal device old new before after fault → (fault ≡ DiskFault) × IsHealFailed device old new before after
+  heal_refusal_failed old new before after Exists refusal = absurd refusal
+  heal_refusal_failed old new before after NoArchive refusal = absurd refusal
+  heal_refusal_failed old new before after (Damaged at) refusal = absurd refusal
+  heal_refusal_failed old new before after (NeedsReopen faults) refusal = absurd refusal
+  heal_refusal_failed old new before after Limit refusal = absurd refusal
+  heal_refusal_failed old new before after DiskFault refusal = (refl, refusal)
+  heal_refusal_failed old new before after OutOfMemory refusal = absurd refusal
 
   -- no journal is made in a file that couldn't be made ready
   pub not_prepared : (file : ℕ) (before after : D) (fault : JournalFault) → (fault ≡ Exists) ⊎ (fault ≡ DiskFault)

@@ -96,6 +96,11 @@ pub record IsHealFailed {D : Type 0} (device : Device D) (old new : Journal) (be
   pub rose : raised (device.fault_count before) ≤ device.fault_count after
   pub wrote : device.failed_writes after ≡ raised (device.failed_writes before)
 
+-- a heal is refused for a fault of the disk alone
+abbrev pub IsHealRefusal : {D : Type 0} → Device D → Journal → Journal → D → D → JournalFault → Type 0
+IsHealRefusal device old new before after DiskFault = IsHealFailed device old new before after
+IsHealRefusal device old new before after _ = ⊥
+
 -- the file begins with an open gate, and an octet stands behind it
 abbrev pub BeginsOpen : List ℕ → Type 0
 BeginsOpen content = (2 ≤ length content) × (get_or content 0 0 ≡ 1)

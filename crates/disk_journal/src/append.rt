@@ -1,6 +1,6 @@
 // One record more, and what is done when that fails.
 ghost use Rattle.std.specs.Prelude.{◌≡◌, [], ◌∷◌, None, IsTrue, OnOk, IfOk, IfErr};
-ghost use Rattle.disk_journal.specs.Calls.{CountsNeverFall, CrashLeavesRecords, IsAppended, IsAppendRefusal, IsHealed, IsHealFailed, LeavesOthers, unhealed_records_of};
+ghost use Rattle.disk_journal.specs.Calls.{CountsNeverFall, CrashLeavesRecords, IsAppended, IsAppendRefusal, IsHealed, IsHealRefusal, LeavesOthers, unhealed_records_of};
 ghost use Rattle.disk_journal.specs.State.{IsOnDisk, HasRoom, file_of, unhealed_fault};
 
 use crate::journal::{Extent, Journal, PendingFault};
@@ -19,7 +19,7 @@ impl Journal {
         // Ok: the record is the last one, and durable.
         ensures appended { IfOk result (IsAppended D.device self.old self.new disk.old disk.new frame.now) }
 
-        // Refused, all is as it was; where the disk failed the records are as before, and the new one may follow them until a heal.
+        // Refused, all is as it was; but where the disk failed the new record may follow those from before until a heal.
         ensures refused { IfErr result (IsAppendRefusal D.device self.old self.new disk.old disk.new frame.now) }
 
         // Power lost at any moment of the call leaves the records from before it, or these and the new one,
@@ -69,8 +69,7 @@ impl Journal {
         ensures healed { OnOk result (IsHealed D.device self.old self.new disk.old disk.new) }
 
         // Refused, for a fault of the disk alone, the journal is as before, and so is what may follow its records.
-        ensures refused { IfErr result (λ fault. (fault ≡ JournalFault.DiskFault) × IsHealFailed D.device self.old self.new
-            disk.old disk.new) }
+        ensures refused { IfErr result (IsHealRefusal D.device self.old self.new disk.old disk.new) }
 
         // Power lost at any moment of the call leaves the records, or these and the one whose append failed,
         ensures crash { CrashLeavesRecords D.device self.old disk.old disk.new

@@ -1,12 +1,12 @@
 use Rattle.std.proofs.Common.{rules, ◌≡◌, ℕ, ◌^◌, ◌<◌, ◌+◌, [], ◌∷◌, ◌++◌, List, length, inl, refl, sym, ◌∙◌, ap, subst, arith, length-append}
 use Rattle.arch_disk.proofs.Moments.{weakens, started, at_end}
-use Rattle.disk_journal.specs.Format.{framed, written, HasRecords}
+use Rattle.disk_journal.specs.Format.{framed, written, HasRecords, IsBeforeOrAfter}
 use Rattle.disk_journal.specs.Calls.{records_of, next_body_of}
 use Rattle.disk_journal.specs.State.{StateIs, extents_from, faults_of}
 use Rattle.disk_journal.specs.declared.journal.PendingFault.{PendingFault}
 use Rattle.disk_journal.proofs.Files.{length-framed, length-written, record_inside, sum_is}
 use Rattle.disk_journal.proofs.Reading.{pushed}
-use Rattle.disk_journal.proofs.Appending.{extent, no_pending_fault_state, behind_is, first_moments, first_write, first_images, first_done, staged_images, gate_images, second_done, elsewhere_two, append_moments}
+use Rattle.disk_journal.proofs.Appending.{Wrote, extent, no_pending_fault_state, behind_is, first_moments, first_write, first_images, first_done, staged_images, gate_images, second_done, elsewhere_two, append_moments}
 use Rattle.disk_journal.proofs.Calls.{has_records}
 use Rattle.disk_journal.proofs.journal.Journal.append.Goals as goal
 
@@ -62,7 +62,7 @@ returns-in-Err-clause-crash g c no_pending_fault transparent =
     let state = no_pending_fault_state device now bodies (next_body_of device now old) old c.in-Absent.is keeps in
     let behind = behind_is device now bodies (next_body_of device now old) old c.saturating_add-behind.result transparent c.in-Absent.is keeps c.saturating_add-behind.ensures in
     let moments = first_moments device old mid now.file c.saturating_add-behind.result now.end n behind c.put.ensures.moments in
-    weakens device old mid _ _ moments (λ c' wrote. inl (first_images device now.file now.end bodies c.args.frame.now keeps.end old n state c' wrote))
+    weakens device old mid (Wrote device now.file (now.end + 1) n old) (λ c'. IsBeforeOrAfter bodies c.args.frame.now (c' now.file)) moments (λ c' wrote. inl (first_images device now.file now.end bodies c.args.frame.now keeps.end old n state c' wrote))
 
 pub returns-in-Err-clause-sound : goal.returns-in-Err-clause-sound
 returns-in-Err-clause-sound g c transparent =

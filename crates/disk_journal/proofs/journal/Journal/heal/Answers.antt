@@ -52,24 +52,22 @@ pub returns-in-Err-clause-refused : goal.returns-in-Err-clause-refused
 returns-in-Err-clause-refused g c =
     let device = g.D.Disk.device in
     let now = c.args.self.now in
-    let old = c.args.disk.now in (
-      refl,
-      record {
-        unhealed = λ none. cc (ap faults_of c.in-GateClosed.is, none);
-        journal = refl;
-        records = λ transparent.
-            let keeps = has_records device now old transparent (c.requires.sound transparent) in
-            let state = subst (λ (t : PendingFault). StateIs device t now.file (records_of device now old) (next_body_of device now old) old) c.in-GateClosed.is keeps.state in
-            record {
-              extents = keeps.extents;
-              end = keeps.end;
-              state = subst (λ (t : PendingFault). StateIs device t now.file (records_of device now old) (next_body_of device now old) c.flush.new.disk) (sym c.in-GateClosed.is)
-                  (λ c' left. state c' (c.flush.ensures.images c' left));
-            };
-        rose = search rules;
-        wrote = search rules;
-      },
-    )
+    let old = c.args.disk.now in
+    record {
+      unhealed = λ none. cc (ap faults_of c.in-GateClosed.is, none);
+      journal = refl;
+      records = λ transparent.
+          let keeps = has_records device now old transparent (c.requires.sound transparent) in
+          let state = subst (λ (t : PendingFault). StateIs device t now.file (records_of device now old) (next_body_of device now old) old) c.in-GateClosed.is keeps.state in
+          record {
+            extents = keeps.extents;
+            end = keeps.end;
+            state = subst (λ (t : PendingFault). StateIs device t now.file (records_of device now old) (next_body_of device now old) c.flush.new.disk) (sym c.in-GateClosed.is)
+                (λ c' left. state c' (c.flush.ensures.images c' left));
+          };
+      rose = search rules;
+      wrote = search rules;
+    }
 
 pub returns-in-Err-clause-crash : goal.returns-in-Err-clause-crash
 returns-in-Err-clause-crash g c transparent =
@@ -114,29 +112,27 @@ pub returns-in-Err-put-clause-refused : goal.returns-in-Err-put-clause-refused
 returns-in-Err-put-clause-refused g c =
     let device = g.D.Disk.device in
     let now = c.args.self.now in
-    let old = c.args.disk.now in (
-      refl,
-      record {
-        unhealed = λ none. cc (ap faults_of c.in-GateWritten.is, none);
-        journal = refl;
-        records = λ transparent.
-            let keeps = has_records device now old transparent (c.requires.sound transparent) in
-            let staged = touched_state device now (records_of device now old) (next_body_of device now old) old c.in-GateWritten.field-0 c.in-GateWritten.is keeps in
-            record {
-              extents = keeps.extents;
-              end = keeps.end;
-              state = subst (λ (t : PendingFault). StateIs device t now.file (records_of device now old) (next_body_of device now old) c.put.new.disk) (sym c.in-GateWritten.is)
-                  (λ c' left. gate_images device now.file now.end (records_of device now old) (next_body_of device now old) keeps.end old staged c' (at_end device old c.put.new.disk _ c.put.ensures.moments c' left));
-            };
-        rose = search rules;
-        wrote = search rules;
-      },
-    )
+    let old = c.args.disk.now in
+    record {
+      unhealed = λ none. cc (ap faults_of c.in-GateWritten.is, none);
+      journal = refl;
+      records = λ transparent.
+          let keeps = has_records device now old transparent (c.requires.sound transparent) in
+          let staged = touched_state device now (records_of device now old) (next_body_of device now old) old c.in-GateWritten.field-0 c.in-GateWritten.is keeps in
+          record {
+            extents = keeps.extents;
+            end = keeps.end;
+            state = subst (λ (t : PendingFault). StateIs device t now.file (records_of device now old) (next_body_of device now old) c.put.new.disk) (sym c.in-GateWritten.is)
+                (λ c' left. gate_images device now.file now.end (records_of device now old) (next_body_of device now old) keeps.end old staged c' (at_end device old c.put.new.disk _ c.put.ensures.moments c' left));
+          };
+      rose = search rules;
+      wrote = search rules;
+    }
 
 pub returns-in-Err-put-clause-sound : goal.returns-in-Err-put-clause-sound
 returns-in-Err-put-clause-sound g c transparent =
     let device = g.D.Disk.device in
-    record { bodies = records_of device c.args.self.now c.args.disk.now; pending = next_body_of device c.args.self.now c.args.disk.now; keeps = (returns-in-Err-put-clause-refused g c).1.records transparent }
+    record { bodies = records_of device c.args.self.now c.args.disk.now; pending = next_body_of device c.args.self.now c.args.disk.now; keeps = (returns-in-Err-put-clause-refused g c).records transparent }
 
 pub returns-in-Err-put-clause-crash : goal.returns-in-Err-put-clause-crash
 returns-in-Err-put-clause-crash g c transparent =
