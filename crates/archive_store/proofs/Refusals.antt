@@ -4,8 +4,6 @@ use Rattle.arch_disk.specs.Image.{Image}
 use Rattle.arch_types.specs.declared.refusal.Refusal.{Refusal}
 use Rattle.arch_types.specs.declared.refusal.Refusal.TheVariants as refused
 use Rattle.disk_journal.specs.Format.{HoldsNone}
-use Rattle.disk_journal.specs.State.{IsAppendFault}
-use Rattle.disk_journal.specs.State.{asks_reopen as journal_asks}
 use Rattle.disk_journal.specs.declared.fault.JournalFault.{JournalFault}
 use Rattle.disk_journal.specs.declared.fault.JournalFault.TheVariants.{Exists, NoArchive, Damaged, NeedsReopen, Limit, DiskFault, OutOfMemory}
 use Rattle.archive_store.specs.Entries.{Archive}
@@ -146,13 +144,3 @@ read_damaged (NeedsReopen faults) file at is = absurd cc
 read_damaged Limit file at is = absurd cc
 read_damaged DiskFault file at is = absurd cc
 read_damaged OutOfMemory file at is = absurd cc
-
--- of the faults of an append only that of the disk is left
-pub only_fault : (e : JournalFault) → IsAppendFault e → journal_asks {T = ℕ} (Err e) ≡ None → (e ≡ Limit → ⊥) → e ≡ DiskFault
-only_fault Exists f no_failed_write below = absurd f
-only_fault NoArchive f no_failed_write below = absurd f
-only_fault (Damaged at) f no_failed_write below = absurd f
-only_fault (NeedsReopen faults) f no_failed_write below = absurd cc
-only_fault Limit f no_failed_write below = absurd (below refl)
-only_fault DiskFault f no_failed_write below = refl
-only_fault OutOfMemory f no_failed_write below = absurd f

@@ -70,11 +70,6 @@ pub record AddsFault {D : Type 0} (device : Device D) (old new : StoreView D) (r
   pub rose : raised (device.fault_count old.disk) ≤ device.fault_count new.disk
   pub wrote : device.failed_writes new.disk ≡ raised (device.failed_writes old.disk)
 
--- neither the count of faults nor that of failed writes has fallen
-pub record CountsNeverFall {D : Type 0} (device : Device D) (old new : D) : Type 0 where
-  pub faults : device.fault_count old ≤ device.fault_count new
-  pub writes : device.failed_writes old ≤ device.failed_writes new
-
 -- both lists begin with the old ones, and head and opening stay
 pub record OnlyAppends {D : Type 0} (old new : StoreView D) : Type 0 where
   pub history : IsPrefix old.history new.history

@@ -72,7 +72,8 @@ fn prepare(
 }
 
 impl<D: Disk> Store<D> {
-    ghost use Rattle.archive_store.specs.StoreView.{archive_of, IsNow, unacknowledged_rows, AddsFault, OnlyAppends, CountsNeverFall};
+    ghost use Rattle.archive_store.specs.StoreView.{archive_of, IsNow, unacknowledged_rows, AddsFault, OnlyAppends};
+    ghost use Rattle.disk_journal.specs.Calls.{CountsNeverFall};
     ghost use Rattle.archive_store.specs.Answers.{store_asks_reopen, IsIngestRefusal};
 
     /// The first limit that is passed with these rows and their record.

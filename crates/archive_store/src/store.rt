@@ -117,7 +117,8 @@ fn prepare_new(alloc: Global, head: Head) -> Result<NewArchive, AllocError>
 }
 
 impl<D: Disk> Store<D> {
-    ghost use Rattle.archive_store.specs.StoreView.{archive_of, CrashInvariant, FaultInvariant, CountsNeverFall};
+    ghost use Rattle.archive_store.specs.StoreView.{archive_of, CrashInvariant, FaultInvariant};
+    ghost use Rattle.disk_journal.specs.Calls.{CountsNeverFall};
     ghost use Rattle.archive_store.specs.Answers.{IsOpenAnswer, IsOpenRefusal, IsDamagedArchiveOrFault, IsNoArchiveOrFault, IsFaultOrMemory, IsCreateAnswer, IsCreateRefusal, IsCreateImage};
 
     /// Makes an archive without rows on a disk that holds none. Where the last write or sync fails it closes the gate again, as far as the disk

@@ -7,7 +7,7 @@ use Rattle.arch_disk.specs.Image.{Image}
 use Rattle.arch_disk.specs.Disk.{Device, LeavesOnly, raised}
 use Rattle.arch_disk.proofs.Moments.{weakens, at_end}
 use Rattle.disk_journal.specs.Format.{framed, written, HasRecords, HasStaged, HoldsNone, IsBeforeOrAfter}
-use Rattle.disk_journal.specs.State.{HasOnDisk, IsOnDisk, StateIs, extents_from, faults_of, file_of, count_of, unhealed_fault}
+use Rattle.disk_journal.specs.State.{HasOnDisk, IsOnDisk, HasRoom, StateIs, extents_from, faults_of, file_of, count_of, unhealed_fault}
 use Rattle.disk_journal.specs.Calls.{body_of, records_of, body_behind, next_body_of, if_gate_written, unhealed_records_of, CrashLeavesRecords, LeavesOthers, IsAppended, IsAppendFailed, IsAppendRefusal, IsHealed, IsHealFailed, IsHealRefusal, IsJournalCreateRefusal}
 use Rattle.disk_journal.specs.declared.journal.Extent.{Extent}
 use Rattle.disk_journal.specs.declared.journal.Journal.{Journal}
@@ -118,6 +118,27 @@ module _ {D : Type 0} (device : Device D) where
   refusal_failed old new before after body DiskFault none below refusal = (refl, refusal)
   refusal_failed old new before after body OutOfMemory none below refusal = absurd refusal
 
+  -- a refused append leaves the number of records
+  pub refused_count : (old new : Journal) (before after : D) (body : List ℕ) (fault : JournalFault) → IsAppendRefusal device old new before after body fault → count_of new ≡ count_of old
+  refused_count old new before after body Exists refusal = absurd refusal
+  refused_count old new before after body NoArchive refusal = absurd refusal
+  refused_count old new before after body (Damaged at) refusal = absurd refusal
+  refused_count old new before after body (NeedsReopen faults) refusal = ap count_of refusal.1
+  refused_count old new before after body Limit refusal = ap count_of refusal.2
+  refused_count old new before after body DiskFault refusal = refusal.count
+  refused_count old new before after body OutOfMemory refusal = absurd refusal
+
+  -- and its room
+  pub refused_room : (old new : Journal) (before after : D) (body : List ℕ) (fault : JournalFault) → HasRoom old → IsAppendRefusal device old new before after body fault → HasRoom new
+  refused_room old new before after body Exists room refusal = absurd refusal
+  refused_room old new before after body NoArchive room refusal = absurd refusal
+  refused_room old new before after body (Damaged at) room refusal = absurd refusal
+  refused_room old new before after body (NeedsReopen faults) room refusal = subst HasRoom (sym refusal.1) room
+  refused_room old new before after body Limit room refusal = subst HasRoom (sym refusal.2) room
+  refused_room old new before after body DiskFault room refusal = refusal.room
+  refused_room old new before after body OutOfMemory room refusal = absurd refusal
+
+  -- a heal is refused only where the disk failed
   pub heal_refusal_failed : (old new : Journal) (before after : D) (fault : JournalFault) → IsHealRefusal device old new before after fault → (fault ≡ DiskFault) × IsHealFailed device old new before after
   heal_refusal_failed old new before after Exists refusal = absurd refusal
   heal_refusal_failed old new before after NoArchive refusal = absurd refusal

@@ -1,4 +1,4 @@
-use Rattle.std.proofs.Common.{◌≡◌, ◌⊎◌, inl, ◌++◌, [], ◌∷◌, ℕ, List, length, Bool, true, false, Result, Err, Some, None, refl, sym, ◌∙◌, ap, subst, arith}
+use Rattle.std.proofs.Common.{◌≡◌, ◌⊎◌, inl, ◌++◌, ◌<◌, ◌-◌, ◌^◌, [], ◌∷◌, ℕ, List, length, Bool, true, false, Result, Err, Some, None, refl, sym, ◌∙◌, ap, subst, arith}
 use Rattle.std.specs.Prelude.{IsTrue}
 use Rattle.arch_disk.specs.Disk.{LeavesOnly}
 use Rattle.arch_types.specs.declared.row.Row.{Row}
@@ -8,9 +8,8 @@ use Rattle.archive_core.specs.Fills.{pending_fault_of}
 use Rattle.archive_core.specs.Items.{Item}
 use Rattle.disk_journal.specs.Format.{IsBeforeOrAfter}
 use Rattle.disk_journal.specs.State.{HasOnDisk as JournalHasOnDisk}
-use Rattle.disk_journal.specs.State.{unhealed_fault, faults_of, file_of}
-use Rattle.disk_journal.specs.declared.fault.JournalFault.{JournalFault}
-use Rattle.disk_journal.specs.declared.fault.JournalFault.TheVariants.{DiskFault, Limit}
+use Rattle.disk_journal.specs.State.{unhealed_fault, faults_of, file_of, count_of}
+use Rattle.disk_journal.proofs.Calls.{appended_on, append_failed_on, append_crash_on, refusal_failed, refused_count}
 use Rattle.field_codec.specs.declared.entry.Entry.TheVariants as entries
 use Rattle.field_codec.specs.Spelling.{entry_octets}
 use Rattle.std.specs.List.{AllByRecursion}
@@ -20,7 +19,6 @@ use Rattle.archive_store.specs.StoreView.{StoreView}
 use Rattle.archive_store.specs.Stands.{StandsFor}
 use Rattle.archive_store.proofs.Batching.{placed_tables}
 use Rattle.archive_store.proofs.Kept.{kept_same, kept_ok, kept_err, moments_of, fault, stands_now}
-use Rattle.archive_store.proofs.Refusals.{only_fault}
 use Rattle.archive_store.proofs.store.Store.append.Goals as goal
 
 -- all were added, since each is new
@@ -40,12 +38,12 @@ invariant_of-self-in-Ok-append g c =
     let ok : AreAdmitted (archive s.head s.history.items) fresh = subst (λ (x : StoreView g.row.D.Denot). AreAdmitted (archive x.head x.history) fresh) (sym c.self.view_is) c.requires.admitted in
     let frame : c.in-Ok.frame ≡ body = c.in-Ok.ensures.frame.0 in
     let run = λ (transparent : IsTrue device.is_transparent) (bodies : List (List ℕ)) (pending : List ℕ) (keeps : JournalHasOnDisk device mid bodies pending s.disk) (no_pending_fault : unhealed_fault mid ≡ None).
-    subst (λ (b : List ℕ). LeavesOnly device s.disk c.append.new.disk (λ c'. IsBeforeOrAfter bodies b (c' (file_of mid)))) frame (c.append.ensures.any_moment transparent bodies pending keeps no_pending_fault) in
+    subst (λ (b : List ℕ). LeavesOnly device s.disk c.append.new.disk (λ c'. IsBeforeOrAfter bodies b (c' (file_of mid)))) frame (append_crash_on device mid bodies pending s.disk transparent keeps c.append.new.disk c.in-Ok.frame (c.append.ensures.crash no_pending_fault)) in
     let moments = moments_of device s.disk c.append.new.disk s.opened.value s.journal mid s.head s.history.items fresh s.fills.items s.pending_fault k ok no_failed_write c.prepare-prepared.ensures.journal run in
     let k_mid = kept_same device s.disk s.opened.value s.journal mid s.head s.history.items s.fills.items s.pending_fault k c.prepare-prepared.ensures.journal in
     let keeps = λ (transparent : IsTrue device.is_transparent) (bodies : List (List ℕ)) (pending : List ℕ) (keeps : JournalHasOnDisk device mid bodies pending s.disk).
-    subst (λ (b : List ℕ). JournalHasOnDisk device c.append.new.self (bodies ++ b ∷ []) pending c.append.new.disk) frame (c.in-Ok-append.ensures.ok transparent bodies pending keeps) in
-    let done = kept_ok device s.disk c.append.new.disk s.opened.value mid c.append.new.self s.head s.history.items fresh s.fills.items s.pending_fault k_mid ok no_failed_write c.append.ensures.file c.in-Ok-append.ensures.no_pending_fault keeps moments c.append.ensures.later c.in-Ok-append.ensures.no_failed_write in
+    subst (λ (b : List ℕ). JournalHasOnDisk device c.append.new.self (bodies ++ b ∷ []) pending c.append.new.disk) frame (appended_on device mid bodies pending s.disk transparent keeps c.append.new.self c.append.new.disk c.in-Ok.frame _ c.in-Ok-append.ensures.appended) in
+    let done = kept_ok device s.disk c.append.new.disk s.opened.value mid c.append.new.self s.head s.history.items fresh s.fills.items s.pending_fault k_mid ok no_failed_write c.append.ensures.file c.in-Ok-append.ensures.appended.no_pending_fault keeps moments c.append.ensures.counts.faults c.in-Ok-append.ensures.appended.no_failed_write in
     let prepared = c.prepare-prepared.ensures.history in
     let same : c.in-Ok.fresh ≡ fresh = c.in-Ok.ensures.frame.1 in
     let new : ingested c.prepare-prepared.new.history.items c.in-Ok.fresh ≡ c.prepare-prepared.new.history.items ++ c.in-Ok.fresh =
@@ -70,7 +68,7 @@ returns-in-Ok-append-clause-any_moment g c =
     let ok : AreAdmitted (archive s.head s.history.items) fresh = subst (λ (x : StoreView g.row.D.Denot). AreAdmitted (archive x.head x.history) fresh) (sym c.self.view_is) c.requires.admitted in
     let frame : c.in-Ok.frame ≡ body = c.in-Ok.ensures.frame.0 in
     let run = λ (transparent : IsTrue device.is_transparent) (bodies : List (List ℕ)) (pending : List ℕ) (keeps : JournalHasOnDisk device mid bodies pending s.disk) (no_pending_fault : unhealed_fault mid ≡ None).
-    subst (λ (b : List ℕ). LeavesOnly device s.disk c.append.new.disk (λ c'. IsBeforeOrAfter bodies b (c' (file_of mid)))) frame (c.append.ensures.any_moment transparent bodies pending keeps no_pending_fault) in
+    subst (λ (b : List ℕ). LeavesOnly device s.disk c.append.new.disk (λ c'. IsBeforeOrAfter bodies b (c' (file_of mid)))) frame (append_crash_on device mid bodies pending s.disk transparent keeps c.append.new.disk c.in-Ok.frame (c.append.ensures.crash no_pending_fault)) in
     let moments = moments_of device s.disk c.append.new.disk s.opened.value s.journal mid s.head s.history.items fresh s.fills.items s.pending_fault k ok no_failed_write c.prepare-prepared.ensures.journal run in
     subst (λ (x : StoreView g.row.D.Denot). IsTrue device.is_transparent → LeavesOnly device x.disk c.append.new.disk (λ c'. StandsFor c' (archive x.head x.history) ⊎ StandsFor c' (archive x.head (x.history ++ fresh)))) c.self.view_is moments
 
@@ -86,17 +84,15 @@ invariant_of-self-in-Err g c =
     let ok : AreAdmitted (archive s.head s.history.items) fresh = subst (λ (x : StoreView g.row.D.Denot). AreAdmitted (archive x.head x.history) fresh) (sym c.self.view_is) c.requires.admitted in
     let frame : c.in-Ok.frame ≡ body = c.in-Ok.ensures.frame.0 in
     let run = λ (transparent : IsTrue device.is_transparent) (bodies : List (List ℕ)) (pending : List ℕ) (keeps : JournalHasOnDisk device mid bodies pending s.disk) (no_pending_fault : unhealed_fault mid ≡ None).
-    subst (λ (b : List ℕ). LeavesOnly device s.disk c.append.new.disk (λ c'. IsBeforeOrAfter bodies b (c' (file_of mid)))) frame (c.append.ensures.any_moment transparent bodies pending keeps no_pending_fault) in
+    subst (λ (b : List ℕ). LeavesOnly device s.disk c.append.new.disk (λ c'. IsBeforeOrAfter bodies b (c' (file_of mid)))) frame (append_crash_on device mid bodies pending s.disk transparent keeps c.append.new.disk c.in-Ok.frame (c.append.ensures.crash no_pending_fault)) in
     let moments = moments_of device s.disk c.append.new.disk s.opened.value s.journal mid s.head s.history.items fresh s.fills.items s.pending_fault k ok no_failed_write c.prepare-prepared.ensures.journal run in
     let k_mid = kept_same device s.disk s.opened.value s.journal mid s.head s.history.items s.fills.items s.pending_fault k c.prepare-prepared.ensures.journal in
-    let e = c.in-Err.field-0 in
-    let err : JournalFault → Result ℕ JournalFault = λ x. Err x in
-    let below : e ≡ Limit → ⊥ = λ is. absurd (omega (arith, (c.in-Err.ensures.limit.0 (ap err is)).1, c.requires.records, ap (λ (x : StoreView g.row.D.Denot). x.records) c.self.view_is, ap length c.prepare-prepared.ensures.journal.extents)) in
-    let fails : e ≡ DiskFault = only_fault e c.in-Err.ensures.only (c.in-Err.ensures.needs_reopen ∙ ap faults_of c.prepare-prepared.ensures.journal.pending_fault ∙ k.unhealed_fault_is ∙ no_failed_write) below in
-    let is : err e ≡ err DiskFault = ap err fails in
+    let none : unhealed_fault mid ≡ None = ap faults_of c.prepare-prepared.ensures.journal.pending_fault ∙ k.unhealed_fault_is ∙ no_failed_write in
+    let below : count_of mid < 2 ^ 32 - 1 = omega (arith, c.requires.records, ap (λ (x : StoreView g.row.D.Denot). x.records) c.self.view_is, ap length c.prepare-prepared.ensures.journal.extents) in
+    let failed = (refusal_failed device mid c.append.new.self s.disk c.append.new.disk c.in-Ok.frame c.in-Err.field-0 none below c.in-Err.ensures.refused).1 in
     let keeps = λ (transparent : IsTrue device.is_transparent) (bodies : List (List ℕ)) (pending : List ℕ) (keeps : JournalHasOnDisk device mid bodies pending s.disk).
-    subst (λ (b : List ℕ). JournalHasOnDisk device c.append.new.self bodies b c.append.new.disk) frame (c.in-Err.ensures.failed transparent bodies pending keeps is) in
-    let done = kept_err device s.disk c.append.new.disk s.opened.value mid c.append.new.self s.head s.history.items fresh s.fills.items s.pending_fault c.faults-count.result k_mid ok no_failed_write c.append.ensures.file (c.in-Err.ensures.pending_fault is) c.faults-count.ensures keeps moments (c.in-Err.ensures.cause is) (c.in-Err.ensures.counted is) in
+    subst (λ (b : List ℕ). JournalHasOnDisk device c.append.new.self bodies b c.append.new.disk) frame (append_failed_on device mid bodies pending s.disk transparent keeps c.append.new.self c.append.new.disk c.in-Ok.frame failed) in
+    let done = kept_err device s.disk c.append.new.disk s.opened.value mid c.append.new.self s.head s.history.items fresh s.fills.items s.pending_fault c.faults-count.result k_mid ok no_failed_write c.append.ensures.file failed.pending_fault c.faults-count.ensures keeps moments failed.rose failed.wrote in
     let same : c.in-Ok.fresh ≡ fresh = c.in-Ok.ensures.frame.1 in
     let fills : c.push_reserved.new.self.items ≡ s.fills.items ++ fault c.faults-count.result fresh ∷ [] =
     c.push_reserved.ensures.items ∙ ap (λ (l : List Fill). l ++ fault c.faults-count.result c.in-Ok.fresh ∷ []) c.prepare-prepared.ensures.fills.0 ∙ ap (λ (r : List Row). s.fills.items ++ fault c.faults-count.result r ∷ []) same in (
@@ -118,7 +114,7 @@ returns-clause-any_moment g c =
     let ok : AreAdmitted (archive s.head s.history.items) fresh = subst (λ (x : StoreView g.row.D.Denot). AreAdmitted (archive x.head x.history) fresh) (sym c.self.view_is) c.requires.admitted in
     let frame : c.in-Ok.frame ≡ body = c.in-Ok.ensures.frame.0 in
     let run = λ (transparent : IsTrue device.is_transparent) (bodies : List (List ℕ)) (pending : List ℕ) (keeps : JournalHasOnDisk device mid bodies pending s.disk) (no_pending_fault : unhealed_fault mid ≡ None).
-    subst (λ (b : List ℕ). LeavesOnly device s.disk c.append.new.disk (λ c'. IsBeforeOrAfter bodies b (c' (file_of mid)))) frame (c.append.ensures.any_moment transparent bodies pending keeps no_pending_fault) in
+    subst (λ (b : List ℕ). LeavesOnly device s.disk c.append.new.disk (λ c'. IsBeforeOrAfter bodies b (c' (file_of mid)))) frame (append_crash_on device mid bodies pending s.disk transparent keeps c.append.new.disk c.in-Ok.frame (c.append.ensures.crash no_pending_fault)) in
     let moments = moments_of device s.disk c.append.new.disk s.opened.value s.journal mid s.head s.history.items fresh s.fills.items s.pending_fault k ok no_failed_write c.prepare-prepared.ensures.journal run in
     subst (λ (x : StoreView g.row.D.Denot). IsTrue device.is_transparent → LeavesOnly device x.disk c.append.new.disk (λ c'. StandsFor c' (archive x.head x.history) ⊎ StandsFor c' (archive x.head (x.history ++ fresh)))) c.self.view_is moments
 
@@ -140,4 +136,4 @@ add_all-requires-clause-tables g c =
 
 pub returns-clause-no_record : goal.returns-clause-no_record
 returns-clause-no_record g c =
-    c.in-Err.ensures.count ∙ ap length c.prepare-prepared.ensures.journal.extents ∙ ap (λ (x : StoreView g.row.D.Denot). x.records) c.self.view_is
+    refused_count g.D.Disk.device c.prepare-prepared.new.journal c.append.new.self c.self.inside.disk c.append.new.disk c.in-Ok.frame c.in-Err.field-0 c.in-Err.ensures.refused ∙ ap length c.prepare-prepared.ensures.journal.extents ∙ ap (λ (x : StoreView g.row.D.Denot). x.records) c.self.view_is

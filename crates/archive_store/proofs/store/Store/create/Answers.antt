@@ -22,8 +22,8 @@ invariant_of-result g c =
     let j = c.in-Ok-create.journal in
     let f = c.in-Ok.new_archive in
     let e = c.in-Ok.ensures in
-    let keeps = λ (transparent : IsTrue device.is_transparent). subst (λ (b : List ℕ). JournalHasOnDisk device j (b ∷ []) [] disk) e.0 (c.in-Ok-create.ensures.ok transparent) in
-    let done = kept_made device disk j c.args.head c.requires.head c.in-Ok-create.ensures.no_pending_fault.0 c.in-Ok-create.ensures.no_pending_fault.1 keeps in (
+    let keeps = λ (transparent : IsTrue device.is_transparent). subst (λ (b : List ℕ). JournalHasOnDisk device j (b ∷ []) [] disk) e.0 (c.in-Ok-create.ensures.created.records transparent) in
+    let done = kept_made device disk j c.args.head c.requires.head c.in-Ok-create.ensures.created.no_pending_fault c.in-Ok-create.ensures.created.in_file keeps in (
       subst (λ o. StoreInvariant device disk o j f.head f.history.items c.new.result.items None) (sym c.of-opened.ensures)
           (subst (λ (l : List Fill). StoreInvariant device disk disk j f.head f.history.items l None) (sym c.new.ensures.items)
           (subst (λ (l : List Item). StoreInvariant device disk disk j f.head l [] None) (sym e.3)
@@ -35,13 +35,13 @@ invariant_of-result g c =
 pub returns-in-Ok-create-clause-any_moment : goal.returns-in-Ok-create-clause-any_moment
 returns-in-Ok-create-clause-any_moment g c transparent none =
     let device = g.D.Disk.device in
-    weakens device c.args.disk c.create.new.disk _ _ (c.create.ensures.any_moment transparent none)
+    weakens device c.args.disk c.create.new.disk _ _ (c.create.ensures.crash transparent none)
     (λ c' e. making (device.images c.args.disk) c.args.head c' c.requires.head (subst (λ (b : List ℕ). device.images c.args.disk c' ⊎ (HoldsNone (c' 0) ⊎ HasRecords (c' 0) (b ∷ []))) c.in-Ok.ensures.0 e))
 
 pub returns-clause-any_moment : goal.returns-clause-any_moment
 returns-clause-any_moment g c transparent none =
     let device = g.D.Disk.device in
-    weakens device c.args.disk c.create.new.disk _ _ (c.create.ensures.any_moment transparent none)
+    weakens device c.args.disk c.create.new.disk _ _ (c.create.ensures.crash transparent none)
     (λ c' e. making (device.images c.args.disk) c.args.head c' c.requires.head (subst (λ (b : List ℕ). device.images c.args.disk c' ⊎ (HoldsNone (c' 0) ⊎ HasRecords (c' 0) (b ∷ []))) c.in-Ok.ensures.0 e))
 
 pub returns-in_default-clause-kept : goal.returns-in_default-clause-kept
