@@ -1,5 +1,5 @@
 -- The records of a journal as a function of what its file reads as, and what the words on its calls say of any records that it has.
-use Rattle.std.proofs.Common.{◌≡◌, ◌⊎◌, inl, inr, ⊎_elim, ℕ, ◌+◌, ◌-◌, ◌^◌, ◌<◌, ◌≤◌, List, [], ◌∷◌, ◌++◌, length, map, take, drop, get_or, None, refl, sym, ◌∙◌, ap, subst, arith, append_assoc, length-append}
+use Rattle.std.proofs.Common.{◌≡◌, ◌≢◌, ◌⊎◌, inl, inr, ⊎_elim, ℕ, ◌+◌, ◌-◌, ◌^◌, ◌<◌, ◌≤◌, List, [], ◌∷◌, ◌++◌, length, map, take, drop, get_or, None, refl, sym, ◌∙◌, ap, subst, arith, append_assoc, length-append}
 use Rattle.std.specs.Prelude.{IsTrue, Result, Ok, Err, IfErr, IsErrAnd}
 use Rattle.std.specs.Int.{w32, from_be_bytes}
 use Rattle.std.proofs.lemmas.List.{append-nil, take_at, drop_at, drop-drop}
@@ -167,6 +167,35 @@ module _ {D : Type 0} (device : Device D) where
         wrote_most = ⊎_elim (λ same. omega (arith, same)) (λ failed. omega (arith, failed.1)) writes;
         closed = λ few transparent none c left. at_end device before after _ (moments transparent none) c left;
       }
+
+  -- the refusals of a making,
+  pub create_refusals : (file : ℕ) (before after : D) (fault : JournalFault) → IsJournalCreateRefusal device file before after fault → (fault ≡ Exists) ⊎ ((fault ≡ DiskFault) ⊎ (fault ≡ OutOfMemory))
+  create_refusals file before after Exists refusal = inl refl
+  create_refusals file before after NoArchive refusal = absurd refusal
+  create_refusals file before after (Damaged at) refusal = absurd refusal
+  create_refusals file before after (NeedsReopen faults) refusal = absurd refusal
+  create_refusals file before after Limit refusal = absurd refusal
+  create_refusals file before after DiskFault refusal = inr (inl refl)
+  create_refusals file before after OutOfMemory refusal = inr (inr refl)
+
+  -- and the failed writes by them
+  pub create_counted : (file : ℕ) (before after : D) (fault : JournalFault) → IsJournalCreateRefusal device file before after fault → (device.failed_writes after ≢ device.failed_writes before) → fault ≡ DiskFault
+  create_counted file before after Exists refusal differs = absurd (differs refusal.1)
+  create_counted file before after NoArchive refusal differs = absurd refusal
+  create_counted file before after (Damaged at) refusal differs = absurd refusal
+  create_counted file before after (NeedsReopen faults) refusal differs = absurd refusal
+  create_counted file before after Limit refusal differs = absurd refusal
+  create_counted file before after DiskFault refusal differs = refl
+  create_counted file before after OutOfMemory refusal differs = absurd (differs (ap device.failed_writes refusal))
+
+  pub create_wrote_most : (file : ℕ) (before after : D) (fault : JournalFault) → IsJournalCreateRefusal device file before after fault → device.failed_writes after ≤ raised (raised (device.failed_writes before))
+  create_wrote_most file before after Exists refusal = omega (arith, refusal.1)
+  create_wrote_most file before after NoArchive refusal = absurd refusal
+  create_wrote_most file before after (Damaged at) refusal = absurd refusal
+  create_wrote_most file before after (NeedsReopen faults) refusal = absurd refusal
+  create_wrote_most file before after Limit refusal = absurd refusal
+  create_wrote_most file before after DiskFault refusal = refusal.wrote_most
+  create_wrote_most file before after OutOfMemory refusal = omega (arith, ap device.failed_writes refusal)
 
   -- other files over two runs of calls
   pub others_on : (old mid new : D) (file : ℕ) → LeavesOthers device file old mid → LeavesOthers device file mid new → LeavesOthers device file old new

@@ -7,7 +7,8 @@ use Rattle.archive_core.specs.Items.{Item}
 use Rattle.disk_journal.specs.Format.{HasRecords, HoldsNone}
 use Rattle.disk_journal.specs.State.{HasOnDisk as JournalHasOnDisk}
 use Rattle.archive_store.specs.declared.head.Head.{Head}
-use Rattle.disk_journal.specs.declared.fault.JournalFault.TheVariants.{DiskFault}
+use Rattle.disk_journal.specs.Calls.{IsJournalCreateRefusal}
+use Rattle.disk_journal.proofs.Calls.{create_refusals, create_counted, create_wrote_most}
 use Rattle.archive_store.specs.Inside.{StoreInvariant}
 use Rattle.archive_store.specs.PartialArchive.{refusal_of_create}
 use Rattle.archive_store.specs.Answers.{IsCreateAnswer, IsCreateRefusal}
@@ -54,24 +55,33 @@ returns-in_default-clause-any_moment g c transparent none = started g.D.Disk.dev
 
 pub returns-clause-refused : goal.returns-clause-refused
 returns-clause-refused g c transparent =
-    let reads = g.D.Disk.device.reads in
-    subst (IsCreateRefusal (reads c.args.disk) (reads c.create.new.disk)) (sym c.refusal_of_create.ensures)
-    (making_refused (reads c.args.disk) (reads c.create.new.disk) c.in-Err.fault (λ is. c.in-Err.ensures.exists transparent (cc (is))))
+    let device = g.D.Disk.device in
+    let disk = c.args.disk in
+    let new = c.create.new.disk in
+    subst (IsCreateRefusal (device.reads disk) (device.reads new)) (sym c.refusal_of_create.ensures)
+    (making_refused (device.reads disk) (device.reads new) c.in-Err.fault
+    (λ is. let refusal = subst (IsJournalCreateRefusal device 0 disk new) is c.in-Err.ensures.refused in let e = refusal.0 transparent in (e.0.0, e.0.1, e.1)))
 
 pub returns-clause-cause : goal.returns-clause-cause
 returns-clause-cause g c is =
-    let failed = making_failed c.in-Err.fault c.in-Err.ensures.only (sym c.refusal_of_create.ensures ∙ is) in
-    c.in-Err.ensures.cause (cc (failed))
+    let device = g.D.Disk.device in
+    let refused = c.in-Err.ensures.refused in
+    let failed = making_failed c.in-Err.fault (create_refusals device 0 c.args.disk c.create.new.disk c.in-Err.fault refused) (sym c.refusal_of_create.ensures ∙ is) in
+    (subst (IsJournalCreateRefusal device 0 c.args.disk c.create.new.disk) failed refused).rose
 
 pub returns-clause-closed : goal.returns-clause-closed
-returns-clause-closed g c transparent none is =
-    let failed = making_failed c.in-Err.fault c.in-Err.ensures.only (sym c.refusal_of_create.ensures ∙ is) in
-    c.in-Err.ensures.closed transparent none (cc (failed))
+returns-clause-closed g c transparent none is few =
+    let device = g.D.Disk.device in
+    let refused = c.in-Err.ensures.refused in
+    let failed = making_failed c.in-Err.fault (create_refusals device 0 c.args.disk c.create.new.disk c.in-Err.fault refused) (sym c.refusal_of_create.ensures ∙ is) in
+    (subst (IsJournalCreateRefusal device 0 c.args.disk c.create.new.disk) failed refused).closed few transparent none
 
 pub returns-clause-writes : goal.returns-clause-writes
 returns-clause-writes g c differs =
-    let failed : c.in-Err.fault ≡ DiskFault = cc (c.in-Err.ensures.writes differs) in
-    c.refusal_of_create.ensures ∙ ap refusal_of_create failed
+    c.refusal_of_create.ensures ∙ ap refusal_of_create (create_counted g.D.Disk.device 0 c.args.disk c.create.new.disk c.in-Err.fault c.in-Err.ensures.refused differs)
+
+pub returns-clause-writes_most : goal.returns-clause-writes_most
+returns-clause-writes_most g c = create_wrote_most g.D.Disk.device 0 c.args.disk c.create.new.disk c.in-Err.fault c.in-Err.ensures.refused
 
 pub returns-clause-only : goal.returns-clause-only
 returns-clause-only g c = subst IsCreateAnswer (sym c.refusal_of_create.ensures) (making_answers c.in-Err.fault)
@@ -79,4 +89,4 @@ returns-clause-only g c = subst IsCreateAnswer (sym c.refusal_of_create.ensures)
 pub returns-clause-memory : goal.returns-clause-memory
 returns-clause-memory g c is =
     let wanting = making_wanting c.in-Err.fault (sym c.refusal_of_create.ensures ∙ is) in
-    c.in-Err.ensures.memory (cc (wanting))
+    subst (IsJournalCreateRefusal g.D.Disk.device 0 c.args.disk c.create.new.disk) wanting c.in-Err.ensures.refused
