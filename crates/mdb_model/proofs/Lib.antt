@@ -18,3 +18,4 @@ pub mod Structure
 pub mod FirstOfKey
 pub mod NamesInOrder
 pub mod SortedNames
+pub mod ItemEquality

@@ -15,6 +15,7 @@
 #![tactic(auto)]
 
 mod children;
+mod equality;
 pub mod laws;
 mod mdb;
 mod name_order;

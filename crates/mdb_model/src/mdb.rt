@@ -1,6 +1,6 @@
 //! The checked mission database.
 
-ghost use Rattle.std.specs.Prelude.{◌≡◌, ◌<◌, IfOk, Some, is_some, length, map, option_copied, slice_get};
+ghost use Rattle.std.specs.Prelude.{◌≡◌, ◌<◌, ◌↔◌, IfOk, Some, is_some, length, map, option_copied, slice_get, true};
 ghost use Rattle.mdb_items.specs.declared.not_mdb.NotMdb.TheVariants.{OutOfMemory};
 ghost use Rattle.mdb_model.specs.Children.{children_of};
 ghost use Rattle.mdb_items.specs.Database.{IsDatabase, limit_passed};
@@ -13,6 +13,7 @@ ghost use Rattle.mdb_items.specs.Texts.{place_of};
 ghost use Rattle.octet_fields.specs.Answers.{ReadsEach, ReadsOnly};
 
 use crate::children::children_of;
+use crate::equality::are_same;
 use crate::name_order::{name_order, number_of};
 use crate::rechecking::{
     have_rows, rechecked_calibrations, rechecked_containers, rechecked_parameters,
@@ -322,6 +323,17 @@ impl Mdb {
         ensures { IsDatabase self.now }
     {
         let _ = &self.inner.parameters;
+    }
+
+    /// The other database has the same items.
+    pub fn equals(&self, other: &Mdb) -> bool
+        ensures { (result ≡ true) ↔ (self.now ≡ other.now) }
+    {
+        let left = &*self.inner;
+        let right = &*other.inner;
+        are_same(left.parameters.as_slice(), right.parameters.as_slice())
+            && are_same(left.calibrations.as_slice(), right.calibrations.as_slice())
+            && are_same(left.containers.as_slice(), right.containers.as_slice())
     }
 
     /// An equal value, which shares the items.
