@@ -19,3 +19,6 @@ pub mod FirstOfKey
 pub mod NamesInOrder
 pub mod SortedNames
 pub mod ItemEquality
+pub mod SortedKeys
+pub mod LabelsInOrder
+pub mod LabelOrders

@@ -4,6 +4,7 @@ ghost use Rattle.std.specs.Prelude.{◌≡◌, ◌<◌, ◌↔◌, IfOk, Some, i
 ghost use Rattle.mdb_items.specs.declared.not_mdb.NotMdb.TheVariants.{OutOfMemory};
 ghost use Rattle.mdb_model.specs.Children.{children_of};
 ghost use Rattle.mdb_items.specs.Database.{IsDatabase, limit_passed};
+ghost use Rattle.mdb_model.specs.LabelOrder.{label_row_by};
 ghost use Rattle.mdb_model.specs.Lookups.{calibration_at, calibration_of};
 ghost use Rattle.mdb_model.specs.SheetResults.{AreSpelledLists, IsCalibrationSheetResult, IsContainerSheetResult, IsParameterSheetResult, IsLimitsResult, database_from};
 ghost use Rattle.mdb_model.specs.Rechecking.{ListsRechecked, refusal};
@@ -14,6 +15,7 @@ ghost use Rattle.octet_fields.specs.Answers.{ReadsEach, ReadsOnly};
 
 use crate::children::children_of;
 use crate::equality::are_same;
+use crate::label_order::{label_orders, label_row_by};
 use crate::name_order::{name_order, number_of};
 use crate::rechecking::{
     have_rows, rechecked_calibrations, rechecked_containers, rechecked_parameters,
@@ -50,6 +52,8 @@ struct Inner {
     containers: Vec<Container>,
     /// For each container the numbers of those directly below it.
     children: Vec<Items<u16>>,
+    /// For each calibration the raw numbers of its labels with their rows, sorted.
+    label_orders: Vec<Items<(i128, usize)>>,
 }
 
 impl Model for Inner {
@@ -178,6 +182,7 @@ pub(crate) fn within_limits(
     let parameter_order = name_order(alloc, parameters.items.as_slice())?;
     let container_order = name_order(alloc, containers.items.as_slice())?;
     let children = children_of(alloc, containers.items.as_slice())?;
+    let label_orders = label_orders(alloc, calibrations.items.as_slice())?;
     let mdb = shared(
         alloc,
         Inner {
@@ -187,6 +192,7 @@ pub(crate) fn within_limits(
             calibrations: calibrations.items,
             containers: containers.items,
             children,
+            label_orders,
         },
     )?;
     Ok(mdb)
@@ -291,6 +297,20 @@ impl Mdb {
         calibration_at(
             inner.calibrations.as_slice(),
             inner.parameters[parameter as usize].calibration,
+        )
+    }
+
+    /// The row of the label that the calibration of the parameter with a number gives a raw number, counted from 0, where
+    /// it gives one. However many labels there are, it is found by halving.
+    pub fn label_row(&self, parameter: u16, raw: i128) -> Option<usize>
+        requires { parameter < length self.now.parameters }
+        ensures { result ≡ label_row_by (calibration_of self.now parameter) raw }
+    {
+        let inner = &*self.inner;
+        label_row_by(
+            inner.label_orders.as_slice(),
+            inner.parameters[parameter as usize].calibration,
+            raw,
         )
     }
 
