@@ -13,5 +13,7 @@
 mod calibrated;
 mod points;
 mod polynomial;
+mod width;
 
 pub use calibrated::{calibrate, calibrate_parameter};
+pub use width::is_in_width;
