@@ -1,5 +1,5 @@
 -- What a piece of a file tells of the file.
-use Rattle.std.proofs.Common.{◌≡◌, ℕ, ◌+◌, ◌-◌, ◌<◌, ◌≤◌, Bool, true, false, List, [], ◌++◌, length, get_or, take, drop, refl, sym, ◌∙◌, ap, arith, length-append, length-drop, take-append-drop}
+use Rattle.std.proofs.Common.{◌≡◌, ℕ, ◌+◌, ◌-◌, ◌≤◌, Bool, true, false, List, [], ◌++◌, length, get_or, take, drop, refl, sym, ◌∙◌, ap, arith, length-drop, take-append-drop}
 use Rattle.std.specs.Prelude.{nat_lt, if◌then◌else◌}
 use Rattle.std.proofs.lemmas.Bool.Decides.{nat_tests}
 use Rattle.std.proofs.lemmas.List.{append-nil, take_at, take_all, drop_all, drop-drop, take-take, get_or-take, get_or-drop, length-take-le}
@@ -44,6 +44,12 @@ all_of held content rest at size is some rest_is =
     let back : rest ≡ drop (length held) (take size there) = rest_is ∙ ap (take (size - length held)) (sym (drop-drop (length held) at content)) ∙ between_is there (length held) size in
     ap (λ (l : List ℕ). l ++ rest) front ∙ ap (λ (l : List ℕ). take (length held) (take size there) ++ l) back ∙ take-append-drop (length held) (take size there)
 
+-- a read of as many octets as stand behind a front
+pub as_many : (octets read there : List ℕ) (front size : ℕ) → length octets ≡ size → read ≡ take (length (take (length octets - front) (drop front octets))) there → read ≡ take (size - front) there
+as_many octets read there front size long is =
+    let wanted : length (take (length octets - front) (drop front octets)) ≡ size - front = length-take-le (length octets - front) (drop front octets) (omega (arith, length-drop front octets)) ∙ ap (λ (n : ℕ). n - front) long in
+    is ∙ ap (λ (n : ℕ). take n there) wanted
+
 -- what stands in a run of octets whose rest was read behind its front
 pub rest_read : (held content octets rest behind : List ℕ) (at size n : ℕ) → held ≡ take (length held) (drop at content) → length held ≤ size → length octets ≡ size → n ≡ size → take (length held) octets ≡ held
     → rest ≡ take (size - length held) (drop (at + length held) content) → at + size ≤ length content
@@ -58,9 +64,9 @@ rest_read held content octets rest behind at size n is some long n_is front rest
     ∙ take_at (held ++ rest) behind n n_long
     ∙ whole
 
--- a vector that was filled up keeps its front
-pub filled_up : (held made begun filled more : List ℕ) (n : ℕ) → made ≡ [] → begun ≡ made ++ held → filled ≡ take n begun ++ more → length held ≤ n → take (length held) filled ≡ held
-filled_up held made begun filled more n none begun_is filled_is some =
-    let begins : begun ≡ held = begun_is ∙ ap (λ (l : List ℕ). l ++ held) none in
+-- a vector that begins with octets, and is then filled up, keeps them
+pub filled_up : (held empty made begun filled octets more : List ℕ) (n : ℕ) → empty ≡ [] → made ≡ empty → begun ≡ made ++ held → filled ≡ take n begun ++ more → octets ≡ filled → length held ≤ n → take (length held) octets ≡ held
+filled_up held empty made begun filled octets more n none made_is begun_is filled_is octets_is some =
+    let begins : begun ≡ held = begun_is ∙ ap (λ (l : List ℕ). l ++ held) (made_is ∙ none) in
     let kept : take n begun ≡ held = ap (take n) begins ∙ take_all n held some in
-    ap (take (length held)) (filled_is ∙ ap (λ (l : List ℕ). l ++ more) kept) ∙ take_at held more (length held) refl
+    ap (take (length held)) (octets_is ∙ filled_is ∙ ap (λ (l : List ℕ). l ++ more) kept) ∙ take_at held more (length held) refl

@@ -61,7 +61,7 @@ impl PieceReader {
             IsReading self.old (D.device.reads disk.old self.old.file) × (at + size ≤ self.old.len) }
         ensures held { OnOk result (size ≤ length (held_from self.new at)) }
         ensures piece { IsTrue D.device.is_transparent →
-            OnOk result (IsPieceOf self.new (D.device.reads disk.old self.old.file)) }
+            IsPieceOf self.new (D.device.reads disk.old self.old.file) }
         ensures file { (self.new.file ≡ self.old.file) × (self.new.len ≡ self.old.len) }
         ensures looked { OnlyReads D.device disk.old disk.new }
         ensures only { IfErr result (λ e. (e ≡ DiskFault) ⊎ (e ≡ OutOfMemory)) }
@@ -74,8 +74,14 @@ impl PieceReader {
         let left = self.len.saturating_sub(at).min(PIECE_LEN);
         self.piece.resize((left as usize).max(size), 0)?;
         self.at = at;
-        disk.read_at(self.file, at, &mut self.piece)?;
-        Ok(())
+        match disk.read_at(self.file, at, &mut self.piece) {
+            Ok(()) => Ok(()),
+            Err(_) => {
+                // What a failed read leaves is no piece of the file: a next look reads again.
+                self.piece.clear();
+                Err(JournalFault::DiskFault)
+            }
+        }
     }
 
     /// One octet.
@@ -85,7 +91,7 @@ impl PieceReader {
         ensures octet { IsTrue D.device.is_transparent →
             IfOk result (λ octet. octet ≡ get_or (D.device.reads disk.old self.old.file) at 0) }
         ensures piece { IsTrue D.device.is_transparent →
-            OnOk result (IsPieceOf self.new (D.device.reads disk.old self.old.file)) }
+            IsPieceOf self.new (D.device.reads disk.old self.old.file) }
         ensures file { (self.new.file ≡ self.old.file) × (self.new.len ≡ self.old.len) }
         ensures looked { OnlyReads D.device disk.old disk.new }
         ensures only { IfErr result (λ e. (e ≡ DiskFault) ⊎ (e ≡ OutOfMemory)) }
@@ -104,7 +110,7 @@ impl PieceReader {
             (number ≡ from_be_bytes w32 (take 4 (drop at (D.device.reads disk.old self.old.file))))
             × (to_be_bytes w32 number ≡ take 4 (drop at (D.device.reads disk.old self.old.file)))) }
         ensures piece { IsTrue D.device.is_transparent →
-            OnOk result (IsPieceOf self.new (D.device.reads disk.old self.old.file)) }
+            IsPieceOf self.new (D.device.reads disk.old self.old.file) }
         ensures file { (self.new.file ≡ self.old.file) × (self.new.len ≡ self.old.len) }
         ensures looked { OnlyReads D.device disk.old disk.new }
         ensures only { IfErr result (λ e. (e ≡ DiskFault) ⊎ (e ≡ OutOfMemory)) }

@@ -1,7 +1,5 @@
-use Rattle.std.proofs.Common.{◌≡◌, ℕ, ◌+◌, ◌-◌, List, [], ◌++◌, length, take, drop, sym, ◌∙◌, ap, subst, arith, rules, length-drop}
-use Rattle.std.proofs.lemmas.List.{length-take-le}
-use Rattle.disk_journal.specs.PieceReader.{held_from}
-use Rattle.disk_journal.proofs.Pieces.{held_is, first_of, filled_up, rest_read}
+use Rattle.std.proofs.Common.{◌≡◌, ℕ, ◌+◌, ◌-◌, List, length, take, drop, sym, ◌∙◌, subst, arith, rules}
+use Rattle.disk_journal.proofs.Pieces.{held_is, first_of, filled_up, as_many, rest_read}
 use Rattle.disk_journal.proofs.piece_reader.PieceReader.octets.Goals as goal
 
 pub returns-then-held-size-clause-octets : goal.returns-then-held-size-clause-octets
@@ -25,7 +23,6 @@ returns-clause-octets g c transparent =
     let octets = c.deref_mut.result.now in
     let is : held ≡ take (length held) (drop at content) = subst (λ (l : List ℕ). l ≡ take (length l) (drop at content)) (sym c.held-held.ensures) (held_is reader content at (c.requires.reading transparent).0.1) in
     let long : length octets ≡ size = omega (arith, c.deref_mut.ensures.len, c.in_ok-resize.ensures.len) in
-    let front : take (length held) octets ≡ held = filled_up held c.reserve.new.self.items c.extend_from_slice.new.self.items octets _ size (c.in_ok-reserve.ensures.items ∙ c.new-octets.ensures.items) c.in_ok-extend_from_slice.ensures.items (c.deref_mut.ensures.value ∙ c.in_ok-resize.ensures.items) (omega arith) in
-    let wanted : length (take (length octets - length held) (drop (length held) octets)) ≡ size - length held = length-take-le (length octets - length held) (drop (length held) octets) (omega (arith, length-drop (length held) octets)) ∙ ap (λ (n : ℕ). n - length held) long in
-    let rest : c.read_at.new.into ≡ take (size - length held) (drop (at + length held) content) = c.in_ok-read_at.ensures.octets transparent ∙ ap (λ (n : ℕ). take n (drop (at + length held) content)) wanted in
+    let front : take (length held) octets ≡ held = filled_up held _ _ _ _ octets _ size c.new-octets.ensures.items c.in_ok-reserve.ensures.items c.in_ok-extend_from_slice.ensures.items c.in_ok-resize.ensures.items c.deref_mut.ensures.value (omega arith) in
+    let rest : c.read_at.new.into ≡ take (size - length held) (drop (at + length held) content) = as_many octets c.read_at.new.into (drop (at + length held) content) (length held) size long (c.in_ok-read_at.ensures.octets transparent) in
     rest_read held content octets c.read_at.new.into _ at size c.resize.new.self.len is (omega arith) long (omega arith) front rest (omega (arith, (c.requires.reading transparent).1, (c.requires.reading transparent).0.0))
