@@ -6,7 +6,7 @@ use Rattle.mdb_items.specs.declared.calibration.Calibration.{Calibration}
 use Rattle.mdb_items.specs.declared.calibration.EnumRow.{EnumRow}
 use Rattle.mdb_items.specs.declared.calibration.Table.{Table}
 use Rattle.mdb_items.specs.declared.calibration.Table.TheVariants.{Poly, Points, Enum}
-use Rattle.mdb_items.specs.ParameterRows.{table_of}
+use Rattle.mdb_items.specs.ParameterRows.{table_of_calibration}
 use Rattle.mdb_model.specs.LabelOrder.{label_row, label_row_by, labels_of_table}
 use Rattle.calibration.specs.Admitted.{IsAdmitted, KeepsRules}
 use Rattle.calibration.specs.Calibrated.{calibrated, is_enum, is_enumeration, label_at, value_by}
@@ -17,7 +17,7 @@ row_of_table (Poly rows) raw n keeps is = cc
 row_of_table (Points points) raw n keeps is = cc
 row_of_table (Enum rows) raw n keeps is = let within = place_within (λ (row : EnumRow). int_eq row.x raw) rows n is in omega (arith, keeps, within)
 
-row_by : (o : Option Calibration) (raw : ℤ) (n : ℕ) → KeepsRules (table_of o) → label_row_by o raw ≡ Some n → n < 65536
+row_by : (o : Option Calibration) (raw : ℤ) (n : ℕ) → KeepsRules (table_of_calibration o) → label_row_by o raw ≡ Some n → n < 65536
 row_by None raw n keeps is = cc
 row_by (Some c) raw n keeps is = row_of_table c.table raw n keeps is
 

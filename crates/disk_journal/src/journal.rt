@@ -191,7 +191,8 @@ impl Journal {
         }
     }
 
-    /// Opens the journal in a file. It begins with a sync, and reads of each record the gate and the length.
+    /// Opens the journal in a file. It begins with a sync, and reads the file in pieces of 256 KiB; a body that passes the
+    /// end of a piece is passed over.
     pub fn open<D: Disk>(alloc: Global, disk: &mut D, file: u32) -> Result<Journal, JournalFault>
         ensures records { IsTrue D.device.is_transparent → IfOk result (λ journal. (bodies : List (List ℕ)) ×
             HasRecords (D.device.reads disk.old file) bodies × HasOnDisk D.device journal bodies [] disk.new) }

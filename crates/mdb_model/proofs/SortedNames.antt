@@ -7,7 +7,7 @@ use Rattle.std.specs.Ordering.{is_lt, nat_cmp, ordering_then}
 use Rattle.std.proofs.lemmas.List.{get_or-map, length-map}
 use Rattle.std.proofs.lemmas.List.Elements.{All-get_or, All-map}
 use Rattle.std.proofs.lemmas.List.Sorted.{IsPermutation-map}
-use Rattle.mdb_model.specs.NameOrder.{AreNamesSorted, IsNameOrder, name_at, name_cmp}
+use Rattle.mdb_model.specs.NameOrder.{AreNamesSorted, IsNameOrder, name_numbered, name_cmp}
 use Rattle.mdb_items.specs.Texts.{Text}
 use Rattle.mdb_model.proofs.SortedKeys.{AreNumbered, keys_sorted}
 
@@ -28,12 +28,12 @@ module _ {X : Type 0} (names : List Text) (view : X → Text × ℕ) (old new : 
 pub numbers_sorted : (names : List Text) (named : List (Text × ℕ)) → AreNamesSorted names named → IsNameOrder names (map (λ p. p.1) named)
 numbers_sorted names named a = record {
   sorted = sorted-map (λ (p : Text × ℕ). p.1) (λ m n. is_lt (name_cmp names m n)) named (λ k d low high.
-      let next = (All-get_or (λ p. (p.1 < length names) × (p.0 ≡ name_at names p.1)) named (k + 1) d high a.known).1 in
-      let this = (All-get_or (λ p. (p.1 < length names) × (p.0 ≡ name_at names p.1)) named k d (omega (arith, high)) a.known).1 in
+      let next = (All-get_or (λ p. (p.1 < length names) × (p.0 ≡ name_numbered names p.1)) named (k + 1) d high a.known).1 in
+      let this = (All-get_or (λ p. (p.1 < length names) × (p.0 ≡ name_numbered names p.1)) named k d (omega (arith, high)) a.known).1 in
       rw (sym next, sym this) (a.sorted k d low high));
   known = All-map (λ n. n < length names) (λ (p : Text × ℕ). p.1) named (λ k d lt. (a.known k d lt).0);
   each = λ n lt. let at = a.each n lt in
-      (at.0, rw (length-map named (λ (p : Text × ℕ). p.1)) at.1, get_or-map (λ (p : Text × ℕ). p.1) named at.0 (name_at names n, n) n at.1 ∙ ap (λ (p : Text × ℕ). p.1) at.2);
+      (at.0, rw (length-map named (λ (p : Text × ℕ). p.1)) at.1, get_or-map (λ (p : Text × ℕ). p.1) named at.0 (name_numbered names n, n) n at.1 ∙ ap (λ (p : Text × ℕ). p.1) at.2);
 }
 
 pub seconds : {A : Type 0} (now : A → Text) (xs : List (A × ℕ)) → map (λ (p : Text × ℕ). p.1) (map (λ (p : A × ℕ). (now p.0, p.1)) xs) ≡ map (λ (p : A × ℕ). p.1) xs

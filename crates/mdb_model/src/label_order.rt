@@ -4,7 +4,7 @@ ghost use Rattle.std.specs.Prelude.{◌≡◌, List, length, IfOk, OnOk};
 ghost use Rattle.mdb_items.specs.declared.calibration.Calibration.{Calibration};
 ghost use Rattle.mdb_items.specs.declared.calibration.EnumRow.{EnumRow};
 ghost use Rattle.mdb_model.specs.LabelOrder.{AreLabelOrders, AreLabelsSorted, label_row, label_row_by, labels_of_table};
-ghost use Rattle.mdb_model.specs.Lookups.{calibration_at};
+ghost use Rattle.mdb_model.specs.Lookups.{calibration_numbered};
 
 use item_list::items::Items;
 use mdb_items::calibration::{Calibration, EnumRow, Table};
@@ -63,7 +63,7 @@ pub(crate) fn label_row_by(
     raw: i128,
 ) -> Option<usize>
     ensures { (calibrations : List Calibration) → AreLabelOrders calibrations orders.now
-        → result ≡ label_row_by (calibration_at calibrations calibration) raw }
+        → result ≡ label_row_by (calibration_numbered calibrations calibration) raw }
 {
     let order = orders.get(calibration?)?;
     label_row(order.as_slice(), raw)

@@ -119,7 +119,7 @@ const BROKEN_CONTAINERS: &str = "2#2#|HDR,,,,apid
 fn record(alloc: Global, line: &str) -> Result<Record, AllocError> {
     let mut fields = Record::new(alloc);
     for field in line.split(',') {
-        fields.push(Vec::from_slice(alloc, field.as_bytes())?)?;
+        fields.push(field.as_bytes())?;
     }
     Ok(fields)
 }

@@ -5,7 +5,7 @@ use Rattle.std.proofs.lemmas.Option.{slice_get_read}
 use Rattle.mdb_items.specs.declared.calibration.Calibration.{Calibration}
 use Rattle.mdb_rules.proofs.Ends.{item_at}
 use Rattle.mdb_model.specs.LabelOrder.{AreLabelsSorted, label_row, label_row_by, labels_of_table}
-use Rattle.mdb_model.specs.Lookups.{calibration_at}
+use Rattle.mdb_model.specs.Lookups.{calibration_numbered}
 use Rattle.mdb_model.proofs.label_order.label_row_by.Goals as goal
 
 pub returns : goal.returns
@@ -20,4 +20,4 @@ returns c = λ calibrations o.
     let sorted : AreLabelsSorted labels c.as_slice.result.now = subst (AreLabelsSorted labels) (sym c.as_slice.ensures) (o.each n order at here.0 here.1) in
     let own : Some n ≡ c.args.calibration = search rules in
     c.label_row.ensures labels sorted ∙ ap (label_row labels) (to_z-of_z w128 c.args.raw c.ranges.raw) ∙ ap (λ (k : Option Calibration). label_row_by k c.args.raw) (sym here.1)
-    ∙ ap (λ (m : Option ℕ). label_row_by (calibration_at calibrations m) c.args.raw) own
+    ∙ ap (λ (m : Option ℕ). label_row_by (calibration_numbered calibrations m) c.args.raw) own
