@@ -1,5 +1,5 @@
 -- Disks that are handed back unasked.
-use Rattle.std.proofs.Common.{◌≡◌, ℕ, ℤ, List, Bool, true, false, Option, Some, None, refl, sym, subst}
+use Rattle.std.proofs.Common.{◌≡◌, ◌≤◌, ℕ, ℤ, arith, List, Bool, true, false, Option, Some, None, refl, sym, subst}
 use Rattle.std.proofs.lemmas.Bool.{false≢true}
 use Rattle.arch_disk.specs.Disk.{Device}
 use Rattle.arch_types.specs.declared.refusal.Refusal.{Refusal}
@@ -7,12 +7,13 @@ use Rattle.arch_types.specs.declared.refusal.Refusal.TheVariants.{Missing, ReadF
 use Rattle.arch_types.specs.declared.refusal.Which.TheVariants.{SheetOctets}
 use Rattle.archive_core.specs.Items.{Item}
 use Rattle.mdb_items.specs.Database.{Database}
+use Rattle.mdb_sheets.specs.Sheets.{more}
 use Rattle.archive_store.specs.Answers.{IsCreateAnswer, IsOpenAnswer}
 use Rattle.archive_store.specs.StoreView.{StoreView}
 use Rattle.archive_cli.specs.declared.ask_sheet.AskSheet.{AskSheet}
 use Rattle.archive_cli.specs.declared.ask_sheet.AskSheet.TheVariants.{Read, Refused}
 use Rattle.archive_cli.specs.declared.report.Report.{Report}
-use Rattle.archive_cli.specs.HandedBack.{IsCreateBack, IsHandedBack, IsLoadBack, IsQueryBack}
+use Rattle.archive_cli.specs.HandedBack.{IsCreateBack, IsHandedBack, IsLoadBack, IsQueryBack, IsUnasked, SameWithoutSource}
 use Rattle.command_words.specs.Job.{Job, Scan, Values, Create, Load, Query, Recover}
 use Rattle.archive_cli.specs.Loading.{IsLoadRun, IsDumpRefusal, IsLoadOutcome}
 use Rattle.dump_lines.specs.Output.{IsFinished}
@@ -134,3 +135,14 @@ pub replied_back : {D : Type 0} (first last : D) (db : Database) (history : List
     → IsQueryBack first last report.refusal
 replied_back first last db history sheet refusal report rows before now faults faults' is deferred reply =
     subst (λ (r : Report). IsQueryBack first last r.refusal) (sym is) (reply_cases first last db history sheet refusal before now faults faults' deferred reply)
+
+-- ---- without a source
+
+pub same_unasked : {D : Type 0} (job : Option Job) (given given' : ℕ) (old new : D) → new ≡ old → IsUnasked job given given' old new
+same_unasked None given given' old new is = tt
+same_unasked (Some Recover) given given' old new is = tt
+same_unasked (Some other) given given' old new is = λ below same. is
+
+-- sources were given
+pub given_unasked : {D : Type 0} (given given' number : ℕ) (old new : D) → 1 ≤ number → given' ≡ more number given → SameWithoutSource given given' old new
+given_unasked given given' number old new some is = λ below same. absurd (omega (arith, below, same, some, is))

@@ -31,5 +31,6 @@ pub mod NotLoaded
 pub mod Caused
 pub mod LoadCauses
 pub mod HandedBack
+pub mod DiskWrites
 pub mod Durable
 pub mod Ordered

@@ -1,5 +1,5 @@
 -- The disk of a command that refused before it asked anything of it: it is the very one that was handed in, also where it tells nothing.
-use Rattle.std.specs.Prelude.{◌≡◌, Bool, false, Option, Some, None}
+use Rattle.std.specs.Prelude.{◌≡◌, ◌+◌, ◌<◌, ◌^◌, ℕ, Bool, false, Option, Some, None}
 use Rattle.arch_types.specs.declared.refusal.Refusal.{Refusal}
 use Rattle.arch_types.specs.declared.refusal.Refusal.TheVariants.{Missing, ReadFault, WriteFault, Exists, DiskFault, Limit}
 use Rattle.arch_types.specs.declared.refusal.Which.TheVariants.{SheetOctets}
@@ -36,3 +36,13 @@ IsHandedBack (Some (Create words)) old new report = IsCreateBack old new report.
 IsHandedBack (Some (Load words)) old new report = IsLoadBack old new report.opened report.refusal
 IsHandedBack (Some (Query name)) old new report = IsQueryBack old new report.refusal
 IsHandedBack (Some Recover) old new report = Unit {0}
+
+-- where the inputs have given no source, the disk is the very one that was handed in
+abbrev pub SameWithoutSource : {D : Type 0} → ℕ → ℕ → D → D → Type 0
+SameWithoutSource given given' old new = given + 1 < 2 ^ 64 → given' ≡ given → new ≡ old
+
+-- a job that reads an input asks nothing of the disk before it was given a source, whatever it answers
+abbrev pub IsUnasked : {D : Type 0} → Option Job → ℕ → ℕ → D → D → Type 0
+IsUnasked None given given' old new = Unit {0}
+IsUnasked (Some Recover) given given' old new = Unit {0}
+IsUnasked (Some other) given given' old new = SameWithoutSource given given' old new

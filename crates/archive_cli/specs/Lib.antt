@@ -23,4 +23,5 @@ pub mod LoadExpected
 pub mod Expected
 pub mod Report
 pub mod HandedBack
+pub mod DiskWrites
 pub mod Order

@@ -34,6 +34,16 @@ create_inputs words = (words.parameters, SheetOctets) ∷ (words.calibrations, S
 abbrev pub query_inputs : List ℕ → List Input
 query_inputs asks = (asks, SheetOctets) ∷ []
 
+-- how many inputs a job reads, each of them once
+abbrev pub inputs_of : Option Job → ℕ
+inputs_of None = 0
+inputs_of (Some (Scan name)) = 1
+inputs_of (Some (Values words)) = 4
+inputs_of (Some (Create words)) = 3
+inputs_of (Some (Load words)) = 1
+inputs_of (Some (Query name)) = 1
+inputs_of (Some Recover) = 0
+
 -- the refusal of the input behind k others, and how many sources were given for it to come: its own is among them, but where there's none of the name
 abbrev pub unread_at : ℕ → Option Refusal → Option (Refusal × ℕ)
 unread_at k None = None

@@ -1,11 +1,11 @@
 //! A sheet of asks, read to its end.
 
-ghost use Rattle.std.specs.Prelude.{◌≡◌, ◌≤◌, ◌<◌, ◌+◌, ◌^◌, IfOk, IfErr};
+ghost use Rattle.std.specs.Prelude.{◌≡◌, ◌≤◌, ◌<◌, ◌+◌, ◌^◌, IfOk, IfErr, OnOk};
 ghost use Rattle.std.specs.Result.{result_err};
 ghost use Rattle.mdb_sheets.specs.Sheets.{ReadsCounted};
-ghost use Rattle.outer_traits.specs.Outside.{Stays};
+ghost use Rattle.outer_traits.specs.Outside.{Stays, one_more};
 ghost use Rattle.archive_cli.specs.QueryEnding.{IsAskSheet, IsDeferred, IsAskSheetResult, is_deferred};
-ghost use Rattle.archive_cli.specs.Reading.{IsReadRefusal};
+ghost use Rattle.archive_cli.specs.Reading.{IsInputRefusal};
 
 use crate::read::refusal_of_opening;
 use arch_types::ask::Asks;
@@ -26,11 +26,12 @@ pub enum AskSheet {
 pub fn read_sheet<I: Inputs>(alloc: Global, name: &str, inputs: &mut I) -> Result<AskSheet, Refusal>
     ensures sheet { IfOk result (IsAskSheet (I.files inputs.old) name.now) }
     ensures deferred { IfOk result IsDeferred }
-    ensures refused { IfErr result (IsReadRefusal (I.files inputs.old) name.now Which.SheetOctets
+    ensures refused { IfErr result (IsInputRefusal (I.files inputs.old) name.now Which.SheetOctets
         (I.faults inputs.old) (I.faults inputs.new)) }
     ensures same { I.files inputs.new ≡ I.files inputs.old }
     ensures closed { I.open_sources inputs.old + 1 < 2 ^ 64 → I.open_sources inputs.new ≡ I.open_sources inputs.old }
     ensures gave { I.given inputs.new ≤ I.given inputs.old + 1 }
+    ensures gave_one { OnOk result (I.given inputs.new ≡ one_more (I.given inputs.old)) }
     ensures later { I.faults inputs.old ≤ I.faults inputs.new }
     ensures counted { ReadsCounted (result_err result) (I.faults inputs.old) (I.faults inputs.new) }
     ensures reliable { I.never_fails inputs.old → Stays (I.faults inputs.old) (I.faults inputs.new) }

@@ -4,14 +4,16 @@ ghost use Rattle.std.specs.Prelude.{◌≡◌, ◌+◌, ◌<◌, ◌≤◌, [], 
 ghost use Rattle.arch_types.specs.Dump.{BeginsWithNoPacket};
 ghost use Rattle.arch_types.specs.Packet.{IsPacket};
 ghost use Rattle.text_forms.specs.ClockTime.{IsClockTime};
-ghost use Rattle.archive_cli.specs.Batches.{arrival_from, arrivals_with, first_table, IsIngested, IsStopped, IsNextBatch};
+ghost use Rattle.std.specs.Result.{result_err};
+ghost use Rattle.archive_cli.specs.DiskWrites.{ExactlyOne};
+ghost use Rattle.archive_cli.specs.Batches.{arrival_from, arrivals_with, first_table, IsIngested, IsStoppedAt, IsNextBatch};
 
 use arch_disk::Disk;
 use arch_types::octets::Octets;
 use arch_types::refusal::Refusal;
 use arch_types::tables::TableList;
 use archive_store::{Arrival, Arrivals, Batch, Head, Store};
-use container_extract::packet_name;
+use container_extract::Extractor;
 use space_packet::dump::{DumpPackets, Why};
 use space_packet::header::is_idle_packet;
 use std::alloc::{AllocError, Global};
@@ -52,13 +54,24 @@ pub fn ingest_dump<D: Disk>(
     requires moment { IsClockTime moment }
     requires no_failed_write { store.old.fills ≡ [] }
     ensures whole { IfOk result (IsIngested store.old store.new dump.now link moment) }
-    ensures stopped { IfErr result (IsStopped store.old store.new dump.now link moment) }
+    ensures stopped { IfErr result (IsStoppedAt store.old store.new dump.now link moment) }
+    ensures disk_writes { ExactlyOne (result_err result) (D.device.failed_writes store.old.disk)
+        (D.device.failed_writes store.new.disk) }
 {
     let mut places = DumpPackets::new(dump.as_slice());
+    let mut extractor = Extractor::new(alloc);
     let mut packets = 0;
     let mut idle = 0;
     'batches: loop {
-        let taken = next_batch(alloc, store.head(), dump, &mut places, link, moment)?;
+        let taken = next_batch(
+            alloc,
+            store.head(),
+            dump,
+            &mut places,
+            &mut extractor,
+            link,
+            moment,
+        )?;
         if taken.packets == 0 {
             return Ok(DumpSummary {
                 packets,
@@ -79,6 +92,7 @@ fn next_batch(
     head: &Head,
     dump: &Octets,
     places: &mut DumpPackets<'_>,
+    extractor: &mut Extractor,
     link: u16,
     moment: i64,
 ) -> Result<NextBatch, AllocError>
@@ -103,7 +117,7 @@ fn next_batch(
             return Ok(taken);
         };
         let packet = dump.part(part.start, part.end)?;
-        taken.add(alloc, head, packet, link)?;
+        taken.add(alloc, head, extractor, packet, link)?;
     }
     Ok(taken)
 }
@@ -114,6 +128,7 @@ impl NextBatch {
         &mut self,
         alloc: Global,
         head: &Head,
+        extractor: &mut Extractor,
         packet: Octets,
         link: u16,
     ) -> Result<(), AllocError>
@@ -128,18 +143,24 @@ impl NextBatch {
         if is_idle_packet(packet.as_slice()) {
             return Ok(());
         }
-        let arrival = arrival_of(alloc, head, packet, link)?;
+        let arrival = arrival_of(alloc, head, extractor, packet, link)?;
         self.batch.arrivals.push(arrival)
     }
 }
 
 /// A packet of a link, and the table that it goes into.
-fn arrival_of(alloc: Global, head: &Head, packet: Octets, link: u16) -> Result<Arrival, AllocError>
+fn arrival_of(
+    alloc: Global,
+    head: &Head,
+    extractor: &mut Extractor,
+    packet: Octets,
+    link: u16,
+) -> Result<Arrival, AllocError>
     ensures { IfOk result (λ arrival. arrival ≡ arrival_from head.now link packet) }
 {
     Ok(Arrival {
         link,
-        pname: packet_name(alloc, &head.mdb, packet.as_slice())?,
+        pname: extractor.packet_name(&head.mdb, packet.as_slice())?,
         packet,
         tables: first_table(alloc, head)?,
     })

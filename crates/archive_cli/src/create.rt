@@ -1,20 +1,21 @@
 //! The command `create`: a new archive.
 
-ghost use Rattle.std.specs.Prelude.{◌≡◌, ◌≤◌, ◌<◌, ◌+◌, ◌^◌, ℕ, [], ◌∷◌, IsTrue, Some, IfOk, IfErr, codes, length};
+ghost use Rattle.std.specs.Prelude.{◌≡◌, ◌≤◌, ◌<◌, ◌+◌, ◌^◌, ℕ, [], ◌∷◌, IsTrue, Some, IfOk, IfErr, OnOk, codes, length};
 ghost use Rattle.std.specs.Result.{result_err};
 ghost use Rattle.arch_disk.specs.Disk.{raised};
 ghost use Rattle.arch_types.specs.declared.refusal.Refusal.TheVariants.{DiskFault};
 ghost use Rattle.field_codec.specs.declared.entry.Entry.TheVariants as entries;
-ghost use Rattle.field_codec.specs.Entries.{IsEntry};
+ghost use Rattle.field_codec.specs.Entries.{IsArchiveEntry};
 ghost use Rattle.mdb_items.specs.declared.sheet.RawMdb.{RawMdb};
-ghost use Rattle.mdb_sheets.specs.Sheets.{ReadsCounted};
+ghost use Rattle.mdb_sheets.specs.Sheets.{ReadsCounted, more};
 ghost use Rattle.outer_traits.specs.Outside.{Stays};
 ghost use Rattle.command_words.specs.JobView.{sheet_words_of};
 ghost use Rattle.archive_cli.specs.Call.{Call};
 ghost use Rattle.dump_lines.specs.Output.{WritesCounted};
 ghost use Rattle.archive_cli.specs.Caused.{IsCreateCaused};
-ghost use Rattle.archive_cli.specs.CreateEnding.{AreGood, AreRefused, IsCreateEnding, IsHead, create_line, new_head};
-ghost use Rattle.archive_cli.specs.HandedBack.{IsCreateBack};
+ghost use Rattle.archive_cli.specs.CreateEnding.{AreGood, AreRefused, IsCreateEnding, IsHeadOfSheets, create_line, new_head};
+ghost use Rattle.archive_cli.specs.DiskWrites.{TwoAtMost};
+ghost use Rattle.archive_cli.specs.HandedBack.{IsCreateBack, SameWithoutSource};
 ghost use Rattle.command_words.specs.Job.{SheetWords as GivenWords};
 ghost use Rattle.archive_cli.specs.Order.{AreInOrder, create_inputs};
 ghost use Rattle.archive_cli.specs.Report.{status_at, IsReadOnlyReport};
@@ -81,9 +82,15 @@ pub fn create<D: Disk, I: Inputs, K: Sink>(
     ensures disk_later { D.device.fault_count disk ≤ D.device.fault_count result.disk }
     ensures disk_fault { result.report.refusal ≡ Some DiskFault →
         raised (D.device.fault_count disk) ≤ D.device.fault_count result.disk }
+    ensures disk_writes { TwoAtMost result.report.refusal (D.device.failed_writes disk)
+        (D.device.failed_writes result.disk) }
 
     // Refused before the disk was asked, it hands the very disk back.
     ensures handed_back { IsCreateBack disk result.disk result.report.refusal }
+
+    // It asks nothing of the disk before a source was given, and opens each sheet once at most.
+    ensures unasked { SameWithoutSource (I.given inputs.old) (I.given inputs.new) disk result.disk }
+    ensures gave { I.given inputs.new ≤ I.given inputs.old + 3 }
 {
     match read_head(alloc, words, inputs) {
         Ok(head) => make(alloc, disk, head, sink),
@@ -97,8 +104,8 @@ fn read_head<I: Inputs>(
     words: SheetWords<'_>,
     inputs: &mut I,
 ) -> Result<Head, Refusal>
-    ensures head { IfOk result (IsHead (I.files inputs.old) (sheet_words_of words.entry)) }
-    ensures entry { IfOk result (λ head. IsEntry (entries.Head head.tables head.mdb)) }
+    ensures head { IfOk result (IsHeadOfSheets (I.files inputs.old) (sheet_words_of words.entry)) }
+    ensures entry { IfOk result (λ head. IsArchiveEntry (entries.Head head.tables head.mdb)) }
     ensures refused { IfErr result (AreRefused (I.files inputs.old) (sheet_words_of words.entry) (I.faults inputs.old)
         (I.faults inputs.new)) }
     ensures same { I.files inputs.new ≡ I.files inputs.old }
@@ -106,6 +113,8 @@ fn read_head<I: Inputs>(
     ensures order { IfErr result (λ refusal.
         AreInOrder (I.files inputs.old) (create_inputs (sheet_words_of words.entry))
         (I.given inputs.old) (I.given inputs.new) (Some refusal)) }
+    ensures gave { OnOk result (I.given inputs.new ≡ more 3 (I.given inputs.old)) }
+    ensures gave_most { I.given inputs.new ≤ I.given inputs.old + 3 }
     ensures later { I.faults inputs.old ≤ I.faults inputs.new }
     ensures counted { ReadsCounted (result_err result) (I.faults inputs.old) (I.faults inputs.new) }
     ensures reliable { I.never_fails inputs.old → Stays (I.faults inputs.old) (I.faults inputs.new) }
@@ -146,7 +155,7 @@ fn tables(alloc: Global) -> Result<Names, AllocError>
 
 /// Makes the archive, and prints what it has. Room for the line is taken before, so that no archive is made for which there's none.
 fn make<D: Disk, K: Sink>(alloc: Global, disk: D, head: Head, sink: &mut K) -> Ended<D>
-    requires { IsEntry (entries.Head head.tables head.mdb) }
+    requires { IsArchiveEntry (entries.Head head.tables head.mdb) }
     ensures ended { IsTrue D.device.is_transparent → (given : _) (files : _) (moment : _) (read_faults : _)
         (read_faults' : _) (words : GivenWords) (raw : RawMdb) →
         AreGood files words raw → head ≡ new_head raw → IsCreateEnding D.device (record {
@@ -170,6 +179,8 @@ fn make<D: Disk, K: Sink>(alloc: Global, disk: D, head: Head, sink: &mut K) -> E
     ensures disk_later { D.device.fault_count disk ≤ D.device.fault_count result.disk }
     ensures disk_fault { result.report.refusal ≡ Some DiskFault →
         raised (D.device.fault_count disk) ≤ D.device.fault_count result.disk }
+    ensures disk_writes { TwoAtMost result.report.refusal (D.device.failed_writes disk)
+        (D.device.failed_writes result.disk) }
 
     // Refused before the disk was asked, it hands the very disk back.
     ensures handed_back { IsCreateBack disk result.disk result.report.refusal }

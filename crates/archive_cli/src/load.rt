@@ -7,7 +7,8 @@ ghost use Rattle.text_forms.specs.ClockTime.{IsClockTime};
 ghost use Rattle.mdb_sheets.specs.Sheets.{ReadsCounted};
 ghost use Rattle.command_words.specs.JobView.{load_words_of};
 ghost use Rattle.dump_lines.specs.Output.{WritesCounted, IsFinished};
-ghost use Rattle.archive_cli.specs.HandedBack.{IsLoadBack};
+ghost use Rattle.archive_cli.specs.DiskWrites.{IsLoadWrites, OneAtMost};
+ghost use Rattle.archive_cli.specs.HandedBack.{IsLoadBack, SameWithoutSource};
 ghost use Rattle.archive_cli.specs.LoadCaused.{IsLoadCaused};
 ghost use Rattle.archive_cli.specs.LoadEnding.{load_line, IsLoadEnding};
 ghost use Rattle.archive_cli.specs.Loading.{printed_report, IsStoreClosed, IsLetGo, IsReopened, IsLoadRun, IsDumpRefusal, IsDumpRefusalFor};
@@ -86,9 +87,15 @@ pub fn load<D: Disk, I: Inputs, K: Sink, C: Clock>(
     ensures disk_later { D.device.fault_count disk ≤ D.device.fault_count result.disk }
     ensures disk_fault { result.report.refusal ≡ Some Refusal.DiskFault →
         raised (D.device.fault_count disk) ≤ D.device.fault_count result.disk }
+    ensures disk_writes { IsLoadWrites result.report.opened result.report.refusal (D.device.failed_writes disk)
+        (D.device.failed_writes result.disk) }
 
     // Refused before the disk was asked, it hands the very disk back.
     ensures handed_back { IsLoadBack disk result.disk result.report.opened result.report.refusal }
+
+    // It asks nothing of the disk before a source was given, and opens the dump once at most.
+    ensures unasked { SameWithoutSource (I.given inputs.old) (I.given inputs.new) disk result.disk }
+    ensures gave { I.given inputs.new ≤ I.given inputs.old + 1 }
 {
     let Ok(line_buffer) = LineBuffer::new(alloc) else {
         return Ended::unopened(disk, Some(Refusal::OutOfMemory));
@@ -231,6 +238,8 @@ fn load_dump<D: Disk, K: Sink>(
     ensures reads_counted { (faults : ℕ) → ReadsCounted result.report.refusal faults faults }
     ensures writes_counted { WritesCounted result.report.refusal (K.faults sink.old) (K.faults sink.new) }
     ensures writes_later { K.faults sink.old ≤ K.faults sink.new }
+    ensures disk_writes { IsLoadWrites result.report.opened result.report.refusal
+        (D.device.failed_writes store.disk) (D.device.failed_writes result.disk) }
 {
     let mut store = store;
     let before = store.front();
@@ -271,6 +280,8 @@ fn stopped<D: Disk>(store: Store<D>, before: u64, link: Option<u16>, refusal: Re
 fn refused<D: Disk>(store: Store<D>, before: u64, refusal: Refusal) -> Ended<D>
     requires { before ≤ length store.history }
     ensures let_go { IsLetGo D.device store (Some refusal) result.disk }
+    ensures disk_writes { OneAtMost (Some refusal) (D.device.failed_writes store.disk)
+        (D.device.failed_writes result.disk) }
     ensures report { result.report ≡ loaded (Some refusal) None before (length store.history) 0 0 0 }
     ensures status { result.status ≡ status_at (Some refusal) }
 {
@@ -283,6 +294,8 @@ fn refused<D: Disk>(store: Store<D>, before: u64, refusal: Refusal) -> Ended<D>
 fn heal<D: Disk>(store: &mut Store<D>, refusal: &Refusal)
     ensures same { refusal.now ≢ Refusal.DiskFault → store.new ≡ store.old }
     ensures reopened { refusal.now ≡ Refusal.DiskFault → IsReopened D.device store.old store.new }
+    ensures disk_writes { OneAtMost (Some refusal.now) (D.device.failed_writes store.old.disk)
+        (D.device.failed_writes store.new.disk) }
 {
     // This tells the proof that the fault is counted.
     let _rows = store.front();

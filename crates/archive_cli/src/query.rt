@@ -10,7 +10,8 @@ ghost use Rattle.retrieval.specs.AnswerText.{ask_refusal, ask_text, asks_refusal
 ghost use Rattle.archive_cli.specs.Call.{Call};
 ghost use Rattle.dump_lines.specs.Output.{WritesCounted, IsBuffered};
 ghost use Rattle.archive_cli.specs.Caused.{IsQueryCaused};
-ghost use Rattle.archive_cli.specs.HandedBack.{IsQueryBack};
+ghost use Rattle.archive_cli.specs.DiskWrites.{OneAtMost};
+ghost use Rattle.archive_cli.specs.HandedBack.{IsQueryBack, SameWithoutSource};
 ghost use Rattle.archive_cli.specs.Order.{AreInOrder, query_inputs};
 ghost use Rattle.archive_cli.specs.QueryEnding.{IsAskSheet, IsQueryEnding, IsReply, IsSheetReply, IsDeferred};
 ghost use Rattle.archive_cli.specs.Report.{status_at, IsReadOnlyReport};
@@ -79,9 +80,15 @@ pub fn query<D: Disk, I: Inputs, K: Sink>(
     ensures disk_later { D.device.fault_count disk ≤ D.device.fault_count result.disk }
     ensures disk_fault { result.report.refusal ≡ Some DiskFault →
         raised (D.device.fault_count disk) ≤ D.device.fault_count result.disk }
+    ensures disk_writes { OneAtMost result.report.refusal (D.device.failed_writes disk)
+        (D.device.failed_writes result.disk) }
 
     // Refused before the disk was asked, it hands the very disk back.
     ensures handed_back { IsQueryBack disk result.disk result.report.refusal }
+
+    // It asks nothing of the disk before a source was given, and opens the sheet once at most.
+    ensures unasked { SameWithoutSource (I.given inputs.old) (I.given inputs.new) disk result.disk }
+    ensures gave { I.given inputs.new ≤ I.given inputs.old + 1 }
 {
     match read_sheet(alloc, name, inputs) {
         Ok(sheet) => ask_archive(alloc, sheet, disk, sink),
@@ -115,6 +122,8 @@ fn ask_archive<D: Disk, K: Sink>(alloc: Global, sheet: AskSheet, disk: D, sink: 
     ensures disk_later { D.device.fault_count disk ≤ D.device.fault_count result.disk }
     ensures disk_fault { result.report.refusal ≡ Some DiskFault →
         raised (D.device.fault_count disk) ≤ D.device.fault_count result.disk }
+    ensures disk_writes { OneAtMost result.report.refusal (D.device.failed_writes disk)
+        (D.device.failed_writes result.disk) }
 
     // Refused before the disk was asked, it hands the very disk back.
     ensures handed_back { IsQueryBack disk result.disk result.report.refusal }

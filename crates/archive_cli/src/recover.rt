@@ -5,6 +5,7 @@ ghost use Rattle.arch_disk.specs.Disk.{raised};
 ghost use Rattle.mdb_sheets.specs.Sheets.{ReadsCounted};
 ghost use Rattle.dump_lines.specs.Output.{WritesCounted};
 ghost use Rattle.archive_cli.specs.Caused.{IsRecoverCaused};
+ghost use Rattle.archive_cli.specs.DiskWrites.{OneAtMost};
 ghost use Rattle.archive_cli.specs.RecoverEnding.{IsRecoverEnding, recover_line};
 ghost use Rattle.archive_cli.specs.Report.{status_at, IsReadOnlyReport};
 
@@ -41,6 +42,8 @@ pub fn recover<D: Disk, K: Sink>(alloc: Global, disk: D, sink: &mut K) -> Ended<
     ensures disk_later { D.device.fault_count disk ≤ D.device.fault_count result.disk }
     ensures disk_fault { result.report.refusal ≡ Some Refusal.DiskFault →
         raised (D.device.fault_count disk) ≤ D.device.fault_count result.disk }
+    ensures disk_writes { OneAtMost result.report.refusal (D.device.failed_writes disk)
+        (D.device.failed_writes result.disk) }
 {
     let Ok(mut line_buffer) = LineBuffer::new(alloc) else {
         return Ended::unopened(disk, Some(Refusal::OutOfMemory));

@@ -10,8 +10,9 @@ ghost use Rattle.dump_lines.specs.Output.{WritesCounted};
 ghost use Rattle.command_words.specs.Job.{job_of, HasLink};
 ghost use Rattle.archive_cli.specs.Ending.{IsCaused, IsEnding, IsJobEnding};
 ghost use Rattle.archive_cli.specs.Expected.{IsExpected};
-ghost use Rattle.archive_cli.specs.HandedBack.{IsHandedBack};
-ghost use Rattle.archive_cli.specs.Order.{IsInOrder};
+ghost use Rattle.archive_cli.specs.DiskWrites.{DiskWritesCounted};
+ghost use Rattle.archive_cli.specs.HandedBack.{IsHandedBack, IsUnasked};
+ghost use Rattle.archive_cli.specs.Order.{IsInOrder, inputs_of};
 ghost use Rattle.archive_cli.specs.Report.{status_at, IsReport};
 ghost use Rattle.archive_cli.specs.Durable.{FailedAtMostOnce, IsDurableWith};
 
@@ -82,6 +83,10 @@ pub fn run<D: Disk, I: Inputs, K: Sink, C: Clock>(
     ensures disk_fault { result.report.refusal ≡ Some Refusal.DiskFault →
         raised (D.device.fault_count disk) ≤ D.device.fault_count result.disk }
 
+    // The disk's count of failed writes rises only where the answer is DiskFault, and by no more than the job's calls that may fail.
+    ensures disk_writes { DiskWritesCounted (job_of (map (λ w. string_bytes w) words.now)) result.report
+        (D.device.failed_writes disk) (D.device.failed_writes result.disk) }
+
     // Where an archive was opened or made, and the disk's count of faults stands at most one above its value at entry:
     // the disk reads as a history of `after` rows, and every image that a crash now leaves stands for the same.
     ensures durable { IsTrue D.device.is_transparent → IsTrue result.report.opened
@@ -89,6 +94,13 @@ pub fn run<D: Disk, I: Inputs, K: Sink, C: Clock>(
 
     // Refused before the disk was asked, it hands the very disk back, also where that tells nothing.
     ensures handed_back { IsHandedBack (job_of (map (λ w. string_bytes w) words.now)) disk result.disk result.report }
+
+    // Nor does a job that reads an input ask anything of the disk before a source was given, also where memory is wanting.
+    ensures unasked { IsUnasked (job_of (map (λ w. string_bytes w) words.now))
+        (I.given inputs.old) (I.given inputs.new) disk result.disk }
+
+    // Each input is opened once at most.
+    ensures gave { I.given inputs.new ≤ I.given inputs.old + inputs_of (job_of (map (λ w. string_bytes w) words.now)) }
 {
     match job_of(alloc, words) {
         Ok(job) => run_job(alloc, job, disk, inputs, sink, clock),
@@ -128,7 +140,11 @@ fn run_job<D: Disk, I: Inputs, K: Sink, C: Clock>(
     ensures disk_later { D.device.fault_count disk ≤ D.device.fault_count result.disk }
     ensures disk_fault { result.report.refusal ≡ Some Refusal.DiskFault →
         raised (D.device.fault_count disk) ≤ D.device.fault_count result.disk }
+    ensures disk_writes { DiskWritesCounted (Some (job_view job.entry)) result.report
+        (D.device.failed_writes disk) (D.device.failed_writes result.disk) }
     ensures handed_back { IsHandedBack (Some (job_view job.entry)) disk result.disk result.report }
+    ensures unasked { IsUnasked (Some (job_view job.entry)) (I.given inputs.old) (I.given inputs.new) disk result.disk }
+    ensures gave { I.given inputs.new ≤ I.given inputs.old + inputs_of (Some (job_view job.entry)) }
 {
     match job {
         Job::Scan { dump } => Ended::unopened(disk, scan(alloc, dump, inputs, sink, clock).err()),

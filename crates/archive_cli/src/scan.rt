@@ -47,6 +47,7 @@ pub fn scan<I: Inputs, K: Sink, C: Clock>(
     ensures closed { I.open_sources inputs.old + 1 < 2 ^ 64 → I.open_sources inputs.new ≡ I.open_sources inputs.old }
     ensures order { AreInOrder (I.files inputs.old) (scan_inputs name.now)
         (I.given inputs.old) (I.given inputs.new) (result_err result) }
+    ensures gave { I.given inputs.new ≤ I.given inputs.old + 1 }
     ensures reads_counted { ReadsCounted (result_err result) (I.faults inputs.old) (I.faults inputs.new) }
     ensures writes_counted { WritesCounted (result_err result) (K.faults sink.old) (K.faults sink.new) }
     ensures later { I.faults inputs.old ≤ I.faults inputs.new }

@@ -12,7 +12,7 @@ ghost use Rattle.dump_lines.specs.Output.{Appends, WritesCounted, IsBuffered};
 ghost use Rattle.dump_lines.specs.DumpTable.{IsVisible};
 ghost use Rattle.archive_cli.specs.Order.{AreInOrder, values_inputs};
 ghost use Rattle.archive_cli.specs.ValuesEnding.{IsValuesEnding};
-ghost use Rattle.archive_cli.specs.ValuesPrinting.{PrintCounted, line_of, count_of, cells_of_stored, lines_of_cells, end_of_cells, text_of_cells, refusal_of_print};
+ghost use Rattle.archive_cli.specs.ValuesPrinting.{PrintCounted, line_of, cells_in_row, cells_of_stored, lines_of_cells, end_of_cells, text_of_cells, refusal_of_print};
 
 use crate::scan_input::{ended, read_scan_input};
 use arch_types::refusal::Refusal;
@@ -56,6 +56,7 @@ pub fn values<I: Inputs, K: Sink, C: Clock>(
     ensures closed { I.open_sources inputs.old + 1 < 2 ^ 64 → I.open_sources inputs.new ≡ I.open_sources inputs.old }
     ensures order { AreInOrder (I.files inputs.old) (values_inputs (words_of words.entry))
         (I.given inputs.old) (I.given inputs.new) (result_err result) }
+    ensures gave { I.given inputs.new ≤ I.given inputs.old + 4 }
     ensures reads_counted { ReadsCounted (result_err result) (I.faults inputs.old) (I.faults inputs.new) }
     ensures writes_counted { WritesCounted (result_err result) (K.faults sink.old) (K.faults sink.new) }
     ensures later { I.faults inputs.old ≤ I.faults inputs.new }
@@ -171,7 +172,7 @@ fn put_cell_of(
     requires room { length line_buffer.old < 65536 }
     requires number { known.now.number < length known.now.mdb.parameters }
     ensures line { OnOk result (line_buffer.new ≡ line_buffer.old ++ line_of known.now.mdb known.now.number row.now) }
-    ensures count { IfOk result (λ count. count ≡ count_of known.now.mdb known.now.number row.now) }
+    ensures count { IfOk result (λ count. count ≡ cells_in_row known.now.mdb known.now.number row.now) }
     ensures kept { OnErr result (line_buffer.new ≡ line_buffer.old) }
 {
     let cell = cell_of(extractor, &known.mdb, known.number, row)?;

@@ -22,7 +22,7 @@ pub struct Opening {
 }
 
 impl Opening {
-    ghost use Rattle.disk_journal.specs.Reading.{IsAt, IsWholeAt, IsCutShortAt, place_of, file_read, IsFinished};
+    ghost use Rattle.disk_journal.specs.Reading.{IsAt, IsWholeAt, IsCutShortAt, gate_of, file_read, IsReadJournal};
     ghost use Rattle.disk_journal.specs.State.{IsReadFrom};
 
     /// Begins at the first record, with a sync.
@@ -62,19 +62,19 @@ impl Opening {
         requires { IsTrue D.device.is_transparent → (bodies : List (List ℕ)) ×
             IsAt self.old (D.device.reads disk.old (file_read self.old)) bodies }
         ensures some { IsTrue D.device.is_transparent →
-            IfOk result (λ next. IfSome next (λ extent. IsWholeAt (D.device.reads disk.old (file_read self.old)) (place_of self.old)
+            IfOk result (λ next. IfSome next (λ extent. IsWholeAt (D.device.reads disk.old (file_read self.old)) (gate_of self.old)
             extent)) }
         ensures none { IsTrue D.device.is_transparent → IfOk result (λ next. next ≡ None →
-            get_or (D.device.reads disk.old (file_read self.old)) (place_of self.old) 0 ≢ 1) }
-        ensures within { IfOk result (λ next. IfSome next (λ extent. (extent.at ≡ place_of self.old + 5) ×
+            get_or (D.device.reads disk.old (file_read self.old)) (gate_of self.old) 0 ≢ 1) }
+        ensures within { IfOk result (λ next. IfSome next (λ extent. (extent.at ≡ gate_of self.old + 5) ×
             (extent.at + extent.len < 2 ^ 64))) }
         ensures damaged { IsTrue D.device.is_transparent → (bodies : List (List ℕ)) →
             IsAt self.old (D.device.reads disk.old (file_read self.old)) bodies
-            → (at : ℕ) → result ≡ Err (JournalFault.Damaged at) → (at ≡ place_of self.old) × IsCutShortAt (D.device.reads disk.old (file_read self.old)) bodies }
+            → (at : ℕ) → result ≡ Err (JournalFault.Damaged at) → (at ≡ gate_of self.old) × IsCutShortAt (D.device.reads disk.old (file_read self.old)) bodies }
         ensures stays { IsTrue D.device.is_transparent → (bodies : List (List ℕ)) →
             IsAt self.old (D.device.reads disk.old (file_read self.old)) bodies
             → OnOk result (IsAt self.new (D.device.reads disk.old (file_read self.old)) bodies) }
-        ensures place { (place_of self.new ≡ place_of self.old) × (file_read self.new ≡ file_read self.old) }
+        ensures place { (gate_of self.new ≡ gate_of self.old) × (file_read self.new ≡ file_read self.old) }
         ensures looked { OnlyReads D.device disk.old disk.new }
         ensures only { IfErr result IsReadFault }
         ensures cause { result ≡ Err JournalFault.DiskFault →
@@ -127,8 +127,8 @@ impl Opening {
             → IfOk result (λ next. next ≡ None → HasRecords (D.device.reads disk.old (file_read self.old)) bodies × IsAt self.new (D.device.reads disk.old (file_read self.old)) bodies) }
         ensures damaged { IsTrue D.device.is_transparent → (bodies : List (List ℕ)) →
             IsAt self.old (D.device.reads disk.old (file_read self.old)) bodies
-            → (at : ℕ) → result ≡ Err (JournalFault.Damaged at) → (at ≡ place_of self.old) × IsCutShortAt (D.device.reads disk.old (file_read self.old)) bodies }
-        ensures moves { IfOk result (λ next. IfSome next (λ body. (place_of self.old < place_of self.new) ×
+            → (at : ℕ) → result ≡ Err (JournalFault.Damaged at) → (at ≡ gate_of self.old) × IsCutShortAt (D.device.reads disk.old (file_read self.old)) bodies }
+        ensures moves { IfOk result (λ next. IfSome next (λ body. (gate_of self.old < gate_of self.new) ×
             (length body.items < 2 ^ 32))) }
         ensures file { file_read self.new ≡ file_read self.old }
         ensures looked { OnlyReads D.device disk.old disk.new }
@@ -168,14 +168,14 @@ impl Opening {
 
     /// The gate of the next record, in octets from the file's start.
     pub fn place(&self) -> u64
-        ensures { result ≡ place_of self.now }
+        ensures { result ≡ gate_of self.now }
     {
         self.at
     }
 
     /// The journal of the records that were read; the next one goes to the gate that is read next.
     pub fn finish(self) -> Journal
-        ensures { IsFinished self result }
+        ensures { IsReadJournal self result }
     {
         let Opening {
             reader,

@@ -4,6 +4,7 @@ use Rattle.std.proofs.lemmas.Result.{err_from_is_err_and}
 use Rattle.archive_store.specs.Batches.{batch_rows}
 use Rattle.space_packet.specs.Rest.{why_of}
 use Rattle.archive_cli.proofs.Arrived.{few_arrived}
+use Rattle.archive_cli.proofs.DiskWrites.{refused_writes}
 use Rattle.archive_cli.proofs.Batching.{so_far_more, so_far_end, so_far_memory, so_far_refused, records_still, refused_for, IsSoFar}
 use Rattle.archive_cli.proofs.batches.ingest_dump.Goals as goal
 
@@ -55,4 +56,19 @@ batches-preserved g c =
           (so_far_more c.args.store.now c.args.dump.now c.args.link c.args.moment c.batches.store c.ingest.new.self c.batches.places.at c.next_batch.new.places.at c.batches.packets c.batches.idle c.in_ok-taken.taken
           (rw moment at c.batches.invariant.so_far) taken ok.1 ok.2 c.ingest.ensures.goes_on.head c.ingest.ensures.goes_on.opened
           c.in_ok-ingest.ensures.records c.ingest.ensures.no_call);
+      writes = c.in_ok-ingest.ensures.no_failed_write ∙ c.batches.invariant.writes;
     }
+
+-- how many writes of the disk failed
+
+pub returns-in_err-taken-clause-disk_writes : goal.returns-in_err-taken-clause-disk_writes
+returns-in_err-taken-clause-disk_writes g c =
+    let p = err_from_is_err_and c.from_residual.result c.from_residual.ensures.1 in
+    rw (p.1, p.2) c.batches.invariant.writes
+
+pub returns-in_err-ingest-clause-disk_writes : goal.returns-in_err-ingest-clause-disk_writes
+returns-in_err-ingest-clause-disk_writes g c =
+    let p = err_from_is_err_and c.from_residual-in_err-ingest.result c.from_residual-in_err-ingest.ensures.1 in
+    let e = c.in_err-ingest.ensures in
+    rw (p.1, p.2)
+    (refused_writes g.D.Disk.device c.batches.store c.ingest.new.self _ c.in_err-ingest.field-0.0 _ c.batches.invariant.writes e.fault e.untouched)

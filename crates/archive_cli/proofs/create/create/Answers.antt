@@ -1,9 +1,10 @@
-use Rattle.std.proofs.Common.{refl}
+use Rattle.std.proofs.Common.{ap, arith, refl}
 use Rattle.command_words.specs.JobView.{sheet_words_of}
 use Rattle.archive_cli.proofs.Caused.{create_refused_cause}
 use Rattle.archive_cli.proofs.ReadOnly.{untouched}
 use Rattle.archive_cli.proofs.Created.{create_refused, refused_kind, sheet_disk, sheet_writes}
-use Rattle.archive_cli.proofs.HandedBack.{create_same}
+use Rattle.archive_cli.proofs.DiskWrites.{none_of_two}
+use Rattle.archive_cli.proofs.HandedBack.{create_same, given_unasked}
 use Rattle.archive_cli.proofs.Ordered.{created_in_order}
 use Rattle.archive_cli.proofs.Scanned.{call_of}
 use Rattle.archive_cli.proofs.create.create.Goals as goal
@@ -62,3 +63,12 @@ returns-in-Ok-clause-order g c =
 
 pub returns-in-Err-clause-order : goal.returns-in-Err-clause-order
 returns-in-Err-clause-order g c = rw c.unopened.ensures.report c.in-Err.ensures.order
+
+pub returns-in-Ok-clause-unasked : goal.returns-in-Ok-clause-unasked
+returns-in-Ok-clause-unasked g c = given_unasked _ _ 3 _ _ (omega arith) c.in-Ok.ensures.gave
+
+pub returns-in-Err-clause-unasked : goal.returns-in-Err-clause-unasked
+returns-in-Err-clause-unasked g c = λ below same. c.unopened.ensures.disk
+
+pub returns-in-Err-clause-disk_writes : goal.returns-in-Err-clause-disk_writes
+returns-in-Err-clause-disk_writes g c = none_of_two _ _ _ (ap (λ (d : g.row.D.Denot). g.D.Disk.device.failed_writes d) c.unopened.ensures.disk)

@@ -10,6 +10,7 @@ use Rattle.dump_lines.specs.Output.{IsFinished}
 use Rattle.archive_cli.proofs.ReadOnly.{untouched}
 use Rattle.archive_cli.proofs.Caused.{create_made_cause, create_unmade_cause}
 use Rattle.archive_cli.proofs.Created.{create_unbegun, create_unmade, created, fewer_than_two, left_alone, made_store}
+use Rattle.archive_cli.proofs.DiskWrites.{none_of_two, unmade_writes}
 use Rattle.archive_cli.proofs.HandedBack.{create_same, made_back, unmade_back}
 use Rattle.archive_cli.proofs.Scanned.{call_of}
 use Rattle.archive_cli.proofs.create.make.Goals as goal
@@ -80,3 +81,17 @@ pub returns-clause-handed_back : goal.returns-clause-handed_back
 returns-clause-handed_back g c =
     made_back c.args.disk c.of.result.disk c.finish-refusal.result c.of.result.report (g.K.Sink.written c.args.sink.now) (g.K.Sink.written c.finish-refusal.new.sink) c.put_line.new.line_buffer
     (c.of.ensures.report ∙ c.read_only.ensures) c.finish-refusal.ensures.finished
+
+-- how many writes of the disk failed
+
+pub returns-in_default-clause-disk_writes : goal.returns-in_default-clause-disk_writes
+returns-in_default-clause-disk_writes g c = none_of_two _ _ _ (ap (λ (d : g.row.D.Denot). g.D.Disk.device.failed_writes d) c.unopened.ensures.disk)
+
+pub returns-in-Err-clause-disk_writes : goal.returns-in-Err-clause-disk_writes
+returns-in-Err-clause-disk_writes g c =
+    rw c.unopened-in-Err.ensures.disk
+    (unmade_writes c.in-Err.refusal c.unopened-in-Err.result.report _ _ c.unopened-in-Err.ensures.report c.in-Err.ensures.later.writes c.in-Err.ensures.writes_most c.in-Err.ensures.writes)
+
+pub returns-clause-disk_writes : goal.returns-clause-disk_writes
+returns-clause-disk_writes g c =
+    none_of_two _ _ _ (ap (λ (d : g.row.D.Denot). g.D.Disk.device.failed_writes d) (c.of.ensures.disk ∙ c.into_disk.ensures.disk) ∙ c.in-Ok-create.ensures.writes)

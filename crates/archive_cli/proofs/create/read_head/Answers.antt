@@ -1,8 +1,8 @@
-use Rattle.std.proofs.Common.{[], inl, refl}
+use Rattle.std.proofs.Common.{[], arith, inl, refl}
 use Rattle.std.proofs.lemmas.Result.{err_from_is_err_and}
 use Rattle.command_words.specs.JobView.{sheet_words_of}
 use Rattle.archive_cli.proofs.Created.{refused_sheets, sheets_good}
-use Rattle.archive_cli.proofs.Ordered.{created_in_order, sheets_in_order}
+use Rattle.archive_cli.proofs.Ordered.{created_in_order, sheets_in_order, unread_few}
 use Rattle.archive_cli.proofs.Reading.{sheets_unread}
 use Rattle.archive_cli.proofs.create.read_head.Goals as goal
 
@@ -34,3 +34,6 @@ returns-in_err-sheets-clause-refused g c =
 pub returns-in-Err-clause-order : goal.returns-in-Err-clause-order
 returns-in-Err-clause-order g c =
     created_in_order (g.I.Inputs.files c.args.inputs.now) (sheet_words_of c.args.words) _ _ _ c.in_ok-sheets.sheets c.in_ok-sheets.ensures.sheets
+
+pub returns-in_err-sheets-clause-gave_most : goal.returns-in_err-sheets-clause-gave_most
+returns-in_err-sheets-clause-gave_most g c = unread_few _ _ _ _ _ _ _ _ _ c.in_err-sheets.ensures.refused

@@ -1,5 +1,6 @@
-use Rattle.std.proofs.Common.{◌∙◌, Some, length, refl, sym, subst, arith, rules, w64, SFits}
+use Rattle.std.proofs.Common.{◌∙◌, Some, ap, inl, length, refl, sym, subst, arith, rules, w64, SFits}
 use Rattle.std.proofs.lemmas.Int.{to_z-of_z}
+use Rattle.arch_types.specs.declared.refusal.Refusal.TheVariants.{OutOfMemory}
 use Rattle.archive_store.specs.StoreView.{archive_of}
 use Rattle.command_words.specs.JobView.{load_words_of}
 use Rattle.archive_cli.specs.Loading.{IsLoadRun}
@@ -7,7 +8,8 @@ use Rattle.archive_cli.specs.LoadEnding.{IsLoadEnding}
 use Rattle.archive_cli.proofs.ReadOnly.{read_only_store}
 use Rattle.archive_cli.proofs.Counted.{reads_closed}
 use Rattle.archive_cli.proofs.During.{opened_store}
-use Rattle.archive_cli.proofs.HandedBack.{load_same, load_unread_back, session_back}
+use Rattle.archive_cli.proofs.DiskWrites.{load_unopened_writes, unread_writes}
+use Rattle.archive_cli.proofs.HandedBack.{given_unasked, load_same, load_unread_back, session_back}
 use Rattle.archive_cli.proofs.LoadCauses.{session_cause}
 use Rattle.archive_cli.proofs.NotLoaded.{gives_input, not_there, not_read}
 use Rattle.archive_cli.proofs.Ordered.{session_fault, undumped_fault, unread_fault}
@@ -138,3 +140,40 @@ pub returns-in-Ok-received-clause-order : goal.returns-in-Ok-received-clause-ord
 returns-in-Ok-received-clause-order g c =
     session_fault g.D.Disk.device c.args.disk c.in-Ok-open-2.store c.in-Ok-received.received.dump c.in-Ok-received.received.link _ (g.K.Sink.written c.args.sink.now)
     (g.K.Sink.written c.load_dump.new.sink) c.load_dump.result.disk c.load_dump.result.report _ _ c.load_dump.ensures.session
+
+pub returns-in_default-clause-unasked : goal.returns-in_default-clause-unasked
+returns-in_default-clause-unasked g c = λ below same. c.unopened.ensures.disk
+
+pub returns-in-Err-clause-unasked : goal.returns-in-Err-clause-unasked
+returns-in-Err-clause-unasked g c = λ below same. c.unopened-in-Err.ensures.disk
+
+pub returns-in-Err-received-clause-unasked : goal.returns-in-Err-received-clause-unasked
+returns-in-Err-received-clause-unasked g c = given_unasked _ _ 1 _ _ (omega arith) (c.close-2.ensures.gave_none ∙ c.in-Ok-open.ensures.gave)
+
+pub returns-in-Ok-received-clause-unasked : goal.returns-in-Ok-received-clause-unasked
+returns-in-Ok-received-clause-unasked g c = given_unasked _ _ 1 _ _ (omega arith) (c.close-2.ensures.gave_none ∙ c.in-Ok-open.ensures.gave)
+
+-- how many writes of the disk failed
+
+pub returns-in_default-clause-disk_writes : goal.returns-in_default-clause-disk_writes
+returns-in_default-clause-disk_writes g c =
+    load_unopened_writes OutOfMemory c.unopened.result.report _ _ c.unopened.ensures.report (inl (ap (λ (d : g.row.D.Denot). g.D.Disk.device.failed_writes d) c.unopened.ensures.disk))
+
+pub returns-in-Err-clause-disk_writes : goal.returns-in-Err-clause-disk_writes
+returns-in-Err-clause-disk_writes g c =
+    load_unopened_writes c.refusal_of_opening.result c.unopened-in-Err.result.report _ _ c.unopened-in-Err.ensures.report
+    (inl (ap (λ (d : g.row.D.Denot). g.D.Disk.device.failed_writes d) c.unopened-in-Err.ensures.disk))
+
+pub returns-in-Err-open-clause-disk_writes : goal.returns-in-Err-open-clause-disk_writes
+returns-in-Err-open-clause-disk_writes g c =
+    rw c.unopened-in-Err-open.ensures.disk
+    (load_unopened_writes c.in-Err-open.refusal c.unopened-in-Err-open.result.report _ _ c.unopened-in-Err-open.ensures.report c.in-Err-open.ensures.writes)
+
+pub returns-in-Err-received-clause-disk_writes : goal.returns-in-Err-received-clause-disk_writes
+returns-in-Err-received-clause-disk_writes g c =
+    let unread = c.in-Err-received.unread in
+    unread_writes _ c.args.words.link unread.refusal unread.link (length c.in-Ok-open-2.store.history) c.nothing_loaded.result.report _ _ c.nothing_loaded.ensures.report
+    c.in-Err-received.ensures.unread (ap (λ (d : g.row.D.Denot). g.D.Disk.device.failed_writes d) c.nothing_loaded.ensures.closed_store.disk_is ∙ c.in-Ok-open-2.ensures.writes)
+
+pub returns-in-Ok-received-clause-disk_writes : goal.returns-in-Ok-received-clause-disk_writes
+returns-in-Ok-received-clause-disk_writes g c = rw c.in-Ok-open-2.ensures.writes at c.load_dump.ensures.disk_writes

@@ -1,9 +1,10 @@
-use Rattle.std.proofs.Common.{◌∙◌, w64, refl, sym, ap, subst, arith, Option}
+use Rattle.std.proofs.Common.{◌∙◌, w64, length, refl, sym, ap, subst, arith, Option}
 use Rattle.std.proofs.lemmas.Int.{to_z-of_z}
 use Rattle.arch_types.specs.declared.refusal.Refusal.{Refusal}
 use Rattle.archive_cli.specs.declared.report.Report.{Report}
 use Rattle.archive_cli.specs.Loading.{IsLetGo}
 use Rattle.archive_cli.proofs.Closing.{bad_closed, printed_closed}
+use Rattle.archive_cli.proofs.DiskWrites.{bad_writes, printed_writes, stopped_writes}
 use Rattle.archive_cli.proofs.LoadReports.{counts_whole, grown_stopped, grown_whole, session_bad, session_printed, session_stopped}
 use Rattle.archive_cli.proofs.load.load_dump.Goals as goal
 
@@ -80,3 +81,19 @@ returns-in-Err-clause-session g c =
           session_stopped c.args.store c.ingest_dump.new.store c.args.received.now.dump c.args.received.now.link c.args.moment written written c.in-Err.refusal c.refused.result.report
           stopped refl (rw front at c.refused.ensures.report);
     }
+
+-- how many writes of the disk failed
+
+pub returns-in-None-clause-disk_writes : goal.returns-in-None-clause-disk_writes
+returns-in-None-clause-disk_writes g c =
+    printed_writes c.front-before.result (length c.ingest_dump.new.store.history) c.in-Ok.whole.packets c.in-Ok.whole.idle c.print.result.report _ _ _ _ _ c.print.ensures.report c.print.ensures.finished
+    (ap (λ (d : g.row.D.Denot). g.D.Disk.device.failed_writes d) c.print.ensures.closed_store.disk_is ∙ c.in-Ok.ensures.disk_writes)
+
+pub returns-in-Some-clause-disk_writes : goal.returns-in-Some-clause-disk_writes
+returns-in-Some-clause-disk_writes g c =
+    bad_writes c.in-Ok.whole.why c.in-Ok.whole.at c.in-Some.refusal _ _ _ c.stopped.result.report _ _ (sym c.refusal_of_rest.ensures ∙ c.in-Some.is) c.stopped.ensures.report
+    (ap (λ (d : g.row.D.Denot). g.D.Disk.device.failed_writes d) c.stopped.ensures.closed_store.disk_is ∙ c.in-Ok.ensures.disk_writes)
+
+pub returns-in-Err-clause-disk_writes : goal.returns-in-Err-clause-disk_writes
+returns-in-Err-clause-disk_writes g c =
+    stopped_writes c.in-Err.refusal _ _ _ c.refused.result.report _ _ _ c.refused.ensures.report c.in-Err.ensures.disk_writes c.refused.ensures.disk_writes

@@ -7,3 +7,6 @@ returns-clause-let_go g c = record {
   closed = refused_closed g.D.Disk.device c.args.store c.heal.new.store c.args.refusal c.heal.ensures.same c.heal.ensures.reopened;
   closed_store = c.stopped.ensures.closed_store;
 }
+
+pub returns-clause-disk_writes : goal.returns-clause-disk_writes
+returns-clause-disk_writes g c = rw c.stopped.ensures.closed_store.disk_is c.heal.ensures.disk_writes

@@ -4,6 +4,7 @@ use Rattle.archive_store.specs.StoreView.{StoreView, CrashInvariant, archive_of}
 use Rattle.archive_cli.specs.QueryEnding.{IsQueryEnding}
 use Rattle.archive_cli.specs.Report.{read_only}
 use Rattle.archive_cli.proofs.Caused.{query_replied_cause, query_unopened_cause}
+use Rattle.archive_cli.proofs.DiskWrites.{none_of_one, unopened_writes}
 use Rattle.archive_cli.proofs.ReadOnly.{read_only_store}
 use Rattle.archive_cli.proofs.HandedBack.{ask_unopened_back, query_same, replied_back}
 use Rattle.archive_cli.proofs.Queried.{query_replied}
@@ -56,3 +57,17 @@ returns-clause-handed_back g c =
     replied_back c.args.disk c.of.result.disk s.head.mdb s.history c.args.sheet c.answer_sheet-refusal.result c.of.result.report c.front-rows.result (g.K.Sink.written c.args.sink.now)
     (g.K.Sink.written c.answer_sheet-refusal.new.sink) (g.K.Sink.faults c.args.sink.now) (g.K.Sink.faults c.answer_sheet-refusal.new.sink) (c.of.ensures.report ∙ c.read_only.ensures) c.requires
     c.answer_sheet-refusal.ensures.reply
+
+-- how many writes of the disk failed
+
+pub returns-in_default-clause-disk_writes : goal.returns-in_default-clause-disk_writes
+returns-in_default-clause-disk_writes g c = none_of_one _ _ _ (ap (λ (d : g.row.D.Denot). g.D.Disk.device.failed_writes d) c.unopened.ensures.disk)
+
+pub returns-in-Err-clause-disk_writes : goal.returns-in-Err-clause-disk_writes
+returns-in-Err-clause-disk_writes g c =
+    rw c.unopened-in-Err.ensures.disk (unopened_writes c.in-Err.refusal c.unopened-in-Err.result.report _ _ c.unopened-in-Err.ensures.report c.in-Err.ensures.writes)
+
+pub returns-clause-disk_writes : goal.returns-clause-disk_writes
+returns-clause-disk_writes g c =
+    let back = c.of.ensures.disk ∙ c.into_disk.ensures.disk ∙ ap (λ (x : StoreView g.row.D.Denot). x.disk) c.answer_sheet-refusal.ensures.same in
+    none_of_one _ _ _ (ap (λ (d : g.row.D.Denot). g.D.Disk.device.failed_writes d) back ∙ c.in-Ok-open.ensures.writes)

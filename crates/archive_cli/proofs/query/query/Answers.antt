@@ -1,6 +1,8 @@
+use Rattle.std.proofs.Common.{ap, arith}
 use Rattle.arch_types.specs.declared.refusal.Which.TheVariants.{SheetOctets}
 use Rattle.archive_cli.proofs.Caused.{query_unread_cause}
-use Rattle.archive_cli.proofs.HandedBack.{query_same}
+use Rattle.archive_cli.proofs.DiskWrites.{none_of_one}
+use Rattle.archive_cli.proofs.HandedBack.{given_unasked, query_same}
 use Rattle.archive_cli.proofs.Ordered.{asks_in_order, input_in_order}
 use Rattle.archive_cli.proofs.Queried.{sheet_there}
 use Rattle.archive_cli.proofs.Scanned.{call_of}
@@ -34,3 +36,12 @@ pub returns-in-Err-clause-order : goal.returns-in-Err-clause-order
 returns-in-Err-clause-order g c =
     rw c.unopened.ensures.report
     (input_in_order (g.I.Inputs.files c.args.inputs.now) c.args.name.now SheetOctets _ _ _ _ c.in-Err.refusal c.read_sheet.ensures.gave c.in-Err.ensures.refused)
+
+pub returns-in-Ok-clause-unasked : goal.returns-in-Ok-clause-unasked
+returns-in-Ok-clause-unasked g c = given_unasked _ _ 1 _ _ (omega arith) c.in-Ok.ensures.gave_one
+
+pub returns-in-Err-clause-unasked : goal.returns-in-Err-clause-unasked
+returns-in-Err-clause-unasked g c = λ below same. c.unopened.ensures.disk
+
+pub returns-in-Err-clause-disk_writes : goal.returns-in-Err-clause-disk_writes
+returns-in-Err-clause-disk_writes g c = none_of_one _ _ _ (ap (λ (d : g.row.D.Denot). g.D.Disk.device.failed_writes d) c.unopened.ensures.disk)

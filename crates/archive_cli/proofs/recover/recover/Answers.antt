@@ -5,6 +5,7 @@ use Rattle.dump_lines.specs.Output.{IsFinished}
 use Rattle.archive_cli.specs.RecoverEnding.{IsRecoverEnding, recover_line}
 use Rattle.archive_cli.specs.Report.{read_only}
 use Rattle.archive_cli.proofs.Caused.{not_recovered_cause, recovered_cause}
+use Rattle.archive_cli.proofs.DiskWrites.{none_of_one, unopened_writes}
 use Rattle.archive_cli.proofs.ReadOnly.{read_only_store}
 use Rattle.archive_cli.proofs.Recovered.{recovered}
 use Rattle.archive_cli.proofs.Scanned.{call_of}
@@ -37,3 +38,16 @@ pub returns-clause-caused : goal.returns-clause-caused
 returns-clause-caused g c =
     recovered_cause c.finish-refusal.result c.of.result.report c.front-rows.result (g.K.Sink.written c.args.sink.now) (g.K.Sink.written c.finish-refusal.new.sink) c.put_line.new.line_buffer
     (c.of.ensures.report ∙ c.read_only.ensures) c.finish-refusal.ensures.finished
+
+-- how many writes of the disk failed
+
+pub returns-in_default-clause-disk_writes : goal.returns-in_default-clause-disk_writes
+returns-in_default-clause-disk_writes g c = none_of_one _ _ _ (ap (λ (d : g.row.D.Denot). g.D.Disk.device.failed_writes d) c.unopened.ensures.disk)
+
+pub returns-in-Err-clause-disk_writes : goal.returns-in-Err-clause-disk_writes
+returns-in-Err-clause-disk_writes g c =
+    rw c.unopened-in-Err.ensures.disk (unopened_writes c.in-Err.refusal c.unopened-in-Err.result.report _ _ c.unopened-in-Err.ensures.report c.in-Err.ensures.writes)
+
+pub returns-clause-disk_writes : goal.returns-clause-disk_writes
+returns-clause-disk_writes g c =
+    none_of_one _ _ _ (ap (λ (d : g.row.D.Denot). g.D.Disk.device.failed_writes d) (c.of.ensures.disk ∙ c.into_disk.ensures.disk) ∙ c.in-Ok-open.ensures.writes)

@@ -1,11 +1,13 @@
-use Rattle.std.proofs.Common.{List, Option, Some, map, refl, string_bytes, subst, sym, ℕ}
+use Rattle.std.proofs.Common.{◌+◌, ◌≤◌, List, Option, Some, ap, map, refl, string_bytes, subst, sym, ℕ}
 use Rattle.command_words.specs.JobView.{job_view}
-use Rattle.archive_cli.specs.HandedBack.{IsHandedBack}
-use Rattle.archive_cli.specs.Order.{IsInOrder}
+use Rattle.archive_cli.specs.DiskWrites.{DiskWritesCounted}
+use Rattle.archive_cli.specs.HandedBack.{IsHandedBack, IsUnasked}
+use Rattle.archive_cli.specs.Order.{IsInOrder, inputs_of}
 use Rattle.archive_cli.specs.Ending.{IsCaused, IsJobEnding}
 use Rattle.command_words.specs.Job.{Job, job_of}
 use Rattle.archive_cli.proofs.Answers.{expected}
-use Rattle.archive_cli.proofs.HandedBack.{same_back}
+use Rattle.archive_cli.proofs.HandedBack.{same_back, same_unasked}
+use Rattle.archive_cli.proofs.DiskWrites.{still_writes}
 use Rattle.archive_cli.proofs.Durable.{not_opened, durable_after}
 use Rattle.archive_cli.proofs.Jobless.{jobless, jobless_caused, jobless_order}
 use Rattle.archive_cli.proofs.Scanned.{call_of}
@@ -76,3 +78,23 @@ pub returns-in-Err-clause-order : goal.returns-in-Err-clause-order
 returns-in-Err-clause-order g c =
     jobless_order (g.I.Inputs.files c.args.inputs.now) _ (g.I.Inputs.given c.args.inputs.now) c.args.disk c.unopened.result.disk c.in-Err.refusal c.unopened.result.report c.in-Err.ensures.none
     c.unopened.ensures.report
+
+pub returns-in-Ok-clause-unasked : goal.returns-in-Ok-clause-unasked
+returns-in-Ok-clause-unasked g c =
+    subst (λ (job : Option Job). IsUnasked job (g.I.Inputs.given c.args.inputs.now) (g.I.Inputs.given c.run_job.new.inputs) c.args.disk c.run_job.result.disk) (sym c.in-Ok.ensures.job)
+    c.run_job.ensures.unasked
+
+pub returns-in-Err-clause-unasked : goal.returns-in-Err-clause-unasked
+returns-in-Err-clause-unasked g c = same_unasked _ _ _ c.args.disk c.unopened.result.disk c.unopened.ensures.disk
+
+pub returns-in-Ok-clause-gave : goal.returns-in-Ok-clause-gave
+returns-in-Ok-clause-gave g c =
+    subst (λ (job : Option Job). g.I.Inputs.given c.run_job.new.inputs ≤ g.I.Inputs.given c.args.inputs.now + inputs_of job) (sym c.in-Ok.ensures.job) c.run_job.ensures.gave
+
+pub returns-in-Ok-clause-disk_writes : goal.returns-in-Ok-clause-disk_writes
+returns-in-Ok-clause-disk_writes g c =
+    let failed = g.D.Disk.device.failed_writes in
+    subst (λ (job : Option Job). DiskWritesCounted job c.run_job.result.report (failed c.args.disk) (failed c.run_job.result.disk)) (sym c.in-Ok.ensures.job) c.run_job.ensures.disk_writes
+
+pub returns-in-Err-clause-disk_writes : goal.returns-in-Err-clause-disk_writes
+returns-in-Err-clause-disk_writes g c = still_writes _ (Some c.in-Err.refusal) c.unopened.result.report _ _ c.unopened.ensures.report (ap (λ (d : g.row.D.Denot). g.D.Disk.device.failed_writes d) c.unopened.ensures.disk)

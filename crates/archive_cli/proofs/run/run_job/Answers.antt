@@ -1,11 +1,12 @@
-use Rattle.std.proofs.Common.{◌≡◌, ◌∙◌, [], Option, Some, ap, subst, sym}
+use Rattle.std.proofs.Common.{◌≡◌, ◌∙◌, ◌+◌, ◌≤◌, [], Option, Some, ap, subst, sym}
 use Rattle.std.specs.Result.{result_err}
 use Rattle.arch_types.specs.declared.refusal.Refusal.{Refusal}
 use Rattle.archive_cli.specs.declared.report.Report.{Report}
-use Rattle.archive_cli.specs.Order.{AreInOrder, IsInOrder, scan_inputs, values_inputs}
+use Rattle.archive_cli.specs.Order.{AreInOrder, IsInOrder, inputs_of, scan_inputs, values_inputs}
 use Rattle.command_words.specs.declared.job.Job.{Job}
 use Rattle.command_words.specs.JobView.{job_view, words_of}
-use Rattle.archive_cli.specs.HandedBack.{IsHandedBack}
+use Rattle.archive_cli.specs.DiskWrites.{DiskWritesCounted}
+use Rattle.archive_cli.specs.HandedBack.{IsHandedBack, IsUnasked}
 use Rattle.archive_cli.specs.Ending.{IsCaused, IsJobEnding}
 use Rattle.archive_cli.specs.ScanEnding.{IsScanEnding}
 use Rattle.archive_cli.specs.ValuesEnding.{IsValuesEnding}
@@ -109,3 +110,86 @@ returns-in-Values-clause-order g c =
     let is : ending ≡ result_err c.values.result = ap (λ (r : Report). r.refusal) c.unopened-in-Values.ensures.report ∙ c.err-in-Values.ensures.value in
     subst (λ (job : Job). IsInOrder files (Some (job_view job)) given given' c.args.disk c.unopened-in-Values.result.disk c.unopened-in-Values.result.report) (sym c.in-Values.is)
     (subst (λ (o : Option Refusal). AreInOrder files (values_inputs (words_of c.in-Values.words)) given given' o) (sym is) c.values.ensures.order)
+
+-- before a source was given
+
+pub returns-in-Create-clause-unasked : goal.returns-in-Create-clause-unasked
+returns-in-Create-clause-unasked g c =
+    subst (λ (job : Job). IsUnasked (Some (job_view job)) (g.I.Inputs.given c.args.inputs.now) (g.I.Inputs.given c.create.new.inputs) c.args.disk c.create.result.disk) (sym c.in-Create.is)
+    c.create.ensures.unasked
+
+pub returns-in-Load-clause-unasked : goal.returns-in-Load-clause-unasked
+returns-in-Load-clause-unasked g c =
+    subst (λ (job : Job). IsUnasked (Some (job_view job)) (g.I.Inputs.given c.args.inputs.now) (g.I.Inputs.given c.load.new.inputs) c.args.disk c.load.result.disk) (sym c.in-Load.is)
+    c.load.ensures.unasked
+
+pub returns-in-Query-clause-unasked : goal.returns-in-Query-clause-unasked
+returns-in-Query-clause-unasked g c =
+    subst (λ (job : Job). IsUnasked (Some (job_view job)) (g.I.Inputs.given c.args.inputs.now) (g.I.Inputs.given c.query.new.inputs) c.args.disk c.query.result.disk) (sym c.in-Query.is)
+    c.query.ensures.unasked
+
+pub returns-in-Scan-clause-unasked : goal.returns-in-Scan-clause-unasked
+returns-in-Scan-clause-unasked g c =
+    subst (λ (job : Job). IsUnasked (Some (job_view job)) (g.I.Inputs.given c.args.inputs.now) (g.I.Inputs.given c.scan.new.inputs) c.args.disk c.unopened.result.disk) (sym c.in-Scan.is)
+    (λ below same. c.unopened.ensures.disk)
+
+pub returns-in-Values-clause-unasked : goal.returns-in-Values-clause-unasked
+returns-in-Values-clause-unasked g c =
+    subst (λ (job : Job). IsUnasked (Some (job_view job)) (g.I.Inputs.given c.args.inputs.now) (g.I.Inputs.given c.values.new.inputs) c.args.disk c.unopened-in-Values.result.disk)
+    (sym c.in-Values.is) (λ below same. c.unopened-in-Values.ensures.disk)
+
+-- how many sources were given
+
+pub returns-in-Scan-clause-gave : goal.returns-in-Scan-clause-gave
+returns-in-Scan-clause-gave g c =
+    subst (λ (job : Job). g.I.Inputs.given c.scan.new.inputs ≤ g.I.Inputs.given c.args.inputs.now + inputs_of (Some (job_view job))) (sym c.in-Scan.is) c.scan.ensures.gave
+
+pub returns-in-Values-clause-gave : goal.returns-in-Values-clause-gave
+returns-in-Values-clause-gave g c =
+    subst (λ (job : Job). g.I.Inputs.given c.values.new.inputs ≤ g.I.Inputs.given c.args.inputs.now + inputs_of (Some (job_view job))) (sym c.in-Values.is) c.values.ensures.gave
+
+pub returns-in-Create-clause-gave : goal.returns-in-Create-clause-gave
+returns-in-Create-clause-gave g c =
+    subst (λ (job : Job). g.I.Inputs.given c.create.new.inputs ≤ g.I.Inputs.given c.args.inputs.now + inputs_of (Some (job_view job))) (sym c.in-Create.is) c.create.ensures.gave
+
+pub returns-in-Load-clause-gave : goal.returns-in-Load-clause-gave
+returns-in-Load-clause-gave g c =
+    subst (λ (job : Job). g.I.Inputs.given c.load.new.inputs ≤ g.I.Inputs.given c.args.inputs.now + inputs_of (Some (job_view job))) (sym c.in-Load.is) c.load.ensures.gave
+
+pub returns-in-Query-clause-gave : goal.returns-in-Query-clause-gave
+returns-in-Query-clause-gave g c =
+    subst (λ (job : Job). g.I.Inputs.given c.query.new.inputs ≤ g.I.Inputs.given c.args.inputs.now + inputs_of (Some (job_view job))) (sym c.in-Query.is) c.query.ensures.gave
+
+-- how many writes of the disk failed
+
+pub returns-in-Scan-clause-disk_writes : goal.returns-in-Scan-clause-disk_writes
+returns-in-Scan-clause-disk_writes g c =
+    let failed = g.D.Disk.device.failed_writes in
+    subst (λ (job : Job). DiskWritesCounted (Some (job_view job)) c.unopened.result.report (failed c.args.disk) (failed c.unopened.result.disk)) (sym c.in-Scan.is)
+    (ap (λ (d : g.row.D.Denot). g.D.Disk.device.failed_writes d) c.unopened.ensures.disk)
+
+pub returns-in-Values-clause-disk_writes : goal.returns-in-Values-clause-disk_writes
+returns-in-Values-clause-disk_writes g c =
+    let failed = g.D.Disk.device.failed_writes in
+    subst (λ (job : Job). DiskWritesCounted (Some (job_view job)) c.unopened-in-Values.result.report (failed c.args.disk) (failed c.unopened-in-Values.result.disk)) (sym c.in-Values.is)
+    (ap (λ (d : g.row.D.Denot). g.D.Disk.device.failed_writes d) c.unopened-in-Values.ensures.disk)
+
+pub returns-in-Create-clause-disk_writes : goal.returns-in-Create-clause-disk_writes
+returns-in-Create-clause-disk_writes g c =
+    let failed = g.D.Disk.device.failed_writes in
+    subst (λ (job : Job). DiskWritesCounted (Some (job_view job)) c.create.result.report (failed c.args.disk) (failed c.create.result.disk)) (sym c.in-Create.is) c.create.ensures.disk_writes
+
+pub returns-in-Load-clause-disk_writes : goal.returns-in-Load-clause-disk_writes
+returns-in-Load-clause-disk_writes g c =
+    let failed = g.D.Disk.device.failed_writes in
+    subst (λ (job : Job). DiskWritesCounted (Some (job_view job)) c.load.result.report (failed c.args.disk) (failed c.load.result.disk)) (sym c.in-Load.is) c.load.ensures.disk_writes
+
+pub returns-in-Query-clause-disk_writes : goal.returns-in-Query-clause-disk_writes
+returns-in-Query-clause-disk_writes g c =
+    let failed = g.D.Disk.device.failed_writes in
+    subst (λ (job : Job). DiskWritesCounted (Some (job_view job)) c.query.result.report (failed c.args.disk) (failed c.query.result.disk)) (sym c.in-Query.is) c.query.ensures.disk_writes
+
+pub returns-in-Recover-clause-disk_writes : goal.returns-in-Recover-clause-disk_writes
+returns-in-Recover-clause-disk_writes g c =
+    let failed = g.D.Disk.device.failed_writes in
+    subst (λ (job : Job). DiskWritesCounted (Some (job_view job)) c.recover.result.report (failed c.args.disk) (failed c.recover.result.disk)) (sym c.in-Recover.is) c.recover.ensures.disk_writes

@@ -1,11 +1,11 @@
-use Rattle.std.proofs.Common.{◌∙◌, [], ◌∷◌, inl, inr, refl, Some}
+use Rattle.std.proofs.Common.{◌∙◌, [], ◌∷◌, arith, inl, inr, refl, Some}
 use Rattle.std.proofs.lemmas.Result.{err_from_is_err_and}
 use Rattle.arch_types.specs.declared.refusal.Which.TheVariants.{DumpOctets}
 use Rattle.command_words.specs.JobView.{words_of}
 use Rattle.archive_cli.specs.ReadDump.{IsDumpRead, ending_of}
 use Rattle.archive_cli.proofs.CellCounts.{rows_few}
 use Rattle.archive_cli.proofs.Counted.{input_unwritten, parameter_no_fault, print_reads, print_writes, reads_later, reads_no_fault, rest_no_fault, sheets_unwritten, writes_no_fault}
-use Rattle.archive_cli.proofs.Ordered.{sheets_in_order, undumped_in_order, valued_in_order}
+use Rattle.archive_cli.proofs.Ordered.{sheets_in_order, undumped_in_order, unread_few, valued_in_order}
 use Rattle.retrieval.proofs.Parameters.{number_within}
 use Rattle.archive_cli.proofs.Reading.{read_later, sheets_unread}
 use Rattle.archive_cli.proofs.Scanned.{call_of}
@@ -171,3 +171,20 @@ returns-clause-order g c =
     let received : IsDumpRead (g.I.Inputs.files c.args.inputs.now) (g.C.Clock.next c.args.clock.now) c.args.words.dump.now c.in_ok-scan_input.scan_input.loaded =
     rw c.read_mdb.ensures.same at c.in_ok-scan_input.ensures.received in
     valued_in_order (g.I.Inputs.files c.args.inputs.now) (words_of c.args.words) received.dump _ _ _ c.in_ok-sheets.sheets c.in_ok-sheets.ensures.sheets received.input received.short
+
+-- how many sources were given
+
+pub returns-in_err-sheets-clause-gave : goal.returns-in_err-sheets-clause-gave
+returns-in_err-sheets-clause-gave g c = omega (arith, unread_few _ _ _ _ _ _ _ _ _ c.in_err-sheets.ensures.refused)
+
+pub returns-in_err-scan_input-clause-gave : goal.returns-in_err-scan_input-clause-gave
+returns-in_err-scan_input-clause-gave g c = omega (arith, c.in_ok-sheets.ensures.gave, c.read_scan_input.ensures.gave)
+
+pub returns-in_err-known-clause-gave : goal.returns-in_err-known-clause-gave
+returns-in_err-known-clause-gave g c = omega (arith, c.in_ok-sheets.ensures.gave, c.read_scan_input.ensures.gave)
+
+pub returns-in-Ok-clause-gave : goal.returns-in-Ok-clause-gave
+returns-in-Ok-clause-gave g c = omega (arith, c.in_ok-sheets.ensures.gave, c.read_scan_input.ensures.gave)
+
+pub returns-clause-gave : goal.returns-clause-gave
+returns-clause-gave g c = omega (arith, c.in_ok-sheets.ensures.gave, c.read_scan_input.ensures.gave)
