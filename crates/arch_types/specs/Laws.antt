@@ -5,7 +5,7 @@ use Rattle.arch_types.specs.declared.row.Row.{Row}
 use Rattle.arch_types.specs.Dump.{IsDump}
 use Rattle.arch_types.specs.Order.{key_cmp}
 use Rattle.arch_types.specs.History.{is_in_table, is_duplicate_of, ingested, IsHistory}
-use Rattle.arch_types.specs.Table.{table_at}
+use Rattle.arch_types.specs.Table.{table_at_front}
 
 -- a dump has one list of packets and one rest
 abbrev pub DumpIsOne : Type 0
@@ -13,11 +13,11 @@ DumpIsOne = (dump : List ℕ) (ps qs : List (List ℕ)) (r s : List ℕ) → IsD
 
 -- a table at a front is sorted by key
 abbrev pub TableIsSorted : Type 0
-TableIsSorted = (front table : ℕ) (history : List Row) → IsSortedByKey (λ row. row.key) key_cmp (table_at front table history)
+TableIsSorted = (front table : ℕ) (history : List Row) → IsSortedByKey (λ row. row.key) key_cmp (table_at_front front table history)
 
 -- a table at a front has the rows of the history's prefix that are in it, each once and no other
 abbrev pub TableHasItsRows : Type 0
-TableHasItsRows = (front table : ℕ) (history : List Row) → IsPermutation (filter (is_in_table table) (take front history)) (table_at front table history)
+TableHasItsRows = (front table : ℕ) (history : List Row) → IsPermutation (filter (is_in_table table) (take front history)) (table_at_front front table history)
 
 -- a history stays one when rows are ingested
 abbrev pub IngestKeepsHistory : Type 0

@@ -28,8 +28,8 @@ abbrev pub flags_of : List ℕ → ℕ
 flags_of p = slice_index p 2 / 64
 
 -- the packet sequence count, which runs modulo 16,384 (4.1.3.4.3)
-abbrev pub count_of : List ℕ → ℕ
-count_of p = 256 * (slice_index p 2 % 64) + slice_index p 3
+abbrev pub sequence_count_of : List ℕ → ℕ
+sequence_count_of p = 256 * (slice_index p 2 % 64) + slice_index p 3
 
 -- whether a packet is idle: its APID is 2047 (4.1.3.3.4.4)
 abbrev pub is_idle : List ℕ → Bool

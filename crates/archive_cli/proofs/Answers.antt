@@ -20,7 +20,7 @@ use Rattle.archive_cli.specs.ScanEnding.{IsScanEnding}
 use Rattle.archive_cli.specs.ScanExpected.{IsScanExpected}
 use Rattle.archive_cli.specs.ValuesEnding.{IsValuesEnding}
 use Rattle.archive_cli.specs.ValuesExpected.{IsValuesExpected}
-use Rattle.archive_cli.specs.Reading.{IsReadRefusal}
+use Rattle.archive_cli.specs.Reading.{IsInputRefusal}
 use Rattle.archive_cli.proofs.Known.{not_risen, none_some, none_some_and, known_input, some_none, some_and, too_long, same_rest, bad_ending}
 use Rattle.archive_cli.proofs.CreateAnswers.{create_expected}
 use Rattle.archive_cli.proofs.LoadAnswers.{load_expected}
@@ -104,7 +104,7 @@ pub expected : {D : Type 0} (device : Device D) (call : Call) (given given' : �
 expected device call given given' old new report h order = expected_cases device call given given' old new (job_of call.words) report h order
 
 -- an input that wasn't read to its end ends the scan
-pub read_ending : (call : Call) (name : List ℕ) (refusal : Refusal) → IsReadRefusal call.files name DumpOctets call.read_faults call.read_faults' refusal →
+pub read_ending : (call : Call) (name : List ℕ) (refusal : Refusal) → IsInputRefusal call.files name DumpOctets call.read_faults call.read_faults' refusal →
     WritesNothing call → IsScanEnding call name (Some refusal)
 read_ending call name (Missing lacking) h s = (h.0, h.1, s)
 read_ending call name ReadFault h s = (h.0, h.1, s)

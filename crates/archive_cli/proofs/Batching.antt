@@ -27,12 +27,12 @@ use Rattle.space_packet.specs.Cut.{IsCut, IsPart}
 use Rattle.space_packet.specs.Rest.{why_of}
 use Rattle.space_packet.proofs.Cuts.{cut_whole}
 use Rattle.archive_store.specs.declared.head.Head.{Head}
-use Rattle.archive_store.specs.Answers.{asks_reopen, IsIngestRefusal}
+use Rattle.archive_store.specs.Answers.{store_asks_reopen, IsIngestRefusal}
 use Rattle.archive_store.specs.Batches.{batch_rows}
 use Rattle.archive_history.specs.Limits.{IsLimit}
 use Rattle.archive_store.specs.StoreView.{StoreView, AddsFault}
 use Rattle.archive_cli.specs.declared.batches.NextBatch.{NextBatch}
-use Rattle.archive_cli.specs.Batches.{arrivals_with, arrived, batch_at, rows_of_link, IsNextBatch, HasIngested, IsIngested, IsStopped, IsRefusedFor}
+use Rattle.archive_cli.specs.Batches.{arrivals_with, arrived, batch_at, rows_of_link, IsNextBatch, HasIngested, IsIngested, IsStoppedAt, IsRefusedFor}
 use Rattle.archive_cli.proofs.Arrived.{batch_none, batch_more, rows-append, arrived-append, few_arrived}
 use Rattle.archive_cli.proofs.Taking.{run_none, run_more, completes}
 
@@ -154,7 +154,7 @@ module _ {D : Type 0} (old : StoreView D) (dump : List ℕ) (link : ℕ) (moment
       no_more (p ∷ ps) e cut = absurd (omega (arith, e))
 
   -- want of memory before a batch
-  pub so_far_memory : (new : StoreView D) (at packets idle : ℕ) → IsSoFar old new dump link moment at packets idle → IsStopped old new dump link moment OutOfMemory
+  pub so_far_memory : (new : StoreView D) (at packets idle : ℕ) → IsSoFar old new dump link moment at packets idle → IsStoppedAt old new dump link moment OutOfMemory
   so_far_memory new at packets idle s =
       let all = completes dump s.so_far at s.cut in
       let more = length-append s.so_far all.0 in record {
@@ -178,7 +178,7 @@ module _ {D : Type 0} (old : StoreView D) (dump : List ℕ) (link : ℕ) (moment
   stopped_at : (mid new : StoreView D) (start end packets idle : ℕ) (taken : NextBatch) (refusal : Refusal) (more : List (List ℕ)) (rest : List ℕ) → (s : IsSoFar old mid dump link moment start packets idle)
       → (t : IsNextBatch dump start end mid.head link moment taken) → IsDump dump ((s.so_far ++ t.packets) ++ more) rest → (length t.packets ≡ 64) ⊎ (more ≡ [])
       → new.history ≡ mid.history → new.head ≡ mid.head → new.opened ≡ mid.opened → (new.fills ≡ [] → new.records ≡ mid.records) → IsRefusedFor new (batch_rows taken.batch) refusal
-      → IsStopped old new dump link moment refusal
+      → IsStoppedAt old new dump link moment refusal
   stopped_at mid new start end packets idle taken refusal more rest s t parts full history head opened still cause =
       let a = length-append (s.so_far ++ t.packets) more in
       let b = length-append s.so_far t.packets in
@@ -203,10 +203,10 @@ module _ {D : Type 0} (old : StoreView D) (dump : List ℕ) (link : ℕ) (moment
   pub so_far_refused : (mid new : StoreView D) (start end packets idle : ℕ) (taken : NextBatch) (refusal : Refusal) → IsSoFar old mid dump link moment start packets idle
       → IsNextBatch dump start end mid.head link moment taken → (taken.packets < 64 → BeginsWithNoPacket (drop end dump))
       → new.history ≡ mid.history → new.head ≡ mid.head → new.opened ≡ mid.opened → (new.fills ≡ [] → new.records ≡ mid.records) → IsRefusedFor new (batch_rows taken.batch) refusal
-      → IsStopped old new dump link moment refusal
+      → IsStoppedAt old new dump link moment refusal
   so_far_refused mid new start end packets idle taken refusal s t last history head opened still cause = go (ltb taken.packets 64) refl
     where
-      go : (b : Bool) → ltb taken.packets 64 ≡ b → IsStopped old new dump link moment refusal
+      go : (b : Bool) → ltb taken.packets 64 ≡ b → IsStoppedAt old new dump link moment refusal
       go true less =
           let whole = cut_whole dump (s.so_far ++ t.packets) end (t.run.follows s.so_far s.cut) (last (ltb-true taken.packets 64 less)) in
           stopped_at mid new start end packets idle taken refusal [] (drop end dump) s t
@@ -235,7 +235,7 @@ module _ {D T : Type 0} (device : Device D) (mid new : StoreView D) (rows : List
   pub refused_for : (refusal : Refusal) → mid.fills ≡ [] → new.history ≡ mid.history → (◌≡◌ {A = Result T Refusal} (Err refusal) (Err DiskFault) → AddsFault device mid new (fresh_of mid.history rows))
       → (◌≡◌ {A = Result T Refusal} (Err refusal) (Err DiskFault)) ⊎ (new ≡ mid)
       → ((which : Which) (number : ℕ) → ◌≡◌ {A = Result T Refusal} (Err refusal) (Err (Limit which number)) → (number ≡ limit_of which) × IsLimit which mid.records (ingested mid.history rows))
-      → asks_reopen {T = T} (Err refusal) ≡ pending_fault_of mid.fills → IsIngestRefusal refusal → IsRefusedFor new rows refusal
+      → store_asks_reopen {T = T} (Err refusal) ≡ pending_fault_of mid.fills → IsIngestRefusal refusal → IsRefusedFor new rows refusal
   refused_for (Limit which number) no_failed_write same fault untouched limit reopens only =
       let l = limit which number refl in
       let still = no_failed_write_still (Limit which number) no_failed_write (λ e. cc) untouched in (

@@ -17,7 +17,7 @@ use Rattle.archive_cli.specs.CreateEnding.{AreRefused}
 use Rattle.command_words.specs.Job.{SheetWords}
 use Rattle.dump_lines.specs.Output.{IsFinished}
 use Rattle.archive_cli.specs.QueryEnding.{AreAsksOf, AreRefusedAsks, IsAskSheet, IsReply, IsSheetReply}
-use Rattle.archive_cli.specs.Reading.{IsReadRefusal}
+use Rattle.archive_cli.specs.Reading.{IsInputRefusal}
 use Rattle.archive_cli.specs.Report.{unopened, read_only}
 use Rattle.archive_cli.proofs.Created.{IsSheetAnswer, refused_kind}
 use Rattle.archive_cli.proofs.Queried.{sheet_there}
@@ -65,7 +65,7 @@ create_made_cause call words refusal report rows before now text is h good =
 
 -- ---- query
 
-unread_cause : (call : Call) (name : List ℕ) (refusal : Refusal) → IsReadRefusal call.files name SheetOctets call.read_faults call.read_faults' refusal →
+unread_cause : (call : Call) (name : List ℕ) (refusal : Refusal) → IsInputRefusal call.files name SheetOctets call.read_faults call.read_faults' refusal →
     IsQueryCaused call name (Some refusal)
 unread_cause call name (Missing lacking) h = h
 unread_cause call name ReadFault h = h
@@ -76,7 +76,7 @@ unread_cause call name other h = absurd h
 
 -- the sheet wasn't read
 pub query_unread_cause : (call : Call) (name : List ℕ) (refusal : Refusal) (report : Report) → report ≡ unopened (Some refusal) →
-    IsReadRefusal call.files name SheetOctets call.read_faults call.read_faults' refusal → IsQueryCaused call name report.refusal
+    IsInputRefusal call.files name SheetOctets call.read_faults call.read_faults' refusal → IsQueryCaused call name report.refusal
 query_unread_cause call name refusal report is h = subst (λ (r : Report). IsQueryCaused call name r.refusal) (sym is) (unread_cause call name refusal h)
 
 unopened_cause : (call : Call) (name : List ℕ) (refusal : Refusal) → IsOpenAnswer refusal → HasSheet call.files name → IsQueryCaused call name (Some refusal)

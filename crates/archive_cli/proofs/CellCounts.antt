@@ -12,7 +12,7 @@ use Rattle.yarch_table.specs.Stored.{rows_of}
 use Rattle.dump_lines.specs.declared.rows.DumpTable.{DumpTable}
 use Rattle.dump_lines.specs.DumpTable.{IsDumpTable}
 use Rattle.archive_cli.specs.ReadDump.{dump_limit}
-use Rattle.archive_cli.specs.ValuesPrinting.{count_if, count_of}
+use Rattle.archive_cli.specs.ValuesPrinting.{count_if, cells_in_row}
 
 count-cases : (o : Option Cell) (cells : List Cell) → length (cons_option o cells) ≡ count_if o + length cells
 count-cases None cells = omega arith
@@ -20,8 +20,8 @@ count-cases (Some cell) cells = omega arith
 
 -- the cells of a row, and of others
 pub count_next : (db : Database) (number : ℕ) (row : Row) (rows : List Row) →
-    length (filter_map (cell_of db number) (row ∷ rows)) ≡ count_of db number row + length (filter_map (cell_of db number) rows)
-unfolding count_of
+    length (filter_map (cell_of db number) (row ∷ rows)) ≡ cells_in_row db number row + length (filter_map (cell_of db number) rows)
+unfolding cells_in_row
 count_next db number row rows = count-cases (cell_of db number row) (filter_map (cell_of db number) rows)
 
 few-cases : (o : Option Cell) (cells : List Cell) (n : ℕ) → length cells ≤ n → length (cons_option o cells) ≤ n + 1

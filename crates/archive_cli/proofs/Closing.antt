@@ -7,12 +7,12 @@ use Rattle.space_packet.specs.declared.dump.Why.{Why}
 use Rattle.space_packet.specs.declared.dump.Why.TheVariants as why
 use Rattle.archive_store.specs.StoreView.{StoreView}
 use Rattle.archive_cli.specs.declared.report.Report.{Report}
-use Rattle.archive_cli.specs.Loading.{IsClosed, IsStoreClosed, IsLetGo, IsReopened}
+use Rattle.archive_cli.specs.Loading.{IsStoreAtEnd, IsStoreClosed, IsLetGo, IsReopened}
 use Rattle.dump_lines.specs.Output.{IsFinished}
 use Rattle.archive_cli.specs.ReadDump.{ending_of}
 
 module _ {D : Type 0} (device : Device D) (store : StoreView D) where
-  printed_cases : (refusal : Option Refusal) (before now : Option (List ℕ)) (text : List ℕ) → IsFinished refusal before now text → IsClosed device refusal store store
+  printed_cases : (refusal : Option Refusal) (before now : Option (List ℕ)) (text : List ℕ) → IsFinished refusal before now text → IsStoreAtEnd device refusal store store
   printed_cases None before now text finished = refl
   printed_cases (Some WriteFault) before now text finished = refl
   printed_cases (Some other) before now text finished = absurd finished
@@ -22,7 +22,7 @@ module _ {D : Type 0} (device : Device D) (store : StoreView D) where
       → IsLetGo device store refusal disk
   printed_closed refusal disk before now text finished closed_store = record { last = store; closed = printed_cases refusal before now text finished; closed_store = closed_store }
 
-  bad_cases : (reason : Why) (at : ℕ) → IsClosed device (ending_of reason at) store store
+  bad_cases : (reason : Why) (at : ℕ) → IsStoreAtEnd device (ending_of reason at) store store
   bad_cases why.End at = refl
   bad_cases why.Version at = refl
   bad_cases why.Truncated at = refl
@@ -32,12 +32,12 @@ module _ {D : Type 0} (device : Device D) (store : StoreView D) where
       → IsLetGo device store report.refusal disk
   bad_closed reason at refusal report disk ending is closed_store = record {
     last = store;
-    closed = subst (λ (o : Option Refusal). IsClosed device o store store) (sym is) (subst (λ (o : Option Refusal). IsClosed device o store store) ending (bad_cases reason at));
+    closed = subst (λ (o : Option Refusal). IsStoreAtEnd device o store store) (sym is) (subst (λ (o : Option Refusal). IsStoreAtEnd device o store store) ending (bad_cases reason at));
     closed_store = closed_store;
   }
 
 -- a batch of it was refused
 pub refused_closed : {D : Type 0} (device : Device D) (store last : StoreView D) (refusal : Refusal) → (refusal ≢ DiskFault → last ≡ store) → (refusal ≡ DiskFault → IsReopened device store last)
-    → IsClosed device (Some refusal) store last
+    → IsStoreAtEnd device (Some refusal) store last
 refused_closed device store last DiskFault same reopened = reopened refl
 refused_closed device store last other same reopened = same (λ e. cc)

@@ -16,7 +16,7 @@ use Rattle.dump_lines.specs.declared.print_fault.PrintFault.{PrintFault}
 use Rattle.dump_lines.specs.declared.print_fault.PrintFault.TheVariants as printing
 use Rattle.dump_lines.specs.Output.{WritesCounted}
 use Rattle.retrieval.specs.Parameter.{IsNoParameter, first_refusal, number_named, parameter_refusal}
-use Rattle.archive_cli.specs.Reading.{IsReadRefusal, IsSheetsRefusal}
+use Rattle.archive_cli.specs.Reading.{IsInputRefusal, IsSheetsRefusal}
 use Rattle.archive_cli.specs.ReadDump.{ending_of}
 use Rattle.archive_cli.specs.ValuesPrinting.{PrintCounted, refusal_of_print}
 
@@ -69,7 +69,7 @@ sheets_unwritten files parameters calibrations containers faults faults' WriteFa
 sheets_unwritten files parameters calibrations containers faults faults' refusal writes h = refl
 
 pub input_unwritten : (files : Option Files) (name : List ℕ) (which : Which) (faults faults' : ℕ) (refusal : Refusal) (writes : ℕ) →
-    IsReadRefusal files name which faults faults' refusal → WritesCounted (Some refusal) writes writes
+    IsInputRefusal files name which faults faults' refusal → WritesCounted (Some refusal) writes writes
 input_unwritten files name which faults faults' WriteFault writes h = absurd h
 input_unwritten files name which faults faults' refusal writes h = refl
 

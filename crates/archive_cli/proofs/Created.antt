@@ -27,7 +27,7 @@ use Rattle.archive_store.specs.Stands.{StandsFor}
 use Rattle.archive_cli.specs.declared.report.Report.{Report}
 use Rattle.archive_cli.specs.Call.{Call, WritesNothing}
 use Rattle.dump_lines.specs.Output.{WritesCounted, IsFinished}
-use Rattle.archive_cli.specs.ReadOnly.{IsUntouched}
+use Rattle.archive_cli.specs.ReadOnly.{IsReadAsBefore}
 use Rattle.archive_cli.specs.CreateEnding.{AreGood, AreRefused, create_line, HoldsOne, IsCreateEnding, IsMade, IsStillNone, new_head}
 use Rattle.command_words.specs.Job.{SheetWords}
 use Rattle.retrieval.specs.Parameter.{broken_rule, passed_limit, refusal_of_sheets, sheets_refusal}
@@ -114,7 +114,7 @@ sheet_disk refusal h e = let same : refusal ≡ DiskFault = cc in subst IsSheetA
 -- ---- the endings
 
 refused_cases : {D : Type 0} (device : Device D) (call : Call) (words : SheetWords) (old new : D) (refusal : Refusal) → IsSheetAnswer refusal →
-    AreRefused call.files words call.read_faults call.read_faults' refusal → WritesNothing call → IsUntouched device old new →
+    AreRefused call.files words call.read_faults call.read_faults' refusal → WritesNothing call → IsReadAsBefore device old new →
     IsCreateEnding device call words old new (Some refusal) (unopened (Some refusal))
 refused_cases device call words old new (Missing name) kind refused silent disk = (refused, record { silent = silent; disk = disk; report_is = refl })
 refused_cases device call words old new ReadFault kind refused silent disk = (refused, record { silent = silent; disk = disk; report_is = refl })
@@ -125,19 +125,19 @@ refused_cases device call words old new other kind refused silent disk = absurd 
 
 -- the sheets are refused
 pub create_refused : {D : Type 0} (device : Device D) (call : Call) (words : SheetWords) (old new : D) (refusal : Refusal) (report : Report) → report ≡ unopened (Some refusal) →
-    AreRefused call.files words call.read_faults call.read_faults' refusal → WritesNothing call → IsUntouched device old new → IsCreateEnding device call words old new report.refusal report
+    AreRefused call.files words call.read_faults call.read_faults' refusal → WritesNothing call → IsReadAsBefore device old new → IsCreateEnding device call words old new report.refusal report
 create_refused device call words old new refusal report is refused silent disk =
     subst (λ (r : Report). IsCreateEnding device call words old new r.refusal r) (sym is)
     (refused_cases device call words old new refusal (refused_kind call.files words call.read_faults call.read_faults' refusal refused) refused silent disk)
 
 -- there was no memory for the line
 pub create_unbegun : {D : Type 0} (device : Device D) (call : Call) (words : SheetWords) (old new : D) (report : Report) → report ≡ unopened (Some OutOfMemory) →
-    WritesNothing call → IsUntouched device old new → IsCreateEnding device call words old new report.refusal report
+    WritesNothing call → IsReadAsBefore device old new → IsCreateEnding device call words old new report.refusal report
 create_unbegun device call words old new report is silent disk =
     subst (λ (r : Report). IsCreateEnding device call words old new r.refusal r) (sym is) (record { silent = silent; disk = disk; report_is = refl })
 
-same_untouched : {D : Type 0} (device : Device D) (old new : D) → new ≡ old → IsUntouched device old new
-same_untouched device old new same = subst (λ d. IsUntouched device old d) (sym same) (untouched device old)
+same_untouched : {D : Type 0} (device : Device D) (old new : D) → new ≡ old → IsReadAsBefore device old new
+same_untouched device old new same = subst (λ d. IsReadAsBefore device old d) (sym same) (untouched device old)
 
 -- one that failed once has fewer than two faults more
 pub fewer_than_two : {D : Type 0} (device : Device D) (old new : D) → FailedAtMostOnce device old new → device.fault_count new < raised (raised (device.fault_count old))
@@ -148,7 +148,7 @@ fewer_than_two device old new one = few (device.fault_count old) (device.fault_c
 
 unmade_cases : {D : Type 0} (device : Device D) (call : Call) (words : SheetWords) (old new : D) (raw : RawMdb) (refusal : Refusal) → AreGood call.files words raw → WritesNothing call →
     IsCreateRefusal (device.reads old) (device.reads new) refusal → (refusal ≡ DiskFault → raised (device.fault_count old) ≤ device.fault_count new) → (refusal ≡ OutOfMemory → new ≡ old) →
-    (HoldsOne (device.reads old) → IsUntouched device old new) → (HoldsNone (device.reads old 0) → LeavesOnly device old new (IsCreateImage (device.images old) (new_head raw))) →
+    (HoldsOne (device.reads old) → IsReadAsBefore device old new) → (HoldsNone (device.reads old 0) → LeavesOnly device old new (IsCreateImage (device.images old) (new_head raw))) →
     (refusal ≡ DiskFault → HoldsNone (device.reads old 0) → FailedAtMostOnce device old new → IsStillNone device old new) →
     IsCreateEnding device call words old new (Some refusal) (unopened (Some refusal))
 unmade_cases device call words old new raw Exists good silent h cause memory kept images closed =
@@ -162,7 +162,7 @@ unmade_cases device call words old new raw other good silent h cause memory kept
 -- no archive was made
 pub create_unmade : {D : Type 0} (device : Device D) (call : Call) (words : SheetWords) (old new : D) (raw : RawMdb) (refusal : Refusal) (report : Report) → report ≡ unopened (Some refusal) →
     AreGood call.files words raw → WritesNothing call → IsCreateRefusal (device.reads old) (device.reads new) refusal →
-    (refusal ≡ DiskFault → raised (device.fault_count old) ≤ device.fault_count new) → (refusal ≡ OutOfMemory → new ≡ old) → (HoldsOne (device.reads old) → IsUntouched device old new) →
+    (refusal ≡ DiskFault → raised (device.fault_count old) ≤ device.fault_count new) → (refusal ≡ OutOfMemory → new ≡ old) → (HoldsOne (device.reads old) → IsReadAsBefore device old new) →
     (HoldsNone (device.reads old 0) → LeavesOnly device old new (IsCreateImage (device.images old) (new_head raw))) →
     (refusal ≡ DiskFault → HoldsNone (device.reads old 0) → FailedAtMostOnce device old new → IsStillNone device old new) → IsCreateEnding device call words old new report.refusal report
 create_unmade device call words old new raw refusal report is good silent h cause memory kept images closed =
@@ -186,7 +186,7 @@ created device call words old new raw refusal report is good made text count =
 
 -- ---- the store
 
-pub left_alone : {D : Type 0} (device : Device D) (old new : D) → JournalLeft device old new → IsUntouched device old new
+pub left_alone : {D : Type 0} (device : Device D) (old new : D) → JournalLeft device old new → IsReadAsBefore device old new
 left_alone device old new h = record { reads = h.reads_same; images = h.moments }
 
 no_front : {A : Type 0} (xs t : List A) → xs ++ t ≡ [] → xs ≡ []

@@ -25,7 +25,7 @@ use Rattle.outer_traits.specs.Outside.{Files}
 use Rattle.outer_traits.specs.Whole.{IsThere}
 use Rattle.archive_store.specs.Entries.{Archive}
 use Rattle.archive_history.specs.Limits.{IsLimit, IsWithin}
-use Rattle.archive_store.specs.Stands.{StandsFor, IsDamagedAt}
+use Rattle.archive_store.specs.Stands.{StandsFor, IsArchiveDamagedAt}
 use Rattle.archive_store.proofs.Admitting.{passed_not_within}
 use Rattle.archive_store.proofs.Exact.{damaged_once, none_not_damaged, none_not_stands, stands_not_damaged, stands_once}
 use Rattle.archive_history.proofs.Sums.{within_less}
@@ -145,7 +145,7 @@ module _ {D : Type 0} (device : Device D) (call : Call) (all : Files) (words : L
     none_or (Some other) report h fault none = absurd h
 
     pub damaged_or : (ending : Option Refusal) (report : Report) → IsLoadEnding device call words old new ending report → IsLoadFault given given' old new report ending → (at : ℕ) →
-        IsDamagedAt (device.reads old) at → IsOrEarlier given given' 0 ending (Some (Damaged 0 at))
+        IsArchiveDamagedAt (device.reads old) at → IsOrEarlier given given' 0 ending (Some (Damaged 0 at))
     damaged_or None report h fault at bad = absurd (stands_not_damaged (device.reads old) h.line.whole.run.before at h.line.whole.run.stands bad)
     damaged_or (Some WriteFault) report h fault at bad = absurd (stands_not_damaged (device.reads old) h.1.line.whole.run.before at h.1.line.whole.run.stands bad)
     damaged_or (Some (BadPacket there kind)) report h fault at bad = absurd (stands_not_damaged (device.reads old) h.0.whole.run.before at h.0.whole.run.stands bad)
@@ -166,7 +166,7 @@ module _ {D : Type 0} (device : Device D) (call : Call) (all : Files) (words : L
       unheld : HoldsNone (device.reads old 0) → ⊥
       unheld none = none_not_stands (device.reads old) archive none stands
 
-      undamaged : (at : ℕ) → IsDamagedAt (device.reads old) at → ⊥
+      undamaged : (at : ℕ) → IsArchiveDamagedAt (device.reads old) at → ⊥
       undamaged at bad = stands_not_damaged (device.reads old) archive at stands bad
 
       pub no_link_or : (ending : Option Refusal) (report : Report) → IsLoadEnding device call words old new ending report → IsLoadFault given given' old new report ending → limit_of Links < words.link →
@@ -195,7 +195,7 @@ module _ {D : Type 0} (device : Device D) (call : Call) (all : Files) (words : L
       not_none : HoldsNone (device.reads old 0) → ⊥
       not_none none = none_not_stands (device.reads old) archive none stands
 
-      not_damaged : (at : ℕ) → IsDamagedAt (device.reads old) at → ⊥
+      not_damaged : (at : ℕ) → IsArchiveDamagedAt (device.reads old) at → ⊥
       not_damaged at bad = stands_not_damaged (device.reads old) archive at stands bad
 
       module _ (near : words.link ≤ limit_of Links) where

@@ -11,7 +11,7 @@ use Rattle.space_packet.specs.declared.dump.Why.TheVariants as why
 use Rattle.archive_store.specs.StoreView.{StoreView}
 use Rattle.archive_cli.specs.declared.batches.DumpSummary.{DumpSummary}
 use Rattle.archive_cli.specs.declared.report.Report.{Report}
-use Rattle.archive_cli.specs.Batches.{arrived, rows_of_link, HasIngested, IsIngested, IsStopped}
+use Rattle.archive_cli.specs.Batches.{arrived, rows_of_link, HasIngested, IsIngested, IsStoppedAt}
 use Rattle.archive_cli.specs.LoadEnding.{load_line, line_of_load}
 use Rattle.archive_cli.specs.Loading.{printed_report, IsLoadOutcome}
 use Rattle.dump_lines.specs.Output.{IsFinished}
@@ -60,7 +60,7 @@ module _ {D : Type 0} (old new : StoreView D) (dump : List ℕ) (link : ℕ) (mo
   pub grown_whole : (whole : DumpSummary) → IsIngested old new dump link moment whole → length old.history ≤ length new.history
   grown_whole whole i = grown i.packets i.done
 
-  pub grown_stopped : (refusal : Refusal) → IsStopped old new dump link moment refusal → length old.history ≤ length new.history
+  pub grown_stopped : (refusal : Refusal) → IsStoppedAt old new dump link moment refusal → length old.history ≤ length new.history
   grown_stopped refusal s = grown (take s.place s.packets) s.done
 
   -- and by no more rows than packets that aren't idle
@@ -159,13 +159,13 @@ module _ {D : Type 0} (old new : StoreView D) (dump : List ℕ) (link : ℕ) (mo
         (bad_cases whole i whole.why refl (Some refusal) ending refusal refl silent report is)
 
     -- a batch was refused
-    went_stopped : (refusal : Refusal) (report : Report) → IsStopped old new dump link moment refusal → written' ≡ written
+    went_stopped : (refusal : Refusal) (report : Report) → IsStoppedAt old new dump link moment refusal → written' ≡ written
         → report ≡ loaded (Some refusal) None (length old.history) (length new.history) 0 0 0 → IsLoadOutcome old new dump link moment written written' (Some refusal) report
     went_stopped WriteFault report s silent is = absurd s.cause
     went_stopped (BadPacket at kind) report s silent is = absurd s.cause
     went_stopped other report s silent is = (s, silent, is)
 
-    pub session_stopped : (refusal : Refusal) (report : Report) → IsStopped old new dump link moment refusal → written' ≡ written
+    pub session_stopped : (refusal : Refusal) (report : Report) → IsStoppedAt old new dump link moment refusal → written' ≡ written
         → report ≡ loaded (Some refusal) None (length old.history) (length new.history) 0 0 0 → IsLoadOutcome old new dump link moment written written' report.refusal report
     session_stopped refusal report s silent is =
         by_refusal (Some refusal) report None (length old.history) (length new.history) 0 0 0 is (went_stopped refusal report s silent is)

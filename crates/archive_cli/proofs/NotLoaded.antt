@@ -9,14 +9,14 @@ use Rattle.arch_types.specs.declared.refusal.Which.TheVariants.{DumpOctets, Link
 use Rattle.mdb_sheets.specs.Sheets.{ReadsCounted}
 use Rattle.outer_traits.specs.declared.fault.OpenFault.{OpenFault}
 use Rattle.outer_traits.specs.declared.fault.OpenFault.TheVariants.{Missing, Failed, OutOfMemory}
-use Rattle.outer_traits.specs.Outside.{Files, Gives, OpeningCounted}
+use Rattle.outer_traits.specs.Outside.{Files, IsLeftAtFirst, OpeningCounted}
 use Rattle.outer_traits.specs.Whole.{IsInput, IsThere}
 use Rattle.archive_store.specs.Entries.{Archive}
 use Rattle.archive_cli.specs.declared.report.Report.{Report}
 use Rattle.archive_cli.specs.Call.{Call, WritesNothing}
 use Rattle.archive_cli.specs.ReadOnly.{IsReadOnly}
 use Rattle.command_words.specs.Job.{LoadWords}
-use Rattle.archive_cli.specs.LoadEnding.{IsLoadEnding, IsNotBegun, IsNothingLoaded}
+use Rattle.archive_cli.specs.LoadEnding.{IsLoadEnding, IsLoadNotBegun, IsNothingLoaded}
 use Rattle.archive_cli.specs.Loading.{IsOpeningFault, IsDumpRefusal}
 use Rattle.archive_cli.specs.Report.{unopened, read_only}
 use Rattle.archive_cli.proofs.ReadOnly.{untouched}
@@ -24,7 +24,7 @@ use Rattle.archive_cli.proofs.ReadOnly.{untouched}
 -- ---- inputs
 
 -- what a source gives is what the files have at its name
-gives_all : (all : Files) (name : List ℕ) (left : Option (List ℕ)) (P : List ℕ → Type 0) → Gives (Some all) name left → IfSome left P → IsSomeAnd (get all name) P
+gives_all : (all : Files) (name : List ℕ) (left : Option (List ℕ)) (P : List ℕ → Type 0) → IsLeftAtFirst (Some all) name left → IfSome left P → IsSomeAnd (get all name) P
 gives_all all name left P g h = go (get all name) g
   where
     go : (o : Option (List ℕ)) → IsSomeAnd o (λ octets. left ≡ Some octets) → IsSomeAnd o P
@@ -35,16 +35,16 @@ some_is : (o : Option (List ℕ)) (dump : List ℕ) → IsSomeAnd o (λ octets. 
 some_is None dump h = absurd h
 some_is (Some octets) dump h = ap (λ (l : List ℕ). Some l) h
 
-pub gives_input : (files : Option Files) (name : List ℕ) (left : Option (List ℕ)) (dump : List ℕ) → Gives files name left → IfSome left (λ octets. octets ≡ dump) → IsInput files name dump
+pub gives_input : (files : Option Files) (name : List ℕ) (left : Option (List ℕ)) (dump : List ℕ) → IsLeftAtFirst files name left → IfSome left (λ octets. octets ≡ dump) → IsInput files name dump
 gives_input None name left dump g h = tt
 gives_input (Some all) name left dump g h = some_is (get all name) dump (gives_all all name left (λ octets. octets ≡ dump) g h)
 
-gives_long : (files : Option Files) (name : List ℕ) (left : Option (List ℕ)) (most : ℕ) → Gives files name left → IfSome left (λ octets. most < length octets)
+gives_long : (files : Option Files) (name : List ℕ) (left : Option (List ℕ)) (most : ℕ) → IsLeftAtFirst files name left → IfSome left (λ octets. most < length octets)
     → IfSome files (λ all. IsSomeAnd (get all name) (λ dump. most < length dump))
 gives_long None name left most g h = tt
 gives_long (Some all) name left most g h = gives_all all name left (λ octets. most < length octets) g h
 
-pub gives_there : (files : Option Files) (name : List ℕ) (left : Option (List ℕ)) → Gives files name left → IsThere files name
+pub gives_there : (files : Option Files) (name : List ℕ) (left : Option (List ℕ)) → IsLeftAtFirst files name left → IsThere files name
 gives_there None name left g = tt
 gives_there (Some all) name left g = go (get all name) g
   where
@@ -74,7 +74,7 @@ still_there X (Some all) name h = go (get all name) h.1
 -- ---- endings
 
 module _ {D : Type 0} (device : Device D) (call : Call) (words : LoadWords) (silent : WritesNothing call) where
-  abbrev not_begun : (disk : D) (refusal : Refusal) → IsNotBegun device call disk disk (unopened (Some refusal))
+  abbrev not_begun : (disk : D) (refusal : Refusal) → IsLoadNotBegun device call disk disk (unopened (Some refusal))
   not_begun disk refusal = record { silent = silent; disk = untouched device disk; report_is = refl }
 
   -- an ending by the report
@@ -115,7 +115,7 @@ module _ {D : Type 0} (device : Device D) (call : Call) (words : LoadWords) (sil
     report_is = ap (unread_report archive refusal) is;
   }
 
-  unread_cases : (old new : D) (archive : Archive) (left : Option (List ℕ)) (refusal : Refusal) (link : Option ℕ) → Gives call.files words.dump left → IsDumpRefusal left words.link refusal link
+  unread_cases : (old new : D) (archive : Archive) (left : Option (List ℕ)) (refusal : Refusal) (link : Option ℕ) → IsLeftAtFirst call.files words.dump left → IsDumpRefusal left words.link refusal link
       → IsReadOnly device old new archive → ReadsCounted (Some refusal) call.read_faults call.read_faults' → IsLoadEnding device call words old new (Some refusal) (unread_report archive refusal link)
   unread_cases old new archive left (refused.Limit DumpOctets most) link gives u disk counted = (
     (u.0, u.1, gives_long call.files words.dump left most gives u.3),
@@ -137,7 +137,7 @@ module _ {D : Type 0} (device : Device D) (call : Call) (words : LoadWords) (sil
 
   -- an archive was opened, and the dump wasn't read to its end
   pub not_read : (old new : D) (archive : Archive) (left : Option (List ℕ)) (refusal : Refusal) (link : Option ℕ) (report : Report)
-      → report ≡ record (read_only (Some refusal) (length archive.history)) { link = link } → Gives call.files words.dump left → IsDumpRefusal left words.link refusal link
+      → report ≡ record (read_only (Some refusal) (length archive.history)) { link = link } → IsLeftAtFirst call.files words.dump left → IsDumpRefusal left words.link refusal link
       → IsReadOnly device old new archive → ReadsCounted (Some refusal) call.read_faults call.read_faults' → IsLoadEnding device call words old new report.refusal report
   not_read old new archive left refusal link report same gives u disk counted =
       reported old new (Some refusal) report (unread_report archive refusal link) same refl (unread_cases old new archive left refusal link gives u disk counted)

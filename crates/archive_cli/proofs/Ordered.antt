@@ -20,7 +20,7 @@ use Rattle.archive_cli.specs.declared.report.Report.{Report}
 use Rattle.archive_cli.specs.Expecting.{IsOrEarlier}
 use Rattle.archive_cli.specs.Order.{AreInOrder, Input, IsLoadFault, create_inputs, first_unread, unread_at, values_inputs}
 use Rattle.command_words.specs.Job.{SheetWords, ValuesWords}
-use Rattle.archive_cli.specs.Reading.{IsReadRefusal}
+use Rattle.archive_cli.specs.Reading.{IsInputRefusal}
 use Rattle.archive_cli.specs.Loading.{IsLoadRun, IsLoadOutcome}
 use Rattle.archive_cli.specs.Report.{read_only, unopened}
 use Rattle.archive_cli.specs.ValuesExpected.{refusal_of_input}
@@ -88,7 +88,7 @@ module _ (all : Files) (given given' : ℕ) where
 
   -- the first wasn't read, for its cause
   pub read_in_order : (k : ℕ) (name : List ℕ) (which : Which) (inputs : List Input) (faults faults' : ℕ) (refusal : Refusal) → given' ≤ given + suc k
-      → IsReadRefusal (Some all) name which faults faults' refusal → Ordered k ((name, which) ∷ inputs) (Some refusal)
+      → IsInputRefusal (Some all) name which faults faults' refusal → Ordered k ((name, which) ∷ inputs) (Some refusal)
   read_in_order k name which inputs faults faults' (Missing lacking) few h =
       refused_first k (name, which) inputs (Missing lacking) (absent which name lacking (get all name) h.0 h.1)
   read_in_order k name which inputs faults faults' ReadFault few h = failed_first k (name, which) inputs h.1 few
@@ -133,7 +133,7 @@ whole_fine : (all : Files) (name octets : List ℕ) (which : Which) → get all 
 whole_fine all name octets which is short = within which name (get all name) (rw is short)
 
 sheet_read : (all : Files) (name : List ℕ) (faults faults' : ℕ) (refusal : Refusal) → IsSheetRefusal (Some all) name faults faults' refusal
-    → IsReadRefusal (Some all) name SheetOctets faults faults' refusal
+    → IsInputRefusal (Some all) name SheetOctets faults faults' refusal
 sheet_read all name faults faults' (Missing lacking) h = h
 sheet_read all name faults faults' ReadFault h = h
 sheet_read all name faults faults' (Limit which number) h = (h.0, h.1, subst (λ (n : ℕ). IsSomeAnd (get all name) (λ octets. n < length octets)) (sym h.1) h.2)
@@ -147,7 +147,7 @@ memory_in_order (Some all) inputs given given' = without_memory all given given'
 
 -- one input that wasn't read
 pub input_in_order : (files : Option Files) (name : List ℕ) (which : Which) (faults faults' given given' : ℕ) (refusal : Refusal) → given' ≤ given + 1
-    → IsReadRefusal files name which faults faults' refusal → AreInOrder files ((name, which) ∷ []) given given' (Some refusal)
+    → IsInputRefusal files name which faults faults' refusal → AreInOrder files ((name, which) ∷ []) given given' (Some refusal)
 input_in_order None name which faults faults' given given' refusal few h = tt
 input_in_order (Some all) name which faults faults' given given' refusal few h = read_in_order all given given' 0 name which [] faults faults' refusal few h
 
@@ -202,7 +202,7 @@ created_in_order (Some all) words given given' ending raw sheets =
 -- and the dump behind them wasn't
 pub undumped_in_order : (files files' : Option Files) (words : ValuesWords) (faults faults' given before given' : ℕ) (refusal : Refusal) (raw : RawMdb)
     → AreSheets files words.parameters words.calibrations words.containers raw → files' ≡ files → before ≡ more 3 given → given' ≤ before + 1
-    → IsReadRefusal files' words.dump DumpOctets faults faults' refusal → AreInOrder files (values_inputs words) given given' (Some refusal)
+    → IsInputRefusal files' words.dump DumpOctets faults faults' refusal → AreInOrder files (values_inputs words) given given' (Some refusal)
 undumped_in_order None files' words faults faults' given before given' refusal raw sheets same three few h = tt
 undumped_in_order (Some all) files' words faults faults' given before given' refusal raw sheets same three few h =
     past_sheets all words.parameters words.calibrations words.containers ((words.dump, DumpOctets) ∷ []) given given' (Some refusal) raw sheets

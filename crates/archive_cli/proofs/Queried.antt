@@ -19,9 +19,9 @@ use Rattle.archive_cli.specs.declared.ask_sheet.AskSheet.TheVariants.{Read, Refu
 use Rattle.archive_cli.specs.declared.report.Report.{Report}
 use Rattle.archive_cli.specs.Call.{Call, WritesNothing}
 use Rattle.dump_lines.specs.Output.{WritesCounted}
-use Rattle.archive_cli.specs.ReadOnly.{IsReadOnly, IsOpeningRefusal, IsUntouched}
+use Rattle.archive_cli.specs.ReadOnly.{IsReadOnly, IsOpeningRefusal, IsReadAsBefore}
 use Rattle.archive_cli.specs.QueryEnding.{AreRefusedAsks, IsAskSheet, IsQueryEnding, IsReply, IsSheetReply, IsDeferred, is_deferred}
-use Rattle.archive_cli.specs.Reading.{IsReadRefusal}
+use Rattle.archive_cli.specs.Reading.{IsInputRefusal}
 use Rattle.archive_cli.specs.Report.{unopened, read_only}
 
 -- ---- the sheet wasn't read
@@ -34,7 +34,7 @@ IsInputAnswer OutOfMemory = Unit {0}
 IsInputAnswer other = ⊥
 
 unread_cases : {D : Type 0} (device : Device D) (call : Call) (name : List ℕ) (old new : D) (refusal : Refusal) →
-    IsReadRefusal call.files name SheetOctets call.read_faults call.read_faults' refusal → WritesNothing call → IsUntouched device old new →
+    IsInputRefusal call.files name SheetOctets call.read_faults call.read_faults' refusal → WritesNothing call → IsReadAsBefore device old new →
     IsQueryEnding device call name old new (Some refusal) (unopened (Some refusal))
 unread_cases device call name old new (Missing lacking) h silent disk = (h, record { silent = silent; disk = disk; report_is = refl })
 unread_cases device call name old new ReadFault h silent disk = (h, record { silent = silent; disk = disk; report_is = refl })
@@ -44,12 +44,12 @@ unread_cases device call name old new OutOfMemory h silent disk = inl (record { 
 unread_cases device call name old new other h silent disk = absurd h
 
 pub query_unread : {D : Type 0} (device : Device D) (call : Call) (name : List ℕ) (old new : D) (refusal : Refusal) (report : Report) → report ≡ unopened (Some refusal) →
-    IsReadRefusal call.files name SheetOctets call.read_faults call.read_faults' refusal → WritesNothing call → IsUntouched device old new →
+    IsInputRefusal call.files name SheetOctets call.read_faults call.read_faults' refusal → WritesNothing call → IsReadAsBefore device old new →
     IsQueryEnding device call name old new report.refusal report
 query_unread device call name old new refusal report is h silent disk =
     subst (λ (r : Report). IsQueryEnding device call name old new r.refusal r) (sym is) (unread_cases device call name old new refusal h silent disk)
 
-pub read_writes : (files : Option Files) (name : List ℕ) (faults faults' : ℕ) (refusal : Refusal) → IsReadRefusal files name SheetOctets faults faults' refusal →
+pub read_writes : (files : Option Files) (name : List ℕ) (faults faults' : ℕ) (refusal : Refusal) → IsInputRefusal files name SheetOctets faults faults' refusal →
     (n : ℕ) → WritesCounted (Some refusal) n n
 read_writes files name faults faults' (Missing lacking) h n = refl
 read_writes files name faults faults' ReadFault h n = refl
@@ -57,15 +57,15 @@ read_writes files name faults faults' (Limit which number) h n = refl
 read_writes files name faults faults' OutOfMemory h n = refl
 read_writes files name faults faults' other h n = absurd h
 
-pub read_disk : (files : Option Files) (name : List ℕ) (faults faults' : ℕ) (refusal : Refusal) → IsReadRefusal files name SheetOctets faults faults' refusal →
+pub read_disk : (files : Option Files) (name : List ℕ) (faults faults' : ℕ) (refusal : Refusal) → IsInputRefusal files name SheetOctets faults faults' refusal →
     ◌≡◌ {A = Option Refusal} (Some refusal) (Some DiskFault) → ⊥
 read_disk files name faults faults' refusal h e =
-    let same : refusal ≡ DiskFault = cc in subst (λ (r : Refusal). IsReadRefusal files name SheetOctets faults faults' r) same h
+    let same : refusal ≡ DiskFault = cc in subst (λ (r : Refusal). IsInputRefusal files name SheetOctets faults faults' r) same h
 
 -- ---- no archive was opened
 
 unopened_cases : {D : Type 0} (device : Device D) (call : Call) (name : List ℕ) (old new : D) (refusal : Refusal) → HasSheet call.files name →
-    IsOpeningRefusal device old new refusal → WritesNothing call → IsUntouched device old new → IsQueryEnding device call name old new (Some refusal) (unopened (Some refusal))
+    IsOpeningRefusal device old new refusal → WritesNothing call → IsReadAsBefore device old new → IsQueryEnding device call name old new (Some refusal) (unopened (Some refusal))
 unopened_cases device call name old new NoArchive input cause silent disk = record { input = input; cause = cause; silent = silent; disk = disk; report_is = refl }
 unopened_cases device call name old new (Damaged file at) input cause silent disk = record { input = input; cause = cause; silent = silent; disk = disk; report_is = refl }
 unopened_cases device call name old new DiskFault input cause silent disk = record { input = input; cause = cause; silent = silent; disk = disk; report_is = refl }
@@ -73,7 +73,7 @@ unopened_cases device call name old new OutOfMemory input cause silent disk = in
 unopened_cases device call name old new other input cause silent disk = absurd cause
 
 pub query_unopened : {D : Type 0} (device : Device D) (call : Call) (name : List ℕ) (old new : D) (refusal : Refusal) (report : Report) → report ≡ unopened (Some refusal) →
-    HasSheet call.files name → IsOpeningRefusal device old new refusal → WritesNothing call → IsUntouched device old new →
+    HasSheet call.files name → IsOpeningRefusal device old new refusal → WritesNothing call → IsReadAsBefore device old new →
     IsQueryEnding device call name old new report.refusal report
 query_unopened device call name old new refusal report is input cause silent disk =
     subst (λ (r : Report). IsQueryEnding device call name old new r.refusal r) (sym is) (unopened_cases device call name old new refusal input cause silent disk)

@@ -15,11 +15,11 @@ use Rattle.arch_types.specs.Limits.{limit_of}
 use Rattle.disk_journal.specs.Format.{HoldsNone}
 use Rattle.mdb_items.specs.Checks.{or_else}
 use Rattle.mdb_items.specs.Database.{Database}
-use Rattle.mdb_sheets.specs.Asks.{AreAsks, IsAsksResult, IsAsksRefusal, ask_of, sheet_fault}
+use Rattle.mdb_sheets.specs.Asks.{AreAsks, IsAsksResult, IsAsksRefusal, ask_of, ask_sheet_fault}
 use Rattle.mdb_sheets.specs.Sheets.{Fields, HasSheet, sheet_of}
 use Rattle.outer_traits.specs.Outside.{Files}
 use Rattle.archive_store.specs.Entries.{Archive}
-use Rattle.archive_store.specs.Stands.{StandsFor, IsDamagedAt}
+use Rattle.archive_store.specs.Stands.{StandsFor, IsArchiveDamagedAt}
 use Rattle.archive_store.proofs.Exact.{damaged_once, none_not_damaged, none_not_stands, stands_not_damaged, stands_once}
 use Rattle.archive_cli.specs.declared.report.Report.{Report}
 use Rattle.retrieval.specs.AnswerText.{asks_refusal}
@@ -27,7 +27,7 @@ use Rattle.archive_cli.specs.ArchiveExpected.{IsQueryExpected, NoDiskFault, quer
 use Rattle.archive_cli.specs.Call.{Call}
 use Rattle.archive_cli.specs.Expecting.{IsOrMemory, NoFault}
 use Rattle.archive_cli.specs.QueryEnding.{AreAsksOf, AreRefusedAsks, HasInput, IsAnswered, IsQueryEnding, IsRefusedAsk, is_deferred}
-use Rattle.archive_cli.specs.Reading.{IsReadRefusal}
+use Rattle.archive_cli.specs.Reading.{IsInputRefusal}
 use Rattle.archive_cli.specs.declared.ask_sheet.AskSheet.TheVariants.{Read, Refused}
 use Rattle.archive_cli.proofs.Queried.{sheet_there}
 use Rattle.archive_cli.proofs.Recovered.{not_raised}
@@ -71,16 +71,16 @@ same_bad name row rule e = cc
 same_limit : (number : ℕ) → number ≡ limit_of which.Asks → ◌≡◌ {A = Option Refusal} (Some (Limit which.Asks (limit_of which.Asks))) (Some (Limit which.Asks number))
 same_limit number e = ap (λ (n : ℕ). Some (Limit which.Asks n)) (sym e)
 
-broken_is : (records : List Fields) (asks : Option Refusal) (name : Sheet) (row rule : ℕ) → name ≡ sheet.Asks → sheet_fault records ≡ Some (row, rule) →
+broken_is : (records : List Fields) (asks : Option Refusal) (name : Sheet) (row rule : ℕ) → name ≡ sheet.Asks → ask_sheet_fault records ≡ Some (row, rule) →
     or_else (sheet_refusal records) asks ≡ Some (BadSheet name row rule)
 broken_is records asks name row rule is e = ap (by_fault (more_than records) asks) e ∙ same_bad name row rule is
 
-many_is : (records : List Fields) (asks : Option Refusal) (number : ℕ) → number ≡ limit_of which.Asks → sheet_fault records ≡ None → limit_of which.Asks < length (drop 1 records) →
+many_is : (records : List Fields) (asks : Option Refusal) (number : ℕ) → number ≡ limit_of which.Asks → ask_sheet_fault records ≡ None → limit_of which.Asks < length (drop 1 records) →
     or_else (sheet_refusal records) asks ≡ Some (Limit which.Asks number)
 many_is records asks number is e h =
     ap (by_fault (more_than records) asks) e ∙ ap (λ (more : Bool). by_fault more asks None) (longer (limit_of which.Asks) (length (drop 1 records)) h) ∙ same_limit number is
 
-sound_is : (records : List Fields) (asks : Option Refusal) → sheet_fault records ≡ None → length (drop 1 records) ≤ limit_of which.Asks →
+sound_is : (records : List Fields) (asks : Option Refusal) → ask_sheet_fault records ≡ None → length (drop 1 records) ≤ limit_of which.Asks →
     or_else (sheet_refusal records) asks ≡ asks
 sound_is records asks e h =
     ap (by_fault (more_than records) asks) e ∙ ap (λ (more : Bool). by_fault more asks None) (not-longer (limit_of which.Asks) (length (drop 1 records)) h)
@@ -124,7 +124,7 @@ module _ {D : Type 0} (device : Device D) (call : Call) (all : Files) (name : Li
     | inr asked ↦ absent call.files all name (Asked asked.0) e n asked.1
   ]
 
-  pub missing_read : (refusal : Refusal) → call.files ≡ Some all → IsNone (get all name) → IsReadRefusal call.files name SheetOctets call.read_faults call.read_faults' refusal →
+  pub missing_read : (refusal : Refusal) → call.files ≡ Some all → IsNone (get all name) → IsInputRefusal call.files name SheetOctets call.read_faults call.read_faults' refusal →
       IsOrMemory (Some refusal) (Some (Missing name))
   missing_read (Missing lacking) e n h = inl (ap (λ (l : List ℕ). Some (Missing l)) h.0)
   missing_read ReadFault e n h = absurd (none_some (get all name) n (rw e at h.1))
@@ -161,7 +161,7 @@ module _ {D : Type 0} (device : Device D) (call : Call) (all : Files) (name : Li
   short_asks octets refusal report e d long h = too_long octets e d long (refused_there h.archive refusal h.cause)
 
   pub long_read : (octets : List ℕ) (refusal : Refusal) → call.files ≡ Some all → get all name ≡ Some octets → NoFault call.read_faults call.read_faults' →
-      limit_of SheetOctets < length octets → IsReadRefusal call.files name SheetOctets call.read_faults call.read_faults' refusal →
+      limit_of SheetOctets < length octets → IsInputRefusal call.files name SheetOctets call.read_faults call.read_faults' refusal →
       IsOrMemory (Some refusal) (Some (Limit SheetOctets (limit_of SheetOctets)))
   long_read octets (Missing lacking) e d no_failed_write long h = absurd (some_none (get all name) octets d (rw e at h.1))
   long_read octets ReadFault e d no_failed_write long h = absurd (not_risen call.read_faults call.read_faults' no_failed_write h.0)
@@ -188,7 +188,7 @@ module _ {D : Type 0} (device : Device D) (call : Call) (all : Files) (name : Li
 
   -- a sheet within its limit is read, but for want of memory
   pub read_or : (octets : List ℕ) (refusal : Refusal) (expected : Option Refusal) → call.files ≡ Some all → get all name ≡ Some octets → NoFault call.read_faults call.read_faults' →
-      length octets ≤ limit_of SheetOctets → IsReadRefusal call.files name SheetOctets call.read_faults call.read_faults' refusal → IsOrMemory (Some refusal) expected
+      length octets ≤ limit_of SheetOctets → IsInputRefusal call.files name SheetOctets call.read_faults call.read_faults' refusal → IsOrMemory (Some refusal) expected
   read_or octets (Missing lacking) expected e d no_failed_write short h = absurd (some_none (get all name) octets d (rw e at h.1))
   read_or octets ReadFault expected e d no_failed_write short h = absurd (not_risen call.read_faults call.read_faults' no_failed_write h.0)
   read_or octets (Limit passed number) expected e d no_failed_write short h =
@@ -215,7 +215,7 @@ module _ {D : Type 0} (device : Device D) (call : Call) (all : Files) (name : Li
 
   pub damaged_or : (ending : Option Refusal) (report : Report) → call.files ≡ Some all → IsQueryEnding device call name old new ending report → (octets : List ℕ) →
       get all name ≡ Some octets → NoFault call.read_faults call.read_faults' → length octets ≤ limit_of SheetOctets → NoDiskFault device old new →
-      (at : ℕ) → IsDamagedAt (device.reads old) at → IsOrMemory ending (Some (Damaged 0 at))
+      (at : ℕ) → IsArchiveDamagedAt (device.reads old) at → IsOrMemory ending (Some (Damaged 0 at))
   damaged_or None report e h octets d no_failed_write short whole at bad = absurd (stands_not_damaged (device.reads old) h.archive at h.disk.stands bad)
   damaged_or (Some WriteFault) report e h octets d no_failed_write short whole at bad = absurd (stands_not_damaged (device.reads old) h.1.archive at h.1.disk.stands bad)
   damaged_or (Some NoArchive) report e h octets d no_failed_write short whole at bad = absurd (none_not_damaged (device.reads old) at h.cause bad)

@@ -17,7 +17,7 @@ use Rattle.archive_store.specs.Stands.{StandsFor}
 use Rattle.archive_store.proofs.Exact.{stands_once}
 use Rattle.mdb_sheets.specs.Sheets.{ReadsCounted}
 use Rattle.dump_lines.specs.Output.{WritesCounted}
-use Rattle.archive_cli.specs.ReadOnly.{IsReadOnly, IsOpeningRefusal, IsUntouched}
+use Rattle.archive_cli.specs.ReadOnly.{IsReadOnly, IsOpeningRefusal, IsReadAsBefore}
 
 nothing_more : {A : Type 0} (xs ys t : List A) → xs ++ t ≡ ys → (u : List A) → ys ++ u ≡ xs → ys ≡ xs
 nothing_more xs ys [] e u f = sym e ∙ append-nil xs
@@ -28,7 +28,7 @@ pub same_prefix : {A : Type 0} (xs ys : List A) → IsPrefix xs ys → IsPrefix 
 same_prefix xs ys p q = nothing_more xs ys p.0 p.1 q.0 q.1
 
 -- no call of the disk was made
-pub untouched : {D : Type 0} (device : Device D) (disk : D) → IsUntouched device disk disk
+pub untouched : {D : Type 0} (device : Device D) (disk : D) → IsReadAsBefore device disk disk
 untouched device disk = record { reads = refl; images = started device disk (device.images disk) (λ c now. now) }
 
 only_since : (head : Head) (history : List Item) (c : Image) → IsSince head history history [] c → StandsFor c (archive head history)

@@ -8,16 +8,16 @@ use Rattle.arch_types.specs.declared.refusal.Which.{Which}
 use Rattle.arch_types.specs.Limits.{limit_of}
 use Rattle.mdb_sheets.specs.Sheets.{IsRefusal, ReadsCounted}
 use Rattle.outer_traits.specs.Outside.{Files, OpeningCounted}
-use Rattle.outer_traits.specs.Whole.{IsReadFault}
+use Rattle.outer_traits.specs.Whole.{IsInputFault}
 use Rattle.outer_traits.specs.declared.fault.OpenFault.{OpenFault}
 use Rattle.outer_traits.specs.declared.fault.OpenFault.TheVariants as unopened
 use Rattle.outer_traits.specs.declared.whole.ReadFault.{ReadFault}
 use Rattle.outer_traits.specs.declared.whole.ReadFault.TheVariants.{Missing, Failed, TooLong, OutOfMemory}
-use Rattle.archive_cli.specs.Reading.{IsOpeningFault, IsRefusalOf, IsReadRefusal, IsSheetsRefusal}
+use Rattle.archive_cli.specs.Reading.{IsOpeningFault, IsInputRefusalOf, IsInputRefusal, IsSheetsRefusal}
 
 -- the refusal of a fault has the fault's cause
 pub read_refusal : (files : Option Files) (name : List ℕ) (which : Which) (faults faults' : ℕ) (fault : ReadFault) (refusal : Refusal) →
-    IsReadFault files name (limit_of which) faults faults' fault → IsRefusalOf name which fault refusal → IsReadRefusal files name which faults faults' refusal
+    IsInputFault files name (limit_of which) faults faults' fault → IsInputRefusalOf name which fault refusal → IsInputRefusal files name which faults faults' refusal
 read_refusal files name which faults faults' Missing refusal h (inl is) = rw is (refl, h)
 read_refusal files name which faults faults' Missing refusal h (inr is) = rw is tt
 read_refusal files name which faults faults' Failed refusal h is = rw is h
@@ -26,7 +26,7 @@ read_refusal files name which faults faults' OutOfMemory refusal h is = rw is tt
 
 -- inputs that were read before have at least as many faults
 pub read_later : (files files' : Option Files) (name : List ℕ) (which : Which) (before faults faults' : ℕ) (refusal : Refusal) → files' ≡ files → before ≤ faults →
-    IsReadRefusal files' name which faults faults' refusal → IsReadRefusal files name which before faults' refusal
+    IsInputRefusal files' name which faults faults' refusal → IsInputRefusal files name which before faults' refusal
 read_later files files' name which before faults faults' (refused.Missing lacking) same less h = (h.0, rw same at h.1)
 read_later files files' name which before faults faults' refused.ReadFault same less h = (λ top. (let up = h.0 top in omega arith), rw same at h.1)
 read_later files files' name which before faults faults' (refused.Limit passed number) same less h = (h.0, h.1, rw same at h.2)
@@ -63,7 +63,7 @@ one_there X (Some all) name h = go (get all name) h.1
 
 -- its refusal has the fault's cause
 pub opening_refusal : (X : Type 0) (files : Option Files) (name : List ℕ) (which : Which) (faults faults' : ℕ) (fault : OpenFault) (refusal : Refusal) →
-    OnlyMissing X files name fault → OpeningCounted {X = X} (Err fault) faults faults' → IsOpeningFault name fault refusal → IsReadRefusal files name which faults faults' refusal
+    OnlyMissing X files name fault → OpeningCounted {X = X} (Err fault) faults faults' → IsOpeningFault name fault refusal → IsInputRefusal files name which faults faults' refusal
 opening_refusal X files name which faults faults' unopened.Missing refusal only counted (inl is) = rw is (refl, none_there X files name only)
 opening_refusal X files name which faults faults' unopened.Missing refusal only counted (inr is) = rw is tt
 opening_refusal X files name which faults faults' unopened.Failed refusal only counted is = rw is (counted, one_there X files name only)

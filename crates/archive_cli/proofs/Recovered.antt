@@ -6,20 +6,20 @@ use Rattle.arch_types.specs.declared.refusal.Refusal.TheVariants.{NoArchive, Dam
 use Rattle.disk_journal.specs.Format.{HoldsNone}
 use Rattle.mdb_sheets.specs.Sheets.{ReadsCounted}
 use Rattle.archive_store.specs.Entries.{Archive}
-use Rattle.archive_store.specs.Stands.{StandsFor, IsDamagedAt}
+use Rattle.archive_store.specs.Stands.{StandsFor, IsArchiveDamagedAt}
 use Rattle.archive_store.proofs.Exact.{stands_not_damaged, damaged_once, none_not_damaged, none_not_stands}
 use Rattle.archive_cli.specs.declared.report.Report.{Report}
 use Rattle.archive_cli.specs.ArchiveExpected.{IsRecoverExpected, NoDiskFault}
 use Rattle.archive_cli.specs.Call.{Call, WritesNothing}
 use Rattle.dump_lines.specs.Output.{WritesCounted, IsFinished}
-use Rattle.archive_cli.specs.ReadOnly.{DiskFailed, IsReadOnly, IsOpeningRefusal, IsUntouched}
+use Rattle.archive_cli.specs.ReadOnly.{DiskFailed, IsReadOnly, IsOpeningRefusal, IsReadAsBefore}
 use Rattle.archive_cli.specs.Expecting.{IsOrMemory, NoFault}
 use Rattle.archive_cli.specs.RecoverEnding.{IsRecoverEnding, recover_line}
 use Rattle.archive_cli.specs.Report.{unopened, read_only, IsReadOnlyReport}
 use Rattle.archive_cli.proofs.Known.{not_risen}
 
 not_recovered_cases : {D : Type 0} (device : Device D) (call : Call) (old new : D) (refusal : Refusal) → IsOpeningRefusal device old new refusal → WritesNothing call →
-    IsUntouched device old new → IsRecoverEnding device call old new (Some refusal) (unopened (Some refusal))
+    IsReadAsBefore device old new → IsRecoverEnding device call old new (Some refusal) (unopened (Some refusal))
 not_recovered_cases device call old new NoArchive cause silent disk = record { cause = cause; silent = silent; disk = disk; report_is = refl }
 not_recovered_cases device call old new (Damaged file at) cause silent disk = record { cause = cause; silent = silent; disk = disk; report_is = refl }
 not_recovered_cases device call old new DiskFault cause silent disk = record { cause = cause; silent = silent; disk = disk; report_is = refl }
@@ -28,7 +28,7 @@ not_recovered_cases device call old new other cause silent disk = absurd cause
 
 -- no archive was opened
 pub not_recovered : {D : Type 0} (device : Device D) (call : Call) (old new : D) (refusal : Refusal) (report : Report) → report ≡ unopened (Some refusal) →
-    IsOpeningRefusal device old new refusal → WritesNothing call → IsUntouched device old new → IsRecoverEnding device call old new report.refusal report
+    IsOpeningRefusal device old new refusal → WritesNothing call → IsReadAsBefore device old new → IsRecoverEnding device call old new report.refusal report
 not_recovered device call old new refusal report is cause silent disk =
     subst (λ (r : Report). IsRecoverEnding device call old new r.refusal r) (sym is) (not_recovered_cases device call old new refusal cause silent disk)
 
@@ -85,7 +85,7 @@ none_or device call old new (Some OutOfMemory) report h no_failed_write none = i
 none_or device call old new (Some other) report h no_failed_write none = absurd h.cause
 
 damaged_or : {D : Type 0} (device : Device D) (call : Call) (old new : D) (ending : Option Refusal) (report : Report) → IsRecoverEnding device call old new ending report →
-    (at : ℕ) → NoDiskFault device old new → IsDamagedAt (device.reads old) at → IsOrMemory ending (Some (Damaged 0 at))
+    (at : ℕ) → NoDiskFault device old new → IsArchiveDamagedAt (device.reads old) at → IsOrMemory ending (Some (Damaged 0 at))
 damaged_or device call old new None report h at no_failed_write bad = absurd (stands_not_damaged (device.reads old) h.archive at h.disk.stands bad)
 damaged_or device call old new (Some WriteFault) report h at no_failed_write bad = absurd (stands_not_damaged (device.reads old) h.1.archive at h.1.disk.stands bad)
 damaged_or device call old new (Some NoArchive) report h at no_failed_write bad = absurd (none_not_damaged (device.reads old) at h.cause bad)

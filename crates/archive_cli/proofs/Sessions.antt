@@ -21,13 +21,13 @@ use Rattle.archive_history.specs.Limits.{IsLimit}
 use Rattle.archive_store.specs.StoreView.{StoreView, archive_of, FaultInvariant, CrashInvariant}
 use Rattle.archive_store.specs.Stands.{StandsFor}
 use Rattle.archive_cli.specs.declared.report.Report.{Report}
-use Rattle.archive_cli.specs.Batches.{batch_at, rows_of_link, HasIngested, IsStopped}
+use Rattle.archive_cli.specs.Batches.{batch_at, rows_of_link, HasIngested, IsStoppedAt}
 use Rattle.archive_cli.specs.Call.{Call, IsMomentOf}
 use Rattle.dump_lines.specs.Output.{WritesCounted}
 use Rattle.command_words.specs.Job.{LoadWords}
 use Rattle.archive_cli.specs.LoadEnding as ending
-use Rattle.archive_cli.specs.LoadEnding.{link_rows, new_rows_at, nothing_left, batch_left, IsLoad, IsLoadEnding, IsWhole}
-use Rattle.archive_cli.specs.Loading.{IsClosed, IsDone, IsReopened, IsLoadRun, IsLoadOutcome}
+use Rattle.archive_cli.specs.LoadEnding.{link_rows, new_rows_at, nothing_left, batch_left, IsLoad, IsLoadEnding, IsWholeLoad}
+use Rattle.archive_cli.specs.Loading.{IsStoreAtEnd, IsDone, IsReopened, IsLoadRun, IsLoadOutcome}
 use Rattle.archive_cli.specs.ReadDump.{dump_limit, ReadDump}
 use Rattle.archive_cli.specs.Report.{loaded, IsLoadReport}
 use Rattle.archive_cli.specs.Durable.{FailedAtMostOnce, IsDurableAs}
@@ -97,7 +97,7 @@ module _ {D : Type 0} (device : Device D) (is_transparent : IsTrue device.is_tra
   all_done : (packets : List (List ℕ)) → HasIngested old new words.link moment packets → HasIngested old new words.link moment (take (length packets) packets)
   all_done packets done = subst (λ (l : List (List ℕ)). HasIngested old new words.link moment l) (sym (take_all (length packets) packets (omega arith))) done
 
-  abbrev whole_of : (done : IsDone old new dump words.link moment) → IsWhole device call words disk new.disk
+  abbrev whole_of : (done : IsDone old new dump words.link moment) → IsWholeLoad device call words disk new.disk
   whole_of done =
       let i = done.ingested in record {
         run = run_of nothing_left i.packets (drop done.whole.at dump) (length i.packets) i.parts (omega arith) (all_done i.packets i.done) (ap rows_of_faults i.fills);
@@ -105,10 +105,10 @@ module _ {D : Type 0} (device : Device D) (is_transparent : IsTrue device.is_tra
         durable = no_failed_write_now i.fills i.done.head;
       }
 
-  abbrev no_failed_write_run : (refusal : Refusal) (s : IsStopped old new dump words.link moment refusal) → new.fills ≡ [] → IsLoad device call words nothing_left disk new.disk
+  abbrev no_failed_write_run : (refusal : Refusal) (s : IsStoppedAt old new dump words.link moment refusal) → new.fills ≡ [] → IsLoad device call words nothing_left disk new.disk
   no_failed_write_run refusal s none = run_of nothing_left s.packets s.rest s.place s.parts s.within s.done (ap rows_of_faults none)
 
-  abbrev refused_no_failed_write : (refusal : Refusal) (report : Report) (s : IsStopped old new dump words.link moment refusal) (none : new.fills ≡ []) → call.written' ≡ call.written
+  abbrev refused_no_failed_write : (refusal : Refusal) (report : Report) (s : IsStoppedAt old new dump words.link moment refusal) (none : new.fills ≡ []) → call.written' ≡ call.written
       → report ≡ loaded (Some refusal) None (length old.history) (length new.history) 0 0 0 → ending.IsRefused device call words disk new.disk refusal report
   refused_no_failed_write refusal report s none silent is = record {
     stopped = record { run = no_failed_write_run refusal s none; silent = silent; report_is = is };
@@ -175,7 +175,7 @@ ingested_again device old new last link moment packets done again some = record 
 module _ {D : Type 0} (device : Device D) (is_transparent : IsTrue device.is_transparent) (call : Call) (words : LoadWords) (disk : D) (old new last : StoreView D) (dump : List ℕ) (moment : ℤ)
     (ready : IsReady device call words disk old dump moment) (keeps : CrashInvariant device last) (faults : FaultInvariant device last) where
   -- with this fault
-  failed_with : (report : Report) (s : IsStopped old new dump words.link moment DiskFault) (again : IsReopened device new last) (wrote : Bool)
+  failed_with : (report : Report) (s : IsStoppedAt old new dump words.link moment DiskFault) (again : IsReopened device new last) (wrote : Bool)
       → last.fills ≡ Fault s.cause.0 wrote (fresh_of new.history (rows_of_link old.head words.link moment (batch_at s.place s.packets))) ∷ []
       → (FailedAtMostOnce device disk last.disk → wrote ≡ false) → call.written' ≡ call.written
       → report ≡ loaded (Some DiskFault) None (length old.history) (length new.history) 0 0 0 → IsLoadEnding device call words disk last.disk (Some DiskFault) report
@@ -209,7 +209,7 @@ module _ {D : Type 0} (device : Device D) (is_transparent : IsTrue device.is_tra
       ]
 
   -- by the refusal
-  closed_cases : (refusal : Option Refusal) (report : Report) → IsClosed device refusal new last → IsLoadOutcome old new dump words.link moment call.written call.written' refusal report
+  closed_cases : (refusal : Option Refusal) (report : Report) → IsStoreAtEnd device refusal new last → IsLoadOutcome old new dump words.link moment call.written call.written' refusal report
       → WritesCounted refusal call.write_faults call.write_faults' → IsLoadEnding device call words disk last.disk refusal report
   closed_cases (Some DiskFault) report closed w writes = failed_again_so report w closed
   closed_cases refusal report closed w writes =

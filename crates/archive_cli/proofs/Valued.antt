@@ -29,7 +29,7 @@ use Rattle.archive_cli.specs.Call.{Call, WritesNothing, Prints, PrintsSome, Writ
 use Rattle.retrieval.specs.CellText.{cell_line}
 use Rattle.command_words.specs.Job.{ValuesWords}
 use Rattle.dump_lines.specs.DumpTable.{IsGathered}
-use Rattle.retrieval.specs.Parameter.{IsNoParameter, IsParameter, first_refusal, number_named, parameter_refusal}
+use Rattle.retrieval.specs.Parameter.{IsNoParameter, IsNamedParameter, first_refusal, number_named, parameter_refusal}
 use Rattle.archive_cli.specs.ReadDump.{dump_limit, IsDumpRead, ending_of}
 use Rattle.archive_cli.specs.ValuesEnding.{AreSheetsOf, ParameterOverDump, HasDump, IsInputRefused, IsParameterRefused, IsValuesEnding, text_of_asked}
 use Rattle.archive_cli.specs.ValuesPrinting.{cells_of_stored, end_of_cells, line_if, line_of, lines_of_cells, refusal_of_print, text_of_cells}
@@ -82,7 +82,7 @@ text-is db number packets (octet ∷ rest) moment stored reason cells e =
 
 -- what was asked
 abbrev pub asked_of : (call : Call) (words : ValuesWords) (raw : RawMdb) (db : Database) (number : ℕ) (loaded : DumpTable) → AreSheetsOf call words raw →
-    IsParameter raw words.name db number → IsDumpRead call.files call.moment words.dump loaded → ParameterOverDump call words
+    IsNamedParameter raw words.name db number → IsDumpRead call.files call.moment words.dump loaded → ParameterOverDump call words
 asked_of call words raw db number loaded s p r = record {
   raw = raw;
   db = db;
@@ -93,14 +93,14 @@ asked_of call words raw db number loaded s p r = record {
 }
 
 text-of : (call : Call) (words : ValuesWords) (raw : RawMdb) (db : Database) (number : ℕ) (loaded : DumpTable) (s : AreSheetsOf call words raw)
-    (p : IsParameter raw words.name db number) (r : IsDumpRead call.files call.moment words.dump loaded) →
+    (p : IsNamedParameter raw words.name db number) (r : IsDumpRead call.files call.moment words.dump loaded) →
     text_of_cells db number loaded.table.stored loaded.why ≡ text_of_asked (asked_of call words raw db number loaded s p r)
 text-of call words raw db number loaded s p r =
     text-is db number r.rows.packets (drop loaded.at r.dump) r.moment loaded.table.stored loaded.why
     (cells-stored db number r.rows.packets r.moment loaded.table.stored loaded.counts r.rows.gathered) r.rows.why
 
 ended-cases : (call : Call) (words : ValuesWords) (raw : RawMdb) (db : Database) (number : ℕ) (loaded : DumpTable) (reason : Why) (s : AreSheetsOf call words raw)
-    (p : IsParameter raw words.name db number) (r : IsDumpRead call.files call.moment words.dump loaded) → loaded.why ≡ reason →
+    (p : IsNamedParameter raw words.name db number) (r : IsDumpRead call.files call.moment words.dump loaded) → loaded.why ≡ reason →
     Prints call (text_of_asked (asked_of call words raw db number loaded s p r)) → IsValuesEnding call words (ending_of reason loaded.at)
 ended-cases call words raw db number loaded why.End s p r e text =
     (asked_of call words raw db number loaded s p r, rest_is_none (drop loaded.at r.dump) (sym e ∙ r.rows.why), text)
@@ -110,26 +110,26 @@ ended-cases call words raw db number loaded why.Truncated s p r e text =
     (asked_of call words raw db number loaded s p r, bad_rest r.dump (drop loaded.at r.dump) loaded.at bad.Truncated (end_is r.dump loaded.at r.rows.within) (sym e ∙ r.rows.why), text)
 
 -- the cells were printed
-pub values_ended : (call : Call) (words : ValuesWords) (raw : RawMdb) (db : Database) (number : ℕ) (loaded : DumpTable) → AreSheetsOf call words raw → IsParameter raw words.name db number →
+pub values_ended : (call : Call) (words : ValuesWords) (raw : RawMdb) (db : Database) (number : ℕ) (loaded : DumpTable) → AreSheetsOf call words raw → IsNamedParameter raw words.name db number →
     IsDumpRead call.files call.moment words.dump loaded → Prints call (text_of_cells db number loaded.table.stored loaded.why) → IsValuesEnding call words (ending_of loaded.why loaded.at)
 values_ended call words raw db number loaded s p r text =
     ended-cases call words raw db number loaded loaded.why s p r refl (rw (text-of call words raw db number loaded s p r) at text)
 
 -- a write failed
-values_some : (call : Call) (words : ValuesWords) (raw : RawMdb) (db : Database) (number : ℕ) (loaded : DumpTable) → AreSheetsOf call words raw → IsParameter raw words.name db number →
+values_some : (call : Call) (words : ValuesWords) (raw : RawMdb) (db : Database) (number : ℕ) (loaded : DumpTable) → AreSheetsOf call words raw → IsNamedParameter raw words.name db number →
     IsDumpRead call.files call.moment words.dump loaded → WritesFailed call → PrintsSome call (text_of_cells db number loaded.table.stored loaded.why) → IsValuesEnding call words (Some WriteFault)
 values_some call words raw db number loaded s p r failed some =
     (asked_of call words raw db number loaded s p r, failed, rw (text-of call words raw db number loaded s p r) at some)
 
 -- memory was wanting while the cells were printed
-values_memory : (call : Call) (words : ValuesWords) (raw : RawMdb) (db : Database) (number : ℕ) (loaded : DumpTable) → AreSheetsOf call words raw → IsParameter raw words.name db number →
+values_memory : (call : Call) (words : ValuesWords) (raw : RawMdb) (db : Database) (number : ℕ) (loaded : DumpTable) → AreSheetsOf call words raw → IsNamedParameter raw words.name db number →
     IsDumpRead call.files call.moment words.dump loaded → PrintsSome call (text_of_cells db number loaded.table.stored loaded.why) → IsValuesEnding call words (Some OutOfMemory)
 values_memory call words raw db number loaded s p r some =
     inr (asked_of call words raw db number loaded s p r, rw (text-of call words raw db number loaded s p r) at some)
 
 -- the text wasn't printed to its end
 pub values_unprinted : (call : Call) (words : ValuesWords) (raw : RawMdb) (db : Database) (number : ℕ) (loaded : DumpTable) (fault : PrintFault) → AreSheetsOf call words raw →
-    IsParameter raw words.name db number → IsDumpRead call.files call.moment words.dump loaded → (fault ≡ printing.Write → WritesFailed call) →
+    IsNamedParameter raw words.name db number → IsDumpRead call.files call.moment words.dump loaded → (fault ≡ printing.Write → WritesFailed call) →
     PrintsSome call (text_of_cells db number loaded.table.stored loaded.why) → IsValuesEnding call words (Some (refusal_of_print fault))
 values_unprinted call words raw db number loaded printing.Write s p r failed some = values_some call words raw db number loaded s p r (failed refl) some
 values_unprinted call words raw db number loaded printing.OutOfMemory s p r failed some = values_memory call words raw db number loaded s p r some

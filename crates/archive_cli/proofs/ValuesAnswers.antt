@@ -17,7 +17,7 @@ use Rattle.archive_cli.specs.Call.{Call}
 use Rattle.archive_cli.specs.Expecting.{IsOrMemory, NoFault, ending_of_rest}
 use Rattle.command_words.specs.Job.{ValuesWords}
 use Rattle.retrieval.specs.Parameter.{parameter_refusal}
-use Rattle.archive_cli.specs.Reading.{IsReadRefusal}
+use Rattle.archive_cli.specs.Reading.{IsInputRefusal}
 use Rattle.archive_cli.specs.ReadDump.{ReadDump}
 use Rattle.archive_cli.specs.ValuesEnding.{AreSheetsOf, ParameterOverDump, HasDump, IsInputRefused, IsParameterRefused, IsValuesEnding}
 use Rattle.archive_cli.specs.ValuesExpected.{refusal_of_input, known_sheet, known_sheets, values_refusal}
@@ -63,7 +63,7 @@ sheet-refused files all name faults faults' OutOfMemory e no_failed_write h = in
 sheet-refused files all name faults faults' other e no_failed_write h = absurd h
 
 dump-refused : (files : Option Files) (all : Files) (name : List ℕ) (faults faults' : ℕ) (refusal : Refusal) → files ≡ Some all → NoFault faults faults' →
-    IsReadRefusal files name DumpOctets faults faults' refusal → Is (refusal_of_input DumpOctets name (get all name)) refusal
+    IsInputRefusal files name DumpOctets faults faults' refusal → Is (refusal_of_input DumpOctets name (get all name)) refusal
 dump-refused files all name faults faults' (Missing lacking) e no_failed_write h = inl (absent DumpOctets name lacking (get all name) h.0 (rw e at h.1))
 dump-refused files all name faults faults' ReadFault e no_failed_write h = absurd (not_risen faults faults' no_failed_write h.0)
 dump-refused files all name faults faults' (Limit which number) e no_failed_write h =

@@ -12,11 +12,11 @@ use Rattle.disk_journal.specs.Format.{HoldsNone}
 use Rattle.mdb_items.specs.declared.sheet.RawMdb.{RawMdb}
 use Rattle.mdb_items.specs.Checks.{or_else}
 use Rattle.mdb_items.specs.Database.{Database}
-use Rattle.mdb_sheets.specs.Asks.{ask_of, sheet_fault}
+use Rattle.mdb_sheets.specs.Asks.{ask_of, ask_sheet_fault}
 use Rattle.mdb_sheets.specs.Sheets.{Fields, sheet_of}
 use Rattle.outer_traits.specs.Outside.{Files}
 use Rattle.archive_store.specs.Entries.{Archive}
-use Rattle.archive_store.specs.Stands.{StandsFor, IsDamagedAt}
+use Rattle.archive_store.specs.Stands.{StandsFor, IsArchiveDamagedAt}
 use Rattle.retrieval.specs.AnswerText.{asks_refusal}
 use Rattle.archive_cli.specs.Call.{Call}
 use Rattle.archive_cli.specs.CreateEnding.{HoldsOne}
@@ -33,7 +33,7 @@ NoDiskFault device old new = NoFault (device.fault_count old) (device.fault_coun
 -- write failed either no refusal where it stands for an archive
 pub record IsRecoverExpected {D : Type 0} (device : Device D) (call : Call) (old new : D) (ending : Option Refusal) : Type 0 where
   pub none : NoDiskFault device old new → HoldsNone (device.reads old 0) → IsOrMemory ending (Some NoArchive)
-  pub damaged : (at : ℕ) → NoDiskFault device old new → IsDamagedAt (device.reads old) at → IsOrMemory ending (Some (Damaged 0 at))
+  pub damaged : (at : ℕ) → NoDiskFault device old new → IsArchiveDamagedAt (device.reads old) at → IsOrMemory ending (Some (Damaged 0 at))
   pub stands : (archive : Archive) → NoDiskFault device old new → NoFault call.write_faults call.write_faults' → StandsFor (device.reads old) archive →
       IsOrMemory ending None
 
@@ -66,7 +66,7 @@ pub record IsCreateExpected {D : Type 0} (device : Device D) (call : Call) (all 
 -- why a sheet of asks is refused: the first rule that it breaks, or else too many asks
 abbrev pub sheet_refusal : List Fields → Option Refusal
 sheet_refusal records =
-    or_else (option_map (λ (broken : ℕ × ℕ). BadSheet sheet.Asks broken.0 broken.1) (sheet_fault records))
+    or_else (option_map (λ (broken : ℕ × ℕ). BadSheet sheet.Asks broken.0 broken.1) (ask_sheet_fault records))
     (if nat_lt (limit_of which.Asks) (length (drop 1 records)) then Some (Limit which.Asks (limit_of which.Asks)) else None)
 
 -- why its asks aren't answered by an archive with a database: for that, or else the first ask that names no parameter or gives no range
@@ -83,7 +83,7 @@ pub record IsQueryExpected {D : Type 0} (device : Device D) (call : Call) (all :
   pub none : (octets : List ℕ) → get all name ≡ Some octets → NoFault call.read_faults call.read_faults' → length octets ≤ limit_of SheetOctets →
       NoDiskFault device old new → HoldsNone (device.reads old 0) → IsOrMemory ending (Some NoArchive)
   pub damaged : (octets : List ℕ) → get all name ≡ Some octets → NoFault call.read_faults call.read_faults' → length octets ≤ limit_of SheetOctets →
-      NoDiskFault device old new → (at : ℕ) → IsDamagedAt (device.reads old) at → IsOrMemory ending (Some (Damaged 0 at))
+      NoDiskFault device old new → (at : ℕ) → IsArchiveDamagedAt (device.reads old) at → IsOrMemory ending (Some (Damaged 0 at))
   pub refused : (octets : List ℕ) → get all name ≡ Some octets → NoFault call.read_faults call.read_faults' → length octets ≤ limit_of SheetOctets →
       NoDiskFault device old new → (archive : Archive) → StandsFor (device.reads old) archive → (refusal : Refusal) →
       query_refusal archive.head.mdb (sheet_of octets) ≡ Some refusal → IsOrMemory ending (Some refusal)

@@ -97,7 +97,7 @@ IsRefusedFor store rows OutOfMemory = store.fills ≡ []
 IsRefusedFor store rows other = ⊥
 
 -- the packets of a dump before a place were ingested, and the batch from there on was refused
-pub record IsStopped {D : Type 0} (old new : StoreView D) (dump : List ℕ) (link : ℕ) (moment : ℤ) (refusal : Refusal) : Type 0 where
+pub record IsStoppedAt {D : Type 0} (old new : StoreView D) (dump : List ℕ) (link : ℕ) (moment : ℤ) (refusal : Refusal) : Type 0 where
   pub packets : List (List ℕ)
   pub rest : List ℕ
   pub place : ℕ

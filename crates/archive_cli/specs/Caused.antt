@@ -10,7 +10,7 @@ use Rattle.archive_cli.specs.Call.{Call}
 use Rattle.archive_cli.specs.CreateEnding.{AreGood, AreRefused}
 use Rattle.command_words.specs.Job.{SheetWords}
 use Rattle.archive_cli.specs.QueryEnding.{AreAsksOf, AreRefusedAsks}
-use Rattle.archive_cli.specs.Reading.{IsReadRefusal}
+use Rattle.archive_cli.specs.Reading.{IsInputRefusal}
 
 -- the three sheets were read and spell a database
 abbrev pub HasGoodSheets : Call → SheetWords → Type 0
@@ -37,7 +37,7 @@ IsQueryCaused call name (Some NoArchive) = HasSheet call.files name
 IsQueryCaused call name (Some (Damaged file at)) = HasSheet call.files name
 IsQueryCaused call name (Some DiskFault) = HasSheet call.files name
 IsQueryCaused call name (Some OutOfMemory) = Unit {0}
-IsQueryCaused call name (Some refusal) = IsReadRefusal call.files name SheetOctets call.read_faults call.read_faults' refusal
+IsQueryCaused call name (Some refusal) = IsInputRefusal call.files name SheetOctets call.read_faults call.read_faults' refusal
 
 -- `recover` has no inputs, and gives no other answers
 abbrev pub IsRecoverCaused : Option Refusal → Type 0

@@ -16,7 +16,7 @@ use Rattle.archive_store.specs.Entries.{archive}
 use Rattle.archive_store.specs.Stands.{StandsFor}
 use Rattle.archive_cli.specs.declared.report.Report.{Report}
 use Rattle.archive_cli.specs.Call.{Call, WritesNothing, Prints, PrintsSome, WritesFailed}
-use Rattle.archive_cli.specs.ReadOnly.{IsUntouched, DiskFailed}
+use Rattle.archive_cli.specs.ReadOnly.{IsReadAsBefore, DiskFailed}
 use Rattle.command_words.specs.Job.{SheetWords}
 use Rattle.retrieval.specs.Parameter.{sheets_refusal}
 use Rattle.archive_cli.specs.Reading.{IsSheetsRefusal}
@@ -38,8 +38,8 @@ pub record AreGood (files : Option Files) (words : SheetWords) (raw : RawMdb) : 
   pub admitted : sheets_refusal raw ≡ None
 
 -- the head that the three sheets give
-abbrev pub IsHead : Option Files → SheetWords → Head → Type 0
-IsHead files words head = (raw : RawMdb) × AreGood files words raw × (head ≡ new_head raw)
+abbrev pub IsHeadOfSheets : Option Files → SheetWords → Head → Type 0
+IsHeadOfSheets files words head = (raw : RawMdb) × AreGood files words raw × (head ≡ new_head raw)
 
 -- a sheet wasn't read, or they were and are refused
 abbrev pub AreRefused : Option Files → SheetWords → ℕ → ℕ → Refusal → Type 0
@@ -64,17 +64,17 @@ abbrev pub IsStillNone : {D : Type 0} → Device D → D → D → Type 0
 IsStillNone device old new = (c : Image) → device.images new c → device.images old c ⊎ HoldsNone (c 0)
 
 -- nothing was written to the disk, for a cause that the words and the inputs give, or for want of memory
-pub record IsNotBegun {D : Type 0} (device : Device D) (call : Call) (old new : D) (report : Report) : Type 0 where
+pub record IsCreateNotBegun {D : Type 0} (device : Device D) (call : Call) (old new : D) (report : Report) : Type 0 where
   pub silent : WritesNothing call
-  pub disk : IsUntouched device old new
+  pub disk : IsReadAsBefore device old new
   pub report_is : report ≡ unopened report.refusal
 
 -- there is an archive, and it is left as it was
-pub record IsThere {D : Type 0} (device : Device D) (call : Call) (words : SheetWords) (old new : D) (report : Report) : Type 0 where
+pub record IsArchiveThere {D : Type 0} (device : Device D) (call : Call) (words : SheetWords) (old new : D) (report : Report) : Type 0 where
   pub raw : RawMdb
   pub good : AreGood call.files words raw
   pub there : HoldsOne (device.reads old)
-  pub disk : IsUntouched device old new
+  pub disk : IsReadAsBefore device old new
   pub silent : WritesNothing call
   pub report_is : report ≡ unopened (Some Exists)
 
@@ -84,7 +84,7 @@ pub record IsNotMade {D : Type 0} (device : Device D) (call : Call) (words : She
   pub raw : RawMdb
   pub good : AreGood call.files words raw
   pub silent : WritesNothing call
-  pub kept : HoldsOne (device.reads old) → IsUntouched device old new
+  pub kept : HoldsOne (device.reads old) → IsReadAsBefore device old new
   pub images : HoldsNone (device.reads old 0) → LeavesOnly device old new (IsCreateImage (device.images old) (new_head raw))
   pub closed : HoldsNone (device.reads old 0) → FailedAtMostOnce device old new → IsStillNone device old new
   pub report_is : report ≡ unopened report.refusal
@@ -101,8 +101,8 @@ pub record IsCreated {D : Type 0} (device : Device D) (call : Call) (words : She
 abbrev pub IsCreateEnding : {D : Type 0} → Device D → Call → SheetWords → D → D → Option Refusal → Report → Type 0
 IsCreateEnding device call words old new None report = IsCreated device call words old new report (Prints call)
 IsCreateEnding device call words old new (Some WriteFault) report = WritesFailed call × IsCreated device call words old new report (PrintsSome call)
-IsCreateEnding device call words old new (Some Exists) report = IsThere device call words old new report
+IsCreateEnding device call words old new (Some Exists) report = IsArchiveThere device call words old new report
 IsCreateEnding device call words old new (Some DiskFault) report = DiskFailed device old new × IsNotMade device call words old new report
-IsCreateEnding device call words old new (Some OutOfMemory) report = IsNotBegun device call old new report
+IsCreateEnding device call words old new (Some OutOfMemory) report = IsCreateNotBegun device call old new report
 IsCreateEnding device call words old new (Some refusal) report =
-    AreRefused call.files words call.read_faults call.read_faults' refusal × IsNotBegun device call old new report
+    AreRefused call.files words call.read_faults call.read_faults' refusal × IsCreateNotBegun device call old new report

@@ -2,7 +2,7 @@
 use Rattle.std.specs.Prelude.{◌≡◌, ℕ, ◌+◌, ◌^◌, ◌<◌, ◌≤◌, ◌-◌, List, [], ◌∷◌, length, Option, Some, None, ◌⊎◌}
 use Rattle.arch_types.specs.declared.refusal.Refusal.{Refusal}
 use Rattle.arch_types.specs.declared.refusal.Refusal.TheVariants.{BadPacket, ReadFault, OutOfMemory}
-use Rattle.archive_cli.specs.ReadDump.{kind_of}
+use Rattle.archive_cli.specs.ReadDump.{bad_kind_of}
 
 -- this ending, or want of memory
 abbrev pub IsOrMemory : Option Refusal → Option Refusal → Type 0
@@ -19,4 +19,4 @@ NoFault before now = (now ≡ before) × (now + 1 < 2 ^ 64)
 -- the ending by the rest of a dump
 abbrev pub ending_of_rest : List ℕ → List ℕ → Option Refusal
 ending_of_rest dump [] = None
-ending_of_rest dump (octet ∷ rest) = Some (BadPacket (length dump - length (octet ∷ rest)) (kind_of octet))
+ending_of_rest dump (octet ∷ rest) = Some (BadPacket (length dump - length (octet ∷ rest)) (bad_kind_of octet))

@@ -23,7 +23,7 @@ use Rattle.archive_store.specs.Stands.{StandsFor}
 use Rattle.archive_cli.specs.declared.report.Report.{Report}
 use Rattle.archive_cli.specs.Batches.{arrived, batch_at}
 use Rattle.archive_cli.specs.Call.{Call, WritesNothing, Prints, PrintsSome, ReadsFailed, WritesFailed}
-use Rattle.archive_cli.specs.ReadOnly.{IsUntouched, IsReadOnly, IsOpenedThen, IsOpeningRefusal, DiskFailed}
+use Rattle.archive_cli.specs.ReadOnly.{IsReadAsBefore, IsReadOnly, IsOpenedThen, IsOpeningRefusal, DiskFailed}
 use Rattle.command_words.specs.Job.{LoadWords}
 use Rattle.archive_cli.specs.ReadDump.{dump_limit, ReadDump, IsBadRest}
 use Rattle.archive_cli.specs.Report.{unopened, read_only, loaded}
@@ -38,13 +38,13 @@ abbrev pub history_with : Archive → ℕ → ℤ → List (List ℕ) → List I
 history_with before link moment packets = ingested before.history (link_rows before.head.mdb link moment packets)
 
 -- the rows of the batch from a place on
-abbrev pub rows_at : Archive → ℕ → ℤ → List (List ℕ) → ℕ → List Row
-rows_at before link moment packets place = link_rows before.head.mdb link moment (batch_at place packets)
+abbrev pub batch_rows_from : Archive → ℕ → ℤ → List (List ℕ) → ℕ → List Row
+batch_rows_from before link moment packets place = link_rows before.head.mdb link moment (batch_at place packets)
 
 -- those of them that are new after the packets before that place
 abbrev pub new_rows_at : Archive → ℕ → ℤ → List (List ℕ) → ℕ → List Row
 new_rows_at before link moment packets place =
-    fresh_of (history_with before link moment (take place packets)) (rows_at before link moment packets place)
+    fresh_of (history_with before link moment (take place packets)) (batch_rows_from before link moment packets place)
 
 -- An image during a load: it stands for a history from the one handed in to the one reached, or for such a one with what a failed write may have left.
 pub record IsDuring (before : Archive) (reached : List Item) (in_hand : List (List Item)) (image : Image) : Type 0 where
@@ -96,14 +96,14 @@ whole_report before reached packets =
     loaded None None before reached (length packets) (arrived packets - (reached - before)) (length packets - arrived packets)
 
 -- all packets of the dump were ingested
-pub record IsWhole {D : Type 0} (device : Device D) (call : Call) (words : LoadWords) (old new : D) : Type 0 where
+pub record IsWholeLoad {D : Type 0} (device : Device D) (call : Call) (words : LoadWords) (old new : D) : Type 0 where
   pub run : IsLoad device call words nothing_left old new
   pub all : run.place ≡ length run.received.packets
   pub durable : IsDurableAs device new run.before.head run.reached
 
 -- and nothing is left of the dump, and the line was printed as P says
 pub record IsPrinted {D : Type 0} (device : Device D) (call : Call) (words : LoadWords) (old new : D) (P : List ℕ → Type 0) : Type 0 where
-  pub whole : IsWhole device call words old new
+  pub whole : IsWholeLoad device call words old new
   pub rest : whole.run.received.rest ≡ []
   pub printed : P (line_of_load (length whole.run.before.history) (length whole.run.reached) whole.run.received.packets)
 
@@ -119,7 +119,7 @@ pub record IsUnprinted {D : Type 0} (device : Device D) (call : Call) (words : L
 
 -- the packets before a rest that begins with none were ingested
 pub record IsCutOff {D : Type 0} (device : Device D) (call : Call) (words : LoadWords) (old new : D) (refusal : Refusal) (report : Report) : Type 0 where
-  pub whole : IsWhole device call words old new
+  pub whole : IsWholeLoad device call words old new
   pub silent : WritesNothing call
   pub report_is : report ≡ loaded (Some refusal) (Some words.link) (length whole.run.before.history) (length whole.run.reached) 0 0 0
 
@@ -149,20 +149,20 @@ pub record IsLimited {D : Type 0} (device : Device D) (call : Call) (words : Loa
   pub few : records ≤ 1 + length refused.stopped.run.reached
   pub number_is : number ≡ limit_of which
   pub passed : IsLimit which records
-      (ingested refused.stopped.run.reached (rows_at refused.stopped.run.before words.link refused.stopped.run.received.moment refused.stopped.run.received.packets refused.stopped.run.place))
+      (ingested refused.stopped.run.reached (batch_rows_from refused.stopped.run.before words.link refused.stopped.run.received.moment refused.stopped.run.received.packets refused.stopped.run.place))
 
 -- nothing was asked of an archive
-pub record IsNotBegun {D : Type 0} (device : Device D) (call : Call) (old new : D) (report : Report) : Type 0 where
+pub record IsLoadNotBegun {D : Type 0} (device : Device D) (call : Call) (old new : D) (report : Report) : Type 0 where
   pub silent : WritesNothing call
-  pub disk : IsUntouched device old new
+  pub disk : IsReadAsBefore device old new
   pub report_is : report ≡ unopened report.refusal
 
 -- the dump was opened, and no archive was, for this cause
-pub record IsNotOpened {D : Type 0} (device : Device D) (call : Call) (words : LoadWords) (old new : D) (refusal : Refusal) (report : Report) : Type 0 where
+pub record IsLoadNotOpened {D : Type 0} (device : Device D) (call : Call) (words : LoadWords) (old new : D) (refusal : Refusal) (report : Report) : Type 0 where
   pub input : IsThere call.files words.dump
   pub cause : IsOpeningRefusal device old new refusal
   pub silent : WritesNothing call
-  pub disk : IsUntouched device old new
+  pub disk : IsReadAsBefore device old new
   pub report_is : report ≡ unopened (Some refusal)
 
 -- an archive was opened and left as it was, and no packet was ingested
@@ -193,14 +193,14 @@ IsLoadEnding device call words old new (Some (Limit DumpOctets number)) report =
 IsLoadEnding device call words old new (Some (Limit Links number)) report =
     (number ≡ limit_of Links) × (limit_of Links < words.link) × IsNothingLoaded device call words old new None report
 IsLoadEnding device call words old new (Some (Limit which number)) report = IsLimited device call words old new which number report
-IsLoadEnding device call words old new (Some (Missing name)) report = IsMissing call words name × IsNotBegun device call old new report
+IsLoadEnding device call words old new (Some (Missing name)) report = IsMissing call words name × IsLoadNotBegun device call old new report
 IsLoadEnding device call words old new (Some ReadFault) report =
     ReadsFailed call × IsThere call.files words.dump
-    × (IsNotBegun device call old new report ⊎ ((words.link ≤ limit_of Links) × IsNothingLoaded device call words old new None report))
-IsLoadEnding device call words old new (Some NoArchive) report = IsNotOpened device call words old new NoArchive report
-IsLoadEnding device call words old new (Some (Damaged file at)) report = IsNotOpened device call words old new (Damaged file at) report
+    × (IsLoadNotBegun device call old new report ⊎ ((words.link ≤ limit_of Links) × IsNothingLoaded device call words old new None report))
+IsLoadEnding device call words old new (Some NoArchive) report = IsLoadNotOpened device call words old new NoArchive report
+IsLoadEnding device call words old new (Some (Damaged file at)) report = IsLoadNotOpened device call words old new (Damaged file at) report
 IsLoadEnding device call words old new (Some DiskFault) report =
-    DiskFailed device old new × (IsNotOpened device call words old new DiskFault report ⊎ IsFailed device call words old new report)
+    DiskFailed device old new × (IsLoadNotOpened device call words old new DiskFault report ⊎ IsFailed device call words old new report)
 IsLoadEnding device call words old new (Some OutOfMemory) report =
-    IsNotBegun device call old new report ⊎ (IsNothingLoaded device call words old new None report ⊎ IsRefused device call words old new OutOfMemory report)
+    IsLoadNotBegun device call old new report ⊎ (IsNothingLoaded device call words old new None report ⊎ IsRefused device call words old new OutOfMemory report)
 IsLoadEnding device call words old new (Some other) report = ⊥

@@ -11,7 +11,7 @@ use Rattle.disk_journal.specs.Format.{HoldsNone}
 use Rattle.outer_traits.specs.Outside.{Files}
 use Rattle.archive_store.specs.Entries.{Archive}
 use Rattle.archive_history.specs.Limits.{IsWithin}
-use Rattle.archive_store.specs.Stands.{StandsFor, IsDamagedAt}
+use Rattle.archive_store.specs.Stands.{StandsFor, IsArchiveDamagedAt}
 use Rattle.archive_cli.specs.ArchiveExpected.{NoDiskFault}
 use Rattle.archive_cli.specs.Call.{Call, IsMomentOf}
 use Rattle.archive_cli.specs.Expecting.{IsOrEarlier, IsOrMemory, NoFault, ending_of_rest}
@@ -30,7 +30,7 @@ pub record IsLoadExpected {D : Type 0} (device : Device D) (call : Call) (all : 
   pub missing : IsNone (get all words.dump) → IsOrMemory ending (Some (Missing words.dump))
   pub none : (octets : List ℕ) → get all words.dump ≡ Some octets → NoDiskFault device old new → HoldsNone (device.reads old 0) →
       IsOrEarlier given given' 0 ending (Some NoArchive)
-  pub damaged : (octets : List ℕ) → get all words.dump ≡ Some octets → NoDiskFault device old new → (at : ℕ) → IsDamagedAt (device.reads old) at →
+  pub damaged : (octets : List ℕ) → get all words.dump ≡ Some octets → NoDiskFault device old new → (at : ℕ) → IsArchiveDamagedAt (device.reads old) at →
       IsOrEarlier given given' 0 ending (Some (Damaged 0 at))
   pub no_link : (octets : List ℕ) → get all words.dump ≡ Some octets → NoDiskFault device old new → (archive : Archive) →
       StandsFor (device.reads old) archive → limit_of Links < words.link → IsOrEarlier given given' 0 ending (Some (Limit Links (limit_of Links)))

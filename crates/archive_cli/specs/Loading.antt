@@ -12,7 +12,7 @@ use Rattle.archive_core.specs.Fills.{reopened}
 use Rattle.archive_store.specs.StoreView.{StoreView, FaultInvariant, CrashInvariant}
 use Rattle.archive_cli.specs.declared.batches.DumpSummary.{DumpSummary}
 use Rattle.archive_cli.specs.declared.report.Report.{Report}
-use Rattle.archive_cli.specs.Batches.{IsIngested, IsStopped}
+use Rattle.archive_cli.specs.Batches.{IsIngested, IsStoppedAt}
 use Rattle.dump_lines.specs.Output.{Appends}
 use Rattle.archive_cli.specs.LoadEnding.{line_of_load, whole_report}
 pub use Rattle.archive_cli.specs.Reading.{IsOpeningFault}
@@ -54,14 +54,14 @@ pub record IsReopened {D : Type 0} (device : Device D) (old new : StoreView D) :
   pub healed : (new.fills ≡ reopened old.fills) ⊎ ((new.fills ≡ old.fills) × (raised (device.fault_count old.disk) ≤ device.fault_count new.disk))
 
 -- what became of a store before it was closed, by the refusal: where its disk failed it was opened again, and else nothing
-abbrev pub IsClosed : {D : Type 0} → Device D → Option Refusal → StoreView D → StoreView D → Type 0
-IsClosed device (Some refused.DiskFault) store last = IsReopened device store last
-IsClosed device other store last = last ≡ store
+abbrev pub IsStoreAtEnd : {D : Type 0} → Device D → Option Refusal → StoreView D → StoreView D → Type 0
+IsStoreAtEnd device (Some refused.DiskFault) store last = IsReopened device store last
+IsStoreAtEnd device other store last = last ≡ store
 
 -- a store was closed so and given up, and this is its disk
 pub record IsLetGo {D : Type 0} (device : Device D) (store : StoreView D) (refusal : Option Refusal) (disk : D) : Type 0 where
   pub last : StoreView D
-  pub closed : IsClosed device refusal store last
+  pub closed : IsStoreAtEnd device refusal store last
   pub closed_store : IsStoreClosed device last disk
 
 -- the report of a load whose line was printed, or not
@@ -75,25 +75,25 @@ pub record IsDone {D : Type 0} (old new : StoreView D) (dump : List ℕ) (link :
   pub ingested : IsIngested old new dump link moment whole
 
 -- the octets of the dump behind the packets that were loaded
-abbrev pub rest_of : {D : Type 0} {old new : StoreView D} {dump : List ℕ} {link : ℕ} {moment : ℤ} → IsDone old new dump link moment → List ℕ
-rest_of {dump = dump} done = drop done.whole.at dump
+abbrev pub rest_of_dump : {D : Type 0} {old new : StoreView D} {dump : List ℕ} {link : ℕ} {moment : ℤ} → IsDone old new dump link moment → List ℕ
+rest_of_dump {dump = dump} done = drop done.whole.at dump
 
 -- How the packets of a dump went into a store, by the refusal: all of them, of a dump without a rest, and the line was printed, or not to its end; all
 -- of them, of one with a rest; or those before a batch that was refused.
 abbrev pub IsLoadOutcome : {D : Type 0} → StoreView D → StoreView D → List ℕ → ℕ → ℤ → Option (List ℕ) → Option (List ℕ) → Option Refusal → Report → Type 0
 IsLoadOutcome old new dump link moment written written' None report =
-    (done : IsDone old new dump link moment) × (rest_of done ≡ [])
+    (done : IsDone old new dump link moment) × (rest_of_dump done ≡ [])
     × Appends written written' (line_of_load (length old.history) (length new.history) done.ingested.packets)
     × (report ≡ whole_report (length old.history) (length new.history) done.ingested.packets)
 IsLoadOutcome old new dump link moment written written' (Some refused.WriteFault) report =
-    (done : IsDone old new dump link moment) × (rest_of done ≡ [])
+    (done : IsDone old new dump link moment) × (rest_of_dump done ≡ [])
     × WritesSome written written' (line_of_load (length old.history) (length new.history) done.ingested.packets)
     × (report ≡ loaded (Some refused.WriteFault) None (length old.history) (length new.history) 0 0 0)
 IsLoadOutcome old new dump link moment written written' (Some (refused.BadPacket at kind)) report =
-    (done : IsDone old new dump link moment) × IsBadRest dump (rest_of done) at kind × (written' ≡ written)
+    (done : IsDone old new dump link moment) × IsBadRest dump (rest_of_dump done) at kind × (written' ≡ written)
     × (report ≡ loaded (Some (refused.BadPacket at kind)) (Some link) (length old.history) (length new.history) 0 0 0)
 IsLoadOutcome old new dump link moment written written' (Some refusal) report =
-    IsStopped old new dump link moment refusal × (written' ≡ written) × (report ≡ loaded (Some refusal) None (length old.history) (length new.history) 0 0 0)
+    IsStoppedAt old new dump link moment refusal × (written' ≡ written) × (report ≡ loaded (Some refusal) None (length old.history) (length new.history) 0 0 0)
 
 -- the packets of a dump went into a store, which was then closed
 pub record IsLoadRun {D : Type 0} (device : Device D) (old : StoreView D) (dump : List ℕ) (link : ℕ) (moment : ℤ) (written written' : Option (List ℕ)) (disk : D) (report : Report) : Type 0 where

@@ -18,8 +18,8 @@ use Rattle.archive_cli.specs.declared.report.Report.{Report}
 use Rattle.retrieval.specs.AnswerText.{asks_text, asks_refusal}
 use Rattle.archive_cli.specs.Call.{Call, WritesNothing, Prints, PrintsSome, WritesFailed}
 use Rattle.dump_lines.specs.Output.{Appends}
-use Rattle.archive_cli.specs.ReadOnly.{IsUntouched, IsReadOnly, IsOpeningRefusal}
-use Rattle.archive_cli.specs.Reading.{IsReadRefusal}
+use Rattle.archive_cli.specs.ReadOnly.{IsReadAsBefore, IsReadOnly, IsOpeningRefusal}
+use Rattle.archive_cli.specs.Reading.{IsInputRefusal}
 use Rattle.archive_cli.specs.Report.{unopened, read_only}
 
 -- whether a refusal of a sheet of asks is answered only once an archive is open: a broken rule, or too many asks
@@ -77,15 +77,15 @@ IsSheetReply db history (Refused refused) refusal before now faults faults' = (r
 -- nothing was asked of the disk
 pub record IsNotAsked {D : Type 0} (device : Device D) (call : Call) (old new : D) (report : Report) : Type 0 where
   pub silent : WritesNothing call
-  pub disk : IsUntouched device old new
+  pub disk : IsReadAsBefore device old new
   pub report_is : report ≡ unopened report.refusal
 
 -- the input was read, and no archive was opened, for this cause
-pub record IsNotOpened {D : Type 0} (device : Device D) (call : Call) (name : List ℕ) (old new : D) (refusal : Refusal) (report : Report) : Type 0 where
+pub record IsQueryNotOpened {D : Type 0} (device : Device D) (call : Call) (name : List ℕ) (old new : D) (refusal : Refusal) (report : Report) : Type 0 where
   pub input : HasSheet call.files name
   pub cause : IsOpeningRefusal device old new refusal
   pub silent : WritesNothing call
-  pub disk : IsUntouched device old new
+  pub disk : IsReadAsBefore device old new
   pub report_is : report ≡ unopened (Some refusal)
 
 -- an archive was opened, and the asks are refused: their sheet, or the first that names no parameter or gives no range
@@ -110,9 +110,9 @@ pub record IsAnswered {D : Type 0} (device : Device D) (call : Call) (name : Lis
 abbrev pub IsQueryEnding : {D : Type 0} → Device D → Call → List ℕ → D → D → Option Refusal → Report → Type 0
 IsQueryEnding device call name old new None report = IsAnswered device call name old new report (Prints call)
 IsQueryEnding device call name old new (Some WriteFault) report = WritesFailed call × IsAnswered device call name old new report (PrintsSome call)
-IsQueryEnding device call name old new (Some NoArchive) report = IsNotOpened device call name old new NoArchive report
-IsQueryEnding device call name old new (Some (Damaged file at)) report = IsNotOpened device call name old new (Damaged file at) report
-IsQueryEnding device call name old new (Some DiskFault) report = IsNotOpened device call name old new DiskFault report
+IsQueryEnding device call name old new (Some NoArchive) report = IsQueryNotOpened device call name old new NoArchive report
+IsQueryEnding device call name old new (Some (Damaged file at)) report = IsQueryNotOpened device call name old new (Damaged file at) report
+IsQueryEnding device call name old new (Some DiskFault) report = IsQueryNotOpened device call name old new DiskFault report
 IsQueryEnding device call name old new (Some (BadSheet sheet row rule)) report = IsRefusedAsk device call name old new (BadSheet sheet row rule) report
 IsQueryEnding device call name old new (Some (Limit Asks number)) report = IsRefusedAsk device call name old new (Limit Asks number) report
 IsQueryEnding device call name old new (Some UnknownParameter) report = IsRefusedAsk device call name old new UnknownParameter report
@@ -120,4 +120,4 @@ IsQueryEnding device call name old new (Some (BadRange from to)) report = IsRefu
 IsQueryEnding device call name old new (Some OutOfMemory) report =
     IsNotAsked device call old new report ⊎ IsAnswered device call name old new report (PrintsSome call)
 IsQueryEnding device call name old new (Some refusal) report =
-    IsReadRefusal call.files name SheetOctets call.read_faults call.read_faults' refusal × IsNotAsked device call old new report
+    IsInputRefusal call.files name SheetOctets call.read_faults call.read_faults' refusal × IsNotAsked device call old new report

@@ -31,13 +31,13 @@ pub record ReadDump (call : Call) (name : List ℕ) : Type 0 where
   pub parts : IsDump dump packets rest
 
 -- why octets are no packet: their packet version number isn't 000, or they end inside it
-abbrev pub kind_of : ℕ → BadKind
-kind_of octet = if nat_lt octet 32 then Truncated else Version
+abbrev pub bad_kind_of : ℕ → BadKind
+bad_kind_of octet = if nat_lt octet 32 then Truncated else Version
 
 -- the rest isn't empty: it begins at an octet, and is no packet for a reason
 abbrev pub IsBadRest : List ℕ → List ℕ → ℕ → BadKind → Type 0
 IsBadRest dump [] at kind = ⊥
-IsBadRest dump (octet ∷ rest) at kind = (at + length (octet ∷ rest) ≡ length dump) × (kind ≡ kind_of octet)
+IsBadRest dump (octet ∷ rest) at kind = (at + length (octet ∷ rest) ≡ length dump) × (kind ≡ bad_kind_of octet)
 
 -- the rows of a dump, as the program holds them
 pub record IsDumpRead (files : Option Files) (clock : Option ℤ) (name : List ℕ) (loaded : DumpTable) : Type 0 where

@@ -6,10 +6,10 @@ use Rattle.arch_types.specs.declared.refusal.Refusal.{Refusal}
 use Rattle.arch_types.specs.declared.refusal.Refusal.TheVariants.{NoArchive, Damaged, DiskFault, OutOfMemory}
 use Rattle.disk_journal.specs.Format.{HoldsNone}
 use Rattle.archive_store.specs.Entries.{Archive}
-use Rattle.archive_store.specs.Stands.{StandsFor, IsDamagedAt}
+use Rattle.archive_store.specs.Stands.{StandsFor, IsArchiveDamagedAt}
 
 -- The disk of a call that opened no archive: it reads as before, and a crash leaves what it could have left before.
-pub record IsUntouched {D : Type 0} (device : Device D) (old new : D) : Type 0 where
+pub record IsReadAsBefore {D : Type 0} (device : Device D) (old new : D) : Type 0 where
   pub reads : device.reads new ≡ device.reads old
   pub images : LeavesOnly device old new (device.images old)
 
@@ -34,7 +34,7 @@ DiskFailed device old new = raised (device.fault_count old) ≤ device.fault_cou
 -- why an archive wasn't opened: there is none, or it is damaged there, or a call of the disk failed, or there was no memory
 abbrev pub IsOpeningRefusal : {D : Type 0} → Device D → D → D → Refusal → Type 0
 IsOpeningRefusal device old new NoArchive = HoldsNone (device.reads old 0)
-IsOpeningRefusal device old new (Damaged file at) = (file ≡ 0) × IsDamagedAt (device.reads old) at
+IsOpeningRefusal device old new (Damaged file at) = (file ≡ 0) × IsArchiveDamagedAt (device.reads old) at
 IsOpeningRefusal device old new DiskFault = DiskFailed device old new
 IsOpeningRefusal device old new OutOfMemory = Unit {0}
 IsOpeningRefusal device old new other = ⊥

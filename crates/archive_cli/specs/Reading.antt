@@ -19,11 +19,11 @@ IsOpeningFault name unopened.Failed refusal = refusal ≡ ReadFault
 IsOpeningFault name unopened.OutOfMemory refusal = refusal ≡ OutOfMemory
 
 -- the refusal of a fault of reading, or want of memory for the name that is missing
-abbrev pub IsRefusalOf : List ℕ → Which → fault.ReadFault → Refusal → Type 0
-IsRefusalOf name which faulted.Missing refusal = (refusal ≡ Missing name) ⊎ (refusal ≡ OutOfMemory)
-IsRefusalOf name which faulted.Failed refusal = refusal ≡ ReadFault
-IsRefusalOf name which faulted.TooLong refusal = refusal ≡ Limit which (limit_of which)
-IsRefusalOf name which faulted.OutOfMemory refusal = refusal ≡ OutOfMemory
+abbrev pub IsInputRefusalOf : List ℕ → Which → fault.ReadFault → Refusal → Type 0
+IsInputRefusalOf name which faulted.Missing refusal = (refusal ≡ Missing name) ⊎ (refusal ≡ OutOfMemory)
+IsInputRefusalOf name which faulted.Failed refusal = refusal ≡ ReadFault
+IsInputRefusalOf name which faulted.TooLong refusal = refusal ≡ Limit which (limit_of which)
+IsInputRefusalOf name which faulted.OutOfMemory refusal = refusal ≡ OutOfMemory
 
 -- the refusal is that of the first of three sheets that isn't read
 abbrev pub IsSheetsRefusal : Option Files → List ℕ → List ℕ → List ℕ → ℕ → ℕ → Refusal → Type 0
@@ -33,10 +33,10 @@ IsSheetsRefusal files parameters calibrations containers faults faults' refusal 
     ⊎ (HasSheet files parameters × HasSheet files calibrations × IsSheetRefusal files containers faults faults' refusal)
 
 -- why an input wasn't read to its end: there's none of the name, a call failed, or it is longer than its limit
-abbrev pub IsReadRefusal : Option Files → List ℕ → Which → ℕ → ℕ → Refusal → Type 0
-IsReadRefusal files name which faults faults' (Missing lacking) = (lacking ≡ name) × IfSome files (λ all. IsNone (get all name))
-IsReadRefusal files name which faults faults' ReadFault = HasRisen faults faults' × IfSome files (λ all. IsSome (get all name))
-IsReadRefusal files name which faults faults' (Limit passed number) =
+abbrev pub IsInputRefusal : Option Files → List ℕ → Which → ℕ → ℕ → Refusal → Type 0
+IsInputRefusal files name which faults faults' (Missing lacking) = (lacking ≡ name) × IfSome files (λ all. IsNone (get all name))
+IsInputRefusal files name which faults faults' ReadFault = HasRisen faults faults' × IfSome files (λ all. IsSome (get all name))
+IsInputRefusal files name which faults faults' (Limit passed number) =
     (passed ≡ which) × (number ≡ limit_of which) × IfSome files (λ all. IsSomeAnd (get all name) (λ octets. number < length octets))
-IsReadRefusal files name which faults faults' OutOfMemory = Unit {0}
-IsReadRefusal files name which faults faults' other = ⊥
+IsInputRefusal files name which faults faults' OutOfMemory = Unit {0}
+IsInputRefusal files name which faults faults' other = ⊥

@@ -6,7 +6,7 @@ use Rattle.arch_types.specs.declared.refusal.Refusal.TheVariants.{WriteFault}
 use Rattle.archive_store.specs.Entries.{Archive}
 use Rattle.archive_cli.specs.declared.report.Report.{Report}
 use Rattle.archive_cli.specs.Call.{Call, WritesNothing, Prints, PrintsSome, WritesFailed}
-use Rattle.archive_cli.specs.ReadOnly.{IsUntouched, IsReadOnly, IsOpeningRefusal}
+use Rattle.archive_cli.specs.ReadOnly.{IsReadAsBefore, IsReadOnly, IsOpeningRefusal}
 use Rattle.archive_cli.specs.Report.{unopened, read_only}
 
 -- the one line of `recover`; nothing is filled, as no fill is kept yet
@@ -17,7 +17,7 @@ recover_line rows = codes "recovered rows " ++ decimal rows ++ codes " filled 0\
 pub record IsNotRecovered {D : Type 0} (device : Device D) (call : Call) (old new : D) (refusal : Refusal) (report : Report) : Type 0 where
   pub cause : IsOpeningRefusal device old new refusal
   pub silent : WritesNothing call
-  pub disk : IsUntouched device old new
+  pub disk : IsReadAsBefore device old new
   pub report_is : report ≡ unopened (Some refusal)
 
 -- an archive was opened, and a text on it was printed as P says

@@ -10,8 +10,8 @@ use Rattle.mdb_sheets.specs.Sheets.{AreSheets}
 use Rattle.outer_traits.specs.Outside.{Files}
 use Rattle.archive_cli.specs.Call.{Call, WritesNothing, Prints, PrintsSome, WritesFailed}
 use Rattle.command_words.specs.Job.{ValuesWords}
-use Rattle.retrieval.specs.Parameter.{IsParameter, parameter_refusal}
-use Rattle.archive_cli.specs.Reading.{IsReadRefusal, IsSheetsRefusal}
+use Rattle.retrieval.specs.Parameter.{IsNamedParameter, parameter_refusal}
+use Rattle.archive_cli.specs.Reading.{IsInputRefusal, IsSheetsRefusal}
 use Rattle.archive_cli.specs.ReadDump.{dump_limit, ReadDump, IsBadRest}
 use Rattle.retrieval.specs.ValuesText.{values_text}
 
@@ -29,7 +29,7 @@ pub record ParameterOverDump (call : Call) (words : ValuesWords) : Type 0 where
   pub db : Database
   pub number : ℕ
   pub sheets : AreSheetsOf call words raw
-  pub parameter : IsParameter raw words.name db number
+  pub parameter : IsNamedParameter raw words.name db number
   pub received : ReadDump call words.dump
 
 -- what is printed of them
@@ -47,7 +47,7 @@ pub record IsParameterRefused (call : Call) (words : ValuesWords) (refusal : Ref
 abbrev pub IsInputRefused : Call → ValuesWords → Refusal → Type 0
 IsInputRefused call words refusal =
     IsSheetsRefusal call.files words.parameters words.calibrations words.containers call.read_faults call.read_faults' refusal
-    ⊎ (((raw : RawMdb) × AreSheetsOf call words raw) × IsReadRefusal call.files words.dump DumpOctets call.read_faults call.read_faults' refusal)
+    ⊎ (((raw : RawMdb) × AreSheetsOf call words raw) × IsInputRefusal call.files words.dump DumpOctets call.read_faults call.read_faults' refusal)
 
 -- the ending of `values`
 abbrev pub IsValuesEnding : Call → ValuesWords → Option Refusal → Type 0

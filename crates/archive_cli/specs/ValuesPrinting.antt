@@ -36,8 +36,8 @@ count_if None = 0
 count_if (Some cell) = 1
 
 -- how many cells of a parameter a row has
-unfoldable pub count_of : Database → ℕ → Row → ℕ
-count_of db number row = count_if (cell_of db number row)
+unfoldable pub cells_in_row : Database → ℕ → Row → ℕ
+cells_in_row db number row = count_if (cell_of db number row)
 
 -- the cells of stored rows, in the order of their keys
 abbrev pub cells_of_stored : Database → ℕ → List Stored → List Cell

@@ -5,7 +5,7 @@ ghost use Rattle.std.specs.Result.{result_err};
 ghost use Rattle.mdb_sheets.specs.Sheets.{ReadsCounted};
 ghost use Rattle.outer_traits.specs.Outside.{Stays};
 ghost use Rattle.archive_cli.specs.QueryEnding.{IsAskSheet, IsDeferred, IsAskSheetResult, is_deferred};
-ghost use Rattle.archive_cli.specs.Reading.{IsReadRefusal};
+ghost use Rattle.archive_cli.specs.Reading.{IsInputRefusal};
 
 use crate::read::refusal_of_opening;
 use arch_types::ask::Asks;
@@ -26,7 +26,7 @@ pub enum AskSheet {
 pub fn read_sheet<I: Inputs>(alloc: Global, name: &str, inputs: &mut I) -> Result<AskSheet, Refusal>
     ensures sheet { IfOk result (IsAskSheet (I.files inputs.old) name.now) }
     ensures deferred { IfOk result IsDeferred }
-    ensures refused { IfErr result (IsReadRefusal (I.files inputs.old) name.now Which.SheetOctets
+    ensures refused { IfErr result (IsInputRefusal (I.files inputs.old) name.now Which.SheetOctets
         (I.faults inputs.old) (I.faults inputs.new)) }
     ensures same { I.files inputs.new ≡ I.files inputs.old }
     ensures closed { I.open_sources inputs.old + 1 < 2 ^ 64 → I.open_sources inputs.new ≡ I.open_sources inputs.old }

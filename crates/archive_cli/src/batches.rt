@@ -4,7 +4,7 @@ ghost use Rattle.std.specs.Prelude.{◌≡◌, ◌+◌, ◌<◌, ◌≤◌, [], 
 ghost use Rattle.arch_types.specs.Dump.{BeginsWithNoPacket};
 ghost use Rattle.arch_types.specs.Packet.{IsPacket};
 ghost use Rattle.text_forms.specs.ClockTime.{IsClockTime};
-ghost use Rattle.archive_cli.specs.Batches.{arrival_from, arrivals_with, first_table, IsIngested, IsStopped, IsNextBatch};
+ghost use Rattle.archive_cli.specs.Batches.{arrival_from, arrivals_with, first_table, IsIngested, IsStoppedAt, IsNextBatch};
 
 use arch_disk::Disk;
 use arch_types::octets::Octets;
@@ -52,7 +52,7 @@ pub fn ingest_dump<D: Disk>(
     requires moment { IsClockTime moment }
     requires no_failed_write { store.old.fills ≡ [] }
     ensures whole { IfOk result (IsIngested store.old store.new dump.now link moment) }
-    ensures stopped { IfErr result (IsStopped store.old store.new dump.now link moment) }
+    ensures stopped { IfErr result (IsStoppedAt store.old store.new dump.now link moment) }
 {
     let mut places = DumpPackets::new(dump.as_slice());
     let mut packets = 0;

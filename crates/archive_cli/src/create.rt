@@ -5,7 +5,7 @@ ghost use Rattle.std.specs.Result.{result_err};
 ghost use Rattle.arch_disk.specs.Disk.{raised};
 ghost use Rattle.arch_types.specs.declared.refusal.Refusal.TheVariants.{DiskFault};
 ghost use Rattle.field_codec.specs.declared.entry.Entry.TheVariants as entries;
-ghost use Rattle.field_codec.specs.Entries.{IsEntry};
+ghost use Rattle.field_codec.specs.Entries.{IsArchiveEntry};
 ghost use Rattle.mdb_items.specs.declared.sheet.RawMdb.{RawMdb};
 ghost use Rattle.mdb_sheets.specs.Sheets.{ReadsCounted};
 ghost use Rattle.outer_traits.specs.Outside.{Stays};
@@ -13,7 +13,7 @@ ghost use Rattle.command_words.specs.JobView.{sheet_words_of};
 ghost use Rattle.archive_cli.specs.Call.{Call};
 ghost use Rattle.dump_lines.specs.Output.{WritesCounted};
 ghost use Rattle.archive_cli.specs.Caused.{IsCreateCaused};
-ghost use Rattle.archive_cli.specs.CreateEnding.{AreGood, AreRefused, IsCreateEnding, IsHead, create_line, new_head};
+ghost use Rattle.archive_cli.specs.CreateEnding.{AreGood, AreRefused, IsCreateEnding, IsHeadOfSheets, create_line, new_head};
 ghost use Rattle.archive_cli.specs.HandedBack.{IsCreateBack};
 ghost use Rattle.command_words.specs.Job.{SheetWords as GivenWords};
 ghost use Rattle.archive_cli.specs.Order.{AreInOrder, create_inputs};
@@ -97,8 +97,8 @@ fn read_head<I: Inputs>(
     words: SheetWords<'_>,
     inputs: &mut I,
 ) -> Result<Head, Refusal>
-    ensures head { IfOk result (IsHead (I.files inputs.old) (sheet_words_of words.entry)) }
-    ensures entry { IfOk result (λ head. IsEntry (entries.Head head.tables head.mdb)) }
+    ensures head { IfOk result (IsHeadOfSheets (I.files inputs.old) (sheet_words_of words.entry)) }
+    ensures entry { IfOk result (λ head. IsArchiveEntry (entries.Head head.tables head.mdb)) }
     ensures refused { IfErr result (AreRefused (I.files inputs.old) (sheet_words_of words.entry) (I.faults inputs.old)
         (I.faults inputs.new)) }
     ensures same { I.files inputs.new ≡ I.files inputs.old }
@@ -146,7 +146,7 @@ fn tables(alloc: Global) -> Result<Names, AllocError>
 
 /// Makes the archive, and prints what it has. Room for the line is taken before, so that no archive is made for which there's none.
 fn make<D: Disk, K: Sink>(alloc: Global, disk: D, head: Head, sink: &mut K) -> Ended<D>
-    requires { IsEntry (entries.Head head.tables head.mdb) }
+    requires { IsArchiveEntry (entries.Head head.tables head.mdb) }
     ensures ended { IsTrue D.device.is_transparent → (given : _) (files : _) (moment : _) (read_faults : _)
         (read_faults' : _) (words : GivenWords) (raw : RawMdb) →
         AreGood files words raw → head ≡ new_head raw → IsCreateEnding D.device (record {

@@ -6,7 +6,7 @@ ghost use Rattle.std.specs.Result.{result_err};
 ghost use Rattle.mdb_sheets.specs.Sheets.{ReadsCounted};
 ghost use Rattle.outer_traits.specs.Outside.{Stays};
 ghost use Rattle.outer_traits.specs.Whole.{IsInput};
-ghost use Rattle.archive_cli.specs.Reading.{IsOpeningFault, IsReadRefusal, IsRefusalOf};
+ghost use Rattle.archive_cli.specs.Reading.{IsOpeningFault, IsInputRefusal, IsInputRefusalOf};
 
 use arch_types::octets::Octets;
 use arch_types::refusal::{Refusal, Which};
@@ -25,7 +25,7 @@ pub fn read_limited<I: Inputs>(
 ) -> Result<Vec<u8>, Refusal>
     ensures whole { IfOk result (λ octets. IsInput (I.files inputs.old) name.now octets.items) }
     ensures short { IfOk result (λ octets. vec_len octets ≤ limit_of which) }
-    ensures refused { IfErr result (IsReadRefusal (I.files inputs.old) name.now which (I.faults inputs.old)
+    ensures refused { IfErr result (IsInputRefusal (I.files inputs.old) name.now which (I.faults inputs.old)
         (I.faults inputs.new)) }
     ensures same { I.files inputs.new ≡ I.files inputs.old }
     ensures closed { I.open_sources inputs.old + 1 < 2 ^ 64 → I.open_sources inputs.new ≡ I.open_sources inputs.old }
@@ -43,7 +43,7 @@ pub fn read_limited<I: Inputs>(
 
 /// The refusal of a fault.
 fn refusal_of(alloc: Global, fault: ReadFault, name: &str, which: Which) -> Refusal
-    ensures { IsRefusalOf name.now which fault result }
+    ensures { IsInputRefusalOf name.now which fault result }
 {
     match fault {
         ReadFault::Missing => missing(alloc, name),

@@ -4,7 +4,7 @@ ghost use Rattle.std.specs.Prelude.{◌≡◌, ◌+◌, ◌<◌, ◌≤◌, ◌^
 ghost use Rattle.std.specs.Result.{result_err};
 ghost use Rattle.mdb_sheets.specs.Sheets.{ReadsCounted};
 ghost use Rattle.outer_traits.specs.Outside.{Stays};
-ghost use Rattle.archive_cli.specs.Reading.{IsReadRefusal};
+ghost use Rattle.archive_cli.specs.Reading.{IsInputRefusal};
 ghost use Rattle.archive_cli.specs.ReadDump.{IsDumpRead, ending_of, dump_limit};
 ghost use Rattle.dump_lines.specs.DumpTable.{IsDumpTable};
 
@@ -35,7 +35,7 @@ pub fn read_scan_input<I: Inputs, C: Clock>(
     ensures received { IfOk result (λ scan_input. IsDumpRead (I.files inputs.old) (C.next clock.old) name.now
         scan_input.loaded) }
     ensures empty { IfOk result (λ scan_input. scan_input.line_buffer ≡ []) }
-    ensures refused { IfErr result (IsReadRefusal (I.files inputs.old) name.now Which.DumpOctets (I.faults inputs.old)
+    ensures refused { IfErr result (IsInputRefusal (I.files inputs.old) name.now Which.DumpOctets (I.faults inputs.old)
         (I.faults inputs.new)) }
     ensures same { I.files inputs.new ≡ I.files inputs.old }
     ensures closed { I.open_sources inputs.old + 1 < 2 ^ 64 → I.open_sources inputs.new ≡ I.open_sources inputs.old }

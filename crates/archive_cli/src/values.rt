@@ -12,7 +12,7 @@ ghost use Rattle.dump_lines.specs.Output.{Appends, WritesCounted, IsBuffered};
 ghost use Rattle.dump_lines.specs.DumpTable.{IsVisible};
 ghost use Rattle.archive_cli.specs.Order.{AreInOrder, values_inputs};
 ghost use Rattle.archive_cli.specs.ValuesEnding.{IsValuesEnding};
-ghost use Rattle.archive_cli.specs.ValuesPrinting.{PrintCounted, line_of, count_of, cells_of_stored, lines_of_cells, end_of_cells, text_of_cells, refusal_of_print};
+ghost use Rattle.archive_cli.specs.ValuesPrinting.{PrintCounted, line_of, cells_in_row, cells_of_stored, lines_of_cells, end_of_cells, text_of_cells, refusal_of_print};
 
 use crate::scan_input::{ended, read_scan_input};
 use arch_types::refusal::Refusal;
@@ -171,7 +171,7 @@ fn put_cell_of(
     requires room { length line_buffer.old < 65536 }
     requires number { known.now.number < length known.now.mdb.parameters }
     ensures line { OnOk result (line_buffer.new ≡ line_buffer.old ++ line_of known.now.mdb known.now.number row.now) }
-    ensures count { IfOk result (λ count. count ≡ count_of known.now.mdb known.now.number row.now) }
+    ensures count { IfOk result (λ count. count ≡ cells_in_row known.now.mdb known.now.number row.now) }
     ensures kept { OnErr result (line_buffer.new ≡ line_buffer.old) }
 {
     let cell = cell_of(extractor, &known.mdb, known.number, row)?;

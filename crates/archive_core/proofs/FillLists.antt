@@ -7,11 +7,11 @@ use Rattle.arch_types.specs.declared.interval.Interval.{Interval}
 use Rattle.archive_core.specs.declared.fills.Fill.{Fill}
 use Rattle.archive_core.specs.declared.fills.Fill.TheVariants.{Begun, Done, Freed, Fault}
 use Rattle.archive_core.specs.Items.{Item, items_of}
-use Rattle.archive_core.specs.Fills.{base_of, base_after, in_flight, flight_after, rows_of_faults, pending_fault_of, cleared, reopened, above, Rising}
+use Rattle.archive_core.specs.Fills.{base_in, base_after, in_flight, flight_after, rows_of_faults, pending_fault_of, cleared, reopened, above, Rising}
 
 -- ---- more items
 
-pub base_after_item : (interval : Interval) (fills : List Fill) (item : Fill) → base_of interval (fills ++ item ∷ []) ≡ base_after interval (base_of interval fills) item
+pub base_after_item : (interval : Interval) (fills : List Fill) (item : Fill) → base_in interval (fills ++ item ∷ []) ≡ base_after interval (base_in interval fills) item
 base_after_item interval fills item = fold-append (base_after interval) None fills (item ∷ [])
 
 pub flight_after_item : (interval : Interval) (fills : List Fill) (item : Fill) → in_flight interval (fills ++ item ∷ []) ≡ flight_after interval (in_flight interval fills) item
@@ -102,8 +102,8 @@ flight_cleared interval base (Done i b) = refl
 flight_cleared interval base (Freed i) = refl
 flight_cleared interval base (Fault count wrote rows) = refl
 
-pub base_of-reopened : (interval : Interval) (fills : List Fill) → base_of interval (reopened fills) ≡ base_of interval fills
-base_of-reopened interval fills = fold-reopened (base_after interval) (base_cleared interval) fills None
+pub base_in-reopened : (interval : Interval) (fills : List Fill) → base_in interval (reopened fills) ≡ base_in interval fills
+base_in-reopened interval fills = fold-reopened (base_after interval) (base_cleared interval) fills None
 
 pub in_flight-reopened : (interval : Interval) (fills : List Fill) → in_flight interval (reopened fills) ≡ in_flight interval fills
 in_flight-reopened interval fills = fold-reopened (flight_after interval) (flight_cleared interval) fills None

@@ -7,7 +7,7 @@ use Rattle.std.proofs.lemmas.Bool.Decides.{Decides-int_eq}
 use Rattle.arch_types.specs.declared.interval.Interval.{Interval}
 use Rattle.archive_core.specs.declared.fills.Fill.{Fill}
 use Rattle.archive_core.specs.declared.fills.Fill.TheVariants.{Begun, Done, Freed, Fault}
-use Rattle.archive_core.specs.Fills.{is_same, base_of, base_after, in_flight, flight_after, IsLastDone, EndsFlight, IsBegunLast}
+use Rattle.archive_core.specs.Fills.{is_same, base_in, base_after, in_flight, flight_after, IsLastDone, EndsFlight, IsBegunLast}
 
 -- what an item says, if it says anything, else what was said before
 abbrev said : Option (Option ℕ) → Option ℕ → Option ℕ
@@ -142,13 +142,13 @@ module _ (interval : Interval) where
   not_done (Freed i) none = refl
   not_done (Fault count wrote rows) none = refl
 
-  last_done : (base : ℕ) (fills : List Fill) → (base_of interval fills ≡ Some base) ↔ IsLastDone interval base fills
+  last_done : (base : ℕ) (fills : List Fill) → (base_in interval fills ≡ Some base) ↔ IsLastDone interval base fills
   last_done base fills = (λ e. there e (decided base_said (base_after interval) base_is_said fills None), back)
     where
-      there : base_of interval fills ≡ Some base → (IsSilent base_said (base_after interval) base_is_said fills × (base_of interval fills ≡ None)) ⊎ SaysLast base_said (base_after interval) base_is_said fills (base_of interval fills) → IsLastDone interval base fills
+      there : base_in interval fills ≡ Some base → (IsSilent base_said (base_after interval) base_is_said fills × (base_in interval fills ≡ None)) ⊎ SaysLast base_said (base_after interval) base_is_said fills (base_in interval fills) → IsLastDone interval base fills
       there e (inl (silent, none)) = absurd (cc (e, none))
       there e (inr s) =
-          let one = says_done s.item (base_of interval fills) s.is in
+          let one = says_done s.item (base_in interval fills) s.is in
           let same : one.0 ≡ base = cc (one.1, e) in
           record {
             place = s.place;
@@ -156,7 +156,7 @@ module _ (interval : Interval) where
             last = λ later other lt at. absurd (cc (s.last later (Done interval other) lt at, done_says (Done interval other) other refl));
           }
 
-      back : IsLastDone interval base fills → base_of interval fills ≡ Some base
+      back : IsLastDone interval base fills → base_in interval fills ≡ Some base
       back d = last_decides base_said (base_after interval) base_is_said fills None (Some base) (record {
         place = d.place;
         item = Done interval base;
@@ -165,18 +165,18 @@ module _ (interval : Interval) where
         last = λ later other lt at. not_done other (λ b e. d.last later b lt (at ∙ ap Some e));
       })
 
-  no_done : (fills : List Fill) → (base_of interval fills ≡ None) ↔ ((place base : ℕ) → slice_get fills place ≡ Some (Done interval base) → ⊥)
+  no_done : (fills : List Fill) → (base_in interval fills ≡ None) ↔ ((place base : ℕ) → slice_get fills place ≡ Some (Done interval base) → ⊥)
   no_done fills = (λ e. there e (decided base_said (base_after interval) base_is_said fills None), λ none. back none (decided base_said (base_after interval) base_is_said fills None))
     where
-      there : base_of interval fills ≡ None → (IsSilent base_said (base_after interval) base_is_said fills × (base_of interval fills ≡ None)) ⊎ SaysLast base_said (base_after interval) base_is_said fills (base_of interval fills)
+      there : base_in interval fills ≡ None → (IsSilent base_said (base_after interval) base_is_said fills × (base_in interval fills ≡ None)) ⊎ SaysLast base_said (base_after interval) base_is_said fills (base_in interval fills)
           → (place base : ℕ) → slice_get fills place ≡ Some (Done interval base) → ⊥
       there e (inl (silent, none)) place base at = absurd (cc (silent place (Done interval base) at, done_says (Done interval base) base refl))
-      there e (inr s) place base at = let one = says_done s.item (base_of interval fills) s.is in absurd (cc (one.1, e))
+      there e (inr s) place base at = let one = says_done s.item (base_in interval fills) s.is in absurd (cc (one.1, e))
 
-      back : ((place base : ℕ) → slice_get fills place ≡ Some (Done interval base) → ⊥) → (IsSilent base_said (base_after interval) base_is_said fills × (base_of interval fills ≡ None)) ⊎ SaysLast base_said (base_after interval) base_is_said fills (base_of interval fills)
-          → base_of interval fills ≡ None
+      back : ((place base : ℕ) → slice_get fills place ≡ Some (Done interval base) → ⊥) → (IsSilent base_said (base_after interval) base_is_said fills × (base_in interval fills ≡ None)) ⊎ SaysLast base_said (base_after interval) base_is_said fills (base_in interval fills)
+          → base_in interval fills ≡ None
       back none (inl (silent, same)) = same
-      back none (inr s) = let one = says_done s.item (base_of interval fills) s.is in absurd (none s.place one.0 (s.there ∙ ap Some one.2))
+      back none (inr s) = let one = says_done s.item (base_in interval fills) s.is in absurd (none s.place one.0 (s.there ∙ ap Some one.2))
 
   -- ---- flights
 
@@ -236,8 +236,8 @@ module _ (interval : Interval) where
       })
 
 pub base_is_of_last_done : (interval : Interval) (fills : List Fill) →
-    ((base : ℕ) → (base_of interval fills ≡ Some base) ↔ IsLastDone interval base fills)
-    × ((base_of interval fills ≡ None) ↔ ((place base : ℕ) → slice_get fills place ≡ Some (Done interval base) → ⊥))
+    ((base : ℕ) → (base_in interval fills ≡ Some base) ↔ IsLastDone interval base fills)
+    × ((base_in interval fills ≡ None) ↔ ((place base : ℕ) → slice_get fills place ≡ Some (Done interval base) → ⊥))
 base_is_of_last_done interval fills = (λ base. last_done interval base fills, no_done interval fills)
 
 pub flight_is_begun_last : (interval : Interval) (base : ℕ) (fills : List Fill) → (in_flight interval fills ≡ Some base) ↔ IsBegunLast interval base fills

@@ -11,9 +11,9 @@ use Rattle.arch_types.specs.Interval.{interval_of}
 use Rattle.late_marks.specs.Mark.{is_late_by}
 use Rattle.archive_core.specs.declared.fills.Fill.{Fill}
 use Rattle.archive_core.specs.Items.{Item, is_row_of_interval}
-use Rattle.archive_core.specs.Fills.{base_of}
+use Rattle.archive_core.specs.Fills.{base_in}
 use Rattle.archive_core.specs.Places.{last_with}
-use Rattle.archive_core.specs.Late.{StandsIn, IsLate, IsLastIn, last_in, is_late}
+use Rattle.archive_core.specs.Late.{StandsIn, IsLate, IsLastIn, last_in, is_late_in}
 use Rattle.archive_core.proofs.Places.{last_push}
 
 -- an item that passes stands in the interval
@@ -62,15 +62,15 @@ pub last_after_item : (interval : Interval) (history : List Item) (item : Item) 
     last_in interval (history ++ item ∷ []) ≡ (if is_row_of_interval interval item then Some (length history) else last_in interval history)
 last_after_item interval history item = last_push (is_row_of_interval interval) history item
 
-pub late_by_last : (interval : Interval) (history : List Item) (fills : List Fill) → IsTrue (is_late interval history fills) ↔ IsLate interval history fills
-late_by_last interval history fills = (there (last_in interval history) (last_is_greatest interval history) (base_of interval fills) refl, back (last_in interval history) (last_is_greatest interval history) (base_of interval fills) refl)
+pub late_by_last : (interval : Interval) (history : List Item) (fills : List Fill) → IsTrue (is_late_in interval history fills) ↔ IsLate interval history fills
+late_by_last interval history fills = (there (last_in interval history) (last_is_greatest interval history) (base_in interval fills) refl, back (last_in interval history) (last_is_greatest interval history) (base_in interval fills) refl)
   where
-    there : (o : Option ℕ) → IsLastIn interval history o → (base : Option ℕ) → base_of interval fills ≡ base → IsTrue (option_map_or (λ last. is_late_by last base) o false) → IsLate interval history fills
+    there : (o : Option ℕ) → IsLastIn interval history o → (base : Option ℕ) → base_in interval fills ≡ base → IsTrue (option_map_or (λ last. is_late_by last base) o false) → IsLate interval history fills
     there None is_last base is late = absurd (true≢false (sym late))
     there (Some last) is_last None is late = record { position = last; stands = is_last.0; unseen = subst (λ (o : Option ℕ). MatchOption o ⊤ (λ base. base ≤ last)) (sym is) tt }
     there (Some last) is_last (Some base) is late = record { position = last; stands = is_last.0; unseen = subst (λ (o : Option ℕ). MatchOption o ⊤ (λ base. base ≤ last)) (sym is) (grind arith) }
 
-    back : (o : Option ℕ) → IsLastIn interval history o → (base : Option ℕ) → base_of interval fills ≡ base → IsLate interval history fills → IsTrue (option_map_or (λ last. is_late_by last base) o false)
+    back : (o : Option ℕ) → IsLastIn interval history o → (base : Option ℕ) → base_in interval fills ≡ base → IsLate interval history fills → IsTrue (option_map_or (λ last. is_late_by last base) o false)
     back None is_last base is late = absurd (is_last late.position late.stands)
     back (Some last) is_last None is late = refl
     back (Some last) is_last (Some base) is late =

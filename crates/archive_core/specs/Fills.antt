@@ -20,8 +20,8 @@ base_after interval base (Freed i) = base
 base_after interval base (Fault count wrote rows) = base
 
 -- the base of the last Done of an interval
-abbrev pub base_of : Interval → List Fill → Option ℕ
-base_of interval fills = fold (base_after interval) None fills
+abbrev pub base_in : Interval → List Fill → Option ℕ
+base_in interval fills = fold (base_after interval) None fills
 
 -- the base of an interval's flight after one more item, given the one before: the last item that names the interval decides
 abbrev pub flight_after : Interval → Option ℕ → Fill → Option ℕ

@@ -6,7 +6,7 @@ use Rattle.arch_types.specs.Interval.{interval_of}
 use Rattle.late_marks.specs.Mark.{is_late_by}
 use Rattle.archive_core.specs.declared.fills.Fill.{Fill}
 use Rattle.archive_core.specs.Items.{Item, is_row_of_interval}
-use Rattle.archive_core.specs.Fills.{base_of}
+use Rattle.archive_core.specs.Fills.{base_in}
 use Rattle.archive_core.specs.Places.{last_place}
 
 -- a row of table `tm`, the first table, with its time in the interval stands at this position
@@ -20,7 +20,7 @@ pub record StandsIn (interval : Interval) (position : ℕ) (history : List Item)
 pub record IsLate (interval : Interval) (history : List Item) (fills : List Fill) : Type 0 where
   pub position : ℕ
   pub stands : StandsIn interval position history
-  pub unseen : MatchOption (base_of interval fills) ⊤ (λ base. base ≤ position)
+  pub unseen : MatchOption (base_in interval fills) ⊤ (λ base. base ≤ position)
 
 -- ---- lateness by the last row alone
 
@@ -34,5 +34,5 @@ IsLastIn interval history None = (position : ℕ) → StandsIn interval position
 IsLastIn interval history (Some last) = StandsIn interval last history × ((position : ℕ) → StandsIn interval position history → position ≤ last)
 
 -- whether an interval is late: it has a row, and is late by the last one
-abbrev pub is_late : Interval → List Item → List Fill → Bool
-is_late interval history fills = option_map_or (λ last. is_late_by last (base_of interval fills)) (last_in interval history) false
+abbrev pub is_late_in : Interval → List Item → List Fill → Bool
+is_late_in interval history fills = option_map_or (λ last. is_late_by last (base_in interval fills)) (last_in interval history) false

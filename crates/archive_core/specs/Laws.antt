@@ -10,8 +10,8 @@ use Rattle.archive_core.specs.declared.fills.Fill.{Fill}
 use Rattle.archive_core.specs.declared.fills.Fill.TheVariants.{Done}
 use Rattle.archive_core.specs.Items.{Item, is_row_of_interval}
 use Rattle.archive_core.specs.Outcomes.{outcomes_of, fresh_of, Says}
-use Rattle.archive_core.specs.Fills.{base_of, base_after, in_flight, flight_after, IsLastDone, IsBegunLast, rows_of_faults, pending_fault_of, reopened, above, Rising}
-use Rattle.archive_core.specs.Late.{IsLate, IsLastIn, last_in, is_late}
+use Rattle.archive_core.specs.Fills.{base_in, base_after, in_flight, flight_after, IsLastDone, IsBegunLast, rows_of_faults, pending_fault_of, reopened, above, Rising}
+use Rattle.archive_core.specs.Late.{IsLate, IsLastIn, last_in, is_late_in}
 
 -- ---- outcomes
 
@@ -56,15 +56,15 @@ LastAfterItem = (interval : Interval) (history : List Item) (item : Item) →
 
 -- the last row decides whether an interval is late
 abbrev pub LateByLast : Type 0
-LateByLast = (interval : Interval) (history : List Item) (fills : List Fill) → IsTrue (is_late interval history fills) ↔ IsLate interval history fills
+LateByLast = (interval : Interval) (history : List Item) (fills : List Fill) → IsTrue (is_late_in interval history fills) ↔ IsLate interval history fills
 
 -- ---- fill lists
 
 -- the base of an interval is that of its last Done, and there is none exactly where no Done of it stands in the list
 abbrev pub BaseIsOfLastDone : Type 0
 BaseIsOfLastDone = (interval : Interval) (fills : List Fill) →
-    ((base : ℕ) → (base_of interval fills ≡ Some base) ↔ IsLastDone interval base fills)
-    × ((base_of interval fills ≡ None) ↔ ((place base : ℕ) → slice_get fills place ≡ Some (Done interval base) → ⊥))
+    ((base : ℕ) → (base_in interval fills ≡ Some base) ↔ IsLastDone interval base fills)
+    × ((base_in interval fills ≡ None) ↔ ((place base : ℕ) → slice_get fills place ≡ Some (Done interval base) → ⊥))
 
 -- an interval is in flight, with a base, exactly where a Begun of it with that base stands in the list and nothing that ends the flight behind
 abbrev pub FlightIsBegunLast : Type 0
@@ -74,7 +74,7 @@ FlightIsBegunLast = (interval : Interval) (base : ℕ) (fills : List Fill) →
 -- one item more
 abbrev pub BasesAfterItem : Type 0
 BasesAfterItem = (interval : Interval) (fills : List Fill) (item : Fill) →
-    (base_of interval (fills ++ item ∷ []) ≡ base_after interval (base_of interval fills) item)
+    (base_in interval (fills ++ item ∷ []) ≡ base_after interval (base_in interval fills) item)
     × (in_flight interval (fills ++ item ∷ []) ≡ flight_after interval (in_flight interval fills) item)
 
 -- what more items hold comes after what is held, and the first count that stands stays
@@ -91,4 +91,4 @@ abbrev pub ReopenSettles : Type 0
 ReopenSettles = (fills : List Fill) →
     (pending_fault_of (reopened fills) ≡ None) × (rows_of_faults (reopened fills) ≡ rows_of_faults fills) × (length (reopened fills) ≡ length fills)
     × ((low high : ℕ) → Rising low high fills → Rising low high (reopened fills))
-    × ((interval : Interval) → (base_of interval (reopened fills) ≡ base_of interval fills) × (in_flight interval (reopened fills) ≡ in_flight interval fills))
+    × ((interval : Interval) → (base_in interval (reopened fills) ≡ base_in interval fills) × (in_flight interval (reopened fills) ≡ in_flight interval fills))

@@ -10,7 +10,7 @@ use Rattle.block_map.proofs.KeyedLists.{lookup-insert_entry_same, lookup-insert_
 use Rattle.arch_types.specs.declared.interval.Interval.{Interval}
 use Rattle.arch_types.specs.Interval.{interval_cmp}
 use Rattle.arch_types.proofs.Ranks.{interval_cmp_total, exact_intervals}
-use Rattle.archive_history.specs.LimitCounts.{or_zero, count_of, one_at}
+use Rattle.archive_history.specs.LimitCounts.{or_zero, interval_row_count, one_at}
 
 pub together : (a b : Interval) → a.0 ≡ b.0 → a ≡ b
 together a b numbers = ap (λ (n : ℤ). let i : Interval = record { 0 = n } in i) numbers
@@ -19,15 +19,15 @@ apart : (a b : Interval) → b ≢ a → is_at (interval_cmp a) b ≡ false
 apart a b ne = false_from_ne_true _ (λ e. ne (sym (tells_apart exact_intervals a b e)))
 
 -- one interval counts one more, and all others as many as before
-pub counted : (es : List (Interval × ℕ)) (i other : Interval) (v : ℕ) → v ≡ count_of es i + 1 → count_of (insert_entry interval_cmp es i v) other ≡ count_of es other + one_at i other
+pub counted : (es : List (Interval × ℕ)) (i other : Interval) (v : ℕ) → v ≡ interval_row_count es i + 1 → interval_row_count (insert_entry interval_cmp es i v) other ≡ interval_row_count es other + one_at i other
 counted es i other v is = here (int_eq i.0 other.0) refl
   where
-    here : (b : Bool) → int_eq i.0 other.0 ≡ b → count_of (insert_entry interval_cmp es i v) other ≡ count_of es other + (if b then 1 else 0)
+    here : (b : Bool) → int_eq i.0 other.0 ≡ b → interval_row_count (insert_entry interval_cmp es i v) other ≡ interval_row_count es other + (if b then 1 else 0)
     here true e =
         let same : i ≡ other = together i other ((Decides-int_eq i.0 other.0).0 e) in
-        subst (λ (o : Interval). count_of (insert_entry interval_cmp es i v) o ≡ count_of es o + 1) same
+        subst (λ (o : Interval). interval_row_count (insert_entry interval_cmp es i v) o ≡ interval_row_count es o + 1) same
         (ap or_zero (lookup-insert_entry_same interval_cmp_total i v es) ∙ is)
     here false e =
         let ne : is_at (interval_cmp i) other ≡ false = apart i other (λ same. true≢false (sym ((Decides-int_eq i.0 other.0).1 (ap (λ (x : Interval). x.0) (sym same))) ∙ e)) in
-        let none : count_of es other ≡ count_of es other + 0 = omega arith in
+        let none : interval_row_count es other ≡ interval_row_count es other + 0 = omega arith in
         ap or_zero (lookup-insert_entry_other interval_cmp_total other i v es ne) ∙ none

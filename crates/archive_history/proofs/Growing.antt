@@ -14,7 +14,7 @@ use Rattle.archive_core.proofs.Outcomes.{new_in_turn, ingested-append}
 use Rattle.archive_history.specs.History.{HistoryInvariant}
 use Rattle.archive_history.specs.Limits.{octets_of, interval_rows, IsWithin}
 use Rattle.archive_history.specs.TableSet.{HistoryView}
-use Rattle.archive_history.specs.LimitCounts.{LimitCountsView, count_of, one_at}
+use Rattle.archive_history.specs.LimitCounts.{LimitCountsView, interval_row_count, one_at}
 use Rattle.archive_history.proofs.Sums.{octets-append, interval_rows-append, interval_rows-one, within_less}
 
 -- what a row adds to the count of an interval
@@ -32,7 +32,7 @@ adds_nothing row i other =
     ap (λ (b : Bool). if b && int_eq (interval_of row.key.time) i.0 then 1 else 0) far
 
 pub kept_row : (table_set table_set' : HistoryView) (limit_counts limit_counts' : LimitCountsView) (row : Row) → HistoryInvariant table_set limit_counts → table_set'.items ≡ with_row table_set.items row → table_set'.items ≡ table_set.items ++ row ∷ [] → IsWithin (table_set.items ++ row ∷ []) → table_set.room ≡ table_set'.room + 1
-    → limit_counts'.octets ≡ limit_counts.octets + length row.packet → ((i : Interval) → count_of limit_counts'.rows i ≡ count_of limit_counts.rows i + adds_to i row) → limit_counts.room ≤ limit_counts'.room + 1 → HistoryInvariant table_set' limit_counts'
+    → limit_counts'.octets ≡ limit_counts.octets + length row.packet → ((i : Interval) → interval_row_count limit_counts'.rows i ≡ interval_row_count limit_counts.rows i + adds_to i row) → limit_counts.room ≤ limit_counts'.room + 1 → HistoryInvariant table_set' limit_counts'
 kept_row table_set table_set' limit_counts limit_counts' row k is grown within room octets rows left = record {
   history = subst IsHistory (sym is) (keeps_history table_set.items (row ∷ []) k.history);
   within = subst IsWithin (sym grown) within;

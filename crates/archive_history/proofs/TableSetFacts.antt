@@ -14,33 +14,33 @@ use Rattle.arch_types.specs.declared.row.Row.{Row}
 use Rattle.arch_types.specs.History.{is_in_table, is_duplicate_of, with_row}
 use Rattle.archive_core.specs.Items.{Item}
 use Rattle.yarch_table.specs.declared.table.Stored.{Stored}
-use Rattle.yarch_table.specs.Stored.{Holding, IsInserted, IsKeptAt, rows_of}
+use Rattle.yarch_table.specs.Stored.{TableView, IsInserted, IsKeptAt, rows_of}
 use Rattle.yarch_table.specs.Placed.{placed, at_position}
 use Rattle.yarch_table.proofs.Histories.{inserted-placed, inserted-other, new-placed, duplicate-placed, kept_placed, any-placed}
 use Rattle.arch_types.specs.History.{has_key}
-use Rattle.archive_history.specs.TableSet.{no_table, no_row, table_in, row_at, items_at, IsPlaceOf, IsTableSet, is_at_key}
+use Rattle.archive_history.specs.TableSet.{no_table, no_row, table_in, row_at_place, items_at, IsPlaceOf, IsTableSet, is_at_key}
 use Rattle.archive_history.specs.declared.table_set.Place.{Place}
 use Rattle.archive_history.proofs.Steps.{few_filter}
 
 -- ---- the same rows
 
 -- the tables have the same rows
-abbrev pub HaveSame : List Holding → List Holding → Type 0
+abbrev pub HaveSame : List TableView → List TableView → Type 0
 HaveSame old new = (t : ℕ) → (table_in new t).stored ≡ (table_in old t).stored
 
-pub items_same : (old new : List Holding) (order : List Place) → HaveSame old new → items_at new order ≡ items_at old order
+pub items_same : (old new : List TableView) (order : List Place) → HaveSame old new → items_at new order ≡ items_at old order
 items_same old new [] same = refl
 items_same old new (p ∷ order) same =
-    let head : row_at new p ≡ row_at old p = ap (λ (l : List Stored). (slice_index_or l p.at no_row).row) (same p.table) in
-    ap (λ (r : Item). r ∷ items_at new order) head ∙ ap (λ (l : List Item). row_at old p ∷ l) (items_same old new order same)
+    let head : row_at_place new p ≡ row_at_place old p = ap (λ (l : List Stored). (slice_index_or l p.at no_row).row) (same p.table) in
+    ap (λ (r : Item). r ∷ items_at new order) head ∙ ap (λ (l : List Item). row_at_place old p ∷ l) (items_same old new order same)
 
-pub places_same : (old new : List Holding) (order : List Place) → length new ≡ length old → HaveSame old new → AllByRecursion (IsPlaceOf old) order → AllByRecursion (IsPlaceOf new) order
+pub places_same : (old new : List TableView) (order : List Place) → length new ≡ length old → HaveSame old new → AllByRecursion (IsPlaceOf old) order → AllByRecursion (IsPlaceOf new) order
 places_same old new [] long same all = tt
 places_same old new (p ∷ order) long same all =
     (record { table = omega (arith, all.0.table, long); at = omega (arith, all.0.at, ap length (same p.table)) }, places_same old new order long same all.1)
 
 -- a set of tables with more room
-pub table_set_roomier : (old new : List Holding) (order order' : Vec Place) (room room' : ℕ) → length new ≡ length old → HaveSame old new → order'.items ≡ order.items → IsTableSet old order room
+pub table_set_roomier : (old new : List TableView) (order order' : Vec Place) (room room' : ℕ) → length new ≡ length old → HaveSame old new → order'.items ≡ order.items → IsTableSet old order room
     → ((t : ℕ) → t < length new → room' ≤ (table_in new t).room) → vec_len order' + room' ≤ vec_capacity order' → IsTableSet new order' room'
 table_set_roomier old new order order' room room' long same items table_set has_room order_has_room = record {
   places = subst (AllByRecursion (IsPlaceOf new)) (sym items) (places_same old new order.items long same table_set.places);
@@ -55,8 +55,8 @@ push_all : (P : Place → Type 0) (order : List Place) (p : Place) → AllByRecu
 push_all P [] p all last = (last, tt)
 push_all P (q ∷ order) p all last = (all.0, push_all P order p all.1 last)
 
-module _ (old : List Holding) (t : ℕ) (T : Holding) (within : t < length old) where
-  abbrev new : List Holding
+module _ (old : List TableView) (t : ℕ) (T : TableView) (within : t < length old) where
+  abbrev new : List TableView
   new = set old t T
 
   long : length new ≡ length old
@@ -70,24 +70,24 @@ module _ (old : List Holding) (t : ℕ) (T : Holding) (within : t < length old) 
 
   -- a table that was put back as it was
   pub same_again : T ≡ table_in old t → HaveSame old new
-  same_again is u = ⊎_elim (λ same. ap (λ (x : Holding). x.stored) (ap (table_in new) same ∙ here ∙ is ∙ sym (ap (table_in old) same))) (λ ne. ap (λ (x : Holding). x.stored) (there u ne)) (cases_eq u t)
+  same_again is u = ⊎_elim (λ same. ap (λ (x : TableView). x.stored) (ap (table_in new) same ∙ here ∙ is ∙ sym (ap (table_in old) same))) (λ ne. ap (λ (x : TableView). x.stored) (there u ne)) (cases_eq u t)
 
   module _ (s : Stored) (more : T.stored ≡ (table_in old t).stored ++ s ∷ []) where
-    row_kept : (p : Place) → IsPlaceOf old p → row_at new p ≡ row_at old p
+    row_kept : (p : Place) → IsPlaceOf old p → row_at_place new p ≡ row_at_place old p
     row_kept p is = ⊎_elim
         (λ same.
         let inside : p.at < length (table_in old t).stored = subst (λ (u : ℕ). p.at < length (table_in old u).stored) same is.at in
         ap (λ (u : ℕ). (slice_index_or (table_in new u).stored p.at no_row).row) same
-        ∙ ap (λ (x : Holding). (slice_index_or x.stored p.at no_row).row) here
+        ∙ ap (λ (x : TableView). (slice_index_or x.stored p.at no_row).row) here
         ∙ ap (λ (l : List Stored). (slice_index_or l p.at no_row).row) more
         ∙ ap (λ (x : Stored). x.row) (get_or_append_left (table_in old t).stored (s ∷ []) no_row p.at inside)
         ∙ sym (ap (λ (u : ℕ). (slice_index_or (table_in old u).stored p.at no_row).row) same))
-        (λ ne. ap (λ (x : Holding). (slice_index_or x.stored p.at no_row).row) (there p.table ne))
+        (λ ne. ap (λ (x : TableView). (slice_index_or x.stored p.at no_row).row) (there p.table ne))
         (cases_eq p.table t)
 
     items_kept : (order : List Place) → AllByRecursion (IsPlaceOf old) order → items_at new order ≡ items_at old order
     items_kept [] all = refl
-    items_kept (p ∷ order) all = ap (λ (r : Item). r ∷ items_at new order) (row_kept p all.0) ∙ ap (λ (l : List Item). row_at old p ∷ l) (items_kept order all.1)
+    items_kept (p ∷ order) all = ap (λ (r : Item). r ∷ items_at new order) (row_kept p all.0) ∙ ap (λ (l : List Item). row_at_place old p ∷ l) (items_kept order all.1)
 
     place_kept : (p : Place) → IsPlaceOf old p → IsPlaceOf new p
     place_kept p is = record {
@@ -96,8 +96,8 @@ module _ (old : List Holding) (t : ℕ) (T : Holding) (within : t < length old) 
           (λ same.
           let inside : p.at < length (table_in old t).stored = subst (λ (u : ℕ). p.at < length (table_in old u).stored) same is.at in
           let grown : p.at < length T.stored = omega (arith, inside, ap length more, length-append (table_in old t).stored (s ∷ [])) in
-          subst (λ (u : ℕ). p.at < length (table_in new u).stored) (sym same) (subst (λ (x : Holding). p.at < length x.stored) (sym here) grown))
-          (λ ne. subst (λ (x : Holding). p.at < length x.stored) (sym (there p.table ne)) is.at)
+          subst (λ (u : ℕ). p.at < length (table_in new u).stored) (sym same) (subst (λ (x : TableView). p.at < length x.stored) (sym here) grown))
+          (λ ne. subst (λ (x : TableView). p.at < length x.stored) (sym (there p.table ne)) is.at)
           (cases_eq p.table t);
     }
 
@@ -108,23 +108,23 @@ module _ (old : List Holding) (t : ℕ) (T : Holding) (within : t < length old) 
     abbrev last : Place
     last = record { table = t; at = length (table_in old t).stored }
 
-    last_row : row_at new last ≡ s.row
+    last_row : row_at_place new last ≡ s.row
     last_row =
-        ap (λ (x : Holding). (slice_index_or x.stored (length (table_in old t).stored) no_row).row) here
+        ap (λ (x : TableView). (slice_index_or x.stored (length (table_in old t).stored) no_row).row) here
         ∙ ap (λ (l : List Stored). (slice_index_or l (length (table_in old t).stored) no_row).row) more
         ∙ ap (λ (x : Stored). x.row) (get_or-append_seam (table_in old t).stored s [] no_row)
 
     last_place : IsPlaceOf new last
     last_place = record {
       table = omega (arith, within, long);
-      at = subst (λ (x : Holding). length (table_in old t).stored < length x.stored) (sym here) (omega (arith, ap length more, length-append (table_in old t).stored (s ∷ [])));
+      at = subst (λ (x : TableView). length (table_in old t).stored < length x.stored) (sym here) (omega (arith, ap length more, length-append (table_in old t).stored (s ∷ [])));
     }
 
     -- the history after a new row
     pub items_more : (order : List Place) → AllByRecursion (IsPlaceOf old) order → items_at new (order ++ last ∷ []) ≡ items_at old order ++ s.row ∷ []
     items_more order all =
-        map-append (row_at new) order (last ∷ [])
-        ∙ ap (λ (l : List Item). l ++ row_at new last ∷ []) (items_kept order all)
+        map-append (row_at_place new) order (last ∷ [])
+        ∙ ap (λ (l : List Item). l ++ row_at_place new last ∷ []) (items_kept order all)
         ∙ ap (λ (r : Item). items_at old order ++ r ∷ []) last_row
 
     pub places_more : (order : List Place) → AllByRecursion (IsPlaceOf old) order → AllByRecursion (IsPlaceOf new) (order ++ last ∷ [])
@@ -136,11 +136,11 @@ module _ (old : List Holding) (t : ℕ) (T : Holding) (within : t < length old) 
   tables_inserted items row result is all inserted u inside = ⊎_elim
       (λ same.
       let was : (table_in old t).stored ≡ placed row.table items = all t within ∙ ap (λ (n : ℕ). placed n items) (sym is) in
-      ap (λ (n : ℕ). (table_in new n).stored) same ∙ ap (λ (x : Holding). x.stored) here ∙ inserted-placed (table_in old t) T items row result was inserted
+      ap (λ (n : ℕ). (table_in new n).stored) same ∙ ap (λ (x : TableView). x.stored) here ∙ inserted-placed (table_in old t) T items row result was inserted
       ∙ ap (λ (n : ℕ). placed n (with_row items row)) (is ∙ sym same))
       (λ ne.
       let other : is_in_table u row ≡ false = apart u row (λ e. ne (e ∙ is)) in
-      ap (λ (x : Holding). x.stored) (there u ne) ∙ all u (omega (arith, inside, long)) ∙ sym (inserted-other u items row other))
+      ap (λ (x : TableView). x.stored) (there u ne) ∙ all u (omega (arith, inside, long)) ∙ sym (inserted-other u items row other))
       (cases_eq u t)
     where
       apart : (u : ℕ) (row : Row) → (u ≡ row.table → ⊥) → is_in_table u row ≡ false
@@ -148,12 +148,12 @@ module _ (old : List Holding) (t : ℕ) (T : Holding) (within : t < length old) 
 
   pub has_room_inserted : (room room' : ℕ) → room ≡ room' + 1 → ((u : ℕ) → u < length old → room ≤ (table_in old u).room) → (table_in old t).room ≤ T.room + 1 → (u : ℕ) → u < length new → room' ≤ (table_in new u).room
   has_room_inserted room room' one all left u inside = ⊎_elim
-      (λ same. subst (λ (n : ℕ). room' ≤ (table_in new n).room) (sym same) (subst (λ (x : Holding). room' ≤ x.room) (sym here) (omega (arith, all t within, left, one))))
-      (λ ne. subst (λ (x : Holding). room' ≤ x.room) (sym (there u ne)) (omega (arith, all u (omega (arith, inside, long)), one)))
+      (λ same. subst (λ (n : ℕ). room' ≤ (table_in new n).room) (sym same) (subst (λ (x : TableView). room' ≤ x.room) (sym here) (omega (arith, all t within, left, one))))
+      (λ ne. subst (λ (x : TableView). room' ≤ x.room) (sym (there u ne)) (omega (arith, all u (omega (arith, inside, long)), one)))
       (cases_eq u t)
 
 -- a set of tables with a new row
-pub table_set_new : (old : List Holding) (T : Holding) (order order' : Vec Place) (room room' : ℕ) (row : Row) (p at : ℕ) → row.table < length old → IsTableSet old order room
+pub table_set_new : (old : List TableView) (T : TableView) (order order' : Vec Place) (room room' : ℕ) (row : Row) (p at : ℕ) → row.table < length old → IsTableSet old order room
     → IsInserted (table_in old row.table) T row (length (items_at old order.items)) (New p) → (table_in old row.table).room ≤ T.room + 1
     → at ≡ length (table_in old row.table).stored → order'.items ≡ order.items ++ record { table = row.table; at = at } ∷ [] → room ≡ room' + 1 → vec_len order' + room' ≤ vec_capacity order'
     → IsTableSet (set old row.table T) order' room' × (items_at (set old row.table T) order'.items ≡ items_at old order.items ++ row ∷ []) × (with_row (items_at old order.items) row ≡ items_at old order.items ++ row ∷ [])
@@ -175,7 +175,7 @@ table_set_new old T order order' room room' row p at within table_set inserted l
     )
 
 -- a set of tables that has the row's key already
-pub table_set_known : (old : List Holding) (T : Holding) (order : Vec Place) (room room' : ℕ) (row : Row) (p : ℕ) → row.table < length old → IsTableSet old order room
+pub table_set_known : (old : List TableView) (T : TableView) (order : Vec Place) (room room' : ℕ) (row : Row) (p : ℕ) → row.table < length old → IsTableSet old order room
     → IsInserted (table_in old row.table) T row (length (items_at old order.items)) (Duplicate p) → room ≡ room' + 1
     → IsTableSet (set old row.table T) order room' × (items_at (set old row.table T) order.items ≡ items_at old order.items) × (with_row (items_at old order.items) row ≡ items_at old order.items)
 table_set_known old T order room room' row p within table_set inserted one =
@@ -184,7 +184,7 @@ table_set_known old T order room room' row p within table_set inserted one =
     let same = same_again old row.table T within again in
     let known = (duplicate-placed (table_in old row.table) T history row (length history) p (table_set.placed_in row.table within) inserted).0 in (
       table_set_roomier old (set old row.table T) order order room room' (length-set old row.table T) same refl table_set
-          (has_room_inserted old row.table T within room room' one table_set.has_room (omega (arith, ap (λ (x : Holding). x.room) again)))
+          (has_room_inserted old row.table T within room room' one table_set.has_room (omega (arith, ap (λ (x : TableView). x.room) again)))
           (omega (arith, table_set.order_has_room, one)),
       items_same old (set old row.table T) order.items same,
       known,
@@ -218,14 +218,14 @@ table_empty (suc n) (suc t) = table_empty n t
 pub table_set_empty : (n : ℕ) (order : Vec Place) → order.items ≡ [] → vec_len order + 0 ≤ vec_capacity order → IsTableSet (replicate n no_table) order 0
 table_set_empty n order none has_room = record {
   places = subst (AllByRecursion (IsPlaceOf (replicate n no_table))) (sym none) tt;
-  placed_in = λ t within. ap (λ (x : Holding). x.stored) (table_empty n t) ∙ ap (λ (l : List Place). placed t (items_at (replicate n no_table) l)) (sym none);
+  placed_in = λ t within. ap (λ (x : TableView). x.stored) (table_empty n t) ∙ ap (λ (l : List Place). placed t (items_at (replicate n no_table) l)) (sym none);
   has_room = λ t within. omega arith;
   order_has_room = has_room;
 }
 
 -- ---- lengths
 
-pub length-items : (tables : List Holding) (order : List Place) → length (items_at tables order) ≡ length order
+pub length-items : (tables : List TableView) (order : List Place) → length (items_at tables order) ≡ length order
 length-items tables [] = refl
 length-items tables (p ∷ order) = omega (arith, length-items tables order)
 

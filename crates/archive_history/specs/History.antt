@@ -4,7 +4,7 @@ use Rattle.arch_types.specs.declared.interval.Interval.{Interval}
 use Rattle.arch_types.specs.History.{IsHistory}
 use Rattle.archive_core.specs.Items.{rows_in}
 use Rattle.archive_history.specs.Limits.{octets_of, interval_rows, IsWithin}
-use Rattle.archive_history.specs.LimitCounts.{LimitCountsView, count_of}
+use Rattle.archive_history.specs.LimitCounts.{LimitCountsView, interval_row_count}
 use Rattle.archive_history.specs.TableSet.{HistoryView}
 
 -- the rows are a history that passes no limit, and the counts are theirs
@@ -12,5 +12,5 @@ pub record HistoryInvariant (table_set : HistoryView) (limit_counts : LimitCount
   pub history : IsHistory (rows_in table_set.items)
   pub within : IsWithin table_set.items
   pub octets : limit_counts.octets ≡ octets_of (rows_in table_set.items)
-  pub rows : (interval : Interval) → count_of limit_counts.rows interval ≡ interval_rows interval table_set.items
+  pub rows : (interval : Interval) → interval_row_count limit_counts.rows interval ≡ interval_rows interval table_set.items
   pub has_room : table_set.room ≤ limit_counts.room

@@ -18,8 +18,8 @@ or_zero None = 0
 or_zero (Some count) = count
 
 -- how many rows an interval has
-abbrev pub count_of : List (Interval × ℕ) → Interval → ℕ
-count_of rows interval = or_zero (lookup (is_at (interval_cmp interval)) rows)
+abbrev pub interval_row_count : List (Interval × ℕ) → Interval → ℕ
+interval_row_count rows interval = or_zero (lookup (is_at (interval_cmp interval)) rows)
 
 -- one at this interval, and none at any other
 abbrev pub one_at : Interval → Interval → ℕ

@@ -38,6 +38,6 @@ IsLimit Records records items = IsWithin items × (limit_of Records ≤ records)
 IsLimit which records items = PassesFirst which items
 
 -- no limit is passed, where a record more is appended to so many for the rows of a batch that are new
-pub record IsBelow (records : ℕ) (history : List Item) (rows : List Row) : Type 0 where
+pub record IsBelowLimits (records : ℕ) (history : List Item) (rows : List Row) : Type 0 where
   pub within : IsWithin (ingested history rows)
   pub records_left : fresh_of history rows ≢ [] → records < limit_of Records

@@ -7,7 +7,7 @@ use Rattle.arch_types.specs.declared.key.Key.{Key}
 use Rattle.arch_types.specs.Order.{key_cmp}
 use Rattle.archive_core.specs.Items.{Item}
 use Rattle.yarch_table.specs.declared.table.Stored.{Stored}
-use Rattle.yarch_table.specs.Stored.{Holding}
+use Rattle.yarch_table.specs.Stored.{TableView}
 use Rattle.yarch_table.specs.Placed.{placed}
 use Rattle.archive_history.specs.declared.table_set.Place.{Place}
 
@@ -22,7 +22,7 @@ abbrev pub is_at_key : ℕ → Key → Item → Bool
 is_at_key table key item = (table == item.table) && is_eq (key_cmp key item.key)
 
 -- a table without rows or room
-abbrev pub no_table : Holding
+abbrev pub no_table : TableView
 no_table = record { stored = []; room = 0 }
 
 -- what stands behind the last row of a table
@@ -30,24 +30,24 @@ abbrev pub no_row : Stored
 no_row = record { row = record { key = record { time = pos 0; seq = 0 }; rectime = pos 0; packet = []; link = 0; pname = 0; table = 0 }; position = 0 }
 
 -- the rows of a table
-abbrev pub table_in : List Holding → ℕ → Holding
+abbrev pub table_in : List TableView → ℕ → TableView
 table_in tables table = slice_index_or tables table no_table
 
 -- the row at a place
-abbrev pub row_at : List Holding → Place → Item
-row_at tables place = (slice_index_or (table_in tables place.table).stored place.at no_row).row
+abbrev pub row_at_place : List TableView → Place → Item
+row_at_place tables place = (slice_index_or (table_in tables place.table).stored place.at no_row).row
 
 -- the history whose rows stand at these places
-abbrev pub items_at : List Holding → List Place → List Item
-items_at tables order = map (row_at tables) order
+abbrev pub items_at : List TableView → List Place → List Item
+items_at tables order = map (row_at_place tables) order
 
 -- a row stands there
-pub record IsPlaceOf (tables : List Holding) (place : Place) : Type 0 where
+pub record IsPlaceOf (tables : List TableView) (place : Place) : Type 0 where
   pub table : place.table < length tables
   pub at : place.at < length (table_in tables place.table).stored
 
 -- each table has its rows of the history, each with its position, and has room; so has the list of places
-pub record IsTableSet (tables : List Holding) (order : Vec Place) (room : ℕ) : Type 0 where
+pub record IsTableSet (tables : List TableView) (order : Vec Place) (room : ℕ) : Type 0 where
   pub places : AllByRecursion (IsPlaceOf tables) order.items
   pub placed_in : (table : ℕ) → table < length tables → (table_in tables table).stored ≡ placed table (items_at tables order.items)
   pub has_room : (table : ℕ) → table < length tables → room ≤ (table_in tables table).room

@@ -11,7 +11,7 @@ ghost use Rattle.archive_history.specs.TableSet.{is_at_key};
 ghost use Rattle.arch_types.specs.Limits.{limit_of};
 ghost use Rattle.arch_types.specs.declared.refusal.Which.TheVariants as limits;
 ghost use Rattle.archive_history.specs.Limits.{octets_of, interval_rows, IsWithin, PassesFirst};
-ghost use Rattle.archive_history.specs.LimitCounts.{count_of};
+ghost use Rattle.archive_history.specs.LimitCounts.{interval_row_count};
 
 use crate::limit_counts::LimitCounts;
 use crate::table_set::TableSet;
@@ -79,10 +79,10 @@ fn rows_in(rows: &[Row], interval: Interval) -> u64
 /// Whether an interval would have too many rows with these. They are counted only where it comes that close to the limit.
 fn are_too_many(limit_counts: &LimitCounts, interval: Interval, rows: &[Row]) -> bool
     requires few { length rows.now ≤ limit_of limits.Rows }
-    requires counted { count_of limit_counts.now.rows interval ≤ limit_of limits.IntervalRows }
-    ensures some { result ≡ true → limit_of limits.IntervalRows < count_of limit_counts.now.rows interval +
+    requires counted { interval_row_count limit_counts.now.rows interval ≤ limit_of limits.IntervalRows }
+    ensures some { result ≡ true → limit_of limits.IntervalRows < interval_row_count limit_counts.now.rows interval +
         interval_rows interval (items_of rows.now) }
-    ensures none { result ≡ false → count_of limit_counts.now.rows interval + interval_rows interval
+    ensures none { result ≡ false → interval_row_count limit_counts.now.rows interval + interval_rows interval
         (items_of rows.now) ≤ limit_of limits.IntervalRows }
 {
     let known = limit_counts.rows_of(interval);

@@ -2,7 +2,7 @@
 
 ghost use Rattle.std.specs.Prelude.{◌≡◌, ◌+◌, ◌<◌, ◌≤◌, ◌^◌, [], max, IfOk, OnOk, OnErr};
 ghost use Rattle.arch_types.specs.declared.interval.Interval.{Interval as AnInterval};
-ghost use Rattle.archive_history.specs.LimitCounts.{count_of, one_at};
+ghost use Rattle.archive_history.specs.LimitCounts.{interval_row_count, one_at};
 
 use arch_types::interval::Interval;
 use block_map::index::Index;
@@ -57,7 +57,7 @@ impl LimitCounts {
 
     /// How many rows an interval has.
     pub fn rows_of(&self, interval: Interval) -> u64
-        ensures { result ≡ count_of self.now.rows interval }
+        ensures { result ≡ interval_row_count self.now.rows interval }
     {
         match self.rows.get(interval) {
             Some(rows) => rows,
@@ -75,8 +75,8 @@ impl LimitCounts {
     /// Counts one more row of an interval. Takes no memory.
     pub fn add_row(&mut self, interval: Interval)
         requires room { 0 < self.old.room }
-        requires small { count_of self.old.rows interval + 1 < 2 ^ 64 }
-        ensures rows { (i : AnInterval) → count_of self.new.rows i ≡ count_of self.old.rows i + one_at interval i }
+        requires small { interval_row_count self.old.rows interval + 1 < 2 ^ 64 }
+        ensures rows { (i : AnInterval) → interval_row_count self.new.rows i ≡ interval_row_count self.old.rows i + one_at interval i }
         ensures octets { self.new.octets ≡ self.old.octets }
         ensures room { self.old.room ≤ self.new.room + 1 }
     {

@@ -2,7 +2,7 @@
 use Rattle.std.proofs.Common.{◌≡◌, inl, inr, ℕ, ◌<◌, ◌≤◌, ◌^◌, List, [], ◌∷◌, ◌++◌, length, map, get_or, Option, Some, None, refl, sym, ◌∙◌, ap, subst, arith, length-append}
 use Rattle.arch_disk.specs.Image.{Image}
 use Rattle.disk_journal.specs.Format.{HasRecords, IsClosed, written, framed}
-use Rattle.disk_journal.specs.Reading.{IsAt, IsCutShortAt, IsFinished, place_of}
+use Rattle.disk_journal.specs.Reading.{IsAt, IsCutShortAt, IsReadJournal, gate_of}
 use Rattle.disk_journal.specs.declared.opening.Opening.{Opening}
 use Rattle.disk_journal.proofs.Files.{written-push}
 use Rattle.field_codec.specs.declared.entry.Entry.{Entry}
@@ -11,7 +11,7 @@ use Rattle.archive_store.specs.declared.reading.PartialArchive.{PartialArchive}
 use Rattle.archive_store.specs.declared.reading.ReadArchive.{ReadArchive}
 use Rattle.archive_store.specs.Entries.{Archive, archive, Replays}
 use Rattle.archive_store.specs.PartialArchive.{archive_made, HasTables, IsReadArchive}
-use Rattle.archive_store.specs.Stands.{Breaks, IsDamagedAt}
+use Rattle.archive_store.specs.Stands.{Breaks, IsArchiveDamagedAt}
 
 -- an archive that was made stays one
 some_stays : (a : Archive) (b : Option Archive) (es : List Entry) → Replays (Some a) es b → b ≡ None → ⊥
@@ -32,7 +32,7 @@ opens_some content one h = go h.tail h.file_is h.closed
     go (gate ∷ rest) is closed = closed (ap (λ (l : List ℕ). get_or l 0 0) (sym is) ∙ one)
 
 -- a record that is cut short
-pub damaged_short : (image : Image) (at : ℕ) (before : Option Archive) (opening : Opening) (es : List Entry) → 2 ≤ length (image 0) → IsAt opening (image 0) (map entry_octets es) → Replays None es before → at ≡ place_of opening → IsCutShortAt (image 0) (map entry_octets es) → IsDamagedAt image at
+pub damaged_short : (image : Image) (at : ℕ) (before : Option Archive) (opening : Opening) (es : List Entry) → 2 ≤ length (image 0) → IsAt opening (image 0) (map entry_octets es) → Replays None es before → at ≡ gate_of opening → IsCutShortAt (image 0) (map entry_octets es) → IsArchiveDamagedAt image at
 damaged_short image at before opening es long is replays at_is short = record {
   entries = es;
   before = before;
@@ -46,7 +46,7 @@ damaged_short image at before opening es long is replays at_is short = record {
 }
 
 -- a record that breaks a rule
-pub damaged_wrong : (image : Image) (at : ℕ) (before : Option Archive) (old new : Opening) (es : List Entry) (body : List ℕ) → 2 ≤ length (image 0) → IsAt old (image 0) (map entry_octets es) → IsAt new (image 0) (map entry_octets es ++ body ∷ []) → Replays None es before → at ≡ place_of old → length body < 2 ^ 32 → Breaks before body → IsDamagedAt image at
+pub damaged_wrong : (image : Image) (at : ℕ) (before : Option Archive) (old new : Opening) (es : List Entry) (body : List ℕ) → 2 ≤ length (image 0) → IsAt old (image 0) (map entry_octets es) → IsAt new (image 0) (map entry_octets es ++ body ∷ []) → Replays None es before → at ≡ gate_of old → length body < 2 ^ 32 → Breaks before body → IsArchiveDamagedAt image at
 damaged_wrong image at before old new es body long is next replays at_is small breaks =
     let more : List ℕ = next.up_to.rest in
     record {
@@ -69,7 +69,7 @@ damaged_wrong image at before old new es body long is next replays at_is small b
     }
 
 -- what was read to the end
-pub found_is : (content : List ℕ) (opening : Opening) (es : List Entry) (made : Option PartialArchive) (f : ReadArchive) → Some f.made ≡ made → IsFinished opening f.journal → HasRecords content (map entry_octets es) → IsAt opening content (map entry_octets es) → Replays None es (archive_made made)
+pub found_is : (content : List ℕ) (opening : Opening) (es : List Entry) (made : Option PartialArchive) (f : ReadArchive) → Some f.made ≡ made → IsReadJournal opening f.journal → HasRecords content (map entry_octets es) → IsAt opening content (map entry_octets es) → Replays None es (archive_made made)
     → IsReadArchive content f.journal (archive f.made.head f.made.history.items)
 found_is content opening es made f is finished has at replays = record {
   entries = es;

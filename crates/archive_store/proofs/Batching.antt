@@ -10,7 +10,7 @@ use Rattle.archive_core.specs.Items.{Item, items_of}
 use Rattle.archive_core.specs.Outcomes.{answered_new, outcomes_of, fresh_of}
 use Rattle.archive_core.proofs.Outcomes.{fresh_new, length-fresh}
 use Rattle.field_codec.specs.declared.entry.Entry.TheVariants as entries
-use Rattle.field_codec.specs.Entries.{IsStored, IsEntry}
+use Rattle.field_codec.specs.Entries.{IsStored, IsArchiveEntry}
 use Rattle.text_forms.specs.ClockTime.{IsClockTime}
 use Rattle.archive_store.specs.declared.batch.Arrival.{Arrival}
 use Rattle.archive_store.specs.declared.batch.Batch.{Batch}
@@ -66,7 +66,7 @@ few_rows head rectime (a ∷ arrivals) all =
     omega (arith, few_rows head rectime arrivals all.1, length-append (arrival_rows rectime a) (flat_map (arrival_rows rectime) arrivals), length-map-row (arrival_row rectime a) a.tables, all.0.few_tables)
 
 -- the new rows of a batch may be added
-pub admitted : (head : Head) (history : List Item) (batch : Batch) → IsEntry (entries.Head head.tables head.mdb) → length head.mdb.containers < 2 ^ 16 → IsBatch head batch
+pub admitted : (head : Head) (history : List Item) (batch : Batch) → IsArchiveEntry (entries.Head head.tables head.mdb) → length head.mdb.containers < 2 ^ 16 → IsBatch head batch
     → 1 ≤ length (fresh_of history (batch_rows batch)) → IsWithin (history ++ items_of (fresh_of history (batch_rows batch))) → AreAdmitted (archive head history) (fresh_of history (batch_rows batch))
 admitted head history batch fits names is some within =
     let rows = batch_rows batch in

@@ -7,14 +7,14 @@ use Rattle.disk_journal.proofs.Files.{length-framed}
 use Rattle.disk_journal.proofs.Once.{records_once, frame_size, frame_body_once, frame_rest_once}
 use Rattle.field_codec.specs.declared.entry.Entry.{Entry}
 use Rattle.field_codec.specs.declared.entry.Entry.TheVariants as entries
-use Rattle.field_codec.specs.Entries.{IsEntry}
+use Rattle.field_codec.specs.Entries.{IsArchiveEntry}
 use Rattle.field_codec.specs.Spelling.{entry_octets}
 use Rattle.field_codec.proofs.EntryKinds.{one_spelling}
 use Rattle.archive_store.specs.Entries.{Archive, Applies, Replays}
-use Rattle.archive_store.specs.Stands.{StandsFor, IsWrong, IsCutShort, IsDamagedAt}
+use Rattle.archive_store.specs.Stands.{StandsFor, IsWrong, IsCutShort, IsArchiveDamagedAt}
 
 -- an entry that is taken has a spelling
-pub takes_entry : (old : Option Archive) (entry : Entry) (new : Archive) → Applies old entry new → IsEntry entry
+pub takes_entry : (old : Option Archive) (entry : Entry) (new : Archive) → Applies old entry new → IsArchiveEntry entry
 takes_entry None (entries.Head tables mdb) new takes = takes.0
 takes_entry None (entries.Rows rows) new takes = absurd takes
 takes_entry (Some old) (entries.Head tables mdb) new takes = absurd takes
@@ -95,7 +95,7 @@ not_both a b d (x ∷ es) (y ∷ fs) p r replays replays' small small' shut bad 
     (frame_rest_once (entry_octets x) (entry_octets y) (written (map entry_octets es) ++ p) (written (map entry_octets fs) ++ 1 ∷ r) small.0 small'.0 inside)
 
 -- an image that stands for an archive is nowhere damaged
-pub stands_not_damaged : (c : Image) (x : Archive) (at : ℕ) → StandsFor c x → IsDamagedAt c at → ⊥
+pub stands_not_damaged : (c : Image) (x : Archive) (at : ℕ) → StandsFor c x → IsArchiveDamagedAt c at → ⊥
 stands_not_damaged c x at s d = not_both None (Some x) d.before s.entries d.entries s.has.tail d.rest s.replays d.replays s.has.small d.small s.has.closed d.bad (sym s.has.file_is ∙ d.file_is)
 
 same_place : (a b d : Option Archive) (es fs : List Entry) (p r : List ℕ) → Replays a es b → Replays a fs d → AreSmall (map entry_octets es) → AreSmall (map entry_octets fs) → IsBad b p → IsBad d r → written (map entry_octets es) ++ 1 ∷ p ≡ written (map entry_octets fs) ++ 1 ∷ r → length (written (map entry_octets es)) ≡ length (written (map entry_octets fs))
@@ -114,7 +114,7 @@ same_place a b d (x ∷ es) (y ∷ fs) p r replays replays' small small' bad bad
     omega (arith, rest, ap length body, length-append (framed (entry_octets x)) (written (map entry_octets es)), length-append (framed (entry_octets y)) (written (map entry_octets fs)), length-framed (entry_octets x), length-framed (entry_octets y))
 
 -- an image is damaged at one gate
-pub damaged_once : (c : Image) (at other : ℕ) → IsDamagedAt c at → IsDamagedAt c other → at ≡ other
+pub damaged_once : (c : Image) (at other : ℕ) → IsArchiveDamagedAt c at → IsArchiveDamagedAt c other → at ≡ other
 damaged_once c at other d e = d.at_is ∙ same_place None d.before e.before d.entries e.entries d.rest e.rest d.replays e.replays d.small e.small d.bad e.bad (sym d.file_is ∙ e.file_is) ∙ sym e.at_is
 
 first_octet : (bodies : List (List ℕ)) (rest : List ℕ) → get_or (written bodies ++ 1 ∷ rest) 0 0 ≡ 1
@@ -128,7 +128,7 @@ holds_none (gate ∷ []) long one none = absurd (omega arith)
 holds_none (gate ∷ next ∷ rest) long one none = none one
 
 -- where there is no archive there is no damage, and no archive
-pub none_not_damaged : (c : Image) (at : ℕ) → HoldsNone (c 0) → IsDamagedAt c at → ⊥
+pub none_not_damaged : (c : Image) (at : ℕ) → HoldsNone (c 0) → IsArchiveDamagedAt c at → ⊥
 none_not_damaged c at none d = holds_none (c 0) d.long (ap (λ (l : List ℕ). get_or l 0 0) d.file_is ∙ first_octet (map entry_octets d.entries) d.rest) none
 
 pub none_not_stands : (c : Image) (x : Archive) → HoldsNone (c 0) → StandsFor c x → ⊥

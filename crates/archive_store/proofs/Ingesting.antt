@@ -8,7 +8,7 @@ use Rattle.arch_types.specs.Limits.{limit_of}
 use Rattle.archive_core.specs.Items.{Item, items_of}
 use Rattle.archive_core.specs.Outcomes.{fresh_of}
 use Rattle.archive_core.proofs.Outcomes.{fresh_added}
-use Rattle.archive_history.specs.Limits.{IsWithin, IsBelow}
+use Rattle.archive_history.specs.Limits.{IsWithin, IsBelowLimits}
 
 -- the history with the new rows is the ingested one
 pub added : (history : List Item) (rows fresh : List Row) → fresh ≡ fresh_of history rows → history ++ items_of fresh ≡ ingested history rows
@@ -25,11 +25,11 @@ none_new history rows fresh is none = sym is ∙ no_row fresh none
 pub nothing_added : (history : List Item) (rows fresh : List Row) → fresh ≡ fresh_of history rows → length fresh ≡ 0 → history ≡ ingested history rows
 nothing_added history rows fresh is none = sym (append-nil history) ∙ ap (λ (l : List Row). history ++ l) (sym (no_row fresh none)) ∙ added history rows fresh is
 
-pub below_none : (records : ℕ) (history : List Item) (rows fresh : List Row) → fresh ≡ fresh_of history rows → length fresh ≡ 0 → IsWithin history → IsBelow records history rows
+pub below_none : (records : ℕ) (history : List Item) (rows fresh : List Row) → fresh ≡ fresh_of history rows → length fresh ≡ 0 → IsWithin history → IsBelowLimits records history rows
 below_none records history rows fresh is none within = record {
   within = subst IsWithin (nothing_added history rows fresh is none) within;
   records_left = λ some. absurd (some (none_new history rows fresh is none));
 }
 
-pub below_some : (records : ℕ) (history : List Item) (rows fresh : List Row) → fresh ≡ fresh_of history rows → IsWithin (history ++ items_of fresh) → records < limit_of limits.Records → IsBelow records history rows
+pub below_some : (records : ℕ) (history : List Item) (rows fresh : List Row) → fresh ≡ fresh_of history rows → IsWithin (history ++ items_of fresh) → records < limit_of limits.Records → IsBelowLimits records history rows
 below_some records history rows fresh is within left = record { within = subst IsWithin (added history rows fresh is) within; records_left = λ some. left }

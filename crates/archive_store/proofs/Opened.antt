@@ -12,7 +12,7 @@ use Rattle.disk_journal.specs.declared.journal.Journal.{Journal}
 use Rattle.disk_journal.specs.declared.journal.PendingFault.{PendingFault}
 use Rattle.disk_journal.specs.declared.journal.PendingFault.TheVariants.{Absent, GateClosed, GateWritten}
 use Rattle.field_codec.specs.declared.entry.Entry.TheVariants as entries
-use Rattle.field_codec.specs.Entries.{IsEntry}
+use Rattle.field_codec.specs.Entries.{IsArchiveEntry}
 use Rattle.field_codec.specs.Spelling.{entry_octets}
 use Rattle.archive_store.specs.declared.head.Head.{Head}
 use Rattle.archive_store.specs.Entries.{Archive, archive, Replays}
@@ -30,11 +30,11 @@ stands_found image content journal a is found = record { entries = found.entries
 abbrev pub head_octets : Head → List ℕ
 head_octets head = entry_octets (entries.Head head.tables head.mdb)
 
-pub replays_head : (head : Head) → IsEntry (entries.Head head.tables head.mdb) → Replays None (entries.Head head.tables head.mdb ∷ []) (Some (archive head []))
+pub replays_head : (head : Head) → IsArchiveEntry (entries.Head head.tables head.mdb) → Replays None (entries.Head head.tables head.mdb ∷ []) (Some (archive head []))
 replays_head head fits = (archive head [], (fits, refl), refl)
 
 -- an image of the making
-pub making : (before : Image → Type 0) (head : Head) (c : Image) → IsEntry (entries.Head head.tables head.mdb) → before c ⊎ (HoldsNone (c 0) ⊎ HasRecords (c 0) (head_octets head ∷ [])) → IsCreateImage before head c
+pub making : (before : Image → Type 0) (head : Head) (c : Image) → IsArchiveEntry (entries.Head head.tables head.mdb) → before c ⊎ (HoldsNone (c 0) ⊎ HasRecords (c 0) (head_octets head ∷ [])) → IsCreateImage before head c
 making before head c fits (inl was) = inl was
 making before head c fits (inr (inl none)) = inr (inl none)
 making before head c fits (inr (inr has)) = inr (inr (record { entries = entries.Head head.tables head.mdb ∷ []; has = has; replays = replays_head head fits }))
@@ -46,7 +46,7 @@ module _ {D : Type 0} (device : Device D) where
   without_fault (GateWritten faults) file bodies disk is has only = absurd (cc (is))
 
   pub kept_open : (disk opened : D) (journal : Journal) (head : Head) (history : List Item)
-      → IsEntry (entries.Head head.tables head.mdb)
+      → IsArchiveEntry (entries.Head head.tables head.mdb)
       → (IsTrue device.is_transparent → IsReadArchive (device.reads opened 0) journal (archive head history))
       → unhealed_fault journal ≡ None
       → file_of journal ≡ 0
@@ -87,7 +87,7 @@ module _ {D : Type 0} (device : Device D) where
 
   -- an archive that was just made
   pub kept_made : (disk : D) (journal : Journal) (head : Head)
-      → IsEntry (entries.Head head.tables head.mdb)
+      → IsArchiveEntry (entries.Head head.tables head.mdb)
       → unhealed_fault journal ≡ None
       → file_of journal ≡ 0
       → (IsTrue device.is_transparent → JournalHasOnDisk device journal (head_octets head ∷ []) [] disk)

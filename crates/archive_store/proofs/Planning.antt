@@ -17,10 +17,10 @@ use Rattle.arch_types.specs.declared.row.Row.{Row}
 use Rattle.arch_types.specs.Interval.{interval_of}
 use Rattle.arch_types.specs.Order.{is_before, order_by}
 use Rattle.arch_types.specs.History.{is_in_table}
-use Rattle.arch_types.specs.Table.{range_of, is_in_range}
+use Rattle.arch_types.specs.Table.{range_of, is_in_time_range}
 use Rattle.arch_types.proofs.InOrder.{order_sorted}
 use Rattle.arch_types.proofs.Ranks.{rows_rank}
-use Rattle.archive_store.specs.Plans.{rows_of_parts, IsPart, AreRising}
+use Rattle.archive_store.specs.Plans.{rows_of_parts, IsPlanPart, AreRisingIntervals}
 use Rattle.archive_store.specs.declared.plan.Part.{Part}
 
 -- ---- times rise
@@ -36,7 +36,7 @@ not_before a b e = later_time a.key.time b.key.time (int_cmp a.key.time b.key.ti
 
 -- the rows of a range are in the order of their keys
 pub range_classified : (table : ℕ) (low high : ℤ) (history : List Row) → IsSortedBy is_before (range_of table low high history)
-range_classified table low high history = IsSortedBy-filter is_before rows_rank (is_in_range low high) (order_by is_before (filter (is_in_table table) history)) (order_sorted (filter (is_in_table table) history))
+range_classified table low high history = IsSortedBy-filter is_before rows_rank (is_in_time_range low high) (order_by is_before (filter (is_in_table table) history)) (order_sorted (filter (is_in_table table) history))
 
 pub times_rise : (rows : List Row) (d : Row) → IsSortedBy is_before rows → (j k : ℕ) → j + k < length rows → (get_or rows j d).key.time ≤ℤ (get_or rows (j + k) d).key.time
 times_rise rows d classified j zero within =
@@ -95,10 +95,10 @@ rows_grown (p ∷ []) (suc n) part d row last is = absurd (omega (arith, last))
 rows_grown (p ∷ q ∷ parts) (suc n) part d row last is =
     ap (λ (l : List Row). p.rows ++ l) (rows_grown (q ∷ parts) n part d row (omega (arith, last)) is) ∙ sym (append_assoc p.rows (rows_of_parts (q ∷ parts)) (row ∷ []))
 
-pub each_grown : (parts : List Part) (n : ℕ) (part : Part) → AllByRecursion IsPart parts → IsPart part → AllByRecursion IsPart (set parts n part)
-each_grown parts n part all here = all_set IsPart parts n part all here
+pub each_grown : (parts : List Part) (n : ℕ) (part : Part) → AllByRecursion IsPlanPart parts → IsPlanPart part → AllByRecursion IsPlanPart (set parts n part)
+each_grown parts n part all here = all_set IsPlanPart parts n part all here
 
-rising_set : (parts : List Part) (n : ℕ) (part d : Part) → part.interval.0 ≡ (get_or parts n d).interval.0 → AreRising parts → AreRising (set parts n part)
+rising_set : (parts : List Part) (n : ℕ) (part d : Part) → part.interval.0 ≡ (get_or parts n d).interval.0 → AreRisingIntervals parts → AreRisingIntervals (set parts n part)
 rising_set [] n part d same up = tt
 rising_set (p ∷ parts) zero part d same up = (subst (λ (i : ℤ). AllByRecursion (λ later. i <ℤ later.interval.0) parts) (sym same) up.0, up.1)
 rising_set (p ∷ parts) (suc n) part d same up = (above parts n up.0 same, rising_set parts n part d same up.1)
@@ -108,7 +108,7 @@ rising_set (p ∷ parts) (suc n) part d same up = (above parts n up.0 same, risi
     above (q ∷ qs) zero all is = (subst (λ (i : ℤ). p.interval.0 <ℤ i) (sym is) all.0, all.1)
     above (q ∷ qs) (suc m) all is = (all.0, above qs m all.1 is)
 
-pub rising_grown : (parts : List Part) (n : ℕ) (part d : Part) → part.interval.0 ≡ (get_or parts n d).interval.0 → AreRising parts → AreRising (set parts n part)
+pub rising_grown : (parts : List Part) (n : ℕ) (part d : Part) → part.interval.0 ≡ (get_or parts n d).interval.0 → AreRisingIntervals parts → AreRisingIntervals (set parts n part)
 rising_grown parts n part d same up = rising_set parts n part d same up
 
 pub bounded_grown : (x : ℤ) (parts : List Part) (n : ℕ) (part : Part) → bounded x parts → part.interval.0 ≤ℤ x → bounded x (set parts n part)
@@ -119,11 +119,11 @@ pub rows_begun : (parts : List Part) (part : Part) (row : Row) → part.rows ≡
 rows_begun [] part row is = append-nil part.rows ∙ is
 rows_begun (p ∷ parts) part row is = ap (λ (l : List Row). p.rows ++ l) (rows_begun parts part row is) ∙ sym (append_assoc p.rows (rows_of_parts parts) (row ∷ []))
 
-pub each_begun : (parts : List Part) (part : Part) → AllByRecursion IsPart parts → IsPart part → AllByRecursion IsPart (parts ++ part ∷ [])
-each_begun parts part all here = all_push IsPart parts part all here
+pub each_begun : (parts : List Part) (part : Part) → AllByRecursion IsPlanPart parts → IsPlanPart part → AllByRecursion IsPlanPart (parts ++ part ∷ [])
+each_begun parts part all here = all_push IsPlanPart parts part all here
 
 -- each part before the last is below it
-last_greatest : (parts : List Part) (n : ℕ) (d : Part) (x : ℤ) → n + 1 ≡ length parts → AreRising parts → (get_or parts n d).interval.0 <ℤ x → AllByRecursion (λ part. part.interval.0 <ℤ x) parts
+last_greatest : (parts : List Part) (n : ℕ) (d : Part) (x : ℤ) → n + 1 ≡ length parts → AreRisingIntervals parts → (get_or parts n d).interval.0 <ℤ x → AllByRecursion (λ part. part.interval.0 <ℤ x) parts
 last_greatest [] n d x last up less = tt
 last_greatest (p ∷ []) zero d x last up less = (less, tt)
 last_greatest (p ∷ []) (suc n) d x last up less = absurd (omega (arith, last))
@@ -132,18 +132,18 @@ last_greatest (p ∷ q ∷ parts) (suc n) d x last up less =
     let rest = last_greatest (q ∷ parts) n d x (omega (arith, last)) up.1 less in
     (omega (arith, ints, up.0.0, rest.0), rest)
 
-rising_push : (parts : List Part) (part : Part) → AreRising parts → AllByRecursion (λ earlier. earlier.interval.0 <ℤ part.interval.0) parts → AreRising (parts ++ part ∷ [])
+rising_push : (parts : List Part) (part : Part) → AreRisingIntervals parts → AllByRecursion (λ earlier. earlier.interval.0 <ℤ part.interval.0) parts → AreRisingIntervals (parts ++ part ∷ [])
 rising_push [] part up all = (tt, tt)
 rising_push (p ∷ parts) part up all = (all_push (λ later. p.interval.0 <ℤ later.interval.0) parts part up.0 all.0, rising_push parts part up.1 all.1)
 
-pub rising_begun : (parts : List Part) (part : Part) → AreRising parts → AllByRecursion (λ earlier. earlier.interval.0 <ℤ part.interval.0) parts → AreRising (parts ++ part ∷ [])
+pub rising_begun : (parts : List Part) (part : Part) → AreRisingIntervals parts → AllByRecursion (λ earlier. earlier.interval.0 <ℤ part.interval.0) parts → AreRisingIntervals (parts ++ part ∷ [])
 rising_begun parts part up all = rising_push parts part up all
 
 pub bounded_begun : (x : ℤ) (parts : List Part) (part : Part) → bounded x parts → part.interval.0 ≤ℤ x → bounded x (parts ++ part ∷ [])
 bounded_begun x parts part all here = all_push (λ part. part.interval.0 ≤ℤ x) parts part all here
 
 -- parts that are no later than a row, and the last of which has another interval, are earlier
-pub earlier_all : (parts : List Part) (n : ℕ) (d : Part) (x : ℤ) → n + 1 ≡ length parts → AreRising parts → bounded x parts → ((get_or parts n d).interval.0 ≡ x → ⊥) → AllByRecursion (λ part. part.interval.0 <ℤ x) parts
+pub earlier_all : (parts : List Part) (n : ℕ) (d : Part) (x : ℤ) → n + 1 ≡ length parts → AreRisingIntervals parts → bounded x parts → ((get_or parts n d).interval.0 ≡ x → ⊥) → AllByRecursion (λ part. part.interval.0 <ℤ x) parts
 earlier_all parts n d x last up all ne =
     let le = all_at (λ part. part.interval.0 ≤ℤ x) parts n d all (omega (arith, last)) in
     last_greatest parts n d x last up (omega (arith, ints, le, ne))
@@ -164,16 +164,16 @@ pub rows_put : (parts : List Part) (n : ℕ) (old : Part) (rows : List Row) (row
 rows_put parts n old rows row copy last there same is =
     rows_grown parts n (one_more old rows) old row last (is ∙ ap (λ (r : Row). old.rows ++ r ∷ []) same ∙ ap (λ (p : Part). p.rows ++ row ∷ []) (sym there))
 
-pub each_put : (parts : List Part) (n : ℕ) (old : Part) (rows : List Row) (row copy : Row) → n + 1 ≡ length parts → get_or parts n old ≡ old → copy ≡ row → rows ≡ old.rows ++ copy ∷ [] → old.interval.0 ≡ interval_of row.key.time → AllByRecursion IsPart parts → AllByRecursion IsPart (set parts n (one_more old rows))
+pub each_put : (parts : List Part) (n : ℕ) (old : Part) (rows : List Row) (row copy : Row) → n + 1 ≡ length parts → get_or parts n old ≡ old → copy ≡ row → rows ≡ old.rows ++ copy ∷ [] → old.interval.0 ≡ interval_of row.key.time → AllByRecursion IsPlanPart parts → AllByRecursion IsPlanPart (set parts n (one_more old rows))
 each_put parts n old rows row copy last there same is interval all =
-    let was : IsPart old = subst IsPart there (all_at IsPart parts n old all (omega (arith, last))) in
+    let was : IsPlanPart old = subst IsPlanPart there (all_at IsPlanPart parts n old all (omega (arith, last))) in
     let grown : rows ≡ old.rows ++ row ∷ [] = is ∙ ap (λ (r : Row). old.rows ++ r ∷ []) same in
     each_grown parts n (one_more old rows) all (record {
       some = subst (λ (l : List Row). 0 < length l) (sym grown) (omega (arith, length-append old.rows (row ∷ [])));
       each = subst (AllByRecursion (λ r. interval_of r.key.time ≡ old.interval.0)) (sym grown) (all_rows_push (λ r. interval_of r.key.time ≡ old.interval.0) old.rows row was.each (sym interval));
     })
 
-pub rising_put : (parts : List Part) (n : ℕ) (old : Part) (rows : List Row) → get_or parts n old ≡ old → AreRising parts → AreRising (set parts n (one_more old rows))
+pub rising_put : (parts : List Part) (n : ℕ) (old : Part) (rows : List Row) → get_or parts n old ≡ old → AreRisingIntervals parts → AreRisingIntervals (set parts n (one_more old rows))
 rising_put parts n old rows there up = rising_grown parts n (one_more old rows) old (ap (λ (p : Part). p.interval.0) (sym there)) up
 
 pub bounded_put : (x : ℤ) (parts : List Part) (n : ℕ) (old : Part) (rows : List Row) → n + 1 ≡ length parts → get_or parts n old ≡ old → bounded x parts → bounded x (set parts n (one_more old rows))

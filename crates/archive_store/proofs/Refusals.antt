@@ -9,13 +9,13 @@ use Rattle.disk_journal.specs.State.{asks_reopen as journal_asks}
 use Rattle.disk_journal.specs.declared.fault.JournalFault.{JournalFault}
 use Rattle.disk_journal.specs.declared.fault.JournalFault.TheVariants.{Exists, NoArchive, Damaged, NeedsReopen, Limit, DiskFault, OutOfMemory}
 use Rattle.archive_store.specs.Entries.{Archive}
-use Rattle.archive_store.specs.Stands.{StandsFor, IsDamagedAt}
-use Rattle.archive_store.specs.Answers.{IsOpenAnswer, IsOpenRefusal, IsCreateAnswer, IsCreateRefusal, IsDamagedOrFault, IsNoArchiveOrFault, IsFaultOrMemory}
+use Rattle.archive_store.specs.Stands.{StandsFor, IsArchiveDamagedAt}
+use Rattle.archive_store.specs.Answers.{IsOpenAnswer, IsOpenRefusal, IsCreateAnswer, IsCreateRefusal, IsDamagedArchiveOrFault, IsNoArchiveOrFault, IsFaultOrMemory}
 use Rattle.archive_store.specs.PartialArchive.{read_refusal, refusal_of_create, IsReadRefusal}
 use Rattle.archive_store.proofs.Exact.{stands_not_damaged, damaged_once, none_not_damaged, none_not_stands}
 
 -- an opening is refused by one of four
-pub opening_cases : (c : Image) (P : Refusal → Type 0) (e : Refusal) → IsOpenRefusal c e → (HoldsNone (c 0) → P refused.NoArchive) → ((file at : ℕ) → file ≡ 0 → IsDamagedAt c at → P (refused.Damaged file at)) → P refused.DiskFault → P refused.OutOfMemory → P e
+pub opening_cases : (c : Image) (P : Refusal → Type 0) (e : Refusal) → IsOpenRefusal c e → (HoldsNone (c 0) → P refused.NoArchive) → ((file at : ℕ) → file ≡ 0 → IsArchiveDamagedAt c at → P (refused.Damaged file at)) → P refused.DiskFault → P refused.OutOfMemory → P e
 opening_cases c P refused.Usage is none damaged fault memory = absurd is
 opening_cases c P (refused.Missing name) is none damaged fault memory = absurd is
 opening_cases c P refused.ReadFault is none damaged fault memory = absurd is
@@ -37,8 +37,8 @@ opening_cases c P (refused.Late interval) is none damaged fault memory = absurd 
 opening_cases c P refused.OutOfMemory is none damaged fault memory = memory
 
 -- what may be answered over an image, by what it stands for
-pub damaged_refused : (c : Image) (at : ℕ) (e : Refusal) → IsOpenRefusal c e → IsDamagedAt c at → IsDamagedOrFault at e
-damaged_refused c at e is d = opening_cases c (IsDamagedOrFault at) e is (λ none. absurd (none_not_damaged c at none d)) (λ file other zero there. (zero, damaged_once c other at there d)) tt tt
+pub damaged_refused : (c : Image) (at : ℕ) (e : Refusal) → IsOpenRefusal c e → IsArchiveDamagedAt c at → IsDamagedArchiveOrFault at e
+damaged_refused c at e is d = opening_cases c (IsDamagedArchiveOrFault at) e is (λ none. absurd (none_not_damaged c at none d)) (λ file other zero there. (zero, damaged_once c other at there d)) tt tt
 
 pub archive_refused : (c : Image) (x : Archive) (e : Refusal) → IsOpenRefusal c e → StandsFor c x → IsFaultOrMemory e
 archive_refused c x e is s = opening_cases c IsFaultOrMemory e is (λ none. absurd (none_not_stands c x none s)) (λ file other zero there. absurd (stands_not_damaged c x other s there)) tt tt
@@ -47,7 +47,7 @@ pub none_refused : (c : Image) (e : Refusal) → IsOpenRefusal c e → HoldsNone
 none_refused c e is none = opening_cases c IsNoArchiveOrFault e is (λ there. tt) (λ file other zero there. absurd (none_not_damaged c other none there)) tt tt
 
 -- a reading's refusals are among them
-pub read_refused : (c : Image) (e : Refusal) → IsReadRefusal e → ((file at : ℕ) → e ≡ refused.Damaged file at → (file ≡ 0) × IsDamagedAt c at) → IsOpenRefusal c e
+pub read_refused : (c : Image) (e : Refusal) → IsReadRefusal e → ((file at : ℕ) → e ≡ refused.Damaged file at → (file ≡ 0) × IsArchiveDamagedAt c at) → IsOpenRefusal c e
 read_refused c refused.Usage only damaged = absurd only
 read_refused c (refused.Missing name) only damaged = absurd only
 read_refused c refused.ReadFault only damaged = absurd only

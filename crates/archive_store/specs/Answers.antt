@@ -6,12 +6,12 @@ use Rattle.arch_types.specs.declared.refusal.Refusal.TheVariants.{NoArchive, Exi
 use Rattle.disk_journal.specs.Format.{HoldsNone}
 use Rattle.archive_store.specs.declared.head.Head.{Head}
 use Rattle.archive_store.specs.Entries.{archive}
-use Rattle.archive_store.specs.Stands.{StandsFor, IsDamagedAt}
+use Rattle.archive_store.specs.Stands.{StandsFor, IsArchiveDamagedAt}
 
 -- the count in a NeedsReopen
-abbrev pub asks_reopen : {T : Type 0} → Result T Refusal → Option ℕ
-asks_reopen (Err (NeedsReopen faults)) = Some faults
-asks_reopen _ = None
+abbrev pub store_asks_reopen : {T : Type 0} → Result T Refusal → Option ℕ
+store_asks_reopen (Err (NeedsReopen faults)) = Some faults
+store_asks_reopen _ = None
 
 -- the refusals of an ingest
 abbrev pub IsIngestRefusal : Refusal → Type 0
@@ -39,7 +39,7 @@ IsCreateAnswer _ = ⊥
 -- the refusals of an opening, of a disk that reads as this image
 abbrev pub IsOpenRefusal : Image → Refusal → Type 0
 IsOpenRefusal image NoArchive = HoldsNone (image 0)
-IsOpenRefusal image (Damaged file at) = (file ≡ 0) × IsDamagedAt image at
+IsOpenRefusal image (Damaged file at) = (file ≡ 0) × IsArchiveDamagedAt image at
 IsOpenRefusal image DiskFault = Unit {0}
 IsOpenRefusal image OutOfMemory = Unit {0}
 IsOpenRefusal image _ = ⊥
@@ -56,11 +56,11 @@ abbrev pub IsCreateImage : (Image → Type 0) → Head → Image → Type 0
 IsCreateImage before head image = before image ⊎ (HoldsNone (image 0) ⊎ StandsFor image (archive head []))
 
 -- damaged there, or an answer that may come anyway
-abbrev pub IsDamagedOrFault : ℕ → Refusal → Type 0
-IsDamagedOrFault at (Damaged file other) = (file ≡ 0) × (other ≡ at)
-IsDamagedOrFault at DiskFault = Unit {0}
-IsDamagedOrFault at OutOfMemory = Unit {0}
-IsDamagedOrFault at _ = ⊥
+abbrev pub IsDamagedArchiveOrFault : ℕ → Refusal → Type 0
+IsDamagedArchiveOrFault at (Damaged file other) = (file ≡ 0) × (other ≡ at)
+IsDamagedArchiveOrFault at DiskFault = Unit {0}
+IsDamagedArchiveOrFault at OutOfMemory = Unit {0}
+IsDamagedArchiveOrFault at _ = ⊥
 
 -- no archive, or an answer that may come anyway
 abbrev pub IsNoArchiveOrFault : Refusal → Type 0

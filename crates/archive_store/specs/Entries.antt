@@ -6,7 +6,7 @@ use Rattle.arch_types.specs.History.{ingested}
 use Rattle.archive_core.specs.Items.{Item, items_of}
 use Rattle.field_codec.specs.declared.entry.Entry.{Entry}
 use Rattle.field_codec.specs.declared.entry.Entry.TheVariants as entries
-use Rattle.field_codec.specs.Entries.{IsEntry}
+use Rattle.field_codec.specs.Entries.{IsArchiveEntry}
 use Rattle.archive_store.specs.declared.head.Head.{Head}
 use Rattle.archive_history.specs.Limits.{IsWithin}
 
@@ -26,14 +26,14 @@ pub record IsPlaced (head : Head) (row : Row) : Type 0 where
 
 -- Rows that a record may add: they have a spelling, their tables and names are there, no table has one of the keys, and no limit is passed.
 pub record AreAdmitted (old : Archive) (rows : List Row) : Type 0 where
-  pub spelled : IsEntry (entries.Rows rows)
+  pub spelled : IsArchiveEntry (entries.Rows rows)
   pub placed : AllByRecursion (IsPlaced old.head) rows
   pub fresh : ingested old.history rows ≡ old.history ++ items_of rows
   pub within : IsWithin (old.history ++ items_of rows)
 
 -- An entry makes an archive of nothing or of what there was: the first is a head, no other is, and rows are admitted.
 abbrev pub Applies : Option Archive → Entry → Archive → Type 0
-Applies None (entries.Head tables mdb) new = IsEntry (entries.Head tables mdb) × (new ≡ archive (record { tables = tables; mdb = mdb }) [])
+Applies None (entries.Head tables mdb) new = IsArchiveEntry (entries.Head tables mdb) × (new ≡ archive (record { tables = tables; mdb = mdb }) [])
 Applies None (entries.Rows rows) new = ⊥
 Applies (Some old) (entries.Head tables mdb) new = ⊥
 Applies (Some old) (entries.Rows rows) new = AreAdmitted old rows × (new ≡ archive old.head (old.history ++ items_of rows))

@@ -10,7 +10,7 @@ use Rattle.disk_journal.specs.State.{unhealed_fault, file_of, count_of}
 use Rattle.disk_journal.specs.declared.journal.Journal.{Journal}
 use Rattle.field_codec.specs.declared.entry.Entry.{Entry}
 use Rattle.field_codec.specs.declared.entry.Entry.TheVariants as kinds
-use Rattle.field_codec.specs.Entries.{IsEntry}
+use Rattle.field_codec.specs.Entries.{IsArchiveEntry}
 use Rattle.field_codec.specs.Spelling.{entry_octets}
 use Rattle.archive_store.specs.declared.head.Head.{Head}
 use Rattle.archive_store.specs.Entries.{archive, Replays, AreAdmitted}
@@ -36,4 +36,4 @@ pub record StoreInvariant {D : Type 0} (device : Device D) (disk opened : D) (jo
   pub file : file_of journal ≡ 0
   pub pending_fault_is : pending_fault ≡ pending_fault_of fills
   pub unhealed_fault_is : unhealed_fault journal ≡ pending_fault_of fills
-  pub head_is : IsEntry (kinds.Head head.tables head.mdb)
+  pub head_is : IsArchiveEntry (kinds.Head head.tables head.mdb)

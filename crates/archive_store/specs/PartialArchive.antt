@@ -9,7 +9,7 @@ use Rattle.disk_journal.specs.declared.fault.JournalFault.{JournalFault}
 use Rattle.disk_journal.specs.declared.fault.JournalFault.TheVariants as faults
 use Rattle.field_codec.specs.declared.entry.Entry.{Entry}
 use Rattle.field_codec.specs.declared.entry.Entry.TheVariants as entries
-use Rattle.field_codec.specs.Entries.{IsEntry}
+use Rattle.field_codec.specs.Entries.{IsArchiveEntry}
 use Rattle.field_codec.specs.Spelling.{entry_octets}
 use Rattle.archive_store.specs.declared.reading.PartialArchive.{PartialArchive}
 use Rattle.archive_store.specs.Entries.{Archive, archive, Replays}
@@ -21,7 +21,7 @@ archive_made made = option_map (λ m. archive m.head m.history.items) made
 -- there are as many tables as the head has names, and the head has a spelling
 abbrev pub HasTables : Option PartialArchive → Type 0
 HasTables None = Unit {0}
-HasTables (Some made) = (made.history.tables ≡ length made.head.tables) × IsEntry (entries.Head made.head.tables made.head.mdb)
+HasTables (Some made) = (made.history.tables ≡ length made.head.tables) × IsArchiveEntry (entries.Head made.head.tables made.head.mdb)
 
 -- the octets of a file are records of entries that make this archive, and the journal has their places
 pub record IsReadArchive (content : List ℕ) (journal : Journal) (found : Archive) : Type 0 where

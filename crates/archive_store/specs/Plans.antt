@@ -19,22 +19,22 @@ abbrev pub rows_of_parts : List Part → List Row
 rows_of_parts parts = flat_map (λ part. part.rows) parts
 
 -- a part has a row, and all of its rows are in its interval
-pub record IsPart (part : Part) : Type 0 where
+pub record IsPlanPart (part : Part) : Type 0 where
   pub some : 0 < length part.rows
   pub each : AllByRecursion (λ row. interval_of row.key.time ≡ part.interval.0) part.rows
 
 -- the intervals of parts rise
-abbrev pub AreRising : List Part → Type 0
-AreRising [] = Unit {0}
-AreRising (part ∷ parts) = AllByRecursion (λ later. part.interval.0 <ℤ later.interval.0) parts × AreRising parts
+abbrev pub AreRisingIntervals : List Part → Type 0
+AreRisingIntervals [] = Unit {0}
+AreRisingIntervals (part ∷ parts) = AllByRecursion (λ later. part.interval.0 <ℤ later.interval.0) parts × AreRisingIntervals parts
 
 -- The rows of `tm` with low <= time < high in the whole history, in the order of their keys, in one part for each interval that has any.
 pub record IsPlan (head : Head) (history : List Item) (low high : ℤ) (plan : Plan) : Type 0 where
   pub front : plan.front ≡ length history
   pub mdb : arc_value plan.mdb ≡ head.mdb
   pub rows : rows_of_parts plan.parts ≡ range_of 0 low high (rows_in history)
-  pub each : AllByRecursion IsPart plan.parts
-  pub rising : AreRising plan.parts
+  pub each : AllByRecursion IsPlanPart plan.parts
+  pub rising : AreRisingIntervals plan.parts
 
 -- the database has no parameter of the name
 abbrev pub LacksParameter : Head → Request → Type 0

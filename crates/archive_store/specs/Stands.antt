@@ -31,7 +31,7 @@ abbrev pub IsCutShort : List ℕ → Type 0
 IsCutShort rest = length rest ≤ 4 + from_be_bytes w32 (take 4 rest)
 
 -- at this gate stands the first open record that passes the end or breaks a rule
-pub record IsDamagedAt (image : Image) (at : ℕ) : Type 0 where
+pub record IsArchiveDamagedAt (image : Image) (at : ℕ) : Type 0 where
   pub entries : List Entry
   pub before : Option Archive
   pub rest : List ℕ

@@ -10,14 +10,14 @@ ghost use Rattle.archive_core.specs.Fills.{rows_of_faults, pending_fault_of, reo
 ghost use Rattle.archive_core.specs.Outcomes.{outcomes_of, fresh_of};
 ghost use Rattle.disk_journal.specs.State.{HasRoom, IsSame};
 ghost use Rattle.field_codec.specs.declared.entry.Entry.TheVariants as entries;
-ghost use Rattle.field_codec.specs.Entries.{IsEntry};
+ghost use Rattle.field_codec.specs.Entries.{IsArchiveEntry};
 ghost use Rattle.field_codec.specs.Spelling.{entry_octets};
 ghost use Rattle.archive_store.specs.Batches.{batch_rows, IsBatch};
 ghost use Rattle.archive_store.specs.Entries.{archive, AreAdmitted};
 ghost use Rattle.arch_types.specs.Limits.{limit_of};
 ghost use Rattle.arch_types.specs.declared.refusal.Which.TheVariants as limits;
 ghost use Rattle.archive_core.specs.Items.{items_of};
-ghost use Rattle.archive_history.specs.Limits.{IsLimit, IsBelow, IsWithin};
+ghost use Rattle.archive_history.specs.Limits.{IsLimit, IsBelowLimits, IsWithin};
 ghost use Rattle.archive_store.specs.Stands.{StandsFor};
 
 use crate::batch::{Batch, Ingested};
@@ -34,7 +34,7 @@ use std::alloc::{AllocError, Global};
 
 /// A record with these rows, and the rows.
 fn rows_frame(alloc: Global, rows: Rows) -> Result<(Frame, Rows), AllocError>
-    requires { IsEntry (entries.Rows rows) }
+    requires { IsArchiveEntry (entries.Rows rows) }
     ensures { IfOk result (λ r. (r.0 ≡ entry_octets (entries.Rows rows)) × (r.1 ≡ rows)) }
 {
     let entry = Entry::Rows(rows);
@@ -57,7 +57,7 @@ fn prepare(
     fills: &mut Vec<Fill>,
     fresh: Rows,
 ) -> Result<(Frame, Rows), AllocError>
-    requires { IsEntry (entries.Rows fresh) }
+    requires { IsArchiveEntry (entries.Rows fresh) }
     ensures frame { IfOk result (λ r. (r.0 ≡ entry_octets (entries.Rows fresh)) × (r.1 ≡ fresh)) }
     ensures room { OnOk result (HasRoom journal.new × (length fresh ≤ history.new.room) ×
         (vec_len fills.new < vec_capacity fills.new)) }
@@ -73,7 +73,7 @@ fn prepare(
 
 impl<D: Disk> Store<D> {
     ghost use Rattle.archive_store.specs.StoreView.{archive_of, IsNow, unacknowledged_rows, AddsFault, OnlyAppends, CountsNeverFall};
-    ghost use Rattle.archive_store.specs.Answers.{asks_reopen, IsIngestRefusal};
+    ghost use Rattle.archive_store.specs.Answers.{store_asks_reopen, IsIngestRefusal};
 
     /// The first limit that is passed with these rows and their record.
     fn limit_passed(&self, fresh: &[Row]) -> Option<Which>
@@ -165,14 +165,14 @@ impl<D: Disk> Store<D> {
 
         // NeedsReopen comes exactly where a failed write stands, then the first limit that is passed where rows are new, then a fault of the disk.
         // Want of memory comes before any call of the disk.
-        ensures needs_reopen { asks_reopen result ≡ pending_fault_of self.old.fills }
+        ensures needs_reopen { store_asks_reopen result ≡ pending_fault_of self.old.fills }
         ensures limit { (which : AWhich) (number : ℕ) → result ≡ Err (Limit which number) →
             (number ≡ limit_of which) ×
             IsLimit which self.old.records (ingested self.old.history (batch_rows batch.now)) }
         ensures limit_some { (which : AWhich) (number : ℕ) → result ≡ Err (Limit which number) →
             fresh_of self.old.history (batch_rows batch.now) ≢ [] }
-        ensures below { MatchResult result (λ _. IsBelow self.old.records self.old.history (batch_rows batch.now))
-            (λ e. e ≡ DiskFault → IsBelow self.old.records self.old.history (batch_rows batch.now)) }
+        ensures below { MatchResult result (λ _. IsBelowLimits self.old.records self.old.history (batch_rows batch.now))
+            (λ e. e ≡ DiskFault → IsBelowLimits self.old.records self.old.history (batch_rows batch.now)) }
         ensures only { IfErr result IsIngestRefusal }
         ensures later { CountsNeverFall D.device self.old.disk self.new.disk }
         ensures no_failed_write { OnOk result (D.device.failed_writes self.new.disk ≡ D.device.failed_writes

@@ -4,16 +4,16 @@ ghost use Rattle.std.specs.Prelude.{◌≡◌, ◌<◌, ◌≤◌, ◌⊎◌, �
 ghost use Rattle.std.specs.List.{AllByRecursion};
 ghost use Rattle.arch_disk.specs.Disk.{OnlyReads, raised};
 ghost use Rattle.disk_journal.specs.State.{unhealed_fault, file_of};
-ghost use Rattle.disk_journal.specs.Reading.{IsAt, file_read, IsFinished};
+ghost use Rattle.disk_journal.specs.Reading.{IsAt, file_read, IsReadJournal};
 ghost use Rattle.arch_types.specs.declared.refusal.Refusal.TheVariants.{Damaged, DiskFault};
 ghost use Rattle.arch_types.specs.declared.row.Row.{Row as ARow};
 ghost use Rattle.field_codec.specs.declared.entry.Entry.{Entry as AnEntry};
 ghost use Rattle.field_codec.specs.declared.entry.Entry.TheVariants as entries;
-ghost use Rattle.field_codec.specs.Entries.{IsEntry};
+ghost use Rattle.field_codec.specs.Entries.{IsArchiveEntry};
 ghost use Rattle.field_codec.specs.Spelling.{entry_octets};
 ghost use Rattle.archive_store.specs.Entries.{archive, Applies, AreAdmitted, IsPlaced, Archive};
 ghost use Rattle.archive_store.specs.PartialArchive.{archive_made, HasTables, read_refusal, IsReadRefusal, IsReadArchive};
-ghost use Rattle.archive_store.specs.Stands.{IsDamagedAt, Breaks};
+ghost use Rattle.archive_store.specs.Stands.{IsArchiveDamagedAt, Breaks};
 
 use crate::head::Head;
 use arch_disk::Disk;
@@ -49,7 +49,7 @@ fn are_placed(head: &Head, rows: &[Row]) -> bool
 
 /// Whether these rows may follow; then they do.
 fn admit(made: &mut PartialArchive, rows: Rows) -> Result<bool, AllocError>
-    requires entry { IsEntry (entries.Rows rows) }
+    requires entry { IsArchiveEntry (entries.Rows rows) }
     requires tables { made.old.history.tables ≡ length made.old.head.tables }
     ensures yes { IfOk result (λ ok. ok ≡ true → AreAdmitted (archive made.old.head made.old.history.items) rows
         × (made.new.history.items ≡ made.old.history.items ++ rows)) }
@@ -125,7 +125,7 @@ pub(crate) fn refusal_of(fault: JournalFault) -> Refusal
 
 /// What was read.
 fn finished(opening: Opening, made: Option<PartialArchive>) -> Result<ReadArchive, Refusal>
-    ensures ok { IfOk result (λ f. (Some f.made ≡ made) × IsFinished opening f.journal) }
+    ensures ok { IfOk result (λ f. (Some f.made ≡ made) × IsReadJournal opening f.journal) }
     ensures none { OnErr result ((made ≡ None) × (result ≡ Err (Damaged 0 0))) }
 {
     match made {
@@ -153,7 +153,7 @@ pub(crate) fn read_archive<D: Disk>(
     ensures no_pending_fault { IfOk result (λ f. (unhealed_fault f.journal ≡ None) × (file_of f.journal ≡ 0)) }
     ensures tables { IfOk result (λ f. HasTables (Some f.made)) }
     ensures damaged { IsTrue D.device.is_transparent → (file at : ℕ) → result ≡ Err (Damaged file at) → (file ≡ 0) ×
-        IsDamagedAt (D.device.reads disk.old) at }
+        IsArchiveDamagedAt (D.device.reads disk.old) at }
     ensures only { IfErr result IsReadRefusal }
     ensures looked { OnlyReads D.device disk.old disk.new }
     ensures cause { result ≡ Err DiskFault → raised (D.device.fault_count disk.old) ≤ D.device.fault_count disk.new }

@@ -7,7 +7,7 @@ ghost use Rattle.std.specs.Option.{is_some};
 ghost use Rattle.std.specs.List.{AllByRecursion};
 ghost use Rattle.arch_types.specs.Interval.{interval_of};
 ghost use Rattle.arch_types.specs.Table.{range_of};
-ghost use Rattle.archive_store.specs.Plans.{rows_of_parts, IsPart, AreRising};
+ghost use Rattle.archive_store.specs.Plans.{rows_of_parts, IsPlanPart, AreRisingIntervals};
 ghost use Rattle.std.specs.Arc.{arc_value};
 
 use crate::plan::{Part, Parts, Plan};
@@ -51,10 +51,10 @@ fn container_names(alloc: Global, mdb: &Mdb) -> Result<Names, AllocError>
 /// One row more, in a part of its own where its interval has none yet.
 fn put(alloc: Global, parts: &mut Vec<Part>, row: &Row) -> Result<(), AllocError>
     ensures rows { OnOk result (rows_of_parts parts.new.items ≡ rows_of_parts parts.old.items ++ row.now ∷ []) }
-    ensures each { AllByRecursion IsPart parts.old.items → OnOk result (AllByRecursion IsPart parts.new.items) }
-    ensures rising { AreRising parts.old.items →
+    ensures each { AllByRecursion IsPlanPart parts.old.items → OnOk result (AllByRecursion IsPlanPart parts.new.items) }
+    ensures rising { AreRisingIntervals parts.old.items →
         AllByRecursion (λ part. part.interval.0 ≤ℤ interval_of row.now.key.time) parts.old.items →
-        OnOk result (AreRising parts.new.items) }
+        OnOk result (AreRisingIntervals parts.new.items) }
     ensures bounded { (x : ℤ) → AllByRecursion (λ part. part.interval.0 ≤ℤ x) parts.old.items →
         interval_of row.now.key.time ≤ℤ x →
         OnOk result (AllByRecursion (λ part. part.interval.0 ≤ℤ x) parts.new.items) }
@@ -75,7 +75,7 @@ fn put(alloc: Global, parts: &mut Vec<Part>, row: &Row) -> Result<(), AllocError
 fn parts_of(alloc: Global, history: &History, from: i64, to: i64) -> Result<Parts, AllocError>
     requires { 0 < history.now.tables }
     ensures { IfOk result (λ parts. (rows_of_parts parts ≡ range_of 0 from to history.now.items) ×
-        AllByRecursion IsPart parts × AreRising parts) }
+        AllByRecursion IsPlanPart parts × AreRisingIntervals parts) }
 {
     let mut parts = Vec::new(alloc);
     for row in history.range(from, to) {
@@ -93,7 +93,7 @@ fn planned(
 ) -> Result<Plan, AllocError>
     requires { 0 < history.now.tables }
     ensures { IfOk result (λ plan. (plan.front ≡ length history.now.items) × (arc_value plan.mdb ≡ arc_value mdb.now)
-        × (rows_of_parts plan.parts ≡ range_of 0 request.now.from request.now.to history.now.items) × AllByRecursion IsPart plan.parts × AreRising plan.parts) }
+        × (rows_of_parts plan.parts ≡ range_of 0 request.now.from request.now.to history.now.items) × AllByRecursion IsPlanPart plan.parts × AreRisingIntervals plan.parts) }
 {
     Ok(Plan {
         front: history.len() as u64,

@@ -7,13 +7,13 @@ ghost use Rattle.arch_types.specs.declared.refusal.Refusal.TheVariants.{DiskFaul
 ghost use Rattle.disk_journal.specs.Format.{HasRecords, HoldsNone};
 ghost use Rattle.disk_journal.specs.State.{IsUntouched};
 ghost use Rattle.field_codec.specs.declared.entry.Entry.TheVariants as entries;
-ghost use Rattle.field_codec.specs.Entries.{IsEntry};
+ghost use Rattle.field_codec.specs.Entries.{IsArchiveEntry};
 ghost use Rattle.field_codec.specs.Spelling.{entry_octets};
 ghost use Rattle.arch_types.specs.History.{IsHistory};
 ghost use Rattle.archive_store.specs.Entries.{Archive};
 ghost use Rattle.archive_history.specs.Limits.{IsWithin};
 ghost use Rattle.archive_store.specs.PartialArchive.{refusal_of_create};
-ghost use Rattle.archive_store.specs.Stands.{StandsFor, IsDamagedAt};
+ghost use Rattle.archive_store.specs.Stands.{StandsFor, IsArchiveDamagedAt};
 ghost use Rattle.std.specs.Arc.{arc_value};
 
 use crate::head::Head;
@@ -61,7 +61,7 @@ impl<D: Disk> Model for Store<D> {
 
 /// A record with this head, and the head.
 fn head_frame(alloc: Global, head: Head) -> Result<(Frame, Head), AllocError>
-    requires { IsEntry (entries.Head head.tables head.mdb) }
+    requires { IsArchiveEntry (entries.Head head.tables head.mdb) }
     ensures { IfOk result (λ r. (r.0 ≡ entry_octets (entries.Head head.tables head.mdb)) × (r.1 ≡ head)) }
 {
     let Head { tables, mdb } = head;
@@ -100,7 +100,7 @@ struct NewArchive {
 
 /// Takes all memory that a new archive needs before its first device call, but for the journal's.
 fn prepare_new(alloc: Global, head: Head) -> Result<NewArchive, AllocError>
-    requires { IsEntry (entries.Head head.tables head.mdb) }
+    requires { IsArchiveEntry (entries.Head head.tables head.mdb) }
     ensures { IfOk result (λ f. (f.frame ≡ entry_octets (entries.Head head.tables head.mdb)) × (f.head ≡ head) ×
         (arc_value f.mdb ≡ head.mdb)
         × (f.history.items ≡ []) × (f.history.tables ≡ length head.tables)) }
@@ -118,12 +118,12 @@ fn prepare_new(alloc: Global, head: Head) -> Result<NewArchive, AllocError>
 
 impl<D: Disk> Store<D> {
     ghost use Rattle.archive_store.specs.StoreView.{archive_of, CrashInvariant, FaultInvariant, CountsNeverFall};
-    ghost use Rattle.archive_store.specs.Answers.{IsOpenAnswer, IsOpenRefusal, IsDamagedOrFault, IsNoArchiveOrFault, IsFaultOrMemory, IsCreateAnswer, IsCreateRefusal, IsCreateImage};
+    ghost use Rattle.archive_store.specs.Answers.{IsOpenAnswer, IsOpenRefusal, IsDamagedArchiveOrFault, IsNoArchiveOrFault, IsFaultOrMemory, IsCreateAnswer, IsCreateRefusal, IsCreateImage};
 
     /// Makes an archive without rows on a disk that holds none. Where the last write or sync fails it closes the gate again, as far as the disk
     /// lets it.
     pub fn create(alloc: Global, disk: D, head: Head) -> Result<Store<D>, (D, Refusal)>
-        requires head { IsEntry (entries.Head head.tables head.mdb) }
+        requires head { IsArchiveEntry (entries.Head head.tables head.mdb) }
         ensures made { IfOk result (λ s. (s.history ≡ []) × (s.fills ≡ []) × (s.head ≡ head) × (s.opened ≡ s.disk)) }
         ensures records { IfOk result (λ s. s.records ≡ 1) }
 
@@ -203,8 +203,8 @@ impl<D: Disk> Store<D> {
         // What the disk reads as decides, but for a fault of the disk and want of memory: no archive, damage at a gate, or the archive.
         ensures nothing { IsTrue D.device.is_transparent → HoldsNone (D.device.reads disk 0) →
             MatchResult result (λ _. ⊥) (λ e. IsNoArchiveOrFault e.1) }
-        ensures damaged { IsTrue D.device.is_transparent → (at : ℕ) → IsDamagedAt (D.device.reads disk) at →
-            MatchResult result (λ _. ⊥) (λ e. IsDamagedOrFault at e.1) }
+        ensures damaged { IsTrue D.device.is_transparent → (at : ℕ) → IsArchiveDamagedAt (D.device.reads disk) at →
+            MatchResult result (λ _. ⊥) (λ e. IsDamagedArchiveOrFault at e.1) }
         ensures stands { IsTrue D.device.is_transparent → (archive : Archive) →
             StandsFor (D.device.reads disk) archive → MatchResult result (λ s. archive_of s ≡ archive) (λ e.
             IsFaultOrMemory e.1) }
@@ -288,7 +288,7 @@ impl<D: Disk> Store<D> {
     /// The tables and the mission database.
     pub fn head(&self) -> &Head
         ensures head { result.now ≡ self.now.head }
-        ensures sound { IsEntry (entries.Head self.now.head.tables self.now.head.mdb) }
+        ensures sound { IsArchiveEntry (entries.Head self.now.head.tables self.now.head.mdb) }
     {
         &self.head
     }

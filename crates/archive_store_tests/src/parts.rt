@@ -3,7 +3,7 @@ ghost use Rattle.std.specs.Prelude.{◌≡◌, ◌<◌, ◌≤◌, [], false, le
 ghost use Rattle.std.specs.List.{AllByRecursion};
 ghost use Rattle.arch_types.specs.Packet.{IsPacket, is_idle};
 ghost use Rattle.field_codec.specs.declared.entry.Entry.TheVariants as entries;
-ghost use Rattle.field_codec.specs.Entries.{IsEntry};
+ghost use Rattle.field_codec.specs.Entries.{IsArchiveEntry};
 ghost use Rattle.text_forms.specs.ClockTime.{IsClockTime};
 ghost use Rattle.archive_store.specs.Batches.{IsArrival, IsBatch};
 
@@ -68,7 +68,7 @@ pub fn octets_of(alloc: Global, number: u64) -> Result<Octets, Fail> {
 
 /// The head that an entry spells.
 pub fn head_of(alloc: Global, octets: &[u8]) -> Result<Head, Fail>
-    ensures { IfOk result (λ head. IsEntry (entries.Head head.tables head.mdb)) }
+    ensures { IfOk result (λ head. IsArchiveEntry (entries.Head head.tables head.mdb)) }
 {
     match read_entry(alloc, octets) {
         Ok(Entry::Head { tables, mdb }) => Ok(Head { tables, mdb }),
@@ -78,7 +78,7 @@ pub fn head_of(alloc: Global, octets: &[u8]) -> Result<Head, Fail>
 
 /// The head of these tests.
 pub fn head(alloc: Global) -> Result<Head, Fail>
-    ensures { IfOk result (λ head. IsEntry (entries.Head head.tables head.mdb)) }
+    ensures { IfOk result (λ head. IsArchiveEntry (entries.Head head.tables head.mdb)) }
 {
     head_of(alloc, head_octets())
 }
@@ -205,7 +205,7 @@ pub fn created<D: Disk + Drop>(
     disk: D,
     head: Head,
 ) -> Result<Store<D>, (D, &'static str)>
-    requires { IsEntry (entries.Head head.tables head.mdb) }
+    requires { IsArchiveEntry (entries.Head head.tables head.mdb) }
     ensures { IfOk result (λ store. store.fills ≡ []) }
 {
     match Store::create(alloc, disk, head) {

@@ -15,7 +15,7 @@ use Rattle.mdb_items.specs.declared.calibration.Table.TheVariants.{Poly, Points,
 use Rattle.mdb_items.specs.declared.parameter.Coding.{Coding}
 use Rattle.mdb_items.specs.declared.parameter.Coding.TheVariants.{Uint, Int, UintLe, IntLe}
 use Rattle.mdb_items.specs.ParameterRows.{admits, degree, reach}
-use Rattle.mdb_items.specs.Structure.{IsPoint, IsRising}
+use Rattle.mdb_items.specs.Structure.{IsPoint, ArePointsRising}
 use Rattle.calibration.specs.Admitted.{IsAdmitted, IsInWidth, IsSigned, IsUnsigned, KeepsRules}
 use Rattle.calibration.specs.Carried.{AreCarried}
 
@@ -56,7 +56,7 @@ carried c raw rows is e =
     }
 
 -- the points of a calibration that is admitted
-pub points_of : (c : Calibration) (raw : ℤ) (points : List PointsRow) → IsAdmitted (Some c) raw → c.table ≡ Points points → AllByRecursion IsPoint points × IsRising points
+pub points_of : (c : Calibration) (raw : ℤ) (points : List PointsRow) → IsAdmitted (Some c) raw → c.table ≡ Points points → AllByRecursion IsPoint points × ArePointsRising points
 points_of c raw points is e = subst (λ (t : Table). KeepsRules (Some t)) e is.rules
 
 -- the rows of an enumeration that is admitted

@@ -10,7 +10,7 @@ use Rattle.std.proofs.lemmas.Option.{get_or_from_slice_get, slice_get_within}
 use Rattle.mdb_items.specs.declared.calibration.PointsRow.{PointsRow}
 use Rattle.mdb_items.specs.Lists.{last_of}
 use Rattle.mdb_items.specs.Structure.{IsPoint}
-use Rattle.calibration.specs.Calibrated.{between, on_points, reached}
+use Rattle.calibration.specs.Calibrated.{between_points, on_points, reached}
 use Rattle.calibration.specs.Carried.{AreNeighbours}
 use Rattle.calibration.proofs.Rising.{above, le_true}
 
@@ -53,8 +53,8 @@ pub neighbours : (points : List PointsRow) (raw : ℤ) (n : ℕ) → AllByRecurs
 neighbours points raw n all fits parts = both points raw n (last_of (take n points)) (slice_get points n) all fits parts refl refl
 
 -- the value between these two is that of the definition
-pub value_is : (points : List PointsRow) (raw z : ℤ) (n : ℕ) (before after : Option PointsRow) (r : ℤ) → r ≡ between before after z → before ≡ last_of (take n points) → after ≡ slice_get points n → reached points z ≡ n → z ≡ raw
+pub value_is : (points : List PointsRow) (raw z : ℤ) (n : ℕ) (before after : Option PointsRow) (r : ℤ) → r ≡ between_points before after z → before ≡ last_of (take n points) → after ≡ slice_get points n → reached points z ≡ n → z ≡ raw
     → r ≡ on_points points raw
 value_is points raw z n before after r e b a count same =
-    e ∙ ap (λ (o : Option PointsRow). between o after z) b ∙ ap (λ (o : Option PointsRow). between (last_of (take n points)) o z) a
-    ∙ ap (λ (k : ℕ). between (last_of (take k points)) (slice_get points k) z) (sym count) ∙ ap (on_points points) same
+    e ∙ ap (λ (o : Option PointsRow). between_points o after z) b ∙ ap (λ (o : Option PointsRow). between_points (last_of (take n points)) o z) a
+    ∙ ap (λ (k : ℕ). between_points (last_of (take k points)) (slice_get points k) z) (sym count) ∙ ap (on_points points) same

@@ -7,9 +7,9 @@ use Rattle.mdb_items.specs.declared.calibration.Table.{Table}
 use Rattle.mdb_items.specs.declared.calibration.Table.TheVariants.{Poly, Points, Enum}
 use Rattle.mdb_items.specs.declared.parameter.Parameter.{Parameter}
 use Rattle.mdb_items.specs.Database.{Database, IsDatabase, row_count, table_len}
-use Rattle.mdb_items.specs.ParameterRows.{admits, reference_to, table_at, table_of}
+use Rattle.mdb_items.specs.ParameterRows.{admits, reference_to, referenced_table, table_of_calibration}
 use Rattle.mdb_items.specs.Structure.{IsTable}
-use Rattle.mdb_model.specs.Lookups.{calibration_at}
+use Rattle.mdb_model.specs.Lookups.{calibration_numbered}
 use Rattle.mdb_model.proofs.Structure.{structured}
 use Rattle.calibration.specs.Admitted.{IsAdmitted, IsInWidth, KeepsRules}
 
@@ -24,22 +24,22 @@ keeps_rules (Poly rows) is few = tt
 keeps_rules (Points points) is few = (is.each, is.rising)
 keeps_rules (Enum rows) is few = few
 
-rules_at : (db : Database) (n : ℕ) (o : Option Calibration) → IsDatabase db → slice_get db.calibrations n ≡ o → KeepsRules (table_of o)
+rules_at : (db : Database) (n : ℕ) (o : Option Calibration) → IsDatabase db → slice_get db.calibrations n ≡ o → KeepsRules (table_of_calibration o)
 rules_at db n None is at = tt
 rules_at db n (Some c) is at =
     let s = structured db is in
     keeps_rules c.table (s.calibrations n c at).rows (omega (arith, count_in db.calibrations n c at, s.few_rows))
 
-rules_of : (db : Database) (o : Option ℕ) → IsDatabase db → KeepsRules (table_of (calibration_at db.calibrations o))
+rules_of : (db : Database) (o : Option ℕ) → IsDatabase db → KeepsRules (table_of_calibration (calibration_numbered db.calibrations o))
 rules_of db None is = tt
 rules_of db (Some n) is = rules_at db n (slice_get db.calibrations n) is refl
 
-same_table : (cs : List Calibration) (o : Option ℕ) → table_at cs (reference_to o) ≡ table_of (calibration_at cs o)
+same_table : (cs : List Calibration) (o : Option ℕ) → referenced_table cs (reference_to o) ≡ table_of_calibration (calibration_numbered cs o)
 same_table cs None = refl
 same_table cs (Some n) = refl
 
 -- a database admits the calibration of each of its parameters for that parameter's raw numbers
-pub admitted : (db : Database) (n : ℕ) (p : Parameter) (raw : ℤ) → IsDatabase db → slice_get db.parameters n ≡ Some p → IsInWidth p.coding p.bits raw → IsAdmitted (calibration_at db.calibrations p.calibration) raw
+pub admitted : (db : Database) (n : ℕ) (p : Parameter) (raw : ℤ) → IsDatabase db → slice_get db.parameters n ≡ Some p → IsInWidth p.coding p.bits raw → IsAdmitted (calibration_numbered db.calibrations p.calibration) raw
 admitted db n p raw is at in_width = record {
   parameter = p;
   in_width = in_width;

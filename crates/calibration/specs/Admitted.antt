@@ -7,8 +7,8 @@ use Rattle.mdb_items.specs.declared.calibration.Table.TheVariants.{Poly, Points,
 use Rattle.mdb_items.specs.declared.parameter.Coding.{Coding}
 use Rattle.mdb_items.specs.declared.parameter.Coding.TheVariants.{Uint, Int, UintLe, IntLe}
 use Rattle.mdb_items.specs.declared.parameter.Parameter.{Parameter}
-use Rattle.mdb_items.specs.ParameterRows.{admits, table_of}
-use Rattle.mdb_items.specs.Structure.{IsPoint, IsRising}
+use Rattle.mdb_items.specs.ParameterRows.{admits, table_of_calibration}
+use Rattle.mdb_items.specs.Structure.{IsPoint, ArePointsRising}
 
 -- below 2^bits
 abbrev pub IsUnsigned : ℕ → ℤ → Type 0
@@ -29,12 +29,12 @@ IsInWidth IntLe bits raw = IsSigned bits raw
 abbrev pub KeepsRules : Option Table → Type 0
 KeepsRules None = Unit {0}
 KeepsRules (Some (Poly rows)) = Unit {0}
-KeepsRules (Some (Points points)) = AllByRecursion IsPoint points × IsRising points
+KeepsRules (Some (Points points)) = AllByRecursion IsPoint points × ArePointsRising points
 KeepsRules (Some (Enum rows)) = length rows ≤ 65536
 
 -- the raw number is one of a parameter for which the rules of the sheets admit the calibration
 pub record IsAdmitted (calibration : Option Calibration) (raw : ℤ) : Type 0 where
   pub parameter : Parameter
   pub in_width : IsInWidth parameter.coding parameter.bits raw
-  pub rules : KeepsRules (table_of calibration)
-  pub admitted : admits parameter.bits (table_of calibration) ≡ true
+  pub rules : KeepsRules (table_of_calibration calibration)
+  pub admitted : admits parameter.bits (table_of_calibration calibration) ≡ true

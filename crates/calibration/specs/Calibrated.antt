@@ -25,11 +25,11 @@ abbrev pub on_line : PointsRow → PointsRow → ℤ → ℤ
 on_line p q raw = p.millionths +ℤ int_div_euclid ((q.millionths -ℤ p.millionths) *ℤ (raw -ℤ p.x)) (q.x -ℤ p.x)
 
 -- between the last point reached and the next one on their line, and outside the points the nearer end's y
-abbrev pub between : Option PointsRow → Option PointsRow → ℤ → ℤ
-between None None raw = pos 0
-between None (Some q) raw = q.millionths
-between (Some p) None raw = p.millionths
-between (Some p) (Some q) raw = on_line p q raw
+abbrev pub between_points : Option PointsRow → Option PointsRow → ℤ → ℤ
+between_points None None raw = pos 0
+between_points None (Some q) raw = q.millionths
+between_points (Some p) None raw = p.millionths
+between_points (Some p) (Some q) raw = on_line p q raw
 
 -- how many of rising points stand at or below the raw number
 abbrev pub reached : List PointsRow → ℤ → ℕ
@@ -37,7 +37,7 @@ reached points raw = prefix_len (λ p. int_le p.x raw) points
 
 -- the value at a raw number of a line through points, in millionths
 abbrev pub on_points : List PointsRow → ℤ → ℤ
-on_points points raw = between (last_of (take (reached points raw) points)) (slice_get points (reached points raw)) raw
+on_points points raw = between_points (last_of (take (reached points raw) points)) (slice_get points (reached points raw)) raw
 
 -- the row of a label, or none
 abbrev pub label_at : Option ℕ → Eng

@@ -3,8 +3,8 @@
 ghost use Rattle.std.specs.Prelude.{◌≡◌, ◌≤◌, length, slice_get, take, None, pos, option_copied};
 ghost use Rattle.mdb_items.specs.Lists.{last_of};
 ghost use Rattle.std.specs.List.{AllByRecursion};
-ghost use Rattle.mdb_items.specs.Structure.{IsPoint, IsRising};
-ghost use Rattle.calibration.specs.Calibrated.{between, on_line, on_points};
+ghost use Rattle.mdb_items.specs.Structure.{IsPoint, ArePointsRising};
+ghost use Rattle.calibration.specs.Calibrated.{between_points, on_line, on_points};
 ghost use Rattle.calibration.specs.Carried.{AreNeighbours, IsBetween};
 
 use mdb_model::PointsRow;
@@ -22,7 +22,7 @@ fn on_line(p: PointsRow, q: PointsRow, raw: i128) -> i64
 /// The value between the last point reached and the next one, in millionths; outside the points the nearer end's.
 fn between(before: Option<&PointsRow>, after: Option<&PointsRow>, raw: i128) -> i64
     requires { AreNeighbours (option_copied before) (option_copied after) raw }
-    ensures { result ≡ between (option_copied before.entry) (option_copied after.entry) raw }
+    ensures { result ≡ between_points (option_copied before.entry) (option_copied after.entry) raw }
 {
     let Some(last) = before else {
         return first_value(after);
@@ -35,7 +35,7 @@ fn between(before: Option<&PointsRow>, after: Option<&PointsRow>, raw: i128) -> 
 
 /// The value below the first point.
 fn first_value(first: Option<&PointsRow>) -> i64
-    ensures { result ≡ between None (option_copied first.entry) (pos 0) }
+    ensures { result ≡ between_points None (option_copied first.entry) (pos 0) }
 {
     match first {
         None => 0,
@@ -61,7 +61,7 @@ fn point_at(points: &[PointsRow], place: usize) -> Option<&PointsRow>
 /// The value at a raw number of the line through rising points, in millionths.
 pub(crate) fn on_points(points: &[PointsRow], raw: i128) -> i64
     requires points { AllByRecursion IsPoint points.now }
-    requires rising { IsRising points.now }
+    requires rising { ArePointsRising points.now }
     ensures { result ≡ on_points points.now raw }
 {
     let reached = points.partition_point(|point| point.x <= raw);

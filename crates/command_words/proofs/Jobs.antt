@@ -6,7 +6,7 @@ use Rattle.arch_types.specs.declared.refusal.Refusal.{Refusal}
 use Rattle.arch_types.specs.declared.refusal.Refusal.TheVariants.{Usage, OutOfMemory}
 use Rattle.clap.specs.Walk.{Row, first_of}
 use Rattle.text_forms.specs.Digits.{digits_at_most}
-use Rattle.command_words.specs.Job.{Job, Scan, Values, Create, Load, Query, Recover, scan_app, scan_of, values_app, values_of, values_words, create_app, create_of, sheet_words, load_app, load_of, load_words, link_of, from_one, query_app, query_of, recover_app, recover_of, job_of, HasLink, IsNoJob}
+use Rattle.command_words.specs.Job.{Job, Scan, Values, Create, Load, Query, Recover, scan_app, scan_job, values_app, values_job, values_words, create_app, create_job, sheet_words, load_app, load_job, load_words, link_of, from_one, query_app, query_job, recover_app, recover_job, job_of, HasLink, IsNoJob}
 use Rattle.command_words.specs.Words.{rows_of_words, IsNotFound}
 
 -- where nothing was found there is no job
@@ -24,10 +24,10 @@ pub no_word : (of : List Row → Option Job) (found : Option (List Row)) (rows :
     IsNoJob (option_and_then of found) refusal
 no_word of found rows refusal e f usage = rw usage (found_job of found rows None e f)
 
-pub scan_there : (rows : List Row) (dump : List ℕ) → first_of (codes "dump") rows ≡ Some dump → scan_of rows ≡ Some (Scan dump)
+pub scan_there : (rows : List Row) (dump : List ℕ) → first_of (codes "dump") rows ≡ Some dump → scan_job rows ≡ Some (Scan dump)
 scan_there rows dump e = ap (option_map Scan) e
 
-pub scan_missing : (rows : List Row) → first_of (codes "dump") rows ≡ None → scan_of rows ≡ None
+pub scan_missing : (rows : List Row) → first_of (codes "dump") rows ≡ None → scan_job rows ≡ None
 scan_missing rows e = ap (option_map Scan) e
 
 pub values_there : (a b c d e : Option (List ℕ)) (p q r s t : List ℕ) → a ≡ Some p → b ≡ Some q → c ≡ Some r → d ≡ Some s → e ≡ Some t →
@@ -49,10 +49,10 @@ no_dump a b c d e p q r ea eb ec ed = rw (ea, eb, ec, ed) refl
 pub no_name : (a b c d e : Option (List ℕ)) (p q r s : List ℕ) → a ≡ Some p → b ≡ Some q → c ≡ Some r → d ≡ Some s → e ≡ None → values_words a b c d e ≡ None
 no_name a b c d e p q r s ea eb ec ed ee = rw (ea, eb, ec, ed, ee) refl
 
-pub query_there : (rows : List Row) (asks : List ℕ) → first_of (codes "ask") rows ≡ Some asks → query_of rows ≡ Some (Query asks)
+pub query_there : (rows : List Row) (asks : List ℕ) → first_of (codes "ask") rows ≡ Some asks → query_job rows ≡ Some (Query asks)
 query_there rows asks e = ap (option_map Query) e
 
-pub query_missing : (rows : List Row) → first_of (codes "ask") rows ≡ None → query_of rows ≡ None
+pub query_missing : (rows : List Row) → first_of (codes "ask") rows ≡ None → query_job rows ≡ None
 query_missing rows e = ap (option_map Query) e
 
 pub create_there : (a b c : Option (List ℕ)) (p q r : List ℕ) → a ≡ Some p → b ≡ Some q → c ≡ Some r →
@@ -126,19 +126,19 @@ one_of false here there job h t e = t e
 pub has_link : (words : List (List ℕ)) (job : Job) → job_of words ≡ Some job → HasLink job
 has_link [] job e = no_job job e
 has_link (command ∷ words) job e =
-    one_of (bytes_eq command (codes "scan")) (option_and_then scan_of (rows_of_words scan_app words)) _ job
-    (rows_link scan_of (rows_of_words scan_app words) job (λ rows. named_link Scan (first_of (codes "dump") rows) job (λ n. tt)))
-    (one_of (bytes_eq command (codes "values")) (option_and_then values_of (rows_of_words values_app words)) _ job
-    (rows_link values_of (rows_of_words values_app words) job
+    one_of (bytes_eq command (codes "scan")) (option_and_then scan_job (rows_of_words scan_app words)) _ job
+    (rows_link scan_job (rows_of_words scan_app words) job (λ rows. named_link Scan (first_of (codes "dump") rows) job (λ n. tt)))
+    (one_of (bytes_eq command (codes "values")) (option_and_then values_job (rows_of_words values_app words)) _ job
+    (rows_link values_job (rows_of_words values_app words) job
     (λ rows. values_link (first_of (codes "parameters") rows) (first_of (codes "calibrations") rows) (first_of (codes "containers") rows) (first_of (codes "dump") rows) (first_of (codes "name") rows) job))
-    (one_of (bytes_eq command (codes "create")) (option_and_then create_of (rows_of_words create_app words)) _ job
-    (rows_link create_of (rows_of_words create_app words) job
+    (one_of (bytes_eq command (codes "create")) (option_and_then create_job (rows_of_words create_app words)) _ job
+    (rows_link create_job (rows_of_words create_app words) job
     (λ rows. sheets_link (first_of (codes "parameters") rows) (first_of (codes "calibrations") rows) (first_of (codes "containers") rows) job))
-    (one_of (bytes_eq command (codes "load")) (option_and_then load_of (rows_of_words load_app words)) _ job
-    (rows_link load_of (rows_of_words load_app words) job
+    (one_of (bytes_eq command (codes "load")) (option_and_then load_job (rows_of_words load_app words)) _ job
+    (rows_link load_job (rows_of_words load_app words) job
     (λ rows. load_link (first_of (codes "dump") rows) (link_of (first_of (codes "link") rows)) job (link_from_one (first_of (codes "link") rows))))
-    (one_of (bytes_eq command (codes "query")) (option_and_then query_of (rows_of_words query_app words)) _ job
-    (rows_link query_of (rows_of_words query_app words) job (λ rows. named_link Query (first_of (codes "ask") rows) job (λ n. tt)))
-    (one_of (bytes_eq command (codes "recover")) (option_and_then recover_of (rows_of_words recover_app words)) _ job
-    (rows_link recover_of (rows_of_words recover_app words) job (λ rows is. this_job Recover job is tt))
+    (one_of (bytes_eq command (codes "query")) (option_and_then query_job (rows_of_words query_app words)) _ job
+    (rows_link query_job (rows_of_words query_app words) job (λ rows. named_link Query (first_of (codes "ask") rows) job (λ n. tt)))
+    (one_of (bytes_eq command (codes "recover")) (option_and_then recover_job (rows_of_words recover_app words)) _ job
+    (rows_link recover_job (rows_of_words recover_app words) job (λ rows is. this_job Recover job is tt))
     (no_job job)))))) e

@@ -42,8 +42,8 @@ abbrev pub scan_app : App
 scan_app = words_app (codes "scan") (codes "dump" ∷ [])
 
 -- the job of `scan DUMP`, by the words that clap found
-abbrev pub scan_of : List Row → Option Job
-scan_of rows = option_map Scan (first_of (codes "dump") rows)
+abbrev pub scan_job : List Row → Option Job
+scan_job rows = option_map Scan (first_of (codes "dump") rows)
 
 -- the words of `values`
 abbrev pub values_app : App
@@ -56,8 +56,8 @@ values_words (Some parameters) (Some calibrations) (Some containers) (Some dump)
 values_words parameters calibrations containers dump name = None
 
 -- the job of `values PARAMETERS CALIBRATIONS CONTAINERS DUMP NAME`, by the words that clap found
-abbrev pub values_of : List Row → Option Job
-values_of rows =
+abbrev pub values_job : List Row → Option Job
+values_job rows =
     values_words (first_of (codes "parameters") rows) (first_of (codes "calibrations") rows) (first_of (codes "containers") rows) (first_of (codes "dump") rows) (first_of (codes "name") rows)
 
 -- the words of `create`
@@ -70,8 +70,8 @@ sheet_words (Some parameters) (Some calibrations) (Some containers) = Some (Crea
 sheet_words parameters calibrations containers = None
 
 -- the job of `create PARAMETERS CALIBRATIONS CONTAINERS`, by the words that clap found
-abbrev pub create_of : List Row → Option Job
-create_of rows = sheet_words (first_of (codes "parameters") rows) (first_of (codes "calibrations") rows) (first_of (codes "containers") rows)
+abbrev pub create_job : List Row → Option Job
+create_job rows = sheet_words (first_of (codes "parameters") rows) (first_of (codes "calibrations") rows) (first_of (codes "containers") rows)
 
 -- the words of `load`: a dump, and an option for the number of its link
 abbrev pub load_app : App
@@ -92,35 +92,35 @@ load_words (Some dump) (Some link) = Some (Load (record { dump = dump; link = li
 load_words dump link = None
 
 -- the job of `load [--link N] DUMP`, by the words that clap found
-abbrev pub load_of : List Row → Option Job
-load_of rows = load_words (first_of (codes "dump") rows) (link_of (first_of (codes "link") rows))
+abbrev pub load_job : List Row → Option Job
+load_job rows = load_words (first_of (codes "dump") rows) (link_of (first_of (codes "link") rows))
 
 -- the words of `query`: an option for a sheet of asks, which has to come
 abbrev pub query_app : App
 query_app = with_rule (plain_app (codes "query")) (option_rule (codes "ask") true)
 
 -- the job of `query --ask FILE`, by the words that clap found
-abbrev pub query_of : List Row → Option Job
-query_of rows = option_map Query (first_of (codes "ask") rows)
+abbrev pub query_job : List Row → Option Job
+query_job rows = option_map Query (first_of (codes "ask") rows)
 
 -- `recover` has no words
 abbrev pub recover_app : App
 recover_app = plain_app (codes "recover")
 
 -- the job of `recover`, which has no words
-abbrev pub recover_of : List Row → Option Job
-recover_of rows = Some Recover
+abbrev pub recover_job : List Row → Option Job
+recover_job rows = Some Recover
 
 -- the job of the words, where they are one: the command, and behind it what it wants
 abbrev pub job_of : List (List ℕ) → Option Job
 job_of [] = None
 job_of (command ∷ words) =
-    if bytes_eq command (codes "scan") then option_and_then scan_of (rows_of_words scan_app words)
-    else if bytes_eq command (codes "values") then option_and_then values_of (rows_of_words values_app words)
-    else if bytes_eq command (codes "create") then option_and_then create_of (rows_of_words create_app words)
-    else if bytes_eq command (codes "load") then option_and_then load_of (rows_of_words load_app words)
-    else if bytes_eq command (codes "query") then option_and_then query_of (rows_of_words query_app words)
-    else if bytes_eq command (codes "recover") then option_and_then recover_of (rows_of_words recover_app words)
+    if bytes_eq command (codes "scan") then option_and_then scan_job (rows_of_words scan_app words)
+    else if bytes_eq command (codes "values") then option_and_then values_job (rows_of_words values_app words)
+    else if bytes_eq command (codes "create") then option_and_then create_job (rows_of_words create_app words)
+    else if bytes_eq command (codes "load") then option_and_then load_job (rows_of_words load_app words)
+    else if bytes_eq command (codes "query") then option_and_then query_job (rows_of_words query_app words)
+    else if bytes_eq command (codes "recover") then option_and_then recover_job (rows_of_words recover_app words)
     else None
 
 -- where packets are loaded, their link has a number from 1 on

@@ -16,8 +16,8 @@ is_last None word = false
 is_last (Some at) word = at + 1 == length word
 
 -- a word where options may stand, but for a lone `-` and an option with an empty value, as `--name=`
-unfoldable pub is_whole : Text → Bool
-is_whole word = not (bytes_eq word (codes "-")) && not (starts_with nat_eq word (codes "--") && is_last (position (λ octet. octet == 61) word) word)
+unfoldable pub is_whole_word : Text → Bool
+is_whole_word word = not (bytes_eq word (codes "-")) && not (starts_with nat_eq word (codes "--") && is_last (position (λ octet. octet == 61) word) word)
 
 -- no word is empty
 abbrev pub are_filled : List Text → Bool
@@ -26,7 +26,7 @@ are_filled words = list_all (λ word. not (is_empty word)) words
 -- the words are whole up to the end of the options, which is the first `--`
 abbrev pub are_whole : List Text → Bool
 are_whole [] = true
-are_whole (word ∷ words) = bytes_eq word (codes "--") || (is_whole word && are_whole words)
+are_whole (word ∷ words) = bytes_eq word (codes "--") || (is_whole_word word && are_whole words)
 
 -- words that clap may read: it takes empty words and values, and a lone `-`
 abbrev pub are_plain : List Text → Bool

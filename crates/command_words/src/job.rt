@@ -2,7 +2,7 @@
 
 ghost use Rattle.std.specs.Prelude.{◌≡◌, map, string_bytes, Some, IfOk, IfErr, option_and_then, option_map};
 ghost use Rattle.command_words.specs.Job as spec;
-ghost use Rattle.command_words.specs.Job.{job_of, scan_app, scan_of, values_app, values_of, create_app, create_of, load_app, load_of, link_of, query_app, query_of, recover_app, recover_of, IsNoJob};
+ghost use Rattle.command_words.specs.Job.{job_of, scan_app, scan_job, values_app, values_job, create_app, create_job, load_app, load_job, link_of, query_app, query_job, recover_app, recover_job, IsNoJob};
 ghost use Rattle.command_words.specs.JobView.{job_view};
 ghost use Rattle.command_words.specs.Words.{rows_of_words};
 
@@ -85,10 +85,10 @@ pub fn job_of<'a>(alloc: Global, words: &'a [String]) -> Result<Job<'a>, Refusal
 /// The job of the words behind `scan`.
 fn scan_job<'a>(alloc: Global, words: &'a [String]) -> Result<Job<'a>, Refusal>
     ensures job { IfOk result (λ job.
-        option_and_then scan_of (rows_of_words scan_app (map (λ w. string_bytes w) words.entry.now)) ≡ Some
+        option_and_then scan_job (rows_of_words scan_app (map (λ w. string_bytes w) words.entry.now)) ≡ Some
         (job_view job)) }
     ensures none { IfErr result
-        (IsNoJob (option_and_then scan_of (rows_of_words scan_app (map (λ w. string_bytes w) words.entry.now)))) }
+        (IsNoJob (option_and_then scan_job (rows_of_words scan_app (map (λ w. string_bytes w) words.entry.now)))) }
 {
     let found = found_words(alloc, "scan", &["dump"], words)?;
     let dump = word_of(&found, "dump")?;
@@ -98,10 +98,10 @@ fn scan_job<'a>(alloc: Global, words: &'a [String]) -> Result<Job<'a>, Refusal>
 /// The job of the words behind `values`.
 fn values_job<'a>(alloc: Global, words: &'a [String]) -> Result<Job<'a>, Refusal>
     ensures job { IfOk result (λ job.
-        option_and_then values_of (rows_of_words values_app (map (λ w. string_bytes w) words.entry.now)) ≡ Some
+        option_and_then values_job (rows_of_words values_app (map (λ w. string_bytes w) words.entry.now)) ≡ Some
         (job_view job)) }
     ensures none { IfErr result
-        (IsNoJob (option_and_then values_of (rows_of_words values_app (map (λ w. string_bytes w) words.entry.now)))) }
+        (IsNoJob (option_and_then values_job (rows_of_words values_app (map (λ w. string_bytes w) words.entry.now)))) }
 {
     let found = found_words(
         alloc,
@@ -126,10 +126,10 @@ fn values_job<'a>(alloc: Global, words: &'a [String]) -> Result<Job<'a>, Refusal
 /// The job of the words behind `create`.
 fn create_job<'a>(alloc: Global, words: &'a [String]) -> Result<Job<'a>, Refusal>
     ensures job { IfOk result (λ job.
-        option_and_then create_of (rows_of_words create_app (map (λ w. string_bytes w) words.entry.now)) ≡ Some
+        option_and_then create_job (rows_of_words create_app (map (λ w. string_bytes w) words.entry.now)) ≡ Some
         (job_view job)) }
     ensures none { IfErr result
-        (IsNoJob (option_and_then create_of (rows_of_words create_app (map (λ w. string_bytes w) words.entry.now)))) }
+        (IsNoJob (option_and_then create_job (rows_of_words create_app (map (λ w. string_bytes w) words.entry.now)))) }
 {
     let found = found_words(
         alloc,
@@ -150,10 +150,10 @@ fn create_job<'a>(alloc: Global, words: &'a [String]) -> Result<Job<'a>, Refusal
 /// The job of the words behind `load`.
 fn load_job<'a>(alloc: Global, words: &'a [String]) -> Result<Job<'a>, Refusal>
     ensures job { IfOk result (λ job.
-        option_and_then load_of (rows_of_words load_app (map (λ w. string_bytes w) words.entry.now)) ≡ Some
+        option_and_then load_job (rows_of_words load_app (map (λ w. string_bytes w) words.entry.now)) ≡ Some
         (job_view job)) }
     ensures none { IfErr result
-        (IsNoJob (option_and_then load_of (rows_of_words load_app (map (λ w. string_bytes w) words.entry.now)))) }
+        (IsNoJob (option_and_then load_job (rows_of_words load_app (map (λ w. string_bytes w) words.entry.now)))) }
 {
     let found = found_words_and_option(alloc, "load", &["dump"], "link", words)?;
     let dump = word_of(&found, "dump")?;
@@ -166,10 +166,10 @@ fn load_job<'a>(alloc: Global, words: &'a [String]) -> Result<Job<'a>, Refusal>
 /// The job of the words behind `query`.
 fn query_job<'a>(alloc: Global, words: &'a [String]) -> Result<Job<'a>, Refusal>
     ensures job { IfOk result (λ job.
-        option_and_then query_of (rows_of_words query_app (map (λ w. string_bytes w) words.entry.now)) ≡ Some
+        option_and_then query_job (rows_of_words query_app (map (λ w. string_bytes w) words.entry.now)) ≡ Some
         (job_view job)) }
     ensures none { IfErr result
-        (IsNoJob (option_and_then query_of (rows_of_words query_app (map (λ w. string_bytes w) words.entry.now)))) }
+        (IsNoJob (option_and_then query_job (rows_of_words query_app (map (λ w. string_bytes w) words.entry.now)))) }
 {
     let found = found_option(alloc, "query", "ask", words)?;
     let asks = word_of(&found, "ask")?;
@@ -179,10 +179,10 @@ fn query_job<'a>(alloc: Global, words: &'a [String]) -> Result<Job<'a>, Refusal>
 /// The job of no words behind `recover`.
 fn recover_job<'a>(alloc: Global, words: &'a [String]) -> Result<Job<'a>, Refusal>
     ensures job { IfOk result (λ job.
-        option_and_then recover_of (rows_of_words recover_app (map (λ w. string_bytes w) words.entry.now)) ≡ Some
+        option_and_then recover_job (rows_of_words recover_app (map (λ w. string_bytes w) words.entry.now)) ≡ Some
         (job_view job)) }
     ensures none { IfErr result
-        (IsNoJob (option_and_then recover_of
+        (IsNoJob (option_and_then recover_job
         (rows_of_words recover_app (map (λ w. string_bytes w) words.entry.now)))) }
 {
     let _found = found_words(alloc, "recover", &[], words)?;

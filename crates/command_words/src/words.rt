@@ -6,7 +6,7 @@ ghost use Rattle.std.specs.Str.{bytes_eq};
 ghost use Rattle.clap.specs.Words.{app_of, is_simple, rows_of, found_of};
 ghost use Rattle.clap.specs.Faults.{is_simple_and_free};
 ghost use Rattle.clap.specs.Walk.{rule_of, is_empty, first_of};
-ghost use Rattle.command_words.specs.Words.{option_rule, are_plain, are_filled, are_whole, is_whole, word_rule, words_app, rows_of_words, IsNotFound, plain_app, is_last};
+ghost use Rattle.command_words.specs.Words.{option_rule, are_plain, are_filled, are_whole, is_whole_word, word_rule, words_app, rows_of_words, IsNotFound, plain_app, is_last};
 ghost use Rattle.clap.specs.Simple.{with_rule};
 
 use arch_types::refusal::Refusal;
@@ -231,9 +231,9 @@ fn are_whole(words: &[String]) -> bool
 }
 
 /// Whether a word may stand where options may: it's no lone `-`, and no option with an empty value.
-#[tactic(auto, unfolding(crate::specs::Words::is_whole))]
+#[tactic(auto, unfolding(crate::specs::Words::is_whole_word))]
 fn is_whole(word: &str) -> bool
-    ensures { result ≡ is_whole word.now }
+    ensures { result ≡ is_whole_word word.now }
 {
     word != "-" && !(word.starts_with("--") && ends_at_equals(word))
 }

@@ -15,7 +15,7 @@ use Rattle.mdb_model.proofs.Structure.{structured}
 use Rattle.calibration.specs.Admitted.{IsInWidth}
 use Rattle.container_extract.specs.declared.values.ParameterValue.{ParameterValue}
 use Rattle.container_extract.specs.declared.values.RawValue.{RawValue}
-use Rattle.container_extract.specs.Bits.{bits_at, field_at}
+use Rattle.container_extract.specs.Bits.{raw_bits_at, field_at}
 use Rattle.container_extract.specs.Chain.{chain_of, entries_at}
 use Rattle.container_extract.specs.Laws.{ExtractionIsCalibrated, ExtractionKeepsRules, IsValue, RawExtractionKeepsRules, ValueIsCalibrated}
 use Rattle.container_extract.specs.Values.{IsRawValue, calibrated_value, coding_of, fits, raw_among, raw_of, raw_value_of, value_among, value_of}
@@ -29,7 +29,7 @@ raw_in_width : (db : Database) (packet : List ℕ) (e : Entry) (p : Parameter) �
 raw_in_width db packet e p is at =
     let width = ((structured db is).parameters e.parameter p at).width in
     let below : field_at packet e.at p.bits < 2 ^ p.bits = mod_below _ (2 ^ p.bits) (pow_pos p.bits) in
-    let raw : raw_of db packet e ≡ bits_at packet e.at p.bits p.coding = ap (λ (o : Option Parameter). bits_at packet e.at (bits_of_parameter o) (coding_of o)) at in
+    let raw : raw_of db packet e ≡ raw_bits_at packet e.at p.bits p.coding = ap (λ (o : Option Parameter). raw_bits_at packet e.at (bits_of_parameter o) (coding_of o)) at in
     subst (IsInWidth p.coding p.bits) (sym raw) (in_width p.coding p.bits (field_at packet e.at p.bits) width below)
 
 raw_value_is_sound : (db : Database) (packet : List ℕ) (e : Entry) → IsDatabase db → IsEntry db e → IsRawValue db (raw_value_of db packet e)

@@ -7,38 +7,38 @@ use Rattle.std.proofs.lemmas.List.{take-append-drop}
 use Rattle.std.proofs.lemmas.List.Elements.{All-drop, All-head, All-tail}
 use Rattle.std.proofs.lemmas.List.Sums.{fold-append}
 use Rattle.std.proofs.lemmas.Nat.{and_mask, div-mul-add, field_of, mod_below, mul-add-lt, one_shl, pow-add, shr-shr}
-use Rattle.container_extract.specs.Bits.{field_at, number_of, reversed}
+use Rattle.container_extract.specs.Bits.{field_at, big_endian_number, reversed}
 
 abbrev next : ℕ → ℕ → ℕ
 next number octet = number * 256 + octet
 
 -- a number in front is shifted by the octets behind
-number_from : (front : ℕ) (octets : List ℕ) → fold next front octets ≡ front * 256 ^ length octets + number_of octets
+number_from : (front : ℕ) (octets : List ℕ) → fold next front octets ≡ front * 256 ^ length octets + big_endian_number octets
 number_from front [] = omega arith
 number_from front (octet ∷ octets) =
     let p = 256 ^ length octets in
     let here = number_from (front * 256 + octet) octets in
-    let alone : number_of (octet ∷ octets) ≡ (0 * 256 + octet) * p + number_of octets = number_from (0 * 256 + octet) octets in
+    let alone : big_endian_number (octet ∷ octets) ≡ (0 * 256 + octet) * p + big_endian_number octets = number_from (0 * 256 + octet) octets in
     let up : 256 ^ suc (length octets) ≡ p * 256 = pow-suc 256 (length octets) in
     let split = add-mul (front * 256) octet p in
     let same : front * 256 * p ≡ front * 256 ^ suc (length octets) = mul_assoc front 256 p ∙ ap (λ (n : ℕ). front * n) (mul_comm 256 p ∙ sym up) in
     let none : (0 * 256 + octet) * p ≡ octet * p = ap (λ (n : ℕ). n * p) (omega arith) in
     omega arith
 
-pub number_append : (a b : List ℕ) → number_of (a ++ b) ≡ number_of a * 256 ^ length b + number_of b
-number_append a b = fold-append next 0 a b ∙ number_from (number_of a) b
+pub number_append : (a b : List ℕ) → big_endian_number (a ++ b) ≡ big_endian_number a * 256 ^ length b + big_endian_number b
+number_append a b = fold-append next 0 a b ∙ number_from (big_endian_number a) b
 
 -- octets are below 256 to the power of how many they are
-pub number_below : (octets : List ℕ) → All (λ octet. octet < 256) octets → number_of octets < 256 ^ length octets
+pub number_below : (octets : List ℕ) → All (λ octet. octet < 256) octets → big_endian_number octets < 256 ^ length octets
 number_below [] all = omega arith
 number_below (octet ∷ octets) all =
     let head = All-head (λ (x : ℕ). x < 256) octet octets all in
     let rest = number_below octets (All-tail (λ (x : ℕ). x < 256) octet octets all) in
     let p = 256 ^ length octets in
-    let alone : number_of (octet ∷ octets) ≡ (0 * 256 + octet) * p + number_of octets = number_from (0 * 256 + octet) octets in
+    let alone : big_endian_number (octet ∷ octets) ≡ (0 * 256 + octet) * p + big_endian_number octets = number_from (0 * 256 + octet) octets in
     let none : (0 * 256 + octet) * p ≡ octet * p = ap (λ (n : ℕ). n * p) (omega arith) in
     let up : 256 ^ suc (length octets) ≡ p * 256 = pow-suc 256 (length octets) in
-    let less : octet * p + number_of octets < p * 256 = mul-add-lt octet p (number_of octets) 256 head rest in
+    let less : octet * p + big_endian_number octets < p * 256 = mul-add-lt octet p (big_endian_number octets) 256 head rest in
     omega arith
 
 -- 256^n is 2^(8 * n)
@@ -58,21 +58,21 @@ front_cleared a m s w o =
 
 -- the field of a packet is that of the octets that it touches
 pub field_within : (a m z : List ℕ) (at w s o : ℕ) → All (λ octet. octet < 256) z → 8 * length m ≡ o + (w + s) → at ≡ 8 * length a + o
-    → field_at (a ++ (m ++ z)) at w ≡ number_of m / 2 ^ s % 2 ^ w
+    → field_at (a ++ (m ++ z)) at w ≡ big_endian_number m / 2 ^ s % 2 ^ w
 field_within a m z at w s o small bits is =
-    let n = number_of (a ++ (m ++ z)) in
-    let whole : n ≡ number_of a * 256 ^ length (m ++ z) + (number_of m * 256 ^ length z + number_of z) = number_append a (m ++ z) ∙ ap (λ (x : ℕ). number_of a * 256 ^ length (m ++ z) + x) (number_append m z) in
+    let n = big_endian_number (a ++ (m ++ z)) in
+    let whole : n ≡ big_endian_number a * 256 ^ length (m ++ z) + (big_endian_number m * 256 ^ length z + big_endian_number z) = number_append a (m ++ z) ∙ ap (λ (x : ℕ). big_endian_number a * 256 ^ length (m ++ z) + x) (number_append m z) in
     let long : length (m ++ z) ≡ length m + length z = length-append m z in
     let power : 256 ^ length (m ++ z) ≡ 256 ^ length m * 256 ^ length z = ap (λ (x : ℕ). 256 ^ x) long ∙ pow-add 256 (length m) (length z) in
-    let lead : number_of a * 256 ^ length (m ++ z) ≡ number_of a * 256 ^ length m * 256 ^ length z = ap (λ (x : ℕ). number_of a * x) power ∙ sym (mul_assoc (number_of a) (256 ^ length m) (256 ^ length z)) in
-    let both = add-mul (number_of a * 256 ^ length m) (number_of m) (256 ^ length z) in
-    let joined : n ≡ (number_of a * 256 ^ length m + number_of m) * 256 ^ length z + number_of z = omega arith in
-    let cut : n / 256 ^ length z ≡ number_of a * 256 ^ length m + number_of m = ap (λ (x : ℕ). x / 256 ^ length z) joined ∙ div-mul-add (number_of a * 256 ^ length m + number_of m) (256 ^ length z) (number_of z) (number_below z small) in
+    let lead : big_endian_number a * 256 ^ length (m ++ z) ≡ big_endian_number a * 256 ^ length m * 256 ^ length z = ap (λ (x : ℕ). big_endian_number a * x) power ∙ sym (mul_assoc (big_endian_number a) (256 ^ length m) (256 ^ length z)) in
+    let both = add-mul (big_endian_number a * 256 ^ length m) (big_endian_number m) (256 ^ length z) in
+    let joined : n ≡ (big_endian_number a * 256 ^ length m + big_endian_number m) * 256 ^ length z + big_endian_number z = omega arith in
+    let cut : n / 256 ^ length z ≡ big_endian_number a * 256 ^ length m + big_endian_number m = ap (λ (x : ℕ). x / 256 ^ length z) joined ∙ div-mul-add (big_endian_number a * 256 ^ length m + big_endian_number m) (256 ^ length z) (big_endian_number z) (number_below z small) in
     let all : length (a ++ (m ++ z)) ≡ length a + (length m + length z) = length-append a (m ++ z) ∙ ap (λ (x : ℕ). length a + x) long in
     let shift : 8 * length (a ++ (m ++ z)) - at - w ≡ 8 * length z + s = omega arith in
     let twice : n / 2 ^ (8 * length z + s) ≡ n / 256 ^ length z / 2 ^ s = sym (shr-shr n (8 * length z) s) ∙ ap (λ (x : ℕ). n / x / 2 ^ s) (sym (octets_are_bits (length z))) in
-    let front : number_of a * 256 ^ length m ≡ number_of a * 2 ^ (o + (w + s)) = ap (λ (x : ℕ). number_of a * x) (octets_are_bits (length m) ∙ ap (λ (x : ℕ). 2 ^ x) bits) in
-    ap (λ (k : ℕ). n / 2 ^ k % 2 ^ w) shift ∙ ap (λ (x : ℕ). x % 2 ^ w) (twice ∙ ap (λ (x : ℕ). x / 2 ^ s) (cut ∙ ap (λ (x : ℕ). x + number_of m) front)) ∙ front_cleared (number_of a) (number_of m) s w o
+    let front : big_endian_number a * 256 ^ length m ≡ big_endian_number a * 2 ^ (o + (w + s)) = ap (λ (x : ℕ). big_endian_number a * x) (octets_are_bits (length m) ∙ ap (λ (x : ℕ). 2 ^ x) bits) in
+    ap (λ (k : ℕ). n / 2 ^ k % 2 ^ w) shift ∙ ap (λ (x : ℕ). x % 2 ^ w) (twice ∙ ap (λ (x : ℕ). x / 2 ^ s) (cut ∙ ap (λ (x : ℕ). x + big_endian_number m) front)) ∙ front_cleared (big_endian_number a) (big_endian_number m) s w o
 
 -- one octet more is swapped
 pub swapped_more : (left swapped rest : ℕ) → swapped * 256 ^ suc left + reversed (suc left) rest ≡ (swapped * 256 + rest % 256) * 256 ^ left + reversed left (rest / 256)
@@ -116,7 +116,7 @@ next_of_8 number octet i n less small lt few =
     omega arith
 
 -- the octets that a field touches, shifted and masked
-pub field_is : (packet : List ℕ) (at w number : ℕ) → All (λ octet. octet < 256) packet → w ≤ 64 → at + w ≤ 8 * length packet → number ≡ number_of (take ((at + w + 7) / 8 - at / 8) (drop (at / 8) packet))
+pub field_is : (packet : List ℕ) (at w number : ℕ) → All (λ octet. octet < 256) packet → w ≤ 64 → at + w ≤ 8 * length packet → number ≡ big_endian_number (take ((at + w + 7) / 8 - at / 8) (drop (at / 8) packet))
     → bit_and (number / 2 ^ (8 * ((at + w + 7) / 8) - (at + w))) (1 * 2 ^ w % 340282366920938463463374607431768211456 - 1) ≡ field_at packet at w
 field_is packet at w number small narrow inside is =
     let first = at / 8 in
@@ -131,7 +131,7 @@ field_is packet at w number small narrow inside is =
     let long_m : length m ≡ end - first = omega (arith, length-take (end - first) (drop first packet), length-drop first packet) in
     let bits : 8 * length m ≡ at % 8 + (w + s) = omega arith in
     let place : at ≡ 8 * length a + at % 8 = omega arith in
-    let there : field_at (a ++ (m ++ z)) at w ≡ number_of m / 2 ^ s % 2 ^ w = field_within a m z at w s (at % 8) behind bits place in
+    let there : field_at (a ++ (m ++ z)) at w ≡ big_endian_number m / 2 ^ s % 2 ^ w = field_within a m z at w s (at % 8) behind bits place in
     let mask : 1 * 2 ^ w % 340282366920938463463374607431768211456 ≡ 2 ^ w = one_shl w 128 (omega arith) in
     ap (λ (x : ℕ). bit_and (number / 2 ^ s) (x - 1)) mask ∙ and_mask (number / 2 ^ s) w ∙ ap (λ (x : ℕ). x / 2 ^ s % 2 ^ w) is ∙ sym there ∙ ap (λ (xs : List ℕ). field_at xs at w) parts
 

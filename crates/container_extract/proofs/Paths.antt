@@ -12,7 +12,7 @@ use Rattle.mdb_rules.proofs.Ancestry.{path_here}
 use Rattle.mdb_model.proofs.DatabaseFits.{all_join}
 use Rattle.mdb_rules.proofs.Ends.{item_at}
 use Rattle.mdb_model.proofs.Structure.{structured}
-use Rattle.container_extract.specs.Chain.{IsChain, IsChainFrom, chain_of, entries_at, entries_of}
+use Rattle.container_extract.specs.Chain.{IsChain, IsChainFrom, chain_of, entries_at, container_entries}
 use Rattle.container_extract.proofs.Chains.{chain_is_one, child_of}
 
 -- the parents of containers stand earlier
@@ -42,7 +42,7 @@ child_path : (db : Database) (n m : ℕ) (c : Container) (k : ℕ) (entries : Li
 child_path db n m c k entries is at parent up =
     let below : path_to db m ≡ path_below (path_at (paths_of db.containers) c.parent) c = path_here db.containers m c (parents_earlier db is) at in
     let over : path_at (paths_of db.containers) c.parent ≡ a_path k entries = ap (path_at (paths_of db.containers)) parent ∙ up in
-    let own : c.entries ≡ entries_at db m = ap entries_of (sym at) in
+    let own : c.entries ≡ entries_at db m = ap container_entries (sym at) in
     below ∙ ap (λ (p : ContainerPath). path_below p c) over ∙ ap (λ (es : List Entry). a_path (suc k) (entries ++ es)) own
 
 along : (db : Database) (packet : List ℕ) (above : List Entry) (k n : ℕ) (chain : List ℕ) → IsDatabase db → n < length db.containers → IsChainFrom db packet above (n ∷ chain) → path_to db n ≡ a_path (suc k) (above ++ entries_at db n)
@@ -71,7 +71,7 @@ along db packet above k n (m ∷ chain) is within goes here =
 -- the root's path is itself alone
 root_path : (db : Database) (c : Container) (o : Option ℕ) → IsDatabase db → slice_get db.containers 0 ≡ Some c → c.parent ≡ o → IsBelowParent 0 o → path_to db 0 ≡ a_path 1 (entries_at db 0)
 root_path db c None is at parent first =
-    path_here db.containers 0 c (parents_earlier db is) at ∙ ap (λ (o : Option ℕ). path_below (path_at (paths_of db.containers) o) c) parent ∙ ap (a_path 1) (ap entries_of (sym at))
+    path_here db.containers 0 c (parents_earlier db is) at ∙ ap (λ (o : Option ℕ). path_below (path_at (paths_of db.containers) o) c) parent ∙ ap (a_path 1) (ap container_entries (sym at))
 root_path db c (Some p) is at parent first = absurd (omega (arith, first))
 
 chain_along : (db : Database) (packet chain : List ℕ) → IsDatabase db → IsChain db packet chain → IsAlong db (length chain) (flat_map (entries_at db) chain)
@@ -96,7 +96,7 @@ pub chain_is_short : (db : Database) (packet : List ℕ) → IsDatabase db → l
 chain_is_short db packet is = (chain_keeps db packet is).few_containers
 
 -- each entry of a container is sound
-own_known : (db : Database) (n : ℕ) (o : Option Container) → IsDatabase db → slice_get db.containers n ≡ o → AllByRecursion (IsEntry db) (entries_of o)
+own_known : (db : Database) (n : ℕ) (o : Option Container) → IsDatabase db → slice_get db.containers n ≡ o → AllByRecursion (IsEntry db) (container_entries o)
 own_known db n None is at = tt
 own_known db n (Some c) is at = ((structured db is).containers n c at).entries
 

@@ -14,8 +14,8 @@ use Rattle.mdb_items.specs.Paths.{bits_of_parameter}
 use Rattle.mdb_items.specs.Structure.{IsEntry}
 use Rattle.mdb_model.proofs.Structure.{structured}
 use Rattle.container_extract.specs.declared.values.RawValue.{RawValue}
-use Rattle.container_extract.specs.Bits.{bits_at}
-use Rattle.container_extract.specs.Chain.{entries_at, entries_of, first_child}
+use Rattle.container_extract.specs.Bits.{raw_bits_at}
+use Rattle.container_extract.specs.Chain.{entries_at, container_entries, first_child}
 use Rattle.container_extract.specs.Step.{IsStep}
 use Rattle.container_extract.specs.Values.{coding_of, fits, raw_of, raw_value_of}
 use Rattle.container_extract.proofs.Walk.{if_false, if_true}
@@ -34,10 +34,10 @@ ends_inside db packet e p at is =
     omega arith
 
 -- its raw value is that of the definition
-pub raw_value_is : (db : Database) (packet : List ℕ) (e : Entry) (p : Parameter) (z raw : ℤ) → slice_get db.parameters e.parameter ≡ Some p → z ≡ raw → raw ≡ bits_at packet e.at p.bits p.coding
+pub raw_value_is : (db : Database) (packet : List ℕ) (e : Entry) (p : Parameter) (z raw : ℤ) → slice_get db.parameters e.parameter ≡ Some p → z ≡ raw → raw ≡ raw_bits_at packet e.at p.bits p.coding
     → (let v : RawValue = record { parameter = e.parameter; raw = z } in v) ≡ raw_value_of db packet e
 raw_value_is db packet e p z raw at plain raw_is =
-    let r : raw_of db packet e ≡ bits_at packet e.at p.bits p.coding = ap (λ (q : Option Parameter). bits_at packet e.at (bits_of_parameter q) (coding_of q)) at in
+    let r : raw_of db packet e ≡ raw_bits_at packet e.at p.bits p.coding = ap (λ (q : Option Parameter). raw_bits_at packet e.at (bits_of_parameter q) (coding_of q)) at in
     ap (λ (y : ℤ). let v : RawValue = record { parameter = e.parameter; raw = y } in v) (plain ∙ raw_is ∙ sym r)
 
 -- ---- entries one after the other
@@ -66,7 +66,7 @@ entries_known db n c es is at same =
     subst (All (λ (e : Entry). e.parameter < length db.parameters)) (sym same) (λ i d lt. (each i d lt).parameter)
 
 pub entries_are : (db : Database) (n : ℕ) (c : Container) (es : List Entry) → slice_get db.containers n ≡ Some c → es ≡ c.entries → es ≡ entries_at db n
-entries_are db n c es at same = same ∙ ap entries_of (sym at)
+entries_are db n c es at same = same ∙ ap container_entries (sym at)
 
 -- a step where an entry passes the packet's end
 pub step_ends : (db : Database) (packet : List ℕ) (values more : List RawValue) (n : ℕ) (es : List Entry) → es ≡ entries_at db n

@@ -4,12 +4,12 @@ use Rattle.mdb_items.specs.declared.parameter.Coding.{Coding}
 use Rattle.mdb_items.specs.declared.parameter.Coding.TheVariants.{Uint, Int, UintLe, IntLe}
 
 -- octets as one number, the first octet the highest
-abbrev pub number_of : List ℕ → ℕ
-number_of octets = fold (λ number octet. number * 256 + octet) 0 octets
+abbrev pub big_endian_number : List ℕ → ℕ
+big_endian_number octets = fold (λ number octet. number * 256 + octet) 0 octets
 
 -- the field of so many bits at a bit of a packet, the packet's first bit being bit 0: floor (N / 2^(8 * length - at - width)) mod 2^width
 abbrev pub field_at : List ℕ → ℕ → ℕ → ℕ
-field_at packet at width = number_of packet / 2 ^ (8 * length packet - at - width) % 2 ^ width
+field_at packet at width = big_endian_number packet / 2 ^ (8 * length packet - at - width) % 2 ^ width
 
 -- a number of so many octets with its octets in the reverse order
 abbrev pub reversed : ℕ → ℕ → ℕ
@@ -28,5 +28,5 @@ coded_as UintLe width field = pos (reversed (width / 8) field)
 coded_as IntLe width field = twos_complement width (reversed (width / 8) field)
 
 -- the raw number of the field of so many bits at a bit of a packet
-abbrev pub bits_at : List ℕ → ℕ → ℕ → Coding → ℤ
-bits_at packet at width coding = coded_as coding width (field_at packet at width)
+abbrev pub raw_bits_at : List ℕ → ℕ → ℕ → Coding → ℤ
+raw_bits_at packet at width coding = coded_as coding width (field_at packet at width)

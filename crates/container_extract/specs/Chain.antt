@@ -9,13 +9,13 @@ use Rattle.container_extract.specs.declared.values.RawValue.{RawValue}
 use Rattle.container_extract.specs.Values.{fits, holds, raw_value_of}
 
 -- the entries of a container, or none
-abbrev pub entries_of : Option Container → List Entry
-entries_of None = []
-entries_of (Some c) = c.entries
+abbrev pub container_entries : Option Container → List Entry
+container_entries None = []
+container_entries (Some c) = c.entries
 
 -- the entries of the container with a number
 abbrev pub entries_at : Database → ℕ → List Entry
-entries_at db n = entries_of (slice_get db.containers n)
+entries_at db n = container_entries (slice_get db.containers n)
 
 -- the number is there, and is this one
 abbrev pub is_number : ℕ → Option ℕ → Bool

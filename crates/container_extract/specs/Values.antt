@@ -17,7 +17,7 @@ use Rattle.calibration.specs.Admitted.{IsInWidth}
 use Rattle.calibration.specs.Calibrated.{calibrated}
 use Rattle.container_extract.specs.declared.values.ParameterValue.{ParameterValue}
 use Rattle.container_extract.specs.declared.values.RawValue.{RawValue}
-use Rattle.container_extract.specs.Bits.{bits_at}
+use Rattle.container_extract.specs.Bits.{raw_bits_at}
 
 -- an entry lies inside the packet: it doesn't pass the packet's end
 abbrev pub fits : Database → List ℕ → Entry → Bool
@@ -31,7 +31,7 @@ coding_of (Some p) = p.coding
 -- the raw number of an entry's field
 abbrev pub raw_of : Database → List ℕ → Entry → ℤ
 raw_of db packet e =
-    let p = slice_get db.parameters e.parameter in bits_at packet e.at (bits_of_parameter p) (coding_of p)
+    let p = slice_get db.parameters e.parameter in raw_bits_at packet e.at (bits_of_parameter p) (coding_of p)
 
 -- the raw value of an entry: its parameter and the raw number
 abbrev pub raw_value_of : Database → List ℕ → Entry → RawValue

@@ -2,14 +2,14 @@
 
 ghost use Rattle.std.specs.Prelude.{◌≡◌, ◌+◌, ◌*◌, ◌^◌, ◌<◌, ◌≤◌, length, true, Some};
 ghost use Rattle.mdb_items.specs.ParameterRows.{fits_coding};
-ghost use Rattle.container_extract.specs.Bits.{bits_at, field_at, number_of, reversed, twos_complement};
+ghost use Rattle.container_extract.specs.Bits.{raw_bits_at, field_at, big_endian_number, reversed, twos_complement};
 
 use mdb_model::Coding;
 
 /// Octets as one number, the first octet the highest.
 fn number_of(octets: &[u8]) -> u128
     requires { length octets.now ≤ 16 }
-    ensures { result ≡ number_of octets.now }
+    ensures { result ≡ big_endian_number octets.now }
 {
     let mut number: u128 = 0;
     for octet in octets {
@@ -66,7 +66,7 @@ fn twos_complement(width: u8, number: u64) -> i128
 pub fn bits(packet: &[u8], at: u32, width: u8, coding: Coding) -> i128
     requires width { fits_coding (Some coding) (Some width) ≡ true }
     requires inside { at + width ≤ 8 * length packet.now }
-    ensures { result ≡ bits_at packet.now at width coding }
+    ensures { result ≡ raw_bits_at packet.now at width coding }
 {
     let field = field(packet, at, width);
     match coding {

@@ -8,8 +8,8 @@ use Rattle.disk_journal.specs.declared.journal.Journal.{Journal}
 use Rattle.disk_journal.specs.declared.opening.Opening.{Opening}
 
 -- the octet at which the next record's gate stands
-abbrev pub place_of : Opening → ℕ
-place_of opening = opening.at
+abbrev pub gate_of : Opening → ℕ
+gate_of opening = opening.at
 
 -- the file that is being opened
 abbrev pub file_read : Opening → ℕ
@@ -38,7 +38,7 @@ pub record IsCutShortAt (content : List ℕ) (bodies : List (List ℕ)) : Type 0
   pub short : length rest ≤ 4 + from_be_bytes w32 (take 4 rest)
 
 -- the journal of the records that were read
-pub record IsFinished (opening : Opening) (journal : Journal) : Type 0 where
+pub record IsReadJournal (opening : Opening) (journal : Journal) : Type 0 where
   pub file : journal.file ≡ opening.file
   pub extents : journal.extents.items ≡ opening.extents.items
   pub end : journal.end ≡ opening.at

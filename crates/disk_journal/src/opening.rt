@@ -23,7 +23,7 @@ pub struct Opening {
 }
 
 impl Opening {
-    ghost use Rattle.disk_journal.specs.Reading.{IsAt, IsWholeAt, IsCutShortAt, place_of, file_read, IsFinished};
+    ghost use Rattle.disk_journal.specs.Reading.{IsAt, IsWholeAt, IsCutShortAt, gate_of, file_read, IsReadJournal};
     ghost use Rattle.disk_journal.specs.State.{IsReadFrom};
 
     /// Begins at the first record, with a sync.
@@ -126,8 +126,8 @@ impl Opening {
             → IfOk result (λ next. next ≡ None → HasRecords (D.device.reads disk.old (file_read self.old)) bodies × IsAt self.new (D.device.reads disk.old (file_read self.old)) bodies) }
         ensures damaged { IsTrue D.device.is_transparent → (bodies : List (List ℕ)) →
             IsAt self.old (D.device.reads disk.old (file_read self.old)) bodies
-            → (at : ℕ) → result ≡ Err (JournalFault.Damaged at) → (at ≡ place_of self.old) × IsCutShortAt (D.device.reads disk.old (file_read self.old)) bodies }
-        ensures moves { IfOk result (λ next. IfSome next (λ body. (place_of self.old < place_of self.new) ×
+            → (at : ℕ) → result ≡ Err (JournalFault.Damaged at) → (at ≡ gate_of self.old) × IsCutShortAt (D.device.reads disk.old (file_read self.old)) bodies }
+        ensures moves { IfOk result (λ next. IfSome next (λ body. (gate_of self.old < gate_of self.new) ×
             (length body.items < 2 ^ 32))) }
         ensures file { file_read self.new ≡ file_read self.old }
         ensures looked { OnlyReads D.device disk.old disk.new }
@@ -167,14 +167,14 @@ impl Opening {
 
     /// The gate of the next record, in octets from the file's start.
     pub fn place(&self) -> u64
-        ensures { result ≡ place_of self.now }
+        ensures { result ≡ gate_of self.now }
     {
         self.at
     }
 
     /// The journal of the records that were read; the next one goes to the gate that is read next.
     pub fn finish(self) -> Journal
-        ensures { IsFinished self result }
+        ensures { IsReadJournal self result }
     {
         let Opening {
             file,

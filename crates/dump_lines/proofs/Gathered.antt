@@ -17,7 +17,7 @@ use Rattle.dump_lines.specs.declared.counts.PacketOutcome.{PacketOutcome}
 use Rattle.dump_lines.specs.declared.counts.PacketOutcome.TheVariants.{Idle, New, Duplicate}
 use Rattle.dump_lines.specs.declared.counts.Counts.{Counts}
 use Rattle.dump_lines.specs.Text.{scanned_rows}
-use Rattle.dump_lines.specs.DumpTable.{scanned_row, IsVisible, IsAdded, counted, IsGathered, IsDumpTableTo}
+use Rattle.dump_lines.specs.DumpTable.{scanned_row, IsVisible, IsPacketAdded, counts_with, IsGathered, IsDumpTableTo}
 
 abbrev rows_of_packet : ℤ → List ℕ → List Row
 rows_of_packet moment p = map (row_of 1 moment (λ p. 0) p) (0 ∷ [])
@@ -51,7 +51,7 @@ shown-push [] s all h = (h, tt)
 shown-push (x ∷ xs) s all h = (all.0, shown-push xs s all.1 h)
 
 gathered_idle : (packets : List (List ℕ)) (moment : ℤ) (p : List ℕ) (old new : List Stored) (counts : Counts) →
-    IsGathered packets moment old counts → IsAdded old new moment p Idle → IsGathered (packets ++ p ∷ []) moment new (counted counts Idle)
+    IsGathered packets moment old counts → IsPacketAdded old new moment p Idle → IsGathered (packets ++ p ∷ []) moment new (counts_with counts Idle)
 gathered_idle packets moment p old new counts g a =
     let c = g.counted in let of_packets = c.of_packets in let of_idle = c.of_idle in
     let same = scanned-idle moment packets p a.0 in
@@ -67,7 +67,7 @@ gathered_idle packets moment p old new counts g a =
     }
 
 gathered_new : (packets : List (List ℕ)) (moment : ℤ) (p : List ℕ) (old new : List Stored) (counts : Counts) →
-    IsGathered packets moment old counts → IsAdded old new moment p New → IsGathered (packets ++ p ∷ []) moment new (counted counts New)
+    IsGathered packets moment old counts → IsPacketAdded old new moment p New → IsGathered (packets ++ p ∷ []) moment new (counts_with counts New)
 gathered_new packets moment p old new counts g a =
     let c = g.counted in let of_packets = c.of_packets in let of_rows = c.of_rows in let of_duplicates = c.of_duplicates in let of_idle = c.of_idle in
     let row = scanned_row moment p in
@@ -90,7 +90,7 @@ gathered_new packets moment p old new counts g a =
     }
 
 gathered_duplicate : (packets : List (List ℕ)) (moment : ℤ) (p : List ℕ) (old new : List Stored) (counts : Counts) →
-    IsGathered packets moment old counts → IsAdded old new moment p Duplicate → IsGathered (packets ++ p ∷ []) moment new (counted counts Duplicate)
+    IsGathered packets moment old counts → IsPacketAdded old new moment p Duplicate → IsGathered (packets ++ p ∷ []) moment new (counts_with counts Duplicate)
 gathered_duplicate packets moment p old new counts g a =
     let c = g.counted in let of_packets = c.of_packets in let of_rows = c.of_rows in let of_duplicates = c.of_duplicates in let of_idle = c.of_idle in
     let present : list_any (is_duplicate_of (scanned_row moment p)) (firsts (scanned_rows packets moment)) ≡ true = rw g.rows_are at a.1 in
@@ -110,7 +110,7 @@ gathered_duplicate packets moment p old new counts g a =
     }
 
 gathered_more : (packets : List (List ℕ)) (moment : ℤ) (p : List ℕ) (old new : List Stored) (counts : Counts) (added : PacketOutcome) →
-    IsGathered packets moment old counts → IsAdded old new moment p added → IsGathered (packets ++ p ∷ []) moment new (counted counts added)
+    IsGathered packets moment old counts → IsPacketAdded old new moment p added → IsGathered (packets ++ p ∷ []) moment new (counts_with counts added)
 gathered_more packets moment p old new counts Idle g a = gathered_idle packets moment p old new counts g a
 gathered_more packets moment p old new counts New g a = gathered_new packets moment p old new counts g a
 gathered_more packets moment p old new counts Duplicate g a = gathered_duplicate packets moment p old new counts g a
@@ -123,8 +123,8 @@ part_rises dump start end part =
 
 -- one packet more
 pub loading_more : (dump : List ℕ) (moment : ℤ) (start end : ℕ) (old new : List Stored) (counts : Counts) (added : PacketOutcome) →
-    IsDumpTableTo dump moment start old counts → IsPart dump start end → IsAdded old new moment (slice_range dump start end) added →
-    IsDumpTableTo dump moment end new (counted counts added)
+    IsDumpTableTo dump moment start old counts → IsPart dump start end → IsPacketAdded old new moment (slice_range dump start end) added →
+    IsDumpTableTo dump moment end new (counts_with counts added)
 loading_more dump moment start end old new counts added l part a =
     let few = l.few in
     let up = part_rises dump start end part in

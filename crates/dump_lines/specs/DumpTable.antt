@@ -25,18 +25,18 @@ abbrev pub IsVisible : Stored → Type 0
 IsVisible stored = (stored.position < 2 ^ 32) × (stored.row.table ≡ 0)
 
 -- what the insertion of a packet did to the stored rows
-abbrev pub IsAdded : List Stored → List Stored → ℤ → List ℕ → PacketOutcome → Type 0
-IsAdded old new moment packet Idle = (is_idle packet ≡ true) × (new ≡ old)
-IsAdded old new moment packet New =
+abbrev pub IsPacketAdded : List Stored → List Stored → ℤ → List ℕ → PacketOutcome → Type 0
+IsPacketAdded old new moment packet Idle = (is_idle packet ≡ true) × (new ≡ old)
+IsPacketAdded old new moment packet New =
     (is_idle packet ≡ false) × (list_any (is_duplicate_of (scanned_row moment packet)) (rows_of old) ≡ false) ×
     ((position : ℕ) × (new ≡ old ++ record { row = scanned_row moment packet; position = position } ∷ []) × IsVisible (record { row = scanned_row moment packet; position = position }))
-IsAdded old new moment packet Duplicate = (is_idle packet ≡ false) × (list_any (is_duplicate_of (scanned_row moment packet)) (rows_of old) ≡ true) × (new ≡ old)
+IsPacketAdded old new moment packet Duplicate = (is_idle packet ≡ false) × (list_any (is_duplicate_of (scanned_row moment packet)) (rows_of old) ≡ true) × (new ≡ old)
 
 -- the counts with one more packet
-abbrev pub counted : Counts → PacketOutcome → Counts
-counted counts Idle = record counts { packets = counts.packets + 1; idle = counts.idle + 1 }
-counted counts New = record counts { packets = counts.packets + 1; rows = counts.rows + 1 }
-counted counts Duplicate = record counts { packets = counts.packets + 1; duplicates = counts.duplicates + 1 }
+abbrev pub counts_with : Counts → PacketOutcome → Counts
+counts_with counts Idle = record counts { packets = counts.packets + 1; idle = counts.idle + 1 }
+counts_with counts New = record counts { packets = counts.packets + 1; rows = counts.rows + 1 }
+counts_with counts Duplicate = record counts { packets = counts.packets + 1; duplicates = counts.duplicates + 1 }
 
 -- the counts of packets and of their rows
 pub record HasCounts (packets : List (List ℕ)) (moment : ℤ) (counts : Counts) : Type 0 where

@@ -1,7 +1,7 @@
 //! Counts of packets.
 
 ghost use Rattle.std.specs.Prelude.{◌≡◌, ◌+◌, ◌<◌, ◌^◌};
-ghost use Rattle.dump_lines.specs.DumpTable.{counted};
+ghost use Rattle.dump_lines.specs.DumpTable.{counts_with};
 
 /// What became of a packet.
 #[derive(Clone, Copy, Debug, PartialEq, Eq)]
@@ -28,7 +28,7 @@ impl Counts {
         requires packets { self.old.packets + 1 < 2 ^ 64 }
         requires duplicates { self.old.duplicates + 1 < 2 ^ 64 }
         requires idle { self.old.idle + 1 < 2 ^ 64 }
-        ensures { self.new ≡ counted self.old added }
+        ensures { self.new ≡ counts_with self.old added }
     {
         self.packets += 1;
         match added {

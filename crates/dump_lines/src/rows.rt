@@ -4,7 +4,7 @@ ghost use Rattle.std.specs.Prelude.{◌≡◌, ◌<◌, ◌≤◌, ◌^◌, leng
 ghost use Rattle.std.specs.List.{AllByRecursion};
 ghost use Rattle.arch_types.specs.Packet.{IsPacket};
 ghost use Rattle.space_packet.specs.Cut.{IsPart};
-ghost use Rattle.dump_lines.specs.DumpTable.{scanned_row, IsVisible, IsAdded, IsDumpTable};
+ghost use Rattle.dump_lines.specs.DumpTable.{scanned_row, IsVisible, IsPacketAdded, IsDumpTable};
 
 use crate::counts::{Counts, PacketOutcome};
 use arch_types::inserted::Inserted;
@@ -74,7 +74,7 @@ fn add_packet(
     requires shown { AllByRecursion IsVisible table.old.stored }
     requires part { IsPart dump.now part.start part.end }
     requires room { 0 < table.old.room }
-    ensures added { IfOk result (IsAdded table.old.stored table.new.stored moment (slice_range dump.now part.start
+    ensures added { IfOk result (IsPacketAdded table.old.stored table.new.stored moment (slice_range dump.now part.start
         part.end)) }
 {
     let packet = dump.part(part.start, part.end)?;

@@ -15,7 +15,7 @@ use Rattle.mdb_items.specs.declared.container.Container.{Container}
 use Rattle.mdb_items.specs.declared.container.Entry.{Entry}
 use Rattle.mdb_items.specs.declared.parameter.Parameter.{Parameter}
 use Rattle.mdb_items.specs.Database.{Database, IsDatabase, entry_count, row_count, table_len}
-use Rattle.mdb_octets.specs.Spelling.{FitsCalibration, FitsContainer, FitsDatabase, FitsEnum, FitsParameter, FitsTable, archive_code, calibration_octets, coding_code, comparison_octets, container_octets, database_octets, entry_octets, enum_octets, kind_code, link, operator_code, parameter_octets, points_octets, poly_octets, rows_octets}
+use Rattle.mdb_octets.specs.Spelling.{FitsCalibration, FitsContainer, FitsDatabase, FitsEnum, FitsParameter, FitsTable, archive_code, calibration_octets, coding_code, comparison_octets, container_octets, database_octets, container_entry_octets, enum_octets, kind_code, link, operator_code, parameter_octets, points_octets, poly_octets, table_rows_octets}
 use Rattle.mdb_items.specs.Structure.{IsStructured}
 use Rattle.mdb_model.proofs.DatabaseOctets.{database_fits}
 use Rattle.mdb_model.proofs.Structure.{structured}
@@ -46,7 +46,7 @@ always : {X : Type 0} (xs : List X) → AllByRecursion (λ x. Unit {0}) xs
 always [] = tt
 always (x ∷ xs) = (tt, always xs)
 
-table_size : (t : Table) → FitsTable t → length (rows_octets t) ≤ 4 + 272 * table_len t
+table_size : (t : Table) → FitsTable t → length (table_rows_octets t) ≤ 4 + 272 * table_len t
 table_size (Poly rows) fits = omega (arith, counted_32 poly_octets rows, each_most poly_octets 272 (λ r. Unit {0}) (λ r u. poly_size r) rows (always rows))
 table_size (Points rows) fits = omega (arith, counted_32 points_octets rows, each_most points_octets 272 (λ r. Unit {0}) (λ r u. points_size r) rows (always rows))
 table_size (Enum rows) fits = omega (arith, counted_32 enum_octets rows, each_most enum_octets 272 FitsEnum enum_size rows fits.1)
@@ -55,7 +55,7 @@ calibration_size : (c : Calibration) → FitsCalibration c → length (calibrati
 unfolding calibration_octets name number
 calibration_size c fits =
     let short = fits.name in
-    omega (arith, short, length-append c.name (number w8 (kind_code c.table) ++ rows_octets c.table), table_size c.table fits.table)
+    omega (arith, short, length-append c.name (number w8 (kind_code c.table) ++ table_rows_octets c.table), table_size c.table fits.table)
 
 -- ---- containers
 
@@ -63,8 +63,8 @@ comparison_size : (c : Comparison) → length (comparison_octets c) ≤ 19
 unfolding comparison_octets number signed
 comparison_size c = omega arith
 
-entry_size : (e : Entry) → length (entry_octets e) ≤ 6
-unfolding entry_octets number
+entry_size : (e : Entry) → length (container_entry_octets e) ≤ 6
+unfolding container_entry_octets number
 entry_size e = omega arith
 
 container_size : (c : Container) → FitsContainer c → length (container_octets c) ≤ 5107 + 6 * entry_count c
@@ -72,7 +72,7 @@ unfolding container_octets name number
 container_size c fits =
     let short = fits.name in
     let condition : List ℕ = counted w8 comparison_octets c.condition in
-    let entries : List ℕ = counted w16 entry_octets c.entries in
+    let entries : List ℕ = counted w16 container_entry_octets c.entries in
     omega (
       arith,
       short,
@@ -80,9 +80,9 @@ container_size c fits =
       length-append c.name (number w16 (link c.parent) ++ (number w8 (archive_code c.archive) ++ (condition ++ entries))),
       length-append condition entries,
       counted_8 comparison_octets c.condition,
-      counted_16 entry_octets c.entries,
+      counted_16 container_entry_octets c.entries,
       each_most comparison_octets 19 (λ x. Unit {0}) (λ x u. comparison_size x) c.condition (always c.condition),
-      each_most entry_octets 6 (λ x. Unit {0}) (λ x u. entry_size x) c.entries (always c.entries),
+      each_most container_entry_octets 6 (λ x. Unit {0}) (λ x u. entry_size x) c.entries (always c.entries),
     )
 
 -- ---- the database

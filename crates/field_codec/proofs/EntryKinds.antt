@@ -18,7 +18,7 @@ use Rattle.field_codec.specs.declared.entry.Entry.{Entry}
 use Rattle.field_codec.specs.declared.entry.Entry.TheVariants.{Head, Rows}
 use Rattle.field_codec.specs.declared.fault.NotAnEntry.{NotAnEntry}
 use Rattle.field_codec.specs.declared.fault.NotAnEntry.TheVariants.{OutOfMemory}
-use Rattle.field_codec.specs.Entries.{AreStored, AreTables, IsEntry}
+use Rattle.field_codec.specs.Entries.{AreStored, AreTables, IsArchiveEntry}
 use Rattle.field_codec.specs.Faults.{fault_of}
 use Rattle.field_codec.specs.Reading.{IsHead, head_of, opening_at}
 use Rattle.field_codec.specs.Spelling.{body_octets, entry_octets, head_octets, kind_of, opening_octets, rows_octets}
@@ -43,7 +43,7 @@ head_once s t d e fs ft fd fe is =
     let p = one_form opening_exact s t (database_octets d) (database_octets e) fs ft is in
     (p.0, once database_exact d e (database_fits d fd) (database_fits e fe) p.1)
 
-pub one_spelling : (a b : Entry) → IsEntry a → IsEntry b → entry_octets a ≡ entry_octets b → a ≡ b
+pub one_spelling : (a b : Entry) → IsArchiveEntry a → IsArchiveEntry b → entry_octets a ≡ entry_octets b → a ≡ b
 one_spelling (Head s d) (Head t e) fa fb is =
     let p = head_once s t d e fa.0 fb.0 fa.1 fb.1 (parts (Head s d) (Head t e) is).1 in
     ap (λ x. Head x d) p.0 ∙ ap (λ x. Head t x) p.1
@@ -94,24 +94,24 @@ no_other (Rows rows) kind e one two = two e
 behind_kind : (octets rest : List ℕ) (kind : ℕ) (body : List ℕ) → IsOctets octets → number_at w8 octets ≡ Some (kind, rest) → rest ≡ body → octets ≡ number w8 kind ++ body
 behind_kind octets rest kind body are e is = (exact8.takes octets (kind, rest) are e).0 ∙ ap (λ (l : List ℕ). number w8 kind ++ l) is
 
-pub rows_entry : (octets rest : List ℕ) (kind : ℕ) (rows : List Row) → IsOctets octets → number_at w8 octets ≡ Some (kind, rest) → kind ≡ 2 → AreStored rows × (rest ≡ rows_octets rows) → IsEntry (Rows rows) × (octets ≡ entry_octets (Rows rows))
+pub rows_entry : (octets rest : List ℕ) (kind : ℕ) (rows : List Row) → IsOctets octets → number_at w8 octets ≡ Some (kind, rest) → kind ≡ 2 → AreStored rows × (rest ≡ rows_octets rows) → IsArchiveEntry (Rows rows) × (octets ≡ entry_octets (Rows rows))
 rows_entry octets rest kind rows are e two h = (h.0, behind_kind octets rest kind (rows_octets rows) are e h.1 ∙ ap (λ (n : ℕ). number w8 n ++ rows_octets rows) two)
 
-pub head_entry : (octets rest : List ℕ) (kind : ℕ) (tables : List (List ℕ)) (mdb : Database) → IsOctets octets → number_at w8 octets ≡ Some (kind, rest) → kind ≡ 1 → IsHead (tables, mdb) × (rest ≡ head_octets tables mdb) → IsEntry (Head tables mdb) × (octets ≡ entry_octets (Head tables mdb))
+pub head_entry : (octets rest : List ℕ) (kind : ℕ) (tables : List (List ℕ)) (mdb : Database) → IsOctets octets → number_at w8 octets ≡ Some (kind, rest) → kind ≡ 1 → IsHead (tables, mdb) × (rest ≡ head_octets tables mdb) → IsArchiveEntry (Head tables mdb) × (octets ≡ entry_octets (Head tables mdb))
 head_entry octets rest kind tables mdb are e one h = (h.0, behind_kind octets rest kind (head_octets tables mdb) are e h.1 ∙ ap (λ (n : ℕ). number w8 n ++ head_octets tables mdb) one)
 
-pub rows_read : (rest : List ℕ) (rows : List Row) (a : Entry) → ((r : List Row) → AreStored r → rest ≡ rows_octets r → rows ≡ r) → IsEntry a → 2 ≡ kind_of a → rest ≡ body_octets a → Rows rows ≡ a
+pub rows_read : (rest : List ℕ) (rows : List Row) (a : Entry) → ((r : List Row) → AreStored r → rest ≡ rows_octets r → rows ≡ r) → IsArchiveEntry a → 2 ≡ kind_of a → rest ≡ body_octets a → Rows rows ≡ a
 rows_read rest rows (Head tables mdb) each fits kind is = absurd (omega (arith, kind))
 rows_read rest rows (Rows r) each fits kind is = ap Rows (each r fits is)
 
-pub rows_memory : (rest : List ℕ) (f : DecodeError) (a : Entry) → ((r : List Row) → AreStored r → rest ≡ rows_octets r → f ≡ fields.Memory) → IsEntry a → 2 ≡ kind_of a → rest ≡ body_octets a → fault_of f ≡ OutOfMemory
+pub rows_memory : (rest : List ℕ) (f : DecodeError) (a : Entry) → ((r : List Row) → AreStored r → rest ≡ rows_octets r → f ≡ fields.Memory) → IsArchiveEntry a → 2 ≡ kind_of a → rest ≡ body_octets a → fault_of f ≡ OutOfMemory
 rows_memory rest f (Head tables mdb) each fits kind is = absurd (omega (arith, kind))
 rows_memory rest f (Rows r) each fits kind is = ap fault_of (each r fits is)
 
-pub head_read : (rest : List ℕ) (tables : List (List ℕ)) (mdb : Database) (a : Entry) → ((h : List (List ℕ) × Database) → IsHead h → rest ≡ head_of h → (tables, mdb) ≡ h) → IsEntry a → 1 ≡ kind_of a → rest ≡ body_octets a → Head tables mdb ≡ a
+pub head_read : (rest : List ℕ) (tables : List (List ℕ)) (mdb : Database) (a : Entry) → ((h : List (List ℕ) × Database) → IsHead h → rest ≡ head_of h → (tables, mdb) ≡ h) → IsArchiveEntry a → 1 ≡ kind_of a → rest ≡ body_octets a → Head tables mdb ≡ a
 head_read rest tables mdb (Head t d) each fits kind is = ap (λ (h : List (List ℕ) × Database). Head h.0 h.1) (each (t, d) fits is)
 head_read rest tables mdb (Rows r) each fits kind is = absurd (omega (arith, kind))
 
-pub head_memory : (rest : List ℕ) (f : NotAnEntry) (a : Entry) → ((h : List (List ℕ) × Database) → IsHead h → rest ≡ head_of h → f ≡ OutOfMemory) → IsEntry a → 1 ≡ kind_of a → rest ≡ body_octets a → f ≡ OutOfMemory
+pub head_memory : (rest : List ℕ) (f : NotAnEntry) (a : Entry) → ((h : List (List ℕ) × Database) → IsHead h → rest ≡ head_of h → f ≡ OutOfMemory) → IsArchiveEntry a → 1 ≡ kind_of a → rest ≡ body_octets a → f ≡ OutOfMemory
 head_memory rest f (Head t d) each fits kind is = each (t, d) fits is
 head_memory rest f (Rows r) each fits kind is = absurd (omega (arith, kind))

@@ -14,7 +14,7 @@ use Rattle.octet_fields.proofs.Exact.{IsExact-as, IsExact-both, IsExact-mapped, 
 use Rattle.octet_fields.proofs.Numbers.{exact8, exact_counted8, exact_name}
 use Rattle.field_codec.specs.Entries.{tm, AreDistinct, AreTables}
 use Rattle.field_codec.specs.Spelling.{opening_octets}
-use Rattle.field_codec.specs.Reading.{are_tables, begins_with_tm, is_distinct, opening_at, table_at, tables_at, this_at}
+use Rattle.field_codec.specs.Reading.{are_tables, begins_with_tm, is_distinct, opening_at, table_name_at, tables_at, this_at}
 
 and_true : (a b : Bool) → (a && b) ≡ true → (a ≡ true) × (b ≡ true)
 and_true true b e = (refl, e)
@@ -74,8 +74,8 @@ first_tm (t ∷ tables) e = (bytes_eq-Decides t tm).1 (some_is t tm e)
 name_short : (t : List ℕ) → is_name t ≡ true → length t < 2 ^ 8
 name_short t h = grind arith
 
-table_exact : IsExact (λ t. is_name t ≡ true) name table_at
-unfolding table_at
+table_exact : IsExact (λ t. is_name t ≡ true) name table_name_at
+unfolding table_name_at
 table_exact = IsExact-as (IsExact-tested exact_name is_name) (λ t. is_name t ≡ true) name (λ t h. (h.1, refl)) (λ t h. (name_short t h, h))
 
 tables_there : (tables : List (List ℕ)) → ((length tables < 2 ^ 8) × AllByRecursion (λ t. is_name t ≡ true) tables) × (are_tables tables ≡ true) → AreTables tables × (counted w8 name tables ≡ counted w8 name tables)

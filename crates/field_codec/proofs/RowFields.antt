@@ -20,7 +20,7 @@ use Rattle.octet_fields.proofs.Numbers.{exact8, exact16, exact_i64}
 use Rattle.field_codec.specs.Entries.{IsStored, AreStored}
 use Rattle.text_forms.specs.ClockTime.{IsClockTime, is_clock_time}
 use Rattle.field_codec.specs.Spelling.{row_octets, rows_octets}
-use Rattle.field_codec.specs.Reading.{Fields, IsEndOf, fields_at, is_count, is_stored, packet_at, row_at, row_of, rows_at}
+use Rattle.field_codec.specs.Reading.{RowFields, IsEndOf, fields_at, is_count, is_stored, packet_at, row_at, row_of_fields, rows_at}
 use Rattle.field_codec.proofs.Ends.{end_behind}
 
 -- ---- packets
@@ -69,10 +69,10 @@ no_packet octets none = elim (packet_at octets) as (λ o. packet_at octets ≡ o
 
 -- ---- fields
 
-abbrev pub FieldsFit : Fields → Type 0
+abbrev pub FieldsFit : RowFields → Type 0
 FieldsFit f = (f.0 < 2 ^ 8) × (FitsSigned w64 f.1.0 × ((f.1.1.0 < 2 ^ 8) × ((f.1.1.1.0 < 2 ^ 16) × IsPacket f.1.1.1.1)))
 
-abbrev pub fields_octets : Fields → List ℕ
+abbrev pub fields_octets : RowFields → List ℕ
 fields_octets f = number w8 f.0 ++ (signed w64 f.1.0 ++ (number w8 f.1.1.0 ++ (number w16 f.1.1.1.0 ++ f.1.1.1.1)))
 
 pub fields_exact : IsExact FieldsFit fields_octets fields_at
@@ -83,16 +83,16 @@ regroup : (a b d e p rest : List ℕ) → (a ++ (b ++ (d ++ (e ++ p)))) ++ rest 
 regroup a b d e p rest = simp append_assoc
 
 -- a packet and what follows it are an end of the block of which its row is one
-pub packet_end : (block octets : List ℕ) (x : Fields × List ℕ) → IsOctets octets → IsEndOf octets block → fields_at octets ≡ Some x → IsEndOf (x.0.1.1.1.1 ++ x.1) block
+pub packet_end : (block octets : List ℕ) (x : RowFields × List ℕ) → IsOctets octets → IsEndOf octets block → fields_at octets ≡ Some x → IsEndOf (x.0.1.1.1.1 ++ x.1) block
 packet_end block octets x are end e =
-    let f : Fields = x.0 in
+    let f : RowFields = x.0 in
     let t = fields_exact.takes octets x are e in
     let before : List ℕ = number w8 f.0 ++ (signed w64 f.1.0 ++ (number w8 f.1.1.0 ++ number w16 f.1.1.1.0)) in
     end_behind block before (f.1.1.1.1 ++ x.1) (end.0, end.1 ∙ ap (λ (l : List ℕ). end.0 ++ l) (t.0 ∙ regroup (number w8 f.0) (signed w64 f.1.0) (number w8 f.1.1.0) (number w16 f.1.1.1.0) f.1.1.1.1 x.1))
 
 -- ---- rows
 
-abbrev back : Row → Fields
+abbrev back : Row → RowFields
 back r = (r.table, (r.rectime, (r.link, (r.pname, r.packet))))
 
 and_true : (a b : Bool) → (a && b) ≡ true → (a ≡ true) × (b ≡ true)
@@ -115,20 +115,20 @@ pub clock_fits : (time : ℤ) → IsClockTime time → FitsSigned w64 time
 clock_fits (pos n) h = let high = h.1 in record { sfits = omega (arith, ints) }
 clock_fits (negsuc n) h = let low = h.0 in absurd (omega (arith, ints))
 
-there : (f : Fields) → FieldsFit f × (is_stored f ≡ true) → IsStored (row_of f) × (back (row_of f) ≡ f)
+there : (f : RowFields) → FieldsFit f × (is_stored f ≡ true) → IsStored (row_of_fields f) × (back (row_of_fields f) ≡ f)
 there f h =
     let a = and_true (leb 1 f.1.1.0) (is_clock_time f.1.0 && not (is_idle f.1.1.1.1)) h.1 in
     let b = and_true (is_clock_time f.1.0) (not (is_idle f.1.1.1.1)) a.1 in
     (record { table = h.0.0; rectime = clock_true f.1.0 b.0; link = (leb-true 1 f.1.1.0 a.0, h.0.1.1.0); pname = h.0.1.1.1.0; packet = h.0.1.1.1.1; kept = not_true (is_idle f.1.1.1.1) b.1; key = refl }, refl)
 
-here : (r : Row) → IsStored r → (FieldsFit (back r) × (is_stored (back r) ≡ true)) × (row_of (back r) ≡ r)
+here : (r : Row) → IsStored r → (FieldsFit (back r) × (is_stored (back r) ≡ true)) × (row_of_fields (back r) ≡ r)
 here r h =
     let right : is_stored (back r) ≡ true = rw (le-leb 1 r.link h.link.0, true_clock r.rectime h.rectime, h.kept) refl in
     (((h.table, (clock_fits r.rectime h.rectime, (h.link.1, (h.pname, h.packet)))), right), ap (λ (k : Key). record r { key = k }) (sym h.key))
 
 row_exact : IsExact IsStored row_octets row_at
 unfolding row_octets row_at
-row_exact = IsExact-mapped (IsExact-tested fields_exact is_stored) IsStored row_of back there here
+row_exact = IsExact-mapped (IsExact-tested fields_exact is_stored) IsStored row_of_fields back there here
 
 count_true : (n : ℕ) → is_count n ≡ true → (1 ≤ n) × (n ≤ 1024)
 count_true n h = grind arith

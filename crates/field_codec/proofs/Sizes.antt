@@ -11,7 +11,7 @@ use Rattle.octet_fields.specs.Exact.{IsOctets}
 use Rattle.octet_fields.specs.Spelling.{counted, name, number, signed}
 use Rattle.field_codec.specs.declared.entry.Entry.{Entry}
 use Rattle.field_codec.specs.declared.entry.Entry.TheVariants.{Head, Rows}
-use Rattle.field_codec.specs.Entries.{AreTables, IsEntry, IsStored}
+use Rattle.field_codec.specs.Entries.{AreTables, IsArchiveEntry, IsStored}
 use Rattle.field_codec.specs.Laws.{HasOctets}
 use Rattle.field_codec.specs.Spelling.{entry_octets, head_octets, opening_octets, row_octets, rows_octets}
 use Rattle.field_codec.proofs.DatabaseSizes.{database_short}
@@ -57,6 +57,6 @@ pub head_short : (tables : List (List ℕ)) (mdb : Database) → AreTables table
 unfolding number
 head_short tables mdb are is = omega (arith, length-append (opening_octets tables) (database_octets mdb), opening_short tables are, database_short mdb is)
 
-pub short : (entry : Entry) → IsEntry entry → HasOctets entry → length (entry_octets entry) < 2 ^ 30
+pub short : (entry : Entry) → IsArchiveEntry entry → HasOctets entry → length (entry_octets entry) < 2 ^ 30
 short (Head tables mdb) is octets = head_short tables mdb is.0 is.1
 short (Rows rows) stored octets = let few = stored.few in omega (arith, few, rows_size rows, rows_short rows stored.each octets)

@@ -49,6 +49,6 @@ pub record AreStored (rows : List Row) : Type 0 where
 -- ---- entries
 
 -- what the format admits by itself: that tables and packet names exist, and that keys are new, is asked beside the archive
-abbrev pub IsEntry : Entry → Type 0
-IsEntry (Head tables mdb) = AreTables tables × IsDatabase mdb
-IsEntry (Rows rows) = AreStored rows
+abbrev pub IsArchiveEntry : Entry → Type 0
+IsArchiveEntry (Head tables mdb) = AreTables tables × IsDatabase mdb
+IsArchiveEntry (Rows rows) = AreStored rows

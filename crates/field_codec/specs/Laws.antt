@@ -4,12 +4,12 @@ use Rattle.std.specs.List.{AllByRecursion}
 use Rattle.octet_fields.specs.Exact.{IsOctets}
 use Rattle.field_codec.specs.declared.entry.Entry.{Entry}
 use Rattle.field_codec.specs.declared.entry.Entry.TheVariants.{Head, Rows}
-use Rattle.field_codec.specs.Entries.{IsEntry}
+use Rattle.field_codec.specs.Entries.{IsArchiveEntry}
 use Rattle.field_codec.specs.Spelling.{entry_octets}
 
 -- no two entries have one spelling
 abbrev pub SpellingsAreOne : Type 0
-SpellingsAreOne = (a b : Entry) → IsEntry a → IsEntry b → entry_octets a ≡ entry_octets b → a ≡ b
+SpellingsAreOne = (a b : Entry) → IsArchiveEntry a → IsArchiveEntry b → entry_octets a ≡ entry_octets b → a ≡ b
 
 -- its packets are octets, as those of each value of the type are
 abbrev pub HasOctets : Entry → Type 0
@@ -18,4 +18,4 @@ HasOctets (Rows rows) = AllByRecursion (λ row. IsOctets row.packet) rows
 
 -- a spelling is short enough for a record of the journal
 abbrev pub SpellingsAreShort : Type 0
-SpellingsAreShort = (entry : Entry) → IsEntry entry → HasOctets entry → length (entry_octets entry) < 2 ^ 30
+SpellingsAreShort = (entry : Entry) → IsArchiveEntry entry → HasOctets entry → length (entry_octets entry) < 2 ^ 30

@@ -31,12 +31,12 @@ unfoldable pub are_tables : List (List ℕ) → Bool
 are_tables tables = begins_with_tm tables && (nat_le (length tables) 16 && is_distinct tables)
 
 -- reads the name of a table
-unfoldable pub table_at : Reader (List ℕ)
-table_at = tested_at is_name name_at
+unfoldable pub table_name_at : Reader (List ℕ)
+table_name_at = tested_at is_name name_at
 
 -- reads the names of the tables
 unfoldable pub tables_at : Reader (List (List ℕ))
-tables_at = tested_at are_tables (counted_at w8 table_at)
+tables_at = tested_at are_tables (counted_at w8 table_name_at)
 
 -- a number that has to be this one
 unfoldable pub this_at : ℕ → Reader ℕ
@@ -65,28 +65,28 @@ packet_at octets =
     else Some (take (packet_length octets) octets, drop (packet_length octets) octets)))
 
 -- table, reception time, link, packet name, packet
-abbrev pub Fields : Type 0
-Fields = ℕ × (ℤ × (ℕ × (ℕ × List ℕ)))
+abbrev pub RowFields : Type 0
+RowFields = ℕ × (ℤ × (ℕ × (ℕ × List ℕ)))
 
 -- the fields that were read, and the packet
-abbrev pub seen : StoredFields → List ℕ → Fields
-seen f packet = (f.table, (f.rectime, (f.link, (f.pname, packet))))
+abbrev pub fields_of_row : StoredFields → List ℕ → RowFields
+fields_of_row f packet = (f.table, (f.rectime, (f.link, (f.pname, packet))))
 
 -- reads the fields of a row: table, reception time, link, packet name, packet
-unfoldable pub fields_at : Reader Fields
+unfoldable pub fields_at : Reader RowFields
 fields_at = both_at (number_at w8) (λ _. both_at (signed_at w64) (λ _. both_at (number_at w8) (λ _. both_at (number_at w16) (λ _. packet_at))))
 
 -- the fields may stand in an archive: a link from 1 on, a moment of a clock, and no idle packet
-abbrev pub is_stored : Fields → Bool
+abbrev pub is_stored : RowFields → Bool
 is_stored f = nat_le 1 f.1.1.0 && (is_clock_time f.1.0 && not (is_idle f.1.1.1.1))
 
 -- the row of these fields, with the key of its packet
-abbrev pub row_of : Fields → Row
-row_of f = record { key = key_of f.1.1.1.1 f.1.0; rectime = f.1.0; packet = f.1.1.1.1; link = f.1.1.0; pname = f.1.1.1.0; table = f.0 }
+abbrev pub row_of_fields : RowFields → Row
+row_of_fields f = record { key = key_of f.1.1.1.1 f.1.0; rectime = f.1.0; packet = f.1.1.1.1; link = f.1.1.0; pname = f.1.1.1.0; table = f.0 }
 
 -- reads a row
 unfoldable pub row_at : Reader Row
-row_at = mapped_at row_of (tested_at is_stored fields_at)
+row_at = mapped_at row_of_fields (tested_at is_stored fields_at)
 
 -- a record has 1 to 1,024 rows
 abbrev pub is_count : ℕ → Bool

@@ -10,7 +10,7 @@ ghost use Rattle.octet_fields.specs.Reading.{counted_at, times_at};
 ghost use Rattle.octet_fields.specs.Spelling.{counted, name, number};
 ghost use Rattle.field_codec.specs.Entries.{AreTables};
 ghost use Rattle.field_codec.specs.Spelling.{opening_octets};
-ghost use Rattle.field_codec.specs.Reading.{are_tables, begins_with_tm, is_distinct, opening_at, table_at, tables_at, this_at};
+ghost use Rattle.field_codec.specs.Reading.{are_tables, begins_with_tm, is_distinct, opening_at, table_name_at, tables_at, this_at};
 
 use arch_types::name::{Name, Names};
 use arch_types::octets::Octets;
@@ -80,9 +80,9 @@ fn this_at(number: u8, octets: &[u8]) -> Result<(u8, &[u8]), DecodeError>
     Ok((found, rest))
 }
 
-#[tactic(auto, unfolding(crate::specs::Reading::table_at))]
+#[tactic(auto, unfolding(crate::specs::Reading::table_name_at))]
 fn table_at(alloc: Global, octets: &[u8]) -> Result<(Name, &[u8]), DecodeError>
-    ensures { Gives (λ x. (x.0, x.1.now)) result (table_at octets.now) }
+    ensures { Gives (λ x. (x.0, x.1.now)) result (table_name_at octets.now) }
 {
     let (name, rest) = name_at(octets)?;
     match Name::of(Octets::from_slice(alloc, name)?) {
@@ -93,7 +93,7 @@ fn table_at(alloc: Global, octets: &[u8]) -> Result<(Name, &[u8]), DecodeError>
 
 /// So many names of tables.
 fn some_tables_at(alloc: Global, count: u8, octets: &[u8]) -> Result<(Names, &[u8]), DecodeError>
-    ensures { Gives (λ x. (x.0, x.1.now)) result (times_at table_at count octets.now) }
+    ensures { Gives (λ x. (x.0, x.1.now)) result (times_at table_name_at count octets.now) }
 {
     let mut tables = Names::new(alloc);
     let mut rest = octets;

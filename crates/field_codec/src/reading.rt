@@ -3,7 +3,7 @@
 ghost use Rattle.std.specs.Prelude.{◌≡◌, IfOk};
 ghost use Rattle.octet_fields.specs.Answers.{ReadsEach, ReadsOnly};
 ghost use Rattle.field_codec.specs.declared.fault.NotAnEntry.TheVariants.{OutOfMemory};
-ghost use Rattle.field_codec.specs.Entries.{IsEntry};
+ghost use Rattle.field_codec.specs.Entries.{IsArchiveEntry};
 ghost use Rattle.field_codec.specs.Spelling.{entry_octets};
 
 use crate::entry::Entry;
@@ -16,8 +16,8 @@ use std::alloc::Global;
 
 /// The entry that all of the octets spell. They are copied once, and its packets are parts of the copy.
 pub fn read_entry(alloc: Global, octets: &[u8]) -> Result<Entry, NotAnEntry>
-    ensures spelled { ReadsOnly IsEntry entry_octets (λ entry. entry) octets.now result }
-    ensures each { ReadsEach IsEntry entry_octets (λ entry. entry) (λ e. e ≡ OutOfMemory) octets.now result }
+    ensures spelled { ReadsOnly IsArchiveEntry entry_octets (λ entry. entry) octets.now result }
+    ensures each { ReadsEach IsArchiveEntry entry_octets (λ entry. entry) (λ e. e ≡ OutOfMemory) octets.now result }
 {
     let block = Octets::from_slice(alloc, octets)?;
     read_shared(alloc, &block)
@@ -25,8 +25,8 @@ pub fn read_entry(alloc: Global, octets: &[u8]) -> Result<Entry, NotAnEntry>
 
 /// The entry that all of the octets spell. Its packets are parts of their block.
 pub fn read_shared(alloc: Global, octets: &Octets) -> Result<Entry, NotAnEntry>
-    ensures spelled { ReadsOnly IsEntry entry_octets (λ entry. entry) octets.now result }
-    ensures each { ReadsEach IsEntry entry_octets (λ entry. entry) (λ e. e ≡ OutOfMemory) octets.now result }
+    ensures spelled { ReadsOnly IsArchiveEntry entry_octets (λ entry. entry) octets.now result }
+    ensures each { ReadsEach IsArchiveEntry entry_octets (λ entry. entry) (λ e. e ≡ OutOfMemory) octets.now result }
 {
     entry_of(alloc, octets, octets.as_slice())
 }
@@ -34,8 +34,8 @@ pub fn read_shared(alloc: Global, octets: &Octets) -> Result<Entry, NotAnEntry>
 /// The entry that the octets of a block spell.
 fn entry_of(alloc: Global, block: &Octets, octets: &[u8]) -> Result<Entry, NotAnEntry>
     requires { octets.now ≡ block.now }
-    ensures spelled { ReadsOnly IsEntry entry_octets (λ entry. entry) octets.now result }
-    ensures each { ReadsEach IsEntry entry_octets (λ entry. entry) (λ e. e ≡ OutOfMemory) octets.now result }
+    ensures spelled { ReadsOnly IsArchiveEntry entry_octets (λ entry. entry) octets.now result }
+    ensures each { ReadsEach IsArchiveEntry entry_octets (λ entry. entry) (λ e. e ≡ OutOfMemory) octets.now result }
 {
     let (kind, rest) = u8_at(octets)?;
     match kind {

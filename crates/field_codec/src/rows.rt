@@ -10,7 +10,7 @@ ghost use Rattle.octet_fields.specs.Reading.{times_at, whole};
 ghost use Rattle.octet_fields.specs.Spelling.{number};
 ghost use Rattle.field_codec.specs.Entries.{AreStored, IsStored};
 ghost use Rattle.field_codec.specs.Spelling.{row_octets, rows_octets};
-ghost use Rattle.field_codec.specs.Reading.{IsEndOf, fields_at, packet_at, row_at, rows_at, seen};
+ghost use Rattle.field_codec.specs.Reading.{IsEndOf, fields_at, packet_at, row_at, rows_at, fields_of_row};
 
 use arch_types::octets::Octets;
 use arch_types::row::{Row, Rows};
@@ -50,7 +50,7 @@ fn packet_at(octets: &[u8]) -> Result<(&[u8], &[u8]), Short>
 /// The fields of a row, its packet, and the octets after it.
 #[tactic(auto, unfolding(crate::specs::Reading::fields_at))]
 fn fields_at(octets: &[u8]) -> Result<(Fields, &[u8], &[u8]), Short>
-    ensures gives { Answers (λ x. (seen x.0 x.1.now, x.2.now)) result (fields_at octets.now) }
+    ensures gives { Answers (λ x. (fields_of_row x.0 x.1.now, x.2.now)) result (fields_at octets.now) }
     ensures packet { IfOk result (λ x. IsPacket x.1.now) }
 {
     let (table, rest) = u8_at(octets)?;

@@ -1,7 +1,7 @@
 //! Writes an entry.
 
 ghost use Rattle.std.specs.Prelude.{◌≡◌, ◌<◌, ◌^◌, length, IfOk};
-ghost use Rattle.field_codec.specs.Entries.{IsEntry};
+ghost use Rattle.field_codec.specs.Entries.{IsArchiveEntry};
 ghost use Rattle.field_codec.specs.Spelling.{entry_octets};
 
 use crate::entry::Entry;
@@ -12,7 +12,7 @@ use std::alloc::{AllocError, Global};
 
 /// The octets of an entry that the format admits.
 fn octets_of(alloc: Global, entry: &Entry) -> Result<Vec<u8>, AllocError>
-    requires { IsEntry entry.now }
+    requires { IsArchiveEntry entry.now }
     ensures octets { IfOk result (λ out. out.items ≡ entry_octets entry.now) }
     ensures short { IfOk result (λ out. length out.items < 2 ^ 30) }
 {
@@ -24,7 +24,7 @@ fn octets_of(alloc: Global, entry: &Entry) -> Result<Vec<u8>, AllocError>
 
 /// The one spelling of an entry that the format admits.
 pub fn write_entry(alloc: Global, entry: &Entry) -> Result<Octets, AllocError>
-    requires { IsEntry entry.now }
+    requires { IsArchiveEntry entry.now }
     ensures octets { IfOk result (λ octets. octets ≡ entry_octets entry.now) }
     ensures short { IfOk result (λ octets. length octets < 2 ^ 30) }
 {

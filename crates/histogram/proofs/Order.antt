@@ -6,9 +6,9 @@ use Rattle.std.specs.declared.cmp.Ordering.{Ordering}
 use Rattle.std.specs.declared.cmp.Ordering.TheVariants.{Equal}
 use Rattle.block_map.proofs.Pairs.{pair_ranks}
 use Rattle.histogram.specs.declared.histogram.NamedTime.{NamedTime}
-use Rattle.histogram.specs.Counts.{named_cmp}
+use Rattle.histogram.specs.Counts.{named_time_cmp}
 
-pub named_cmp_total : IsTotalOrder named_cmp
+pub named_cmp_total : IsTotalOrder named_time_cmp
 named_cmp_total = then_total (on_total (λ (n : NamedTime). n.pname) nat_cmp_total) (on_total (λ (n : NamedTime). n.time) int_cmp_total)
 
 -- a named time comes before another
@@ -17,11 +17,11 @@ IsBefore a b = (a.pname < b.pname) ⊎ ((a.pname ≡ b.pname) × (a.time <ℤ b.
 
 module _ (a b : NamedTime) where
   -- what an answer of the order says
-  pub ranked_as : (r : Ordering) → named_cmp a b ≡ r → MatchOrdering r (IsBefore a b) ((a.pname ≡ b.pname) × (a.time ≡ b.time)) (IsBefore b a)
+  pub ranked_as : (r : Ordering) → named_time_cmp a b ≡ r → MatchOrdering r (IsBefore a b) ((a.pname ≡ b.pname) × (a.time ≡ b.time)) (IsBefore b a)
   ranked_as = pair_ranks (λ (x y : ℕ). x < y) (λ (x y : ℤ). x <ℤ y) a.pname a.time b.pname b.time _ _ (ranks a.pname b.pname) (int_ranks a.time b.time)
 
   -- named times that compare equal are the same
-  pub same_from_equal : named_cmp a b ≡ Equal → a ≡ b
+  pub same_from_equal : named_time_cmp a b ≡ Equal → a ≡ b
   same_from_equal e =
       let same = ranked_as Equal e in
       ap (λ (n : ℕ). let x : NamedTime = record { pname = n; time = a.time } in x) same.0 ∙ ap (λ (t : ℤ). let x : NamedTime = record { pname = b.pname; time = t } in x) same.1

@@ -6,8 +6,8 @@ use Rattle.std.specs.declared.cmp.Ordering.{Ordering}
 use Rattle.histogram.specs.declared.histogram.NamedTime.{NamedTime}
 
 -- packet names by their numbers, and times of one name in their order
-abbrev pub named_cmp : NamedTime → NamedTime → Ordering
-named_cmp a b = ordering_then (nat_cmp a.pname b.pname) (int_cmp a.time b.time)
+abbrev pub named_time_cmp : NamedTime → NamedTime → Ordering
+named_time_cmp a b = ordering_then (nat_cmp a.pname b.pname) (int_cmp a.time b.time)
 
 -- the distinct times of packet names, each with how often it was added; and how many more additions take no memory
 pub record Counts : Type 0 where
@@ -15,13 +15,13 @@ pub record Counts : Type 0 where
   pub room : ℕ
 
 -- an entry's times, where it is of this name
-abbrev pub times_at : ℕ → NamedTime × ℕ → List ℤ
-times_at pname e = if e.0.pname == pname then replicate e.1 e.0.time else []
+abbrev pub times_of_entry : ℕ → NamedTime × ℕ → List ℤ
+times_of_entry pname e = if e.0.pname == pname then replicate e.1 e.0.time else []
 
 -- the times of one packet name among entries, each as often as it was added
 abbrev pub times_in : ℕ → List (NamedTime × ℕ) → List ℤ
 times_in pname [] = []
-times_in pname (e ∷ counts) = times_at pname e ++ times_in pname counts
+times_in pname (e ∷ counts) = times_of_entry pname e ++ times_in pname counts
 
 -- the times of one packet name
 abbrev pub times_of : ℕ → Counts → List ℤ

@@ -4,7 +4,7 @@ use Rattle.std.specs.List.{AllByRecursion}
 use Rattle.block_map.specs.Index.{Listing}
 use Rattle.block_map.specs.Rising.{IsRising}
 use Rattle.histogram.specs.declared.histogram.NamedTime.{NamedTime}
-use Rattle.histogram.specs.Counts.{named_cmp}
+use Rattle.histogram.specs.Counts.{named_time_cmp}
 
 -- how many additions there were
 abbrev pub total : List (NamedTime × ℕ) → ℕ
@@ -17,7 +17,7 @@ AreTimes counts = AllByRecursion (λ e. (0 < e.1) × (neg_ℤ (pos (2 ^ 63)) ≤
 
 -- the index has a place for each addition that has room, and no count of them passes 2^64
 pub record IsHistogram (index : Listing NamedTime ℕ) (rows room : ℕ) : Type 0 where
-  pub rising : IsRising named_cmp index.entries
+  pub rising : IsRising named_time_cmp index.entries
   pub times : AreTimes index.entries
   pub counted : rows ≡ total index.entries
   pub has_room : room ≤ index.room

@@ -19,14 +19,14 @@ pieces_of [] = []
 pieces_of (time ∷ times) = with_first time (pieces_of times)
 
 -- the last of a time and those after it
-abbrev pub last_of : ℤ → List ℤ → ℤ
-last_of time [] = time
-last_of time (next ∷ times) = last_of next times
+abbrev pub last_time : ℤ → List ℤ → ℤ
+last_time time [] = time
+last_time time (next ∷ times) = last_time next times
 
 -- the first and the last time of a piece, and how many there are
 abbrev pub span_of : List ℤ → Span
 span_of [] = record { first = pos 0; last = pos 0; count = 0 }
-span_of (time ∷ times) = record { first = time; last = last_of time times; count = length times + 1 }
+span_of (time ∷ times) = record { first = time; last = last_time time times; count = length times + 1 }
 
 -- the histogram of sorted times: each piece as its first and last time and their number
 abbrev pub histogram_of : List ℤ → List Span

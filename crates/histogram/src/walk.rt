@@ -3,7 +3,7 @@
 ghost use Rattle.std.specs.Prelude.{◌≡◌, ℤ, ℕ, ◌+◌, ◌^◌, ◌<◌, ◌≤◌, List, [], ◌++◌, replicate, IfOk, IfSome, IfNone};
 ghost use Rattle.histogram.specs.Counts.{times_in};
 ghost use Rattle.histogram.specs.Spans.{is_near};
-ghost use Rattle.histogram.specs.Walk.{continued, rest_of, current_count, AreAhead, IsNext};
+ghost use Rattle.histogram.specs.Walk.{continued_span, rest_of, current_count, AreAhead, IsNext};
 
 use crate::histogram::NamedTime;
 use arch_types::spans::{Span, Spans};
@@ -43,7 +43,7 @@ pub(crate) fn absorb(
 ) -> Result<Span, AllocError>
     requires some { 0 < count }
     requires fits { current_count current + count < 2 ^ 64 }
-    ensures walked { IfOk result (λ span. (later : List ℤ) → spans.new ++ continued span later ≡ spans.old ++ rest_of
+    ensures walked { IfOk result (λ span. (later : List ℤ) → spans.new ++ continued_span span later ≡ spans.old ++ rest_of
         current (replicate count time ++ later)) }
     ensures counted { IfOk result (λ span. span.count ≤ current_count current + count) }
 {

@@ -26,8 +26,8 @@ abbrev pub has_rows : Marks → Interval → Bool
 has_rows m interval = is_some (mark_of m interval)
 
 -- the greatest position of its rows
-abbrev pub last_of : Marks → Interval → Option ℕ
-last_of m interval = option_map (λ k. k.last) (mark_of m interval)
+abbrev pub last_position : Marks → Interval → Option ℕ
+last_position m interval = option_map (λ k. k.last) (mark_of m interval)
 
 -- the base of its last fill
 abbrev pub base_of : Marks → Interval → Option ℕ

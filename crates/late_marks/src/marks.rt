@@ -4,7 +4,7 @@ ghost use Rattle.std.specs.Prelude.{◌≡◌, ℕ, ◌+◌, ◌<◌, ◌≤◌,
 ghost use Rattle.arch_types.specs.Interval.{interval_cmp};
 ghost use Rattle.block_map.specs.Rising.{IsRising};
 ghost use Rattle.late_marks.specs.Mark.{touched, StandAt, IsLateBy};
-ghost use Rattle.late_marks.specs.Marks.{mark_of, has_rows, last_of, base_of, is_late, is_late_free, late_of, Marked, IsLeast};
+ghost use Rattle.late_marks.specs.Marks.{mark_of, has_rows, last_position, base_of, is_late, is_late_free, late_of, Marked, IsLeast};
 
 use crate::late_free::update_late_free;
 use crate::mark::Mark;
@@ -111,7 +111,7 @@ impl LateMarks {
 
     /// The greatest position of the interval's rows.
     pub fn last(&self, interval: Interval) -> Option<u64>
-        ensures { result ≡ last_of self.now interval }
+        ensures { result ≡ last_position self.now interval }
     {
         self.mark(interval).map(|mark| mark.last)
     }

@@ -111,11 +111,11 @@ calibration_checks above row next =
     ∷ []
 
 -- a table with one more row, where the values are of its kind and whole
-abbrev pub with_row : Table → RowValues → Table
-with_row (Poly rows) (Coefficient (Some e) (Some m)) = Poly (rows ++ record { exponent = e; millionths = m } ∷ [])
-with_row (Points rows) (Point (Some x) (Some m)) = Points (rows ++ record { x = x; millionths = m } ∷ [])
-with_row (Enum rows) (Label (Some x) label) = Enum (rows ++ record { x = x; label = label } ∷ [])
-with_row table row_values = table
+abbrev pub table_with_row : Table → RowValues → Table
+table_with_row (Poly rows) (Coefficient (Some e) (Some m)) = Poly (rows ++ record { exponent = e; millionths = m } ∷ [])
+table_with_row (Points rows) (Point (Some x) (Some m)) = Points (rows ++ record { x = x; millionths = m } ∷ [])
+table_with_row (Enum rows) (Label (Some x) label) = Enum (rows ++ record { x = x; label = label } ∷ [])
+table_with_row table row_values = table
 
 -- the empty table of the values' kind
 abbrev pub empty_table : RowValues → Table
@@ -130,7 +130,7 @@ with_name above name row_values = if is_some (continued above name) then above e
 
 -- the calibration with one more row
 abbrev pub with_new_row : RowValues → Calibration → Calibration
-with_new_row row_values c = record { name = c.name; table = with_row c.table row_values }
+with_new_row row_values c = record { name = c.name; table = table_with_row c.table row_values }
 
 -- the calibrations with one more row
 abbrev pub with_calibration_row : List Calibration → CalibrationRow → List Calibration

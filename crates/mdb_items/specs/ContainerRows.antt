@@ -18,7 +18,7 @@ use Rattle.mdb_items.specs.Checks.{Checks, first_broken, or_else}
 use Rattle.mdb_items.specs.Paths.{ContainerPath, bits_at, last_number, path_at, paths_of, stands_on}
 use Rattle.mdb_items.specs.Lists.{at_last, is_empty}
 use Rattle.mdb_items.specs.Numbers.{is_in_range}
-use Rattle.mdb_items.specs.ParameterRows.{is_reference, number_of, reference_to}
+use Rattle.mdb_items.specs.ParameterRows.{is_reference, referenced_number, reference_to}
 use Rattle.mdb_items.specs.Texts.{place_of}
 
 -- a row: the number of fields of its record, its columns before the entry, and its entry
@@ -83,7 +83,7 @@ continued_checks above says =
 
 -- the path of the parent of a container that begins
 abbrev pub path_up : List Container → NewContainer → ContainerPath
-path_up above b = path_at (paths_of above) (number_of b.parent)
+path_up above b = path_at (paths_of above) (referenced_number b.parent)
 
 -- the rules of the columns before the entry
 abbrev pub columns_checks : List Container → ContainerColumns → Checks
@@ -144,7 +144,7 @@ abbrev pub with_columns : List Container → ContainerColumns → List Container
 with_columns above (Continues says) = above
 with_columns above (Begins b) = above ++ record {
   name = b.name;
-  parent = number_of b.parent;
+  parent = referenced_number b.parent;
   archive = unwrap_or b.archive false;
   condition = unwrap_or b.condition [];
   entries = [];

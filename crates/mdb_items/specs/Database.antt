@@ -36,8 +36,8 @@ database_of rows = record {
 }
 
 -- the rows of a database, each entry in a row of its own
-abbrev pub rows_of : Database → Rows
-rows_of d = record {
+abbrev pub database_rows : Database → Rows
+database_rows d = record {
   parameters = map row_of_parameter d.parameters;
   calibrations = flat_map rows_of_calibration d.calibrations;
   containers = flat_map rows_of_container d.containers;
@@ -98,6 +98,6 @@ limit_passed d =
 
 -- its own rows spell it, they break no rule, and it passes no limit
 pub record IsDatabase (d : Database) : Type 0 where
-  pub spelled : database_of (rows_of d) ≡ d
-  pub sound : first_fault (rows_of d) ≡ None
+  pub spelled : database_of (database_rows d) ≡ d
+  pub sound : first_fault (database_rows d) ≡ None
   pub small : limit_passed d ≡ None

@@ -49,15 +49,15 @@ admits bits (Some (Points rows)) = true
 admits bits (Some (Enum rows)) = true
 
 -- the table of a calibration, where there is one
-abbrev pub table_of : Option Calibration → Option Table
-table_of None = None
-table_of (Some c) = Some c.table
+abbrev pub table_of_calibration : Option Calibration → Option Table
+table_of_calibration None = None
+table_of_calibration (Some c) = Some c.table
 
 -- the table that a reference names
-abbrev pub table_at : List Calibration → Reference → Option Table
-table_at calibrations Nothing = None
-table_at calibrations Unknown = None
-table_at calibrations (Known n) = table_of (slice_get calibrations n)
+abbrev pub referenced_table : List Calibration → Reference → Option Table
+referenced_table calibrations Nothing = None
+referenced_table calibrations Unknown = None
+referenced_table calibrations (Known n) = table_of_calibration (slice_get calibrations n)
 
 -- the rules of a row below the parameters above it
 abbrev pub parameter_checks : List Calibration → List Parameter → ParameterRow → Checks
@@ -75,18 +75,18 @@ parameter_checks calibrations above row =
     -- no calibration has the name
     ∷ (13, not (is_reference (length calibrations) row.calibration))
     -- the polynomial may carry the parameter too far
-    ∷ (14, not (admits (unwrap_or row.bits 0) (table_at calibrations row.calibration)))
+    ∷ (14, not (admits (unwrap_or row.bits 0) (referenced_table calibrations row.calibration)))
     ∷ []
 
 -- the number that a reference names
-abbrev pub number_of : Reference → Option ℕ
-number_of Nothing = None
-number_of Unknown = None
-number_of (Known n) = Some n
+abbrev pub referenced_number : Reference → Option ℕ
+referenced_number Nothing = None
+referenced_number Unknown = None
+referenced_number (Known n) = Some n
 
 -- the parameter that a row spells
 abbrev pub parameter_of : ParameterRow → Parameter
-parameter_of row = record { name = row.name; coding = unwrap_or row.coding Uint; bits = unwrap_or row.bits 0; calibration = number_of row.calibration }
+parameter_of row = record { name = row.name; coding = unwrap_or row.coding Uint; bits = unwrap_or row.bits 0; calibration = referenced_number row.calibration }
 
 -- the parameters that rows spell
 abbrev pub parameters_of : List ParameterRow → List Parameter

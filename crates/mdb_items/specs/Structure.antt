@@ -18,7 +18,7 @@ use Rattle.mdb_items.specs.ContainerRows.{compares_other}
 use Rattle.mdb_items.specs.Database.{Database, IsDatabase, entry_count, row_count}
 use Rattle.mdb_items.specs.Numbers.{is_decimal, is_in_range}
 use Rattle.mdb_items.specs.Paths.{ContainerPath, bits_at, path_at, paths_of}
-use Rattle.mdb_items.specs.ParameterRows.{admits, fits_coding, is_reference, reference_to, table_at}
+use Rattle.mdb_items.specs.ParameterRows.{admits, fits_coding, is_reference, reference_to, referenced_table}
 use Rattle.mdb_items.specs.Texts.{Text, is_label}
 
 -- ---- texts and numbers
@@ -62,9 +62,9 @@ abbrev pub AreDistinctExponents : List PolyRow → Type 0
 AreDistinctExponents rows = IsDistinct nat_eq (map (λ row. row.exponent) rows)
 
 -- each x is above the ones before it
-abbrev pub IsRising : List PointsRow → Type 0
-IsRising [] = Unit {0}
-IsRising (point ∷ points) = AllByRecursion (λ later. point.x <ℤ later.x) points × IsRising points
+abbrev pub ArePointsRising : List PointsRow → Type 0
+ArePointsRising [] = Unit {0}
+ArePointsRising (point ∷ points) = AllByRecursion (λ later. point.x <ℤ later.x) points × ArePointsRising points
 
 -- no raw number stands twice
 abbrev pub AreDistinctNumbers : List EnumRow → Type 0
@@ -80,7 +80,7 @@ pub record IsPolynomial (rows : List PolyRow) : Type 0 where
 pub record IsPolyline (points : List PointsRow) : Type 0 where
   pub pair : 2 ≤ length points
   pub each : AllByRecursion IsPoint points
-  pub rising : IsRising points
+  pub rising : ArePointsRising points
 
 -- an enumeration has a row, and no number twice
 pub record IsEnumeration (rows : List EnumRow) : Type 0 where
@@ -106,7 +106,7 @@ pub record IsParameter (d : Database) (p : Parameter) : Type 0 where
   pub named : IsName p.name
   pub width : fits_coding (Some p.coding) (Some p.bits) ≡ true
   pub calibration : is_reference (length d.calibrations) (reference_to p.calibration) ≡ true
-  pub admitted : admits p.bits (table_at d.calibrations (reference_to p.calibration)) ≡ true
+  pub admitted : admits p.bits (referenced_table d.calibrations (reference_to p.calibration)) ≡ true
 
 -- ---- containers
 

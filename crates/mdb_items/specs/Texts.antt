@@ -30,8 +30,8 @@ is_minus [] = false
 is_minus (b ∷ rest) = b == 45
 
 -- the number with its sign
-abbrev pub signed : Bool → ℕ → ℤ
-signed minus n = if minus then neg_ℤ (pos n) else pos n
+abbrev pub with_sign : Bool → ℕ → ℤ
+with_sign minus n = if minus then neg_ℤ (pos n) else pos n
 
 -- whole numbers go from -2^63 to 2^64 - 1
 abbrev pub is_whole : Bool → ℕ → Bool
@@ -40,7 +40,7 @@ is_whole minus n = if minus then nat_le n 9223372036854775808 else nat_le n 1844
 -- the whole number of a sign and digits, where it is in range
 abbrev pub whole_from : Bool → Option ℕ → Option ℤ
 whole_from minus None = None
-whole_from minus (Some n) = if is_whole minus n then Some (signed minus n) else None
+whole_from minus (Some n) = if is_whole minus n then Some (with_sign minus n) else None
 
 -- an optional `-` and 1 to 20 digits, in that range
 abbrev pub whole_number : Text → Option ℤ
@@ -63,7 +63,7 @@ millionths text = millionths_at (position (λ b. b == 46) text) text
 
 -- an optional `-`, and then that
 abbrev pub decimal_number : Text → Option ℤ
-decimal_number text = if is_minus text then option_map (signed true) (millionths (drop 1 text)) else option_map (signed false) (millionths text)
+decimal_number text = if is_minus text then option_map (with_sign true) (millionths (drop 1 text)) else option_map (with_sign false) (millionths text)
 
 -- the number, where it lies between two others
 abbrev pub between : ℕ → ℕ → Option ℤ → Option ℕ

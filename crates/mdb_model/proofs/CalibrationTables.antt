@@ -16,12 +16,12 @@ use Rattle.mdb_items.specs.declared.calibration.Table.{Table}
 use Rattle.mdb_items.specs.declared.calibration.Table.TheVariants.{Poly, Points, Enum}
 use Rattle.mdb_items.specs.declared.rows.RowValues.{RowValues}
 use Rattle.mdb_items.specs.declared.rows.RowValues.TheVariants.{Unread, Coefficient, Point, Label}
-use Rattle.mdb_items.specs.CalibrationRows.{CalibrationRow, calibration_checks, calibrations_of, continued, empty_table, has_x, has_y, is_named, is_other_kind, is_point, is_unread, repeats, rows_of_calibration, table_named, with_calibration_row, with_name, with_new_row, with_row}
+use Rattle.mdb_items.specs.CalibrationRows.{CalibrationRow, calibration_checks, calibrations_of, continued, empty_table, has_x, has_y, is_named, is_other_kind, is_point, is_unread, repeats, rows_of_calibration, table_named, with_calibration_row, with_name, with_new_row, table_with_row}
 use Rattle.mdb_items.specs.Checks.{first_broken}
 use Rattle.mdb_items.specs.Database.{Database, IsDatabase, table_len}
 use Rattle.mdb_items.specs.Lists.{at_last, last_of}
 use Rattle.mdb_model.specs.Rechecking.{are_sound, calibration_fault_before, calibrations_sound, first_name}
-use Rattle.mdb_items.specs.Structure.{AreDistinctExponents, AreDistinctNames, AreDistinctNumbers, IsCalibration, IsLabelled, IsName, IsPoint, IsRising, IsTable, IsTerm}
+use Rattle.mdb_items.specs.Structure.{AreDistinctExponents, AreDistinctNames, AreDistinctNumbers, IsCalibration, IsLabelled, IsName, IsPoint, ArePointsRising, IsTable, IsTerm}
 use Rattle.mdb_items.specs.Texts.{Text, place_of}
 use Rattle.mdb_rules.proofs.CalibrationSpelling.{last_named, own_kind}
 use Rattle.mdb_model.proofs.ContainersFit.{both_true, none_is}
@@ -36,7 +36,7 @@ use Rattle.mdb_rules.proofs.Passing.{all_pass, is_true}
 -- a table whose points may still want the second
 abbrev IsSoFar : Table → Type 0
 IsSoFar (Poly rows) = AllByRecursion IsTerm rows × AreDistinctExponents rows
-IsSoFar (Points points) = AllByRecursion IsPoint points × IsRising points
+IsSoFar (Points points) = AllByRecursion IsPoint points × ArePointsRising points
 IsSoFar (Enum rows) = AllByRecursion IsLabelled rows × AreDistinctNumbers rows
 
 -- points are two
@@ -50,7 +50,7 @@ whole (Poly rows) some is long = record { some = some; each = is.0; distinct = i
 whole (Points points) some is long = record { pair = long; each = is.0; rising = is.1 }
 whole (Enum rows) some is long = record { some = some; each = is.0; distinct = is.1 }
 
-row_taken : (t : Table) (row_values : RowValues) → is_other_kind (Some t) row_values ≡ false → has_x row_values ≡ true → has_y row_values ≡ true → repeats (Some t) row_values ≡ false → IsSoFar t → IsSoFar (with_row t row_values)
+row_taken : (t : Table) (row_values : RowValues) → is_other_kind (Some t) row_values ≡ false → has_x row_values ≡ true → has_y row_values ≡ true → repeats (Some t) row_values ≡ false → IsSoFar t → IsSoFar (table_with_row t row_values)
 row_taken (Poly rows) Unread k x y r is = cc
 row_taken (Poly rows) (Coefficient None m) k x y r is = cc
 row_taken (Poly rows) (Coefficient (Some e) None) k x y r is = cc
@@ -76,7 +76,7 @@ row_taken (Enum rows) (Label (Some n) l) k x y r is =
     (all_join IsLabelled rows (row ∷ []) is.0 ((x, y), tt), with_new int_eq_equiv (λ (r : EnumRow). r.x) rows row is.1 r)
 
 -- a table has one more row
-row_more : (t : Table) (row_values : RowValues) → is_other_kind (Some t) row_values ≡ false → has_x row_values ≡ true → has_y row_values ≡ true → table_len (with_row t row_values) ≡ suc (table_len t)
+row_more : (t : Table) (row_values : RowValues) → is_other_kind (Some t) row_values ≡ false → has_x row_values ≡ true → has_y row_values ≡ true → table_len (table_with_row t row_values) ≡ suc (table_len t)
 row_more (Poly rows) Unread k x y = cc
 row_more (Poly rows) (Coefficient None m) k x y = cc
 row_more (Poly rows) (Coefficient (Some e) None) k x y = cc
@@ -117,7 +117,7 @@ none_repeats (Label None l) = refl
 none_repeats (Label (Some n) l) = refl
 
 -- what isn't a point begins no points
-no_points : (row_values : RowValues) → is_point row_values ≡ false → IsLong (with_row (empty_table row_values) row_values)
+no_points : (row_values : RowValues) → is_point row_values ≡ false → IsLong (table_with_row (empty_table row_values) row_values)
 no_points Unread p = tt
 no_points (Coefficient None m) p = tt
 no_points (Coefficient (Some e) None) p = tt

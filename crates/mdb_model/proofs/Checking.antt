@@ -14,7 +14,7 @@ use Rattle.mdb_items.specs.CalibrationRows.{CalibrationRow, calibrations_of}
 use Rattle.mdb_items.specs.Checks.{or_else}
 use Rattle.mdb_items.specs.ContainerRows.{containers_of}
 use Rattle.mdb_items.specs.Database.{Broken, Database, calibrations_fault, containers_fault, parameters_fault}
-use Rattle.mdb_model.specs.SheetResults.{AreSpelledLists, IsCalibrationSheetResult, IsContainerSheetResult, IsParameterSheetResult, IsLimitsResult, database_from}
+use Rattle.mdb_model.specs.SheetResults.{AreSpelledLists, IsCalibrationSheetResult, IsContainerSheetResult, IsParameterSheetResult, IsLimitsResult, database_of_lists}
 use Rattle.mdb_items.specs.ParameterRows.{parameters_of}
 use Rattle.mdb_model.specs.Sheets.{IsCheckResult, is_calibration_header, is_container_header, is_parameter_header, read_calibration, read_containers, read_parameter, rows_of_sheets, sheet_fault, sheets_database, sheets_fault}
 use Rattle.mdb_rules.specs.Steps.{Refuses}
@@ -99,7 +99,7 @@ containers_refuse raw c p f g h e =
 
 -- the three sheets spell the three lists
 spelled_database : (raw : RawMdb) (c : Calibrations) (p : Parameters) (k : Containers) → IsCalibrationSheetResult raw.calibrations (Ok c) → IsParameterSheetResult c.items.items c.names raw.parameters (Ok p)
-    → IsContainerSheetResult p.items.items raw.containers (Ok k) → sheets_database raw ≡ database_from c p k
+    → IsContainerSheetResult p.items.items raw.containers (Ok k) → sheets_database raw ≡ database_of_lists c p k
 spelled_database raw c p k g h i =
     let ps = spelled_parameters raw c p g h in
     let containers : k.items.items ≡ containers_of (read_containers (parameters_from raw) [] (drop 1 raw.containers)) = i.2 ∙ ap (λ (xs : List Parameter). containers_of (read_containers xs [] (drop 1 raw.containers))) ps in
@@ -132,7 +132,7 @@ sheets_none raw c p k g h i =
 
 -- what the limits give is what the sheets give
 pub limits_give : (raw : RawMdb) (c : Calibrations) (p : Parameters) (k : Containers) (r : Result Database MdbFault) → IsCalibrationSheetResult raw.calibrations (Ok c) → IsParameterSheetResult c.items.items c.names raw.parameters (Ok p)
-    → IsContainerSheetResult p.items.items raw.containers (Ok k) → IsLimitsResult (database_from c p k) r → IsCheckResult raw r
+    → IsContainerSheetResult p.items.items raw.containers (Ok k) → IsLimitsResult (database_of_lists c p k) r → IsCheckResult raw r
 limits_give raw c p k r g h i e =
     let same = sym (spelled_database raw c p k g h i) in
     let P : Database → Type 0 = λ d. IsLimitsResult d r in

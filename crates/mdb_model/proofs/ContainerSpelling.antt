@@ -22,7 +22,7 @@ use Rattle.mdb_items.specs.ContainerRows.{ContainerRow, begin_row, new_container
 use Rattle.mdb_items.specs.Database.{broken_below, containers_fault}
 use Rattle.mdb_items.specs.Paths.{ContainerPath}
 use Rattle.mdb_items.specs.Lists.{is_empty}
-use Rattle.mdb_items.specs.ParameterRows.{number_of}
+use Rattle.mdb_items.specs.ParameterRows.{referenced_number}
 use Rattle.mdb_items.specs.Texts.{Text}
 use Rattle.mdb_rules.proofs.Ends.{at_last-push, slice_get-end, snoc, take-front}
 use Rattle.mdb_rules.proofs.Passing.{AllPass, all_pass, each_none, first_none, is_true, none_broken, or_else-none}
@@ -41,7 +41,7 @@ faultless_append ps above [] ys a b = b
 faultless_append ps above (x ∷ xs) ys a b = (a.0, faultless_append ps (with_container_row above x) xs ys a.1 b)
 
 abbrev new_container_of : NewContainer → Container
-new_container_of b = record { name = b.name; parent = number_of b.parent; archive = unwrap_or b.archive false; condition = unwrap_or b.condition []; entries = [] }
+new_container_of b = record { name = b.name; parent = referenced_number b.parent; archive = unwrap_or b.archive false; condition = unwrap_or b.condition []; entries = [] }
 
 -- the row that only begins a container, and the row that only adds an entry
 abbrev begin_only : NewContainer → ContainerRow

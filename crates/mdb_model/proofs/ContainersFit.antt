@@ -18,7 +18,7 @@ use Rattle.mdb_items.specs.Checks.{first_broken}
 use Rattle.mdb_items.specs.ContainerRows.{ContainerRow, begin_row, new_container_checks, compares_other, entry_checks, entry_row, columns_checks, is_condition, is_parent, last_path, path_up, row_fault, rows_of_container, with_container_row, with_columns, with_new_entry}
 use Rattle.mdb_items.specs.Paths.{ContainerPath, bits_at, last_number, path_at, path_below, paths_of, no_path, stands_on, with_path}
 use Rattle.mdb_items.specs.Numbers.{is_in_range}
-use Rattle.mdb_items.specs.ParameterRows.{is_reference, number_of, reference_to}
+use Rattle.mdb_items.specs.ParameterRows.{is_reference, referenced_number, reference_to}
 use Rattle.mdb_model.specs.Rechecking.{are_sound, containers_sound}
 use Rattle.mdb_octets.specs.Spelling.{FitsComparison, FitsContainer, FitsEntry, link}
 use Rattle.mdb_rules.proofs.Ancestry.{length-paths_of, paths_of-push}
@@ -150,7 +150,7 @@ entries_fit parameters above c front (e ∷ es) more few le sound =
 abbrev pub new_container_of : Container → NewContainer
 new_container_of c = record { name = c.name; parent = reference_to c.parent; condition = Some c.condition; archive = Some c.archive }
 
-pub number_back : (o : Option ℕ) → number_of (reference_to o) ≡ o
+pub number_back : (o : Option ℕ) → referenced_number (reference_to o) ≡ o
 number_back None = refl
 number_back (Some n) = refl
 
@@ -180,7 +180,7 @@ containers_fit parameters (c ∷ cs) above few le below sound =
     let own : FitsContainer c = record {
       name = name_short c.name (is_true (is_name c.name) q.1.0);
       parent = parent_small (length above) c.parent (omega arith) (is_true (is_parent (length above) (reference_to c.parent)) q.1.1.1.1.0);
-      condition = (omega arith, comparisons_fit (length parameters) (path_up above b).entries c.condition few (path_is_below (length parameters) above (number_of (reference_to c.parent)) below) q.1.1.1.1.1.1.1.0 condition.1);
+      condition = (omega arith, comparisons_fit (length parameters) (path_up above b).entries c.condition few (path_is_below (length parameters) above (referenced_number (reference_to c.parent)) below) q.1.1.1.1.1.1.1.0 condition.1);
       entries = (omega arith, entries.fits);
     } in
     (own, containers_fit parameters cs now few (omega (arith, length-push above c)) (all_join (ContainerIsBelow (length parameters)) above (c ∷ []) below (entries.below, tt)) entries.left)

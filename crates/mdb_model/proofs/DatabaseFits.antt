@@ -20,7 +20,7 @@ use Rattle.mdb_items.specs.declared.parameter.Parameter.{Parameter}
 use Rattle.mdb_items.specs.declared.rows.RowValues.{RowValues}
 use Rattle.mdb_items.specs.declared.rows.RowValues.TheVariants.{Unread, Coefficient, Point, Label}
 use Rattle.mdb_items.specs.declared.rows.ParameterRow.{ParameterRow}
-use Rattle.mdb_items.specs.CalibrationRows.{CalibrationRow, calibration_checks, calibration_fault, calibration_fault_at, calibrations_of, row_values_of, continued, empty_table, has_x, has_y, rows_of_calibration, with_calibration_row, with_new_row, with_row}
+use Rattle.mdb_items.specs.CalibrationRows.{CalibrationRow, calibration_checks, calibration_fault, calibration_fault_at, calibrations_of, row_values_of, continued, empty_table, has_x, has_y, rows_of_calibration, with_calibration_row, with_new_row, table_with_row}
 use Rattle.mdb_items.specs.Checks.{first_at, first_broken}
 use Rattle.mdb_items.specs.Lists.{at_last}
 use Rattle.mdb_items.specs.Numbers.{is_in_range}
@@ -159,7 +159,7 @@ calibrations_fit cs has few none = each_fits cs has (all_below row_count 65536 c
 
 -- ---- no calibration is without rows
 
-grows : (t : Table) (x : RowValues) → table_len t ≤ table_len (with_row t x)
+grows : (t : Table) (x : RowValues) → table_len t ≤ table_len (table_with_row t x)
 grows (Poly rows) Unread = omega arith
 grows (Poly rows) (Coefficient None m) = omega arith
 grows (Poly rows) (Coefficient (Some e) None) = omega arith
@@ -178,7 +178,7 @@ grows (Enum rows) (Point n m) = omega arith
 grows (Enum rows) (Label None l) = omega arith
 grows (Enum rows) (Label (Some n) l) = omega (arith, length-append rows (record { x = n; label = l } ∷ []))
 
-first_row : (x : RowValues) → has_x x ≡ true → has_y x ≡ true → 0 < table_len (with_row (empty_table x) x)
+first_row : (x : RowValues) → has_x x ≡ true → has_y x ≡ true → 0 < table_len (table_with_row (empty_table x) x)
 first_row Unread h k = cc
 first_row (Coefficient None m) h k = cc
 first_row (Coefficient (Some e) None) h k = cc

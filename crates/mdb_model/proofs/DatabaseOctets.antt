@@ -11,7 +11,7 @@ use Rattle.mdb_items.specs.declared.rows.ParameterRow.{ParameterRow}
 use Rattle.mdb_items.specs.CalibrationRows.{CalibrationRow, calibration_fault_at, calibrations_of, rows_of_calibration, with_calibration_row}
 use Rattle.mdb_items.specs.Checks.{first_at, or_else}
 use Rattle.mdb_items.specs.ContainerRows.{ContainerRow, container_fault_at, containers_of, rows_of_container, with_container_row}
-use Rattle.mdb_items.specs.Database.{Database, IsDatabase, broken_below, calibrations_fault, containers_fault, limit_passed, parameters_fault, row_count, rows_of}
+use Rattle.mdb_items.specs.Database.{Database, IsDatabase, broken_below, calibrations_fault, containers_fault, limit_passed, parameters_fault, row_count, database_rows}
 use Rattle.mdb_items.specs.ParameterRows.{parameter_fault_at, parameter_of, parameters_of, row_of_parameter}
 use Rattle.mdb_model.specs.Rechecking.{HasRows, calibration_fault_before, calibrations_sound, container_fault_below, containers_sound, parameter_fault_below, parameters_sound, with_parameter_row}
 use Rattle.mdb_octets.specs.Spelling.{FitsDatabase}
@@ -79,7 +79,7 @@ pub record Parts (d : Database) : Type 0 where
 
 pub parts_of : (d : Database) → IsDatabase d → Parts d
 parts_of d is =
-    let r = rows_of d in
+    let r = database_rows d in
     let ps : parameters_of r.parameters ≡ d.parameters = ap (λ (x : Database). x.parameters) is.spelled in
     let cs : calibrations_of r.calibrations ≡ d.calibrations = ap (λ (x : Database). x.calibrations) is.spelled in
     let one = or_else-none (calibrations_fault r.calibrations) (or_else (parameters_fault (calibrations_of r.calibrations) r.parameters) (containers_fault (parameters_of r.parameters) r.containers)) is.sound in

@@ -13,7 +13,7 @@ use Rattle.std.proofs.lemmas.Map.Keys.{IsDistinct-push}
 use Rattle.mdb_items.specs.declared.calibration.PointsRow.{PointsRow}
 use Rattle.mdb_items.specs.CalibrationRows.{is_not_above}
 use Rattle.mdb_items.specs.Lists.{last_of}
-use Rattle.mdb_items.specs.Structure.{IsRising}
+use Rattle.mdb_items.specs.Structure.{ArePointsRising}
 use Rattle.mdb_items.specs.Texts.{Text, place_of}
 use Rattle.mdb_model.proofs.DatabaseFits.{all_join, all_split}
 use Rattle.mdb_rules.proofs.Passing.{is_true}
@@ -52,7 +52,7 @@ last_more p r points =
     ap (λ (k : ℕ). slice_get (p ∷ r ∷ points) k) n
 
 -- one more point, above the last
-pub rises_more : (points : List PointsRow) (q : PointsRow) → IsRising points → is_not_above q.x (last_of points) ≡ false → IsRising (points ++ q ∷ [])
+pub rises_more : (points : List PointsRow) (q : PointsRow) → ArePointsRising points → is_not_above q.x (last_of points) ≡ false → ArePointsRising (points ++ q ∷ [])
 rises_more [] q rising isnt = (tt, tt)
 rises_more (p ∷ []) q rising isnt = ((below p.x q.x isnt, tt), (tt, tt))
 rises_more (p ∷ r ∷ points) q rising isnt =

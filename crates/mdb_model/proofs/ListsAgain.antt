@@ -12,7 +12,7 @@ use Rattle.mdb_items.specs.declared.parameter.Parameter.{Parameter}
 use Rattle.mdb_items.specs.CalibrationRows.{calibrations_of, rows_of_calibration}
 use Rattle.mdb_items.specs.Checks.{or_else}
 use Rattle.mdb_items.specs.ContainerRows.{containers_of, rows_of_container}
-use Rattle.mdb_items.specs.Database.{Broken, Database, IsDatabase, broken_below, calibrations_fault, containers_fault, database_of, first_fault, limit_passed, parameters_fault, rows_of, table_len}
+use Rattle.mdb_items.specs.Database.{Broken, Database, IsDatabase, broken_below, calibrations_fault, containers_fault, database_of, first_fault, limit_passed, parameters_fault, database_rows, table_len}
 use Rattle.mdb_model.specs.SheetResults.{IsLimitsResult}
 use Rattle.mdb_items.specs.ParameterRows.{parameters_of, row_of_parameter}
 use Rattle.mdb_octets.specs.Reading.{database_at}
@@ -44,9 +44,9 @@ containers_fault_none ps (c ∷ cs) some sound = ap (option_map (broken_below sh
 
 -- The rows of the lists are sound where each list was taken in.
 pub all_sound : (d : Database) (cs : List Calibration) (ps : List Parameter) → cs ≡ calibrations_of (flat_map rows_of_calibration d.calibrations) → ps ≡ d.parameters → 0 < length d.containers
-    → calibrations_sound [] (flat_map rows_of_calibration d.calibrations) ≡ true → parameters_sound cs [] (map row_of_parameter d.parameters) ≡ true → containers_sound ps [] (flat_map rows_of_container d.containers) ≡ true → first_fault (rows_of d) ≡ None
+    → calibrations_sound [] (flat_map rows_of_calibration d.calibrations) ≡ true → parameters_sound cs [] (map row_of_parameter d.parameters) ≡ true → containers_sound ps [] (flat_map rows_of_container d.containers) ≡ true → first_fault (database_rows d) ≡ None
 all_sound d cs ps ec ep some c p k =
-    let r = rows_of d in
+    let r = database_rows d in
     let own : ps ≡ parameters_of r.parameters = ep ∙ sym (parameters_back d.parameters) in
     let one : calibrations_fault r.calibrations ≡ None = ap (option_map (broken_below sheet.Calibrations)) (calibrations_none r.calibrations c) in
     let two : parameters_fault (calibrations_of r.calibrations) r.parameters ≡ None =
@@ -57,7 +57,7 @@ all_sound d cs ps ec ep some c p k =
 
 -- The rows of the lists spell what was taken in.
 pub all_spelled : (d : Database) (cs : List Calibration) (ps : List Parameter) (ks : List Container) → cs ≡ calibrations_of (flat_map rows_of_calibration d.calibrations) → ps ≡ d.parameters → ks ≡ containers_of (flat_map rows_of_container d.containers)
-    → database_of (rows_of d) ≡ record { parameters = ps; calibrations = cs; containers = ks }
+    → database_of (database_rows d) ≡ record { parameters = ps; calibrations = cs; containers = ks }
 all_spelled d cs ps ks ec ep ek = let e = parameters_back d.parameters in cc
 
 -- ---- lists that aren't taken in are no database

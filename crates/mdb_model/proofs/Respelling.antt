@@ -7,7 +7,7 @@ use Rattle.mdb_items.specs.declared.rows.ParameterRow.{ParameterRow}
 use Rattle.mdb_items.specs.CalibrationRows.{CalibrationRow, calibration_fault_at, calibrations_of, rows_of_calibration}
 use Rattle.mdb_items.specs.Checks.{first_at, or_else}
 use Rattle.mdb_items.specs.ContainerRows.{containers_of, rows_of_container}
-use Rattle.mdb_items.specs.Database.{Broken, Database, IsDatabase, Rows, broken_below, calibrations_fault, containers_fault, database_of, first_fault, limit_passed, parameters_fault, rows_of}
+use Rattle.mdb_items.specs.Database.{Broken, Database, IsDatabase, Rows, broken_below, calibrations_fault, containers_fault, database_of, first_fault, limit_passed, parameters_fault, database_rows}
 use Rattle.mdb_items.specs.ParameterRows.{parameter_fault_at, parameters_of, row_of_parameter}
 use Rattle.mdb_rules.proofs.CalibrationSpelling.{calibrations_respelled}
 use Rattle.mdb_model.proofs.ContainerSpelling.{containers_respelled}
@@ -33,7 +33,7 @@ is_database rows sound small =
     let p : map row_of_parameter ps ≡ rows.parameters = parameters_respelled cs rows.parameters (map_none (broken_below sheet.Parameters) (first_at (parameter_fault_at cs rows.parameters) (length rows.parameters)) second.0) in
     let n = containers_respelled ps rows.containers second.1 in
     let containers = flat_map rows_of_container (containers_of rows.containers) in
-    let back : rows_of (database_of rows) ≡ record { parameters = rows.parameters; calibrations = rows.calibrations; containers = containers } =
+    let back : database_rows (database_of rows) ≡ record { parameters = rows.parameters; calibrations = rows.calibrations; containers = containers } =
     ap (λ (xs : List CalibrationRow). let r : Rows = record { parameters = map row_of_parameter ps; calibrations = xs; containers = containers } in r) c
     ∙ ap (λ (xs : List ParameterRow). let r : Rows = record { parameters = xs; calibrations = rows.calibrations; containers = containers } in r) p in
     let spelled : database_of (record { parameters = rows.parameters; calibrations = rows.calibrations; containers = containers }) ≡ database_of rows =

@@ -28,7 +28,7 @@ use Rattle.mdb_items.specs.declared.rows.Position.TheVariants.{At}
 use Rattle.mdb_items.specs.declared.rows.Reference.TheVariants.{Nothing, Known}
 use Rattle.mdb_items.specs.ContainerRows.{ContainerRow, begin_row, containers_of, entry_checks, entry_row, columns_checks, last_path, row_fault, rows_of_container, with_container_row, with_entry, with_columns, with_new_entry}
 use Rattle.mdb_items.specs.Database.{table_len}
-use Rattle.mdb_items.specs.ParameterRows.{number_of, parameter_checks, parameter_of, reference_to, row_of_parameter}
+use Rattle.mdb_items.specs.ParameterRows.{referenced_number, parameter_checks, parameter_of, reference_to, row_of_parameter}
 use Rattle.mdb_model.specs.Rechecking.{CalibrationsRechecked, ContainersRechecked, HasRows, ParametersRechecked, Refused, RowsRechecked, CalibrationRechecked, are_sound, calibration_fault_before, calibrations_sound, container_fault_below, containers_sound, first_name, parameter_fault_below, parameters_sound, row_with, with_parameter_row}
 use Rattle.mdb_rules.specs.Steps.{IsInStep}
 use Rattle.mdb_items.specs.Texts.{Text, place_of}
@@ -244,7 +244,7 @@ calibrations_done given items i le so_far = (
 
 -- ---- parameters one after the other
 
-link_back : (o : Option ℕ) → number_of (reference_to o) ≡ o
+link_back : (o : Option ℕ) → referenced_number (reference_to o) ≡ o
 link_back None = refl
 link_back (Some n) = refl
 
@@ -343,7 +343,7 @@ at_index (y ∷ xs) (suc i) x lt is = at_index xs i x (omega arith) is
 -- ---- a container: its beginning, and then its entries
 
 pub begun_length : (old : List Container) (c : Container) → 0 < length (with_container_row old (begin_row c))
-begun_length old c = omega (arith, length-append old (record { name = c.name; parent = number_of (reference_to c.parent); archive = c.archive; condition = c.condition; entries = [] } ∷ []))
+begun_length old c = omega (arith, length-append old (record { name = c.name; parent = referenced_number (reference_to c.parent); archive = c.archive; condition = c.condition; entries = [] } ∷ []))
 
 is_some_none : (o : Option ℕ) → is_some o ≡ false → o ≡ None
 is_some_none None e = refl

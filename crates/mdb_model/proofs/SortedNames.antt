@@ -8,18 +8,18 @@ use Rattle.std.proofs.lemmas.List.{get_or-map, get_or_append_left, get_or-append
 use Rattle.std.proofs.lemmas.List.Elements.{All-get_or, All-map}
 use Rattle.std.proofs.lemmas.List.Sorted.{All-permutation, Contains-permutation, IsPermutation-map}
 use Rattle.std.specs.Prelude.{Bool}
-use Rattle.mdb_model.specs.NameOrder.{AreNamesSorted, IsNameOrder, name_at, name_cmp}
+use Rattle.mdb_model.specs.NameOrder.{AreNamesSorted, IsNameOrder, name_numbered, name_cmp}
 use Rattle.mdb_items.specs.Texts.{Text}
 
 -- the first so many names, each with its number
 pub record AreNumbered (names : List Text) (size : ℕ) (named : List (Text × ℕ)) : Type 0 where
   pub count : length named ≡ size
-  pub each : (k : ℕ) (d : Text × ℕ) → k < size → get_or named k d ≡ (name_at names k, k)
+  pub each : (k : ℕ) (d : Text × ℕ) → k < size → get_or named k d ≡ (name_numbered names k, k)
 
 pub none_numbered : (names : List Text) → AreNumbered names 0 []
 none_numbered names = record { count = refl; each = λ k d lt. absurd (omega arith) }
 
-pub one_numbered : (names : List Text) (count : ℕ) (named : List (Text × ℕ)) (name : Text) → AreNumbered names count named → name ≡ name_at names count
+pub one_numbered : (names : List Text) (count : ℕ) (named : List (Text × ℕ)) (name : Text) → AreNumbered names count named → name ≡ name_numbered names count
     → AreNumbered names (count + 1) (named ++ (name, count) ∷ [])
 one_numbered names count named name a is = record {
   count = length-append named ((name, count) ∷ []) ∙ ap (λ n. n + 1) a.count;
@@ -29,7 +29,7 @@ one_numbered names count named name a is = record {
         let same : k ≡ count = omega (arith, lt, g) in
         let none : k - count ≡ 0 = omega (arith, lt, g) in
         get_or-append_right named ((name, count) ∷ []) count k d a.count g ∙ ap (λ n. get_or ((name, count) ∷ []) n d) none
-        ∙ (λ i. (is i, count)) ∙ (λ i. (name_at names (sym same i), sym same i))
+        ∙ (λ i. (is i, count)) ∙ (λ i. (name_numbered names (sym same i), sym same i))
   ];
 }
 
@@ -48,22 +48,22 @@ module _ {X : Type 0} (names : List Text) (view : X → Text × ℕ) (old new : 
   pub names_sorted : IsSorted (λ a b. ordering_then (slice_cmp nat_cmp (view a).0 (view b).0) (nat_cmp (view a).1 (view b).1)) new → AreNamesSorted names (map view new)
   names_sorted up = record {
     sorted = sorted-map view (λ a b. is_lt (ordering_then (slice_cmp nat_cmp a.0 b.0) (nat_cmp a.1 b.1))) new up;
-    known = All-permutation (λ p. (p.1 < length names) × (p.0 ≡ name_at names p.1)) (map view old) (map view new) shifted
+    known = All-permutation (λ p. (p.1 < length names) × (p.0 ≡ name_numbered names p.1)) (map view old) (map view new) shifted
         (λ k d lt. let k_is = numbered.each k d (rw (sym numbered.count) lt) in
-        subst (λ (p : Text × ℕ). (p.1 < length names) × (p.0 ≡ name_at names p.1)) (sym k_is) (subst (λ n. k < n) numbered.count lt, refl));
-    each = λ n lt. Contains-permutation (map view old) (map view new) (name_at names n, n) shifted (n, rw numbered.count lt, numbered.each n _ lt);
+        subst (λ (p : Text × ℕ). (p.1 < length names) × (p.0 ≡ name_numbered names p.1)) (sym k_is) (subst (λ n. k < n) numbered.count lt, refl));
+    each = λ n lt. Contains-permutation (map view old) (map view new) (name_numbered names n, n) shifted (n, rw numbered.count lt, numbered.each n _ lt);
   }
 
 -- the numbers of sorted names
 pub numbers_sorted : (names : List Text) (named : List (Text × ℕ)) → AreNamesSorted names named → IsNameOrder names (map (λ p. p.1) named)
 numbers_sorted names named a = record {
   sorted = sorted-map (λ (p : Text × ℕ). p.1) (λ m n. is_lt (name_cmp names m n)) named (λ k d low high.
-      let next = (All-get_or (λ p. (p.1 < length names) × (p.0 ≡ name_at names p.1)) named (k + 1) d high a.known).1 in
-      let this = (All-get_or (λ p. (p.1 < length names) × (p.0 ≡ name_at names p.1)) named k d (omega (arith, high)) a.known).1 in
+      let next = (All-get_or (λ p. (p.1 < length names) × (p.0 ≡ name_numbered names p.1)) named (k + 1) d high a.known).1 in
+      let this = (All-get_or (λ p. (p.1 < length names) × (p.0 ≡ name_numbered names p.1)) named k d (omega (arith, high)) a.known).1 in
       rw (sym next, sym this) (a.sorted k d low high));
   known = All-map (λ n. n < length names) (λ (p : Text × ℕ). p.1) named (λ k d lt. (a.known k d lt).0);
   each = λ n lt. let at = a.each n lt in
-      (at.0, rw (length-map named (λ (p : Text × ℕ). p.1)) at.1, get_or-map (λ (p : Text × ℕ). p.1) named at.0 (name_at names n, n) n at.1 ∙ ap (λ (p : Text × ℕ). p.1) at.2);
+      (at.0, rw (length-map named (λ (p : Text × ℕ). p.1)) at.1, get_or-map (λ (p : Text × ℕ). p.1) named at.0 (name_numbered names n, n) n at.1 ∙ ap (λ (p : Text × ℕ). p.1) at.2);
 }
 
 pub seconds : {A : Type 0} (now : A → Text) (xs : List (A × ℕ)) → map (λ (p : Text × ℕ). p.1) (map (λ (p : A × ℕ). (now p.0, p.1)) xs) ≡ map (λ (p : A × ℕ). p.1) xs

@@ -24,7 +24,7 @@ use Rattle.mdb_items.specs.Database.{Database, IsDatabase, containers_fault}
 use Rattle.mdb_items.specs.Paths.{ContainerPath, bits_at, path_at, path_below, paths_of, no_path, stands_on, with_path}
 use Rattle.mdb_items.specs.Lists.{is_empty}
 use Rattle.mdb_items.specs.Numbers.{is_in_range}
-use Rattle.mdb_items.specs.ParameterRows.{admits, fits_coding, is_reference, parameter_checks, parameter_fault, parameter_fault_at, parameters_of, reference_to, row_of_parameter, table_at}
+use Rattle.mdb_items.specs.ParameterRows.{admits, fits_coding, is_reference, parameter_checks, parameter_fault, parameter_fault_at, parameters_of, reference_to, row_of_parameter, referenced_table}
 use Rattle.mdb_model.specs.Rechecking.{are_sound, containers_sound, parameters_sound, with_parameter_row}
 use Rattle.mdb_items.specs.Structure.{AreDistinctEntries, AreDistinctNames, IsBelowParent, IsContainer, IsEntry, IsParameter, IsPath, IsStructured, IsWhole}
 use Rattle.mdb_items.specs.Texts.{Text}
@@ -56,7 +56,7 @@ parameter_at d n p none at =
       named = is_true (is_name p.name) q.1.0;
       width = is_true (fits_coding (Some p.coding) (Some p.bits)) q.1.1.1.1.0;
       calibration = is_true (is_reference (length d.calibrations) (reference_to p.calibration)) q.1.1.1.1.1.0;
-      admitted = is_true (admits p.bits (table_at d.calibrations (reference_to p.calibration))) q.1.1.1.1.1.1.0;
+      admitted = is_true (admits p.bits (referenced_table d.calibrations (reference_to p.calibration))) q.1.1.1.1.1.1.0;
     }
 
 -- rows that are sound add parameters of other names

@@ -5,14 +5,14 @@ use Rattle.mdb_items.specs.declared.parameter.Parameter.{Parameter}
 use Rattle.mdb_items.specs.Database.{Database}
 
 -- the calibration with a number, where there is a number
-abbrev pub calibration_at : List Calibration → Option ℕ → Option Calibration
-calibration_at calibrations None = None
-calibration_at calibrations (Some n) = slice_get calibrations n
+abbrev pub calibration_numbered : List Calibration → Option ℕ → Option Calibration
+calibration_numbered calibrations None = None
+calibration_numbered calibrations (Some n) = slice_get calibrations n
 
 -- the calibration of a parameter, where there is a parameter and it has one
 abbrev pub calibration_of_parameter : List Calibration → Option Parameter → Option Calibration
 calibration_of_parameter calibrations None = None
-calibration_of_parameter calibrations (Some p) = calibration_at calibrations p.calibration
+calibration_of_parameter calibrations (Some p) = calibration_numbered calibrations p.calibration
 
 -- the calibration of the parameter with a number, where it has one
 abbrev pub calibration_of : Database → ℕ → Option Calibration

@@ -8,16 +8,16 @@ use Rattle.std.specs.declared.cmp.Ordering.{Ordering}
 use Rattle.mdb_items.specs.Texts.{Text}
 
 -- the name with a number, without octets where there is none
-abbrev pub name_at : List Text → ℕ → Text
-name_at names n = get_or names n []
+abbrev pub name_numbered : List Text → ℕ → Text
+name_numbered names n = get_or names n []
 
 -- numbers stand by their names, those of one name by themselves
 abbrev pub name_cmp : List Text → ℕ → ℕ → Ordering
-name_cmp names a b = ordering_then (slice_cmp nat_cmp (name_at names a) (name_at names b)) (nat_cmp a b)
+name_cmp names a b = ordering_then (slice_cmp nat_cmp (name_numbered names a) (name_numbered names b)) (nat_cmp a b)
 
 -- the name with a number comes before another
 abbrev pub is_below : List Text → Text → ℕ → Bool
-is_below names name n = is_lt (slice_cmp nat_cmp (name_at names n) name)
+is_below names name n = is_lt (slice_cmp nat_cmp (name_numbered names n) name)
 
 -- the numbers of the names, sorted by their names
 pub record IsNameOrder (names : List Text) (order : List ℕ) : Type 0 where
@@ -32,5 +32,5 @@ IsCountBelow names order name count = IsPartitionPoint (λ n. is_below names nam
 -- names with the numbers of their items, sorted
 pub record AreNamesSorted (names : List Text) (named : List (Text × ℕ)) : Type 0 where
   pub sorted : IsSorted (λ a b. ordering_then (slice_cmp nat_cmp a.0 b.0) (nat_cmp a.1 b.1)) named
-  pub known : All (λ p. (p.1 < length names) × (p.0 ≡ name_at names p.1)) named
-  pub each : (n : ℕ) → n < length names → Contains named (name_at names n, n)
+  pub known : All (λ p. (p.1 < length names) × (p.0 ≡ name_numbered names p.1)) named
+  pub each : (n : ℕ) → n < length names → Contains named (name_numbered names n, n)

@@ -39,14 +39,14 @@ IsContainerSheetResult parameters records (Ok c) =
 IsContainerSheetResult parameters records (Err fault) = Refuses (sheet_fault sheet.Containers is_container_header records (containers_fault parameters (read_containers parameters [] (drop 1 records)))) fault
 
 -- the database of three lists that were built
-abbrev pub database_from : Calibrations → Parameters → Containers → Database
-database_from calibrations parameters containers = record { parameters = parameters.items.items; calibrations = calibrations.items.items; containers = containers.items.items }
+abbrev pub database_of_lists : Calibrations → Parameters → Containers → Database
+database_of_lists calibrations parameters containers = record { parameters = parameters.items.items; calibrations = calibrations.items.items; containers = containers.items.items }
 
 -- sound rows spell the three lists, and each parent stands earlier
 pub record AreSpelledLists (calibrations : Calibrations) (parameters : Parameters) (containers : Containers) : Type 0 where
   pub rows : Rows
   pub sound : first_fault rows ≡ None
-  pub spelled : database_of rows ≡ database_from calibrations parameters containers
+  pub spelled : database_of rows ≡ database_of_lists calibrations parameters containers
   pub earlier : AreEarlier containers.items.items
 
 -- the database, or the first limit that it passes; for want of memory nothing is said

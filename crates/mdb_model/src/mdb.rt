@@ -4,8 +4,8 @@ ghost use Rattle.std.specs.Prelude.{◌≡◌, ◌<◌, IfOk, Some, is_some, len
 ghost use Rattle.mdb_items.specs.declared.not_mdb.NotMdb.TheVariants.{OutOfMemory};
 ghost use Rattle.mdb_model.specs.Children.{children_of};
 ghost use Rattle.mdb_items.specs.Database.{IsDatabase, limit_passed};
-ghost use Rattle.mdb_model.specs.Lookups.{calibration_at, calibration_of};
-ghost use Rattle.mdb_model.specs.SheetResults.{AreSpelledLists, IsCalibrationSheetResult, IsContainerSheetResult, IsParameterSheetResult, IsLimitsResult, database_from};
+ghost use Rattle.mdb_model.specs.Lookups.{calibration_numbered, calibration_of};
+ghost use Rattle.mdb_model.specs.SheetResults.{AreSpelledLists, IsCalibrationSheetResult, IsContainerSheetResult, IsParameterSheetResult, IsLimitsResult, database_of_lists};
 ghost use Rattle.mdb_model.specs.Rechecking.{ListsRechecked, refusal};
 ghost use Rattle.mdb_model.specs.Sheets.{IsCheckResult};
 ghost use Rattle.mdb_octets.specs.Spelling.{database_octets};
@@ -143,7 +143,7 @@ fn limit_of(
     parameters: &Parameters,
     containers: &Containers,
 ) -> Option<(MdbLimit, usize)>
-    ensures { result ≡ limit_passed (database_from calibrations.now parameters.now containers.now) }
+    ensures { result ≡ limit_passed (database_of_lists calibrations.now parameters.now containers.now) }
 {
     limit_passed(
         parameters.items.as_slice(),
@@ -169,7 +169,7 @@ pub(crate) fn within_limits(
     containers: Containers,
 ) -> Result<Mdb, MdbFault>
     requires { AreSpelledLists calibrations parameters containers }
-    ensures { IsLimitsResult (database_from calibrations parameters containers) result }
+    ensures { IsLimitsResult (database_of_lists calibrations parameters containers) result }
 {
     if let Some((which, number)) = limit_of(&calibrations, &parameters, &containers) {
         return Err(MdbFault::Limit { which, number });
@@ -336,7 +336,7 @@ impl Mdb {
 
 /// The calibration with a number, where there is a number.
 fn calibration_at(calibrations: &[Calibration], number: Option<usize>) -> Option<&Calibration>
-    ensures { option_copied result ≡ calibration_at calibrations.now number }
+    ensures { option_copied result ≡ calibration_numbered calibrations.now number }
 {
     calibrations.get(number?)
 }

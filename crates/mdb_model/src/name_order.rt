@@ -1,7 +1,7 @@
 //! The numbers of named items in the order of their names.
 
 ghost use Rattle.std.specs.Prelude.{◌≡◌, ◌≤◌, length, map, IfOk};
-ghost use Rattle.mdb_model.specs.NameOrder.{AreNamesSorted, IsCountBelow, IsNameOrder, is_below, name_at};
+ghost use Rattle.mdb_model.specs.NameOrder.{AreNamesSorted, IsCountBelow, IsNameOrder, is_below, name_numbered};
 ghost use Rattle.mdb_items.specs.Texts.{place_of};
 
 use mdb_items::container::Container;
@@ -36,7 +36,7 @@ impl Named for Container {
 
 /// The name of the item with a number, without octets where there is none.
 fn name_at<T: Named>(items: &[T], number: u16) -> &[u8]
-    ensures { result.now ≡ name_at (map T.name_of items.now) number }
+    ensures { result.now ≡ name_numbered (map T.name_of items.now) number }
 {
     match items.get(usize::from(number)) {
         Some(item) => item.name(),

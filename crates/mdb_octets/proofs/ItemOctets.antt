@@ -11,8 +11,8 @@ use Rattle.mdb_items.specs.declared.container.Operator.{Operator}
 use Rattle.mdb_items.specs.declared.container.Operator.TheVariants.{Equal, NotEqual, Less, LessOrEqual, Greater, GreaterOrEqual}
 use Rattle.mdb_items.specs.declared.parameter.Coding.{Coding}
 use Rattle.mdb_items.specs.declared.parameter.Coding.TheVariants.{Uint, Int, UintLe, IntLe}
-use Rattle.mdb_octets.specs.Reading.{archive_at, archive_from, calibration_at, coding_at, coding_from, comparison_at, container_at, container_from, database_at, database_from, entry_at, enum_at, from_link, link_at, operator_at, operator_from, parameter_at, parameter_from, points_at, poly_at, rows_at, table_at}
-use Rattle.mdb_octets.specs.Spelling.{FitsCalibration, FitsComparison, FitsContainer, FitsDatabase, FitsEntry, FitsEnum, FitsParameter, FitsPoints, FitsPoly, FitsTable, archive_code, calibration_octets, coding_code, comparison_octets, container_octets, database_octets, entry_octets, enum_octets, kind_code, link, operator_code, parameter_octets, points_octets, poly_octets, rows_octets}
+use Rattle.mdb_octets.specs.Reading.{archive_at, archive_from, calibration_at, coding_at, coding_from, comparison_at, container_at, container_from, database_at, database_from, entry_at, enum_at, from_link, link_at, operator_at, operator_from, parameter_at, parameter_from, points_at, poly_at, table_rows_at, table_at}
+use Rattle.mdb_octets.specs.Spelling.{FitsCalibration, FitsComparison, FitsContainer, FitsDatabase, FitsEntry, FitsEnum, FitsParameter, FitsPoints, FitsPoly, FitsTable, archive_code, calibration_octets, coding_code, comparison_octets, container_octets, database_octets, container_entry_octets, enum_octets, kind_code, link, operator_code, parameter_octets, points_octets, poly_octets, table_rows_octets}
 use Rattle.octet_fields.specs.Exact.{IsExact}
 use Rattle.octet_fields.specs.Spelling.{counted, number}
 use Rattle.octet_fields.proofs.Exact.{some_is, IsExact-as, IsExact-both, IsExact-decoded, IsExact-mapped, IsExact-nothing}
@@ -133,7 +133,7 @@ poly_here (Poly rows) h = (h.0, refl)
 poly_here (Points rows) h = absurd (omega (arith, h.1))
 poly_here (Enum rows) h = absurd (omega (arith, h.1))
 
-poly_spelled : (t : Table) → OfKind 0 t → OfKind 0 t × (counted w32 poly_octets (poly_of t) ≡ rows_octets t)
+poly_spelled : (t : Table) → OfKind 0 t → OfKind 0 t × (counted w32 poly_octets (poly_of t) ≡ table_rows_octets t)
 poly_spelled (Poly rows) h = (h, refl)
 poly_spelled (Points rows) h = absurd (omega (arith, h.1))
 poly_spelled (Enum rows) h = absurd (omega (arith, h.1))
@@ -143,7 +143,7 @@ points_here (Poly rows) h = absurd (omega (arith, h.1))
 points_here (Points rows) h = (h.0, refl)
 points_here (Enum rows) h = absurd (omega (arith, h.1))
 
-points_spelled : (t : Table) → OfKind 1 t → OfKind 1 t × (counted w32 points_octets (points_of t) ≡ rows_octets t)
+points_spelled : (t : Table) → OfKind 1 t → OfKind 1 t × (counted w32 points_octets (points_of t) ≡ table_rows_octets t)
 points_spelled (Poly rows) h = absurd (omega (arith, h.1))
 points_spelled (Points rows) h = (h, refl)
 points_spelled (Enum rows) h = absurd (omega (arith, h.1))
@@ -153,7 +153,7 @@ enum_here (Poly rows) h = absurd (omega (arith, h.1))
 enum_here (Points rows) h = absurd (omega (arith, h.1))
 enum_here (Enum rows) h = (h.0, refl)
 
-enum_spelled : (t : Table) → OfKind 2 t → OfKind 2 t × (counted w32 enum_octets (enum_of t) ≡ rows_octets t)
+enum_spelled : (t : Table) → OfKind 2 t → OfKind 2 t × (counted w32 enum_octets (enum_of t) ≡ table_rows_octets t)
 enum_spelled (Poly rows) h = absurd (omega (arith, h.1))
 enum_spelled (Points rows) h = absurd (omega (arith, h.1))
 enum_spelled (Enum rows) h = (h, refl)
@@ -163,20 +163,20 @@ none_of_kind n (Poly rows) h = omega (arith, h.1)
 none_of_kind n (Points rows) h = omega (arith, h.1)
 none_of_kind n (Enum rows) h = omega (arith, h.1)
 
-rows_exact : (kind : ℕ) → IsExact (OfKind kind) rows_octets (rows_at kind)
-rows_exact zero = IsExact-as (IsExact-mapped (exact_counted32 poly_exact) (OfKind 0) Poly poly_of (λ rows fits. ((fits, refl), refl)) poly_here) (OfKind 0) rows_octets poly_spelled (λ t h. h)
-rows_exact (suc zero) = IsExact-as (IsExact-mapped (exact_counted32 points_exact) (OfKind 1) Points points_of (λ rows fits. ((fits, refl), refl)) points_here) (OfKind 1) rows_octets points_spelled (λ t h. h)
-rows_exact (suc (suc zero)) = IsExact-as (IsExact-mapped (exact_counted32 enum_exact) (OfKind 2) Enum enum_of (λ rows fits. ((fits, refl), refl)) enum_here) (OfKind 2) rows_octets enum_spelled (λ t h. h)
-rows_exact (suc (suc (suc n))) = IsExact-nothing (OfKind (suc (suc (suc n)))) rows_octets (none_of_kind n)
+rows_exact : (kind : ℕ) → IsExact (OfKind kind) table_rows_octets (table_rows_at kind)
+rows_exact zero = IsExact-as (IsExact-mapped (exact_counted32 poly_exact) (OfKind 0) Poly poly_of (λ rows fits. ((fits, refl), refl)) poly_here) (OfKind 0) table_rows_octets poly_spelled (λ t h. h)
+rows_exact (suc zero) = IsExact-as (IsExact-mapped (exact_counted32 points_exact) (OfKind 1) Points points_of (λ rows fits. ((fits, refl), refl)) points_here) (OfKind 1) table_rows_octets points_spelled (λ t h. h)
+rows_exact (suc (suc zero)) = IsExact-as (IsExact-mapped (exact_counted32 enum_exact) (OfKind 2) Enum enum_of (λ rows fits. ((fits, refl), refl)) enum_here) (OfKind 2) table_rows_octets enum_spelled (λ t h. h)
+rows_exact (suc (suc (suc n))) = IsExact-nothing (OfKind (suc (suc (suc n)))) table_rows_octets (none_of_kind n)
 
 kind_small : (t : Table) → FitsTable t → kind_code t < 2 ^ 8
 kind_small (Poly rows) fits = omega arith
 kind_small (Points rows) fits = omega arith
 kind_small (Enum rows) fits = omega arith
 
-table_exact : IsExact FitsTable (λ t. number w8 (kind_code t) ++ rows_octets t) table_at
+table_exact : IsExact FitsTable (λ t. number w8 (kind_code t) ++ table_rows_octets t) table_at
 unfolding table_at
-table_exact = IsExact-kind kind_code rows_at kind_small rows_exact
+table_exact = IsExact-kind kind_code table_rows_at kind_small rows_exact
 
 calibration_exact : IsExact FitsCalibration calibration_octets calibration_at
 unfolding calibration_octets calibration_at
@@ -189,8 +189,8 @@ comparison_exact = IsExact-mapped (IsExact-both exact16 (λ _ _. IsExact-both op
     (λ p. record { parameter = p.0; operator = p.1.0; number = p.1.1 }) (λ c. (c.parameter, (c.operator, c.number)))
     (λ p fits. (record { parameter = fits.0; number = fits.1.1 }, refl)) (λ c fits. ((fits.parameter, (tt, fits.number)), refl))
 
-entry_exact : IsExact FitsEntry entry_octets entry_at
-unfolding entry_octets entry_at
+entry_exact : IsExact FitsEntry container_entry_octets entry_at
+unfolding container_entry_octets entry_at
 entry_exact = IsExact-mapped (IsExact-both exact16 (λ _ _. exact32)) FitsEntry (λ p. record { parameter = p.0; at = p.1 }) (λ e. (e.parameter, e.at))
     (λ p fits. (record { parameter = fits.0; at = fits.1 }, refl)) (λ e fits. ((fits.parameter, fits.at), refl))
 

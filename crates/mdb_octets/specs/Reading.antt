@@ -64,15 +64,15 @@ unfoldable pub enum_at : Reader EnumRow
 enum_at = mapped_at (λ p. record { x = p.0; label = p.1 }) (both_at (signed_at w128) (λ _. name_at))
 
 -- the rows of a kind
-abbrev pub rows_at : ℕ → Reader Table
-rows_at zero = mapped_at Poly (counted_at w32 poly_at)
-rows_at (suc zero) = mapped_at Points (counted_at w32 points_at)
-rows_at (suc (suc zero)) = mapped_at Enum (counted_at w32 enum_at)
-rows_at (suc (suc (suc n))) = nothing_at
+abbrev pub table_rows_at : ℕ → Reader Table
+table_rows_at zero = mapped_at Poly (counted_at w32 poly_at)
+table_rows_at (suc zero) = mapped_at Points (counted_at w32 points_at)
+table_rows_at (suc (suc zero)) = mapped_at Enum (counted_at w32 enum_at)
+table_rows_at (suc (suc (suc n))) = nothing_at
 
 -- reads a table: its kind, and then its rows
 unfoldable pub table_at : Reader Table
-table_at = kind_at rows_at
+table_at = kind_at table_rows_at
 
 -- reads a calibration: name and table
 unfoldable pub calibration_at : Reader Calibration

@@ -114,14 +114,14 @@ kind_code (Points rows) = 1
 kind_code (Enum rows) = 2
 
 -- u32 count, and the rows by their kind
-abbrev pub rows_octets : Table → List ℕ
-rows_octets (Poly rows) = counted w32 poly_octets rows
-rows_octets (Points rows) = counted w32 points_octets rows
-rows_octets (Enum rows) = counted w32 enum_octets rows
+abbrev pub table_rows_octets : Table → List ℕ
+table_rows_octets (Poly rows) = counted w32 poly_octets rows
+table_rows_octets (Points rows) = counted w32 points_octets rows
+table_rows_octets (Enum rows) = counted w32 enum_octets rows
 
 -- name, u8 kind, rows
 unfoldable pub calibration_octets : Calibration → List ℕ
-calibration_octets c = name c.name ++ (number w8 (kind_code c.table) ++ rows_octets c.table)
+calibration_octets c = name c.name ++ (number w8 (kind_code c.table) ++ table_rows_octets c.table)
 
 -- the octet of an operator
 abbrev pub operator_code : Operator → ℕ
@@ -137,8 +137,8 @@ unfoldable pub comparison_octets : Comparison → List ℕ
 comparison_octets c = number w16 c.parameter ++ (number w8 (operator_code c.operator) ++ signed w128 c.number)
 
 -- u16 parameter, u32 absolute bit position
-unfoldable pub entry_octets : Entry → List ℕ
-entry_octets e = number w16 e.parameter ++ number w32 e.at
+unfoldable pub container_entry_octets : Entry → List ℕ
+container_entry_octets e = number w16 e.parameter ++ number w32 e.at
 
 -- the octet of an archive flag
 abbrev pub archive_code : Bool → ℕ
@@ -149,7 +149,7 @@ archive_code true = 1
 unfoldable pub container_octets : Container → List ℕ
 container_octets c =
     name c.name ++ (number w16 (link c.parent) ++ (number w8 (archive_code c.archive)
-    ++ (counted w8 comparison_octets c.condition ++ counted w16 entry_octets c.entries)))
+    ++ (counted w8 comparison_octets c.condition ++ counted w16 container_entry_octets c.entries)))
 
 -- the parameters, the calibrations and the containers, each a u16 count and the items in the order of their sheet
 unfoldable pub database_octets : Database → List ℕ

@@ -4,7 +4,7 @@ ghost use Rattle.std.specs.Prelude.{◌≡◌, ◌<◌, ◌^◌, ◌++◌, lengt
 ghost use Rattle.std.specs.Int.{w8, w16, w32};
 ghost use Rattle.std.specs.List.{AllByRecursion};
 ghost use Rattle.octet_fields.specs.Spelling.{counted, number};
-ghost use Rattle.mdb_octets.specs.Spelling.{FitsCalibration, FitsComparison, FitsContainer, FitsDatabase, FitsEntry, FitsEnum, FitsParameter, FitsPoints, FitsPoly, FitsTable, archive_code, calibration_octets, coding_code, comparison_octets, container_octets, database_octets, entry_octets, enum_octets, kind_code, link, operator_code, parameter_octets, points_octets, poly_octets, rows_octets};
+ghost use Rattle.mdb_octets.specs.Spelling.{FitsCalibration, FitsComparison, FitsContainer, FitsDatabase, FitsEntry, FitsEnum, FitsParameter, FitsPoints, FitsPoly, FitsTable, archive_code, calibration_octets, coding_code, comparison_octets, container_octets, database_octets, container_entry_octets, enum_octets, kind_code, link, operator_code, parameter_octets, points_octets, poly_octets, table_rows_octets};
 
 use crate::codec::{
     CalibrationCodec, ComparisonCodec, ContainerCodec, EntryCodec, EnumRowCodec, ParameterCodec,
@@ -119,7 +119,7 @@ impl Encode for EnumRowCodec {
 #[tactic(auto, unfolding(octet_fields::specs::Spelling::counted))]
 fn put_table(out: &mut Vec<u8>, table: &Table) -> Result<(), AllocError>
     requires { FitsTable table.now }
-    ensures { OnOk result (out.new.items ≡ out.old.items ++ (number w8 (kind_code table.now) ++ rows_octets
+    ensures { OnOk result (out.new.items ≡ out.old.items ++ (number w8 (kind_code table.now) ++ table_rows_octets
         table.now)) }
 {
     match table {
@@ -175,9 +175,9 @@ impl Encode for EntryCodec {
 
     ghost fits = { FitsEntry };
 
-    ghost spell = { entry_octets };
+    ghost spell = { container_entry_octets };
 
-    #[tactic(auto, unfolding(crate::specs::Spelling::entry_octets))]
+    #[tactic(auto, unfolding(crate::specs::Spelling::container_entry_octets))]
     fn put(out: &mut Vec<u8>, e: &Entry) -> Result<(), AllocError> {
         put_u16(out, e.parameter as u16)?;
         put_u32(out, e.at)
@@ -198,7 +198,7 @@ fn put_condition(out: &mut Vec<u8>, condition: &[Comparison]) -> Result<(), Allo
 fn put_entries(out: &mut Vec<u8>, entries: &[Entry]) -> Result<(), AllocError>
     requires few { length entries.now < 2 ^ 16 }
     requires fit { AllByRecursion FitsEntry entries.now }
-    ensures { OnOk result (out.new.items ≡ out.old.items ++ counted w16 entry_octets entries.now) }
+    ensures { OnOk result (out.new.items ≡ out.old.items ++ counted w16 container_entry_octets entries.now) }
 {
     put_u16(out, entries.len() as u16)?;
     put_each::<EntryCodec>(out, entries)

@@ -12,7 +12,7 @@ use Rattle.mdb_items.specs.declared.calibration.Table.{Table}
 use Rattle.mdb_items.specs.declared.calibration.Table.TheVariants.{Poly, Points, Enum}
 use Rattle.mdb_items.specs.declared.rows.RowValues.{RowValues}
 use Rattle.mdb_items.specs.declared.rows.RowValues.TheVariants.{Unread, Coefficient, Point, Label}
-use Rattle.mdb_items.specs.CalibrationRows.{CalibrationRow, calibration_checks, calibration_fault, calibration_fault_at, calibrations_of, row_values_of, continued, empty_table, has_x, has_y, is_other_kind, is_unread, rows_of_calibration, table_named, with_calibration_row, with_name, with_new_row, with_row}
+use Rattle.mdb_items.specs.CalibrationRows.{CalibrationRow, calibration_checks, calibration_fault, calibration_fault_at, calibrations_of, row_values_of, continued, empty_table, has_x, has_y, is_other_kind, is_unread, rows_of_calibration, table_named, with_calibration_row, with_name, with_new_row, table_with_row}
 use Rattle.mdb_items.specs.Checks.{first_at, first_broken}
 use Rattle.mdb_items.specs.Lists.{at_last}
 use Rattle.mdb_items.specs.Texts.{Text}
@@ -20,7 +20,7 @@ use Rattle.mdb_rules.proofs.Ends.{at_last-push, item_at, last_of-push, snoc}
 use Rattle.mdb_rules.proofs.Passing.{all_pass, each_none, is_same, is_true, take-next}
 
 -- values of a table's kind become its last row
-row_values_row : (t : Table) (row_values : RowValues) → is_other_kind (Some t) row_values ≡ false → has_x row_values ≡ true → has_y row_values ≡ true → row_values_of (with_row t row_values) ≡ row_values_of t ++ row_values ∷ []
+row_values_row : (t : Table) (row_values : RowValues) → is_other_kind (Some t) row_values ≡ false → has_x row_values ≡ true → has_y row_values ≡ true → row_values_of (table_with_row t row_values) ≡ row_values_of t ++ row_values ∷ []
 row_values_row (Poly rows) Unread k x y = cc
 row_values_row (Poly rows) (Coefficient None m) k x y = cc
 row_values_row (Poly rows) (Coefficient (Some e) None) k x y = cc

@@ -9,7 +9,7 @@ use Rattle.mdb_items.specs.declared.calibration.EnumRow.{EnumRow}
 use Rattle.mdb_rules.specs.declared.calibration_rows.Calibrations.{Calibrations}
 use Rattle.mdb_items.specs.declared.rows.RowValues.{RowValues}
 use Rattle.mdb_items.specs.declared.rows.RowValues.TheVariants.{Unread, Coefficient, Point, Label}
-use Rattle.mdb_items.specs.CalibrationRows.{AreNew, continued, empty_table, enum_numbers, is_other_kind, label_number, repeats, table_named, table_of_last, with_name, with_new_row, with_row}
+use Rattle.mdb_items.specs.CalibrationRows.{AreNew, continued, empty_table, enum_numbers, is_other_kind, label_number, repeats, table_named, table_of_last, with_name, with_new_row, table_with_row}
 use Rattle.mdb_items.specs.Lists.{at_last, last_of}
 use Rattle.mdb_items.specs.Numbers.{has_number}
 use Rattle.mdb_rules.specs.Steps.{IsInStep}
@@ -29,7 +29,7 @@ new_number (Some (Points rows)) (Label (Some x) y) k r = cc
 new_number (Some (Enum rows)) (Label (Some x) y) k r = r
 
 -- one more row of a table's kind
-more_numbers : (t : Table) (row_values : RowValues) → is_other_kind (Some t) row_values ≡ false → enum_numbers (Some (with_row t row_values)) ≡ enum_numbers (Some t) ++ label_number row_values
+more_numbers : (t : Table) (row_values : RowValues) → is_other_kind (Some t) row_values ≡ false → enum_numbers (Some (table_with_row t row_values)) ≡ enum_numbers (Some t) ++ label_number row_values
 more_numbers (Poly rows) Unread k = cc
 more_numbers (Poly rows) (Coefficient None y) k = refl
 more_numbers (Poly rows) (Coefficient (Some e) None) k = refl
@@ -48,7 +48,7 @@ more_numbers (Enum rows) (Point x y) k = cc
 more_numbers (Enum rows) (Label None y) k = sym (append-nil (map _ rows))
 more_numbers (Enum rows) (Label (Some x) y) k = map-append _ rows _
 
-first_numbers : (row_values : RowValues) → enum_numbers (Some (with_row (empty_table row_values) row_values)) ≡ label_number row_values
+first_numbers : (row_values : RowValues) → enum_numbers (Some (table_with_row (empty_table row_values) row_values)) ≡ label_number row_values
 first_numbers Unread = refl
 first_numbers (Coefficient None y) = refl
 first_numbers (Coefficient (Some e) None) = refl
@@ -83,7 +83,7 @@ numbers_after (a ∷ above) name row_values (Some t) is k =
         let begun : with_name (front ++ c ∷ []) name row_values ≡ front ++ c ∷ [] = rw e refl in
         let grown : at_last (with_new_row row_values) (with_name (front ++ c ∷ []) name row_values) ≡ front ++ with_new_row row_values c ∷ [] = ap (at_last (with_new_row row_values)) begun ∙ at_last-push (with_new_row row_values) front c in
         ap (λ (cs : List Calibration). enum_numbers (table_of_last (last_of cs))) grown ∙ ap (λ (x : Option Calibration). enum_numbers (table_of_last x)) (last_of-push front (with_new_row row_values c))
-        ∙ ap (λ (u : Table). enum_numbers (Some (with_row u row_values))) named.1 ∙ more_numbers t row_values k
+        ∙ ap (λ (u : Table). enum_numbers (Some (table_with_row u row_values))) named.1 ∙ more_numbers t row_values k
 
 -- what is continued is the last calibration's table
 pub continued_last : (cs : List Calibration) (name : Text) (t : Table) → continued cs name ≡ Some t → table_of_last (last_of cs) ≡ Some t
@@ -114,7 +114,7 @@ fresh_name None (Some n) e is = cc
 fresh_name (Some t) p e is = cc
 
 -- the last calibration written with one more row
-pub written : (items : List Calibration) (n : ℕ) (old : Calibration) (t : Table) (row_values : RowValues) → suc n ≡ length items → slice_get items n ≡ Some old → t ≡ with_row old.table row_values
+pub written : (items : List Calibration) (n : ℕ) (old : Calibration) (t : Table) (row_values : RowValues) → suc n ≡ length items → slice_get items n ≡ Some old → t ≡ table_with_row old.table row_values
     → set items n (record { name = old.name; table = t }) ≡ at_last (with_new_row row_values) items
 written items n old t row_values e is same =
     ap (λ (u : Table). let c : Calibration = record { name = old.name; table = u } in set items n c) same ∙ set-last (with_new_row row_values) items n old e is

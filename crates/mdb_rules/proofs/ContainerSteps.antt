@@ -12,7 +12,7 @@ use Rattle.mdb_items.specs.declared.rows.Reference.TheVariants.{Nothing, Unknown
 use Rattle.mdb_items.specs.Checks.{first_broken}
 use Rattle.mdb_items.specs.ContainerRows.{new_container_checks, entry_checks, is_parent}
 use Rattle.mdb_items.specs.Paths.{ContainerPath, bits_at, last_number}
-use Rattle.mdb_items.specs.ParameterRows.{number_of}
+use Rattle.mdb_items.specs.ParameterRows.{referenced_number}
 use Rattle.mdb_rules.specs.Totals.{IsNumber}
 use Rattle.mdb_items.specs.Texts.{place_of}
 use Rattle.mdb_rules.proofs.Passing.{all_pass, is_true}
@@ -28,7 +28,7 @@ begun_name above up b sound = let p = all_pass (new_container_checks above up b)
 pub begun_depth : (above : List Container) (up : ContainerPath) (b : NewContainer) → first_broken (new_container_checks above up b) ≡ None → up.containers < 32
 begun_depth above up b sound = let p = all_pass (new_container_checks above up b) sound in leb-false 32 up.containers p.1.1.0
 
-pub parent_below : (n : ℕ) (r : Reference) → is_parent n r ≡ true → (p : ℕ) → number_of r ≡ Some p → p < n
+pub parent_below : (n : ℕ) (r : Reference) → is_parent n r ≡ true → (p : ℕ) → referenced_number r ≡ Some p → p < n
 parent_below n Nothing is p e = cc
 parent_below n Unknown is p e = cc
 parent_below n (Known k) is p e =
@@ -36,7 +36,7 @@ parent_below n (Known k) is p e =
     let less = ltb-true k n is in
     omega arith
 
-pub begun_parent : (above : List Container) (up : ContainerPath) (b : NewContainer) → first_broken (new_container_checks above up b) ≡ None → (p : ℕ) → number_of b.parent ≡ Some p → p < length above
+pub begun_parent : (above : List Container) (up : ContainerPath) (b : NewContainer) → first_broken (new_container_checks above up b) ≡ None → (p : ℕ) → referenced_number b.parent ≡ Some p → p < length above
 begun_parent above up b sound = let p = all_pass (new_container_checks above up b) sound in parent_below (length above) b.parent (is_true (is_parent (length above) b.parent) p.1.1.1.0)
 
 -- the last number is that of a container

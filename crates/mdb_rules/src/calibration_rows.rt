@@ -3,7 +3,7 @@
 ghost use Rattle.std.specs.Prelude.{◌≡◌, ◌<◌, ◌==◌, ◌∷◌, ◌++◌, [], ◌&&◌, not, is_some, length, map, None, Some, option_copied, OnOk};
 ghost use Rattle.std.specs.List.{list_any};
 ghost use Rattle.mdb_items.specs.declared.calibration.Table.{Table as TableValue};
-ghost use Rattle.mdb_items.specs.CalibrationRows.{AreNew, calibration_checks, continued, empty_table, enum_numbers, has_x, has_y, is_named, is_not_above, is_other_kind, is_point, is_unread, label_number, repeats, with_calibration_row, with_name, with_new_row, with_row};
+ghost use Rattle.mdb_items.specs.CalibrationRows.{AreNew, calibration_checks, continued, empty_table, enum_numbers, has_x, has_y, is_named, is_not_above, is_other_kind, is_point, is_unread, label_number, repeats, with_calibration_row, with_name, with_new_row, table_with_row};
 ghost use Rattle.mdb_items.specs.Checks.{first_broken};
 ghost use Rattle.mdb_items.specs.Lists.{at_last};
 ghost use Rattle.mdb_items.specs.Numbers.{is_decimal, is_in_range, is_whole_number};
@@ -150,7 +150,7 @@ fn empty_table(alloc: Global, row_values: &RowValues) -> Table
 
 /// Adds a row, where the values are of the table's kind and whole.
 fn push_row(table: &mut Table, row_values: RowValues) -> Result<(), AllocError>
-    ensures { OnOk result (table.new ≡ with_row table.old row_values) }
+    ensures { OnOk result (table.new ≡ table_with_row table.old row_values) }
 {
     match table {
         Table::Poly(rows) => {

@@ -9,7 +9,7 @@ ghost use Rattle.mdb_items.specs.declared.rows.ContainerColumns.TheVariants.{Beg
 ghost use Rattle.mdb_items.specs.Paths.{bits_at, last_number, path_at, path_end, paths_of, stands_on};
 ghost use Rattle.mdb_items.specs.Lists.{at_last, is_empty};
 ghost use Rattle.mdb_items.specs.Numbers.{is_in_range};
-ghost use Rattle.mdb_items.specs.ParameterRows.{number_of};
+ghost use Rattle.mdb_items.specs.ParameterRows.{referenced_number};
 ghost use Rattle.mdb_rules.specs.Totals.{AreEarlier, HasPaths, HasSomePaths, KeepsPaths, totals_at};
 ghost use Rattle.mdb_items.specs.Texts.{place_of};
 

@@ -3,7 +3,7 @@
 ghost use Rattle.std.specs.Prelude.{◌≡◌, ◌≤◌, ◌*◌, ◌∷◌, ◌++◌, [], length, map, max, min, fold, sum_by, nat_lt, unwrap_or, None, Some, option_copied, OnOk};
 ghost use Rattle.mdb_items.specs.Checks.{first_broken};
 ghost use Rattle.mdb_items.specs.Texts.{place_of};
-ghost use Rattle.mdb_items.specs.ParameterRows.{admits, degree, fits_coding, is_le, is_reference, number_of, parameter_checks, parameter_of, reach, table_at};
+ghost use Rattle.mdb_items.specs.ParameterRows.{admits, degree, fits_coding, is_le, is_reference, referenced_number, parameter_checks, parameter_of, reach, referenced_table};
 
 use crate::names::Names;
 use mdb_items::calibration::{Calibration, PolyRow, Table};
@@ -42,7 +42,7 @@ pub fn is_reference(count: usize, reference: Reference) -> bool
 }
 
 pub fn number_of(reference: Reference) -> Option<usize>
-    ensures { result ≡ number_of reference }
+    ensures { result ≡ referenced_number reference }
 {
     match reference {
         Reference::Nothing => None,
@@ -52,7 +52,7 @@ pub fn number_of(reference: Reference) -> Option<usize>
 }
 
 fn table_at(calibrations: &[Calibration], reference: Reference) -> Option<&Table>
-    ensures { option_copied result ≡ table_at calibrations.now reference }
+    ensures { option_copied result ≡ referenced_table calibrations.now reference }
 {
     match reference {
         Reference::Nothing => None,

@@ -82,9 +82,9 @@ rows_fault number [] = None
 rows_fault number (row ∷ rows) = or_else (option_map (λ rule. (number, rule)) (first_broken (ask_checks row))) (rows_fault (suc number) rows)
 
 -- the first rule broken: the header's, or else that of the first row that breaks one
-abbrev pub sheet_fault : List Fields → Option (ℕ × ℕ)
-sheet_fault [] = Some (1, 1)
-sheet_fault (header ∷ rows) = if is_ask_header header then rows_fault 2 rows else Some (1, 1)
+abbrev pub ask_sheet_fault : List Fields → Option (ℕ × ℕ)
+ask_sheet_fault [] = Some (1, 1)
+ask_sheet_fault (header ∷ rows) = if is_ask_header header then rows_fault 2 rows else Some (1, 1)
 
 -- the asks of the rows below the header, or the first rule that they break
 abbrev pub IsAskRowsResult : List Fields → Result (List Ask) Refusal → Type 0
@@ -95,10 +95,10 @@ IsAskRowsResult rows (Err other) = ⊥
 
 -- the asks of a sheet, or the first rule that it breaks, or where none the limit of asks where it has more; for want of memory nothing is said
 abbrev pub IsAsksResult : List Fields → Result (List Ask) Refusal → Type 0
-IsAsksResult records (Ok asks) = (sheet_fault records ≡ None) × (asks ≡ map ask_of (drop 1 records)) × (length asks ≤ limit_of which.Asks)
-IsAsksResult records (Err (BadSheet name row rule)) = (name ≡ sheet.Asks) × (sheet_fault records ≡ Some (row, rule))
+IsAsksResult records (Ok asks) = (ask_sheet_fault records ≡ None) × (asks ≡ map ask_of (drop 1 records)) × (length asks ≤ limit_of which.Asks)
+IsAsksResult records (Err (BadSheet name row rule)) = (name ≡ sheet.Asks) × (ask_sheet_fault records ≡ Some (row, rule))
 IsAsksResult records (Err (Limit quantity number)) =
-    (quantity ≡ which.Asks) × (number ≡ limit_of which.Asks) × (sheet_fault records ≡ None) × (limit_of which.Asks < length (drop 1 records))
+    (quantity ≡ which.Asks) × (number ≡ limit_of which.Asks) × (ask_sheet_fault records ≡ None) × (limit_of which.Asks < length (drop 1 records))
 IsAsksResult records (Err OutOfMemory) = Unit {0}
 IsAsksResult records (Err other) = ⊥
 
@@ -110,10 +110,10 @@ AreAsks left asks = IfSome left (λ octets. (length octets ≤ limit_of SheetOct
 abbrev pub IsAsksRefusal : Option (List ℕ) → ℕ → ℕ → Refusal → Type 0
 IsAsksRefusal left faults faults' ReadFault = HasRisen faults faults'
 IsAsksRefusal left faults faults' (BadSheet name row rule) =
-    (name ≡ sheet.Asks) × IfSome left (λ octets. (length octets ≤ limit_of SheetOctets) × (sheet_fault (sheet_of octets) ≡ Some (row, rule)))
+    (name ≡ sheet.Asks) × IfSome left (λ octets. (length octets ≤ limit_of SheetOctets) × (ask_sheet_fault (sheet_of octets) ≡ Some (row, rule)))
 IsAsksRefusal left faults faults' (Limit SheetOctets number) = (number ≡ limit_of SheetOctets) × IfSome left (λ octets. limit_of SheetOctets < length octets)
 IsAsksRefusal left faults faults' (Limit which.Asks number) =
     (number ≡ limit_of which.Asks)
-    × IfSome left (λ octets. (length octets ≤ limit_of SheetOctets) × (sheet_fault (sheet_of octets) ≡ None) × (limit_of which.Asks < length (drop 1 (sheet_of octets))))
+    × IfSome left (λ octets. (length octets ≤ limit_of SheetOctets) × (ask_sheet_fault (sheet_of octets) ≡ None) × (limit_of which.Asks < length (drop 1 (sheet_of octets))))
 IsAsksRefusal left faults faults' OutOfMemory = Unit {0}
 IsAsksRefusal left faults faults' other = ⊥

@@ -20,5 +20,5 @@ HasFile files name i =
     (i < length files) × IsSome (get (files_of files) name) × ((d : File) → get (files_of files) name ≡ Some (slice_index_or files i d).octets.items)
 
 -- a call is among those that are to fail, by the number of its opening, and 0 or the number of its read
-abbrev pub is_listed : List FailingCall → ℕ → ℕ → Bool
-is_listed calls opening read = list_any (λ call. (call.opening == opening) && (call.read == read)) calls
+abbrev pub is_failing_input_call : List FailingCall → ℕ → ℕ → Bool
+is_failing_input_call calls opening read = list_any (λ call. (call.opening == opening) && (call.read == read)) calls

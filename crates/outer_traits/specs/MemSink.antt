@@ -3,5 +3,5 @@ use Rattle.std.specs.Prelude.{◌==◌, ℕ, Bool, List}
 use Rattle.std.specs.List.{list_any}
 
 -- a write is among those that are to fail, by its number
-abbrev pub is_listed : List ℕ → ℕ → Bool
-is_listed calls write = list_any (λ call. call == write) calls
+abbrev pub is_failing_write : List ℕ → ℕ → Bool
+is_failing_write calls write = list_any (λ call. call == write) calls

@@ -42,9 +42,9 @@ Reads None new n into = new ≡ None
 Reads (Some octets) new n into = (n ≤ length octets) × (take n into ≡ take n octets) × (new ≡ Some (drop n octets))
 
 -- what is left at first is what the files have at the name, where they are known
-abbrev pub Gives : Option Files → List ℕ → Option (List ℕ) → Type 0
-Gives None name left = left ≡ None
-Gives (Some files) name left = IsSomeAnd (get files name) (λ octets. left ≡ Some octets)
+abbrev pub IsLeftAtFirst : Option Files → List ℕ → Option (List ℕ) → Type 0
+IsLeftAtFirst None name left = left ≡ None
+IsLeftAtFirst (Some files) name left = IsSomeAnd (get files name) (λ octets. left ≡ Some octets)
 
 -- the first n octets of a piece were appended, where the content is known
 abbrev pub Writes : Option (List ℕ) → Option (List ℕ) → ℕ → List ℕ → Type 0

@@ -23,11 +23,11 @@ abbrev pub IsThere : Option Files → List ℕ → Type 0
 IsThere files name = IfSome files (λ all. IsSome (get all name))
 
 -- why an input wasn't read to its end: there's none of the name, or there is one and a call failed, it is longer than the limit, or there was no memory
-abbrev pub IsReadFault : Option Files → List ℕ → ℕ → ℕ → ℕ → ReadFault → Type 0
-IsReadFault files name limit faults faults' Missing = IfSome files (λ all. IsNone (get all name))
-IsReadFault files name limit faults faults' Failed = HasRisen faults faults' × IsThere files name
-IsReadFault files name limit faults faults' TooLong = IfSome files (λ all. IsSomeAnd (get all name) (λ octets. limit < length octets))
-IsReadFault files name limit faults faults' OutOfMemory = IsThere files name
+abbrev pub IsInputFault : Option Files → List ℕ → ℕ → ℕ → ℕ → ReadFault → Type 0
+IsInputFault files name limit faults faults' Missing = IfSome files (λ all. IsNone (get all name))
+IsInputFault files name limit faults faults' Failed = HasRisen faults faults' × IsThere files name
+IsInputFault files name limit faults faults' TooLong = IfSome files (λ all. IsSomeAnd (get all name) (λ octets. limit < length octets))
+IsInputFault files name limit faults faults' OutOfMemory = IsThere files name
 
 -- a count of faults has risen where a reading failed, and else is as before
 abbrev pub ReadingCounted : {X : Type 0} → Result X ReadFault → ℕ → ℕ → Type 0

@@ -2,7 +2,7 @@
 
 ghost use Rattle.std.specs.Prelude.{◌≡◌, ℕ, ◌-◌, ◌≤◌, ◌<◌, List, Option, IfOk, OnOk, OnErr, IfSome, IsNone, IsErrOf, ◌↔◌};
 ghost use Rattle.std.specs.FinMap.{get};
-ghost use Rattle.outer_traits.specs.Outside.{HasRisen, Files, Gives, OpeningCounted, Stays, one_more};
+ghost use Rattle.outer_traits.specs.Outside.{HasRisen, Files, IsLeftAtFirst, OpeningCounted, Stays, one_more};
 
 use crate::fault::OpenFault;
 use crate::source::Source;
@@ -29,7 +29,7 @@ pub trait Inputs {
 
     /// A source at the start of the named octets. The count rises exactly where the answer is `Failed`.
     fn open(&mut self, alloc: Global, name: &str) -> Result<Self::Source, OpenFault>
-        ensures found { IfOk result (λ source. Gives (files self.old) name.now (Self.Source.left source)) }
+        ensures found { IfOk result (λ source. IsLeftAtFirst (files self.old) name.now (Self.Source.left source)) }
         ensures fresh { IfOk result (λ source. Self.Source.faults source ≡ 0) }
         ensures missing { IfSome (files self.old) (λ all. IsErrOf result OpenFault.Missing ↔
             IsNone (get all name.now)) }

@@ -2,7 +2,7 @@
 
 ghost use Rattle.std.specs.Prelude.{◌≡◌, ◌≤◌, length, drop, MatchOption, None, Some, []};
 ghost use Rattle.std.specs.FinMap.{get};
-ghost use Rattle.outer_traits.specs.MemInputs.{files_of, HasFile, is_listed};
+ghost use Rattle.outer_traits.specs.MemInputs.{files_of, HasFile, is_failing_input_call};
 
 use crate::fault::{Failed, OpenFault, raised};
 use crate::inputs::Inputs;
@@ -53,7 +53,7 @@ pub struct MemInputs {
 
 /// Whether a call is among those that are to fail.
 fn is_listed(calls: &[FailingCall], opening: u64, read: u64) -> bool
-    ensures { result ≡ is_listed calls.now opening read }
+    ensures { result ≡ is_failing_input_call calls.now opening read }
 {
     calls.contains(&FailingCall { opening, read })
 }
@@ -74,7 +74,7 @@ pub struct MemSource {
 
 impl Source for MemSource {
     ghost use Rattle.std.specs.Prelude.{◌≡◌, ◌≤◌, ◌<◌, Some, Ok, drop, [], length, is_err, IfOk, IsErr, OnErr, OnOk};
-    ghost use Rattle.outer_traits.specs.MemInputs.{is_listed};
+    ghost use Rattle.outer_traits.specs.MemInputs.{is_failing_input_call};
     ghost use Rattle.outer_traits.specs.Outside.{HasRisen, Reads, Stays, one_more};
 
     ghost left = { λ source. Some (drop source.at source.octets.items) };
@@ -86,7 +86,7 @@ impl Source for MemSource {
     /// The reads that are listed fail, and no others.
     fn read(&mut self, into: &mut [u8]) -> Result<usize, Failed>
         ensures numbered { self.new.reads ≡ one_more self.old.reads }
-        ensures listed_fails { is_err result ≡ is_listed self.old.calls.items self.old.opening self.new.reads }
+        ensures listed_fails { is_err result ≡ is_failing_input_call self.old.calls.items self.old.opening self.new.reads }
         ensures same_calls { (self.new.calls ≡ self.old.calls) × (self.new.opening ≡ self.old.opening) }
         ensures count { IfOk result (λ n. n ≤ length into.old) }
         ensures taken { IfOk result (λ n.
@@ -145,8 +145,8 @@ impl MemInputs {
 impl Inputs for MemInputs {
     ghost use Rattle.std.specs.Prelude.{◌≡◌, ◌≤◌, ◌-◌, ◌<◌, ◌↔◌, Some, [], drop, IfOk, IsErrOf, IsNone, IsSome, OnOk, OnErr, true, false};
     ghost use Rattle.std.specs.FinMap.{get};
-    ghost use Rattle.outer_traits.specs.MemInputs.{files_of, is_listed};
-    ghost use Rattle.outer_traits.specs.Outside.{Gives, HasRisen, OpeningCounted, Stays, one_more};
+    ghost use Rattle.outer_traits.specs.MemInputs.{files_of, is_failing_input_call};
+    ghost use Rattle.outer_traits.specs.Outside.{IsLeftAtFirst, HasRisen, OpeningCounted, Stays, one_more};
 
     type Source = MemSource;
 
@@ -163,16 +163,16 @@ impl Inputs for MemInputs {
     /// `Missing` where there's no file of the name, and else the openings that are listed fail, and no others.
     fn open(&mut self, alloc: Global, name: &str) -> Result<MemSource, OpenFault>
         ensures numbered { self.new.opened ≡ one_more self.old.opened }
-        ensures listed_fails { is_listed self.old.calls.items self.new.opened 0 ≡ true
+        ensures listed_fails { is_failing_input_call self.old.calls.items self.new.opened 0 ≡ true
             → IsSome (get (files_of self.old.files.items) name.now) → IsErrOf result OpenFault.Failed }
-        ensures unlisted_never_fails { is_listed self.old.calls.items self.new.opened 0 ≡ false →
+        ensures unlisted_never_fails { is_failing_input_call self.old.calls.items self.new.opened 0 ≡ false →
             IsErrOf result OpenFault.Failed → ⊥ }
         ensures known { IfOk result (λ source.
             (source.opening ≡ self.new.opened) × (source.calls.items ≡ self.old.calls.items)) }
         ensures unread { IfOk result (λ source. source.reads ≡ 0) }
         ensures same_calls { self.new.calls ≡ self.old.calls }
         ensures found { IfOk result (λ source.
-            Gives (Some (files_of self.old.files.items)) name.now (Some (drop source.at source.octets.items))) }
+            IsLeftAtFirst (Some (files_of self.old.files.items)) name.now (Some (drop source.at source.octets.items))) }
         ensures fresh { IfOk result (λ source. source.faults ≡ 0) }
         ensures missing { IsErrOf result OpenFault.Missing ↔ IsNone (get (files_of self.old.files.items) name.now) }
         ensures same { self.new.files ≡ self.old.files }

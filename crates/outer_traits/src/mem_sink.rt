@@ -1,7 +1,7 @@
 //! A sink in memory.
 
 ghost use Rattle.std.specs.Prelude.{◌≡◌, []};
-ghost use Rattle.outer_traits.specs.MemSink.{is_listed};
+ghost use Rattle.outer_traits.specs.MemSink.{is_failing_write};
 
 use crate::fault::{Failed, raised};
 use crate::sink::Sink;
@@ -20,7 +20,7 @@ pub struct MemSink {
 
 /// Whether a write is among those that are to fail.
 fn is_listed(calls: &[u64], write: u64) -> bool
-    ensures { result ≡ is_listed calls.now write }
+    ensures { result ≡ is_failing_write calls.now write }
 {
     calls.contains(&write)
 }
@@ -53,7 +53,7 @@ impl MemSink {
 
 impl Sink for MemSink {
     ghost use Rattle.std.specs.Prelude.{◌≡◌, ◌≤◌, ◌<◌, Some, Ok, true, IfOk, IsErr, OnOk, OnErr, length};
-    ghost use Rattle.outer_traits.specs.MemSink.{is_listed};
+    ghost use Rattle.outer_traits.specs.MemSink.{is_failing_write};
     ghost use Rattle.outer_traits.specs.Outside.{HasRisen, Stays, Writes, WritesSome, one_more};
 
     ghost written = { λ sink. Some sink.octets.items };
@@ -63,7 +63,7 @@ impl Sink for MemSink {
     /// The writes that are listed fail. Another appends the whole piece, or fails for want of memory.
     fn write(&mut self, piece: &[u8]) -> Result<usize, Failed>
         ensures numbered { self.new.writes ≡ one_more self.old.writes }
-        ensures listed_fails { is_listed self.old.calls.items self.new.writes ≡ true → IsErr result }
+        ensures listed_fails { is_failing_write self.old.calls.items self.new.writes ≡ true → IsErr result }
         ensures same_calls { self.new.calls ≡ self.old.calls }
         ensures whole { IfOk result (λ n. n ≡ length piece.now) }
         ensures count { IfOk result (λ n. n ≤ length piece.now) }

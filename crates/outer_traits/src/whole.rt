@@ -2,7 +2,7 @@
 
 ghost use Rattle.std.specs.Prelude.{◌≡◌, ◌+◌, ◌^◌, ◌≤◌, ◌<◌, length, IfOk, IfErr, IsErrOf, IfSome, vec_len};
 ghost use Rattle.outer_traits.specs.Outside.{Stays};
-ghost use Rattle.outer_traits.specs.Whole.{IsInput, IsReadFault, ReadingCounted, ReadingGiven, TookAtMost};
+ghost use Rattle.outer_traits.specs.Whole.{IsInput, IsInputFault, ReadingCounted, ReadingGiven, TookAtMost};
 
 use crate::fault::OpenFault;
 use crate::inputs::Inputs;
@@ -44,7 +44,7 @@ pub fn read_input<I: Inputs>(
 ) -> Result<Vec<u8>, ReadFault>
     ensures whole { IfOk result (λ octets. IsInput (I.files inputs.old) name.now octets.items) }
     ensures short { IfOk result (λ octets. vec_len octets ≤ limit) }
-    ensures fault { IfErr result (IsReadFault (I.files inputs.old) name.now limit (I.faults inputs.old)
+    ensures fault { IfErr result (IsInputFault (I.files inputs.old) name.now limit (I.faults inputs.old)
         (I.faults inputs.new)) }
     ensures same { I.files inputs.new ≡ I.files inputs.old }
     ensures closed { I.open_sources inputs.old + 1 < 2 ^ 64 → I.open_sources inputs.new ≡ I.open_sources inputs.old }

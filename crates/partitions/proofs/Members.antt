@@ -26,8 +26,8 @@ use Rattle.block_map.proofs.KeyedLists.{sorted_from_rising, lookup-insert_entry}
 use Rattle.partitions.specs.declared.partition.Partition.{Partition}
 use Rattle.partitions.specs.declared.named_day.NamedDay.{NamedDay}
 use Rattle.partitions.specs.Partition.{partition_cmp}
-use Rattle.partitions.specs.NamedDay.{named_cmp, named_day}
-use Rattle.partitions.specs.Partitions.{Holding, AreRising, AreTheSame, IsAdded}
+use Rattle.partitions.specs.NamedDay.{named_day_cmp, named_day}
+use Rattle.partitions.specs.Partitions.{PartitionsView, AreRising, AreTheSame, IsPartitionAdded}
 use Rattle.partitions.proofs.Order.{partition_cmp_total, exact_partitions, together}
 use Rattle.partitions.proofs.NamedOrder.{named_cmp_total, exact_named}
 
@@ -85,7 +85,7 @@ module _ {K : Type 0} {cmp : K → K → Ordering} (o : IsTotalOrder cmp) (exact
     pub absent : (None ≡ lookup (is_at (cmp key)) es) → Contains (keys_of es) key → ⊥
     absent none is = let some = looked_up key es is in cc
 
-abbrev pub held_in : Listing Partition Unit → Listing NamedDay Unit → Holding
+abbrev pub held_in : Listing Partition Unit → Listing NamedDay Unit → PartitionsView
 held_in by_day by_name = record { parts = keys_of by_day.entries; room = by_name.room }
 
 named_once : (p q : Partition) → named_day p ≡ named_day q → p ≡ q
@@ -93,7 +93,7 @@ named_once p q same = together p q (ap (λ (k : NamedDay). k.day) same) (ap (λ 
 
 -- a partition that both indexes hold already stays
 pub still_held : (by_day : Listing Partition Unit) (by_name : Listing NamedDay Unit) (part : Partition) → AreTheSame by_day by_name →
-    IsSome (lookup (is_at (partition_cmp part)) by_day.entries) → IsAdded (held_in by_day by_name) (held_in by_day by_name) part
+    IsSome (lookup (is_at (partition_cmp part)) by_day.entries) → IsPartitionAdded (held_in by_day by_name) (held_in by_day by_name) part
 still_held by_day by_name part are some = record {
   held = λ p. (inl, before p);
   rising = sorted_from_rising partition_cmp by_day.entries are.by_day_rises;
@@ -111,16 +111,16 @@ still_held by_day by_name part are some = record {
 -- one that neither holds goes into both
 module _ (old_day new_day : Listing Partition Unit) (old_name new_name : Listing NamedDay Unit) (part : Partition) (are : AreTheSame old_day old_name)
     (none : None ≡ lookup (is_at (partition_cmp part)) old_day.entries) (added_day : IsAddedTo partition_cmp old_day new_day part tt) (day_rises : IsRising partition_cmp new_day.entries) where
-  module _ (r : Option Unit) (is : r ≡ lookup (is_at (named_cmp (named_day part))) old_name.entries) (absent_name : IfNone r (IsAddedTo named_cmp old_name new_name (named_day part) tt)) where
-    added_name_by : (s : Option Unit) → r ≡ s → IsAddedTo named_cmp old_name new_name (named_day part) tt
+  module _ (r : Option Unit) (is : r ≡ lookup (is_at (named_day_cmp (named_day part))) old_name.entries) (absent_name : IfNone r (IsAddedTo named_day_cmp old_name new_name (named_day part) tt)) where
+    added_name_by : (s : Option Unit) → r ≡ s → IsAddedTo named_day_cmp old_name new_name (named_day part) tt
     added_name_by None e = rw e at absent_name
     added_name_by (Some v) e = absurd (absent partition_cmp_total exact_partitions part old_day.entries none ((are.same part).0 (found named_cmp_total exact_named (named_day part) old_name.entries (rw (← is, e) refl))))
 
-    pub added_name : IsAddedTo named_cmp old_name new_name (named_day part) tt
+    pub added_name : IsAddedTo named_day_cmp old_name new_name (named_day part) tt
     added_name = added_name_by r refl
 
-  module _ (added_name : IsAddedTo named_cmp old_name new_name (named_day part) tt) (name_rises : IsRising named_cmp new_name.entries) where
-    pub newly_held : IsAdded (held_in old_day old_name) (held_in new_day new_name) part
+  module _ (added_name : IsAddedTo named_day_cmp old_name new_name (named_day part) tt) (name_rises : IsRising named_day_cmp new_name.entries) where
+    pub newly_held : IsPartitionAdded (held_in old_day old_name) (held_in new_day new_name) part
     newly_held = record {
       held = rw added_day.0 (λ p. (in_new partition_cmp_total exact_partitions part old_day.entries p, from_old partition_cmp_total exact_partitions part old_day.entries p));
       rising = sorted_from_rising partition_cmp new_day.entries day_rises;
@@ -136,17 +136,17 @@ module _ (old_day new_day : Listing Partition Unit) (old_name new_name : Listing
       fits = omega (arith, added_day.1, added_name.1, are.fits);
     }
       where
-        to : (p : Partition) → Contains (keys_of (insert_entry named_cmp old_name.entries (named_day part) tt)) (named_day p) → Contains (keys_of (insert_entry partition_cmp old_day.entries part tt)) p
+        to : (p : Partition) → Contains (keys_of (insert_entry named_day_cmp old_name.entries (named_day part) tt)) (named_day p) → Contains (keys_of (insert_entry partition_cmp old_day.entries part tt)) p
         to p is = by (in_new named_cmp_total exact_named (named_day part) old_name.entries (named_day p) is)
           where
             by : Contains (keys_of old_name.entries) (named_day p) ⊎ (named_day p ≡ named_day part) → Contains (keys_of (insert_entry partition_cmp old_day.entries part tt)) p
             by (inl was) = from_old partition_cmp_total exact_partitions part old_day.entries p (inl ((are.same p).0 was))
             by (inr one) = from_old partition_cmp_total exact_partitions part old_day.entries p (inr (named_once p part one))
 
-        from : (p : Partition) → Contains (keys_of (insert_entry partition_cmp old_day.entries part tt)) p → Contains (keys_of (insert_entry named_cmp old_name.entries (named_day part) tt)) (named_day p)
+        from : (p : Partition) → Contains (keys_of (insert_entry partition_cmp old_day.entries part tt)) p → Contains (keys_of (insert_entry named_day_cmp old_name.entries (named_day part) tt)) (named_day p)
         from p is = by (in_new partition_cmp_total exact_partitions part old_day.entries p is)
           where
-            by : Contains (keys_of old_day.entries) p ⊎ (p ≡ part) → Contains (keys_of (insert_entry named_cmp old_name.entries (named_day part) tt)) (named_day p)
+            by : Contains (keys_of old_day.entries) p ⊎ (p ≡ part) → Contains (keys_of (insert_entry named_day_cmp old_name.entries (named_day part) tt)) (named_day p)
             by (inl was) = from_old named_cmp_total exact_named (named_day part) old_name.entries (named_day p) (inl ((are.same p).1 was))
             by (inr one) = from_old named_cmp_total exact_named (named_day part) old_name.entries (named_day p) (inr (ap named_day one))
 
@@ -170,14 +170,14 @@ module _ (parts : List Partition) where
   pub unnamed_in : (p : Partition) → Contains (map named_day parts) (named_day p) → Contains parts p
   unnamed_in p (k, h, e) = (k, rw (length-map parts named_day) at h, named_once (slice_index_or parts k p) p (sym (get_or-map named_day parts k p) ∙ e))
 
-same_named : (p q : Partition) → eq_by_cmp named_cmp (named_day p) (named_day q) ≡ false → eq_by_cmp partition_cmp p q ≡ false
-same_named p q apart = false_from_ne_true (eq_by_cmp partition_cmp p q) (λ same. (let one = tells_apart exact_partitions p q same in let itself = (eq_by_cmp_equiv named_cmp_total).refl (named_day q) in let no : eq_by_cmp named_cmp (named_day q) (named_day q) ≡ false = rw one at apart in cc))
+same_named : (p q : Partition) → eq_by_cmp named_day_cmp (named_day p) (named_day q) ≡ false → eq_by_cmp partition_cmp p q ≡ false
+same_named p q apart = false_from_ne_true (eq_by_cmp partition_cmp p q) (λ same. (let one = tells_apart exact_partitions p q same in let itself = (eq_by_cmp_equiv named_cmp_total).refl (named_day q) in let no : eq_by_cmp named_day_cmp (named_day q) (named_day q) ≡ false = rw one at apart in cc))
 
-apart_from_all : (p : Partition) (parts : List Partition) → AllByRecursion (λ y. eq_by_cmp named_cmp (named_day p) y ≡ false) (map named_day parts) → AllByRecursion (λ y. eq_by_cmp partition_cmp p y ≡ false) parts
+apart_from_all : (p : Partition) (parts : List Partition) → AllByRecursion (λ y. eq_by_cmp named_day_cmp (named_day p) y ≡ false) (map named_day parts) → AllByRecursion (λ y. eq_by_cmp partition_cmp p y ≡ false) parts
 apart_from_all p [] all = tt
 apart_from_all p (q ∷ parts) all = (same_named p q all.0, apart_from_all p parts all.1)
 
-distinct_parts : (parts : List Partition) → IsDistinct (eq_by_cmp named_cmp) (map named_day parts) → IsDistinct (eq_by_cmp partition_cmp) parts
+distinct_parts : (parts : List Partition) → IsDistinct (eq_by_cmp named_day_cmp) (map named_day parts) → IsDistinct (eq_by_cmp partition_cmp) parts
 unfolding IsDistinct
 distinct_parts [] apart = tt
 distinct_parts (p ∷ parts) apart = (apart_from_all p parts apart.0, distinct_parts parts apart.1)
@@ -212,8 +212,8 @@ module _ (test : NamedDay → Bool) (by_day : Listing Partition Unit) (by_name :
 
   pub sorted_rises : IsSorted partition_cmp sorted → AreRising sorted
   sorted_rises up =
-      let rises = IsStrictlySortedBy-filter named_cmp test (keys_of by_name.entries) (sorted_from_rising named_cmp by_name.entries are.by_name_rises) in
-      let apart = distinct_parts parts (rw named (IsDistinct-from_sorted named_cmp (filter test (keys_of by_name.entries)) rises)) in
+      let rises = IsStrictlySortedBy-filter named_day_cmp test (keys_of by_name.entries) (sorted_from_rising named_day_cmp by_name.entries are.by_name_rises) in
+      let apart = distinct_parts parts (rw named (IsDistinct-from_sorted named_day_cmp (filter test (keys_of by_name.entries)) rises)) in
       rising_from_sorted sorted up (IsDistinct-IsPermutation (eq_by_cmp partition_cmp) (eq_by_cmp_equiv partition_cmp_total).symm parts sorted same apart)
 
 -- ---- the rest of what calls need
@@ -233,18 +233,18 @@ roomier old_day new_day old_name new_name rows (Err e) are day ok err = rw (day,
 -- a partition that isn't there yet goes into both indexes
 pub both_added : (old_day new_day : Listing Partition Unit) (old_name new_name : Listing NamedDay Unit) (part : Partition) (key : NamedDay) (r s : Option Unit) → key ≡ named_day part →
     AreTheSame old_day old_name → is_some r ≡ false → r ≡ lookup (is_at (partition_cmp part)) old_day.entries → IfNone r (IsAddedTo partition_cmp old_day new_day part tt) →
-    IsRising partition_cmp new_day.entries → s ≡ lookup (is_at (named_cmp key)) old_name.entries → IfNone s (IsAddedTo named_cmp old_name new_name key tt) → IsRising named_cmp new_name.entries →
-    AreTheSame new_day new_name × IsAdded (held_in old_day old_name) (held_in new_day new_name) part
+    IsRising partition_cmp new_day.entries → s ≡ lookup (is_at (named_day_cmp key)) old_name.entries → IfNone s (IsAddedTo named_day_cmp old_name new_name key tt) → IsRising named_day_cmp new_name.entries →
+    AreTheSame new_day new_name × IsPartitionAdded (held_in old_day old_name) (held_in new_day new_name) part
 both_added old_day new_day old_name new_name part key (Some v) s same are none found_day added_day day_rises found_name absent_name name_rises = cc
 both_added old_day new_day old_name new_name part key None s same are none found_day added_day day_rises found_name absent_name name_rises =
-    let into : IsAddedTo named_cmp old_name new_name (named_day part) tt =
-    added_name old_day new_day old_name new_name part are found_day added_day day_rises s (subst (λ (k : NamedDay). s ≡ lookup (is_at (named_cmp k)) old_name.entries) same found_name)
-    (subst (λ (k : NamedDay). IfNone s (IsAddedTo named_cmp old_name new_name k tt)) same absent_name) in
+    let into : IsAddedTo named_day_cmp old_name new_name (named_day part) tt =
+    added_name old_day new_day old_name new_name part are found_day added_day day_rises s (subst (λ (k : NamedDay). s ≡ lookup (is_at (named_day_cmp k)) old_name.entries) same found_name)
+    (subst (λ (k : NamedDay). IfNone s (IsAddedTo named_day_cmp old_name new_name k tt)) same absent_name) in
     (still_the_same old_day new_day old_name new_name part are found_day added_day day_rises into name_rises, newly_held old_day new_day old_name new_name part are found_day added_day day_rises into name_rises)
 
 -- one that is there changes nothing
 pub none_added : (old_day new_day : Listing Partition Unit) (by_name : Listing NamedDay Unit) (part : Partition) (r : Option Unit) → AreTheSame old_day by_name → is_some r ≡ true →
-    r ≡ lookup (is_at (partition_cmp part)) old_day.entries → IfSome r (λ _. new_day ≡ old_day) → IsAdded (held_in old_day by_name) (held_in new_day by_name) part
+    r ≡ lookup (is_at (partition_cmp part)) old_day.entries → IfSome r (λ _. new_day ≡ old_day) → IsPartitionAdded (held_in old_day by_name) (held_in new_day by_name) part
 none_added old_day new_day by_name part None are some found_day present = cc
 none_added old_day new_day by_name part (Some v) are some found_day present =
-    subst (λ (l : Listing Partition Unit). IsAdded (held_in old_day by_name) (held_in l by_name) part) (sym present) (still_held old_day by_name part are (rw (← found_day) refl))
+    subst (λ (l : Listing Partition Unit). IsPartitionAdded (held_in old_day by_name) (held_in l by_name) part) (sym present) (still_held old_day by_name part are (rw (← found_day) refl))

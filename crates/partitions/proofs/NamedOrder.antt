@@ -9,17 +9,17 @@ use Rattle.std.proofs.lemmas.Cmp.{int_eq_equiv}
 use Rattle.std.proofs.lemmas.Map.Lookups.{CmpEqualImpliesEq}
 use Rattle.block_map.proofs.Pairs.{pair_ranks}
 use Rattle.partitions.specs.declared.named_day.NamedDay.{NamedDay}
-use Rattle.partitions.specs.NamedDay.{named_cmp}
+use Rattle.partitions.specs.NamedDay.{named_day_cmp}
 
 -- a named day comes before another
 abbrev pub ComesBefore : NamedDay → NamedDay → Type 0
 ComesBefore a b = (a.pname < b.pname) ⊎ ((a.pname ≡ b.pname) × (a.day <ℤ b.day))
 
-pub named_cmp_total : IsTotalOrder named_cmp
+pub named_cmp_total : IsTotalOrder named_day_cmp
 named_cmp_total = then_total (on_total (λ (k : NamedDay). k.pname) nat_cmp_total) (on_total (λ (k : NamedDay). k.day) int_cmp_total)
 
 module _ (a b : NamedDay) where
-  pub named_ranked_as : (r : Ordering) → named_cmp a b ≡ r → MatchOrdering r (ComesBefore a b) ((a.pname ≡ b.pname) × (a.day ≡ b.day)) (ComesBefore b a)
+  pub named_ranked_as : (r : Ordering) → named_day_cmp a b ≡ r → MatchOrdering r (ComesBefore a b) ((a.pname ≡ b.pname) × (a.day ≡ b.day)) (ComesBefore b a)
   named_ranked_as = pair_ranks (λ (x y : ℕ). x < y) (λ (x y : ℤ). x <ℤ y) a.pname a.day b.pname b.day _ _ (ranks a.pname b.pname) (int_ranks a.day b.day)
 
 -- named days of one number and one day are the same
@@ -27,7 +27,7 @@ together : (x y : NamedDay) → x.pname ≡ y.pname → x.day ≡ y.day → x �
 together x y names days = ap (λ (n : ℕ). let q : NamedDay = record { pname = n; day = x.day } in q) names ∙ ap (λ (d : ℤ). let q : NamedDay = record { pname = y.pname; day = d } in q) days
 
 -- named days that compare equal are the same
-pub exact_named : CmpEqualImpliesEq named_cmp
+pub exact_named : CmpEqualImpliesEq named_day_cmp
 exact_named a b same = let e = named_ranked_as a b Equal same in together a b e.0 e.1
 
 module _ (a b : NamedDay) where
@@ -41,10 +41,10 @@ module _ (a b : NamedDay) where
       by false y names days test = cc
 
   -- one that is no later, and not the same, comes before
-  pub less_named_by_test : (named_cmp a b ≡ Greater → ⊥) → false ≡ (nat_eq b.pname a.pname && int_eq b.day a.day) → named_cmp a b ≡ Less
-  less_named_by_test up test = by (named_cmp a b) refl
+  pub less_named_by_test : (named_day_cmp a b ≡ Greater → ⊥) → false ≡ (nat_eq b.pname a.pname && int_eq b.day a.day) → named_day_cmp a b ≡ Less
+  less_named_by_test up test = by (named_day_cmp a b) refl
     where
-      by : (r : Ordering) → named_cmp a b ≡ r → r ≡ Less
+      by : (r : Ordering) → named_day_cmp a b ≡ r → r ≡ Less
       by Less e = refl
       by Equal e = absurd (let same = named_ranked_as a b Equal e in
           let numbers : nat_eq b.pname a.pname ≡ true = rw same.0 (nat_eq_equiv.refl b.pname) in

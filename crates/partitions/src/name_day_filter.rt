@@ -1,7 +1,7 @@
 //! The days of listed packet names.
 
 ghost use Rattle.std.specs.Prelude.{◌≡◌, ◌≤ℤ◌};
-ghost use Rattle.partitions.specs.NamedDay.{named_cmp};
+ghost use Rattle.partitions.specs.NamedDay.{named_day_cmp};
 ghost use Rattle.partitions.specs.NameDayFilter.{passes_filter, IsFirstFrom};
 
 use crate::days::Days;
@@ -19,7 +19,7 @@ impl NameDayFilter {
     /// The first named day that is wanted, from this one on.
     pub(crate) fn first_from(&self, at: NamedDay) -> Option<NamedDay>
         requires { self.now.days.first ≤ℤ self.now.days.last }
-        ensures { IsFirstFrom named_cmp (passes_filter self.now) at result }
+        ensures { IsFirstFrom named_day_cmp (passes_filter self.now) at result }
     {
         let pname = self.names.first_from(at.pname)?;
         if pname > at.pname || at.day < self.days.first {

@@ -5,7 +5,7 @@ ghost use Rattle.partitions.specs.Partition.{partition_of};
 ghost use Rattle.partitions.specs.NamedDay.{named_day};
 ghost use Rattle.partitions.specs.Bounds.{MayHold};
 ghost use Rattle.partitions.specs.NameDayFilter.{is_on, passes_filter};
-ghost use Rattle.partitions.specs.Partitions.{AreRising, IsAdded};
+ghost use Rattle.partitions.specs.Partitions.{AreRising, IsPartitionAdded};
 
 use crate::bounds::Bounds;
 use crate::days::Days;
@@ -29,9 +29,9 @@ pub struct Partitions {
 
 impl Model for Partitions {
     ghost use Rattle.std.specs.Map.{keys_of};
-    ghost use Rattle.partitions.specs.Partitions.{Holding, AreTheSame};
+    ghost use Rattle.partitions.specs.Partitions.{PartitionsView, AreTheSame};
 
-    ghost Value = { Holding };
+    ghost Value = { PartitionsView };
 
     ghost view = { λ o. record { parts = keys_of o.by_day.entries; room = o.by_name.room } };
 
@@ -64,7 +64,7 @@ impl Partitions {
     /// Notes that a row of this time, in milliseconds since 1970, and packet name is there. Takes no memory.
     pub fn add(&mut self, time: i64, pname: u16)
         requires { 0 < self.old.room }
-        ensures added { IsAdded self.old self.new (partition_of time pname) }
+        ensures added { IsPartitionAdded self.old self.new (partition_of time pname) }
         ensures left { self.old.room ≤ self.new.room + 1 }
     {
         let part = partition_of(time, pname);

@@ -10,7 +10,7 @@ use Rattle.mdb_items.specs.declared.parameter.Parameter.{Parameter}
 use Rattle.mdb_items.specs.Database.{Database, IsDatabase}
 use Rattle.mdb_items.specs.Structure.{IsLabelled, IsTable}
 use Rattle.mdb_items.specs.Texts.{is_label}
-use Rattle.mdb_model.specs.Lookups.{calibration_at, calibration_of, calibration_of_parameter}
+use Rattle.mdb_model.specs.Lookups.{calibration_numbered, calibration_of, calibration_of_parameter}
 use Rattle.mdb_model.proofs.Structure.{structured}
 use Rattle.retrieval.specs.CellText.{HasShortLabels, rows_of_table}
 
@@ -30,7 +30,7 @@ short_at : (db : Database) (n : ℕ) (o : Option Calibration) → IsDatabase db 
 short_at db n None is at = tt
 short_at db n (Some c) is at = table_short c.table ((structured db is).calibrations n c at).rows
 
-number_labels : (db : Database) (number : Option ℕ) → IsDatabase db → HasShortLabels (calibration_at db.calibrations number)
+number_labels : (db : Database) (number : Option ℕ) → IsDatabase db → HasShortLabels (calibration_numbered db.calibrations number)
 number_labels db None is = tt
 number_labels db (Some n) is = short_at db n (slice_get db.calibrations n) is refl
 

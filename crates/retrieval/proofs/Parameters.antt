@@ -13,7 +13,7 @@ use Rattle.mdb_items.specs.declared.fault.MdbLimit.{MdbLimit}
 use Rattle.mdb_items.specs.declared.sheet.RawMdb.{RawMdb}
 use Rattle.mdb_items.specs.Database.{Broken, Database, limit_passed}
 use Rattle.mdb_model.specs.Sheets.{IsCheckResult, sheets_database}
-use Rattle.retrieval.specs.Parameter.{IsNoParameter, IsParameter, first_refusal, number_named, parameter_refusal, refusal_of_sheets}
+use Rattle.retrieval.specs.Parameter.{IsNoParameter, IsNamedParameter, first_refusal, number_named, parameter_refusal, refusal_of_sheets}
 
 abbrev by_broken : RawMdb → List ℕ → Option Broken → Option Refusal
 by_broken raw name broken = first_refusal broken (limit_passed (sheets_database raw)) (number_named (sheets_database raw) name)
@@ -45,7 +45,7 @@ unknown_parameter raw name db number h e none = inl (asked_of raw name db number
 
 -- there is one
 pub is_parameter : (raw : RawMdb) (name : List ℕ) (db : Database) (number : Option ℕ) (n : ℕ) → IsCheckResult raw (Ok db) → number ≡ number_named db name → number ≡ Some n →
-    IsParameter raw name db n
+    IsNamedParameter raw name db n
 is_parameter raw name db number n h e some = record {
   admitted = asked_of raw name db number h e ∙ ap by_number some;
   database = h.2;
@@ -53,7 +53,7 @@ is_parameter raw name db number n h e some = record {
 }
 
 -- it is one of the database's
-pub number_within : (raw : RawMdb) (name : List ℕ) (db : Database) (number : ℕ) → IsParameter raw name db number → number < length db.parameters
+pub number_within : (raw : RawMdb) (name : List ℕ) (db : Database) (number : ℕ) → IsNamedParameter raw name db number → number < length db.parameters
 number_within raw name db number h =
     let names = map (λ (p : Parameter). p.name) db.parameters in
     let within = place_within (bytes_eq name) names number h.named in

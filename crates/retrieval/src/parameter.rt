@@ -1,7 +1,7 @@
 //! A parameter of the database that three sheets spell.
 
 ghost use Rattle.std.specs.Prelude.{◌≡◌, IfOk, IfErr};
-ghost use Rattle.retrieval.specs.Parameter.{IsParameter, IsNoParameter, refusal_of_sheets, sheet_named, limit_named};
+ghost use Rattle.retrieval.specs.Parameter.{IsNamedParameter, IsNoParameter, refusal_of_sheets, sheet_named, limit_named};
 
 use arch_types::refusal::{Refusal, Sheet, Which};
 use mdb_model::{Mdb, MdbFault, MdbLimit, MdbSheet, RawMdb};
@@ -21,7 +21,7 @@ pub fn known_parameter(
     sheets: &RawMdb,
     name: &str,
 ) -> Result<KnownParameter, Refusal>
-    ensures known { IfOk result (λ known. IsParameter sheets.now name.now known.mdb known.number) }
+    ensures known { IfOk result (λ known. IsNamedParameter sheets.now name.now known.mdb known.number) }
     ensures refused { IfErr result (IsNoParameter sheets.now name.now) }
 {
     let mdb = match Mdb::check(alloc, sheets) {

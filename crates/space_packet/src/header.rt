@@ -1,7 +1,7 @@
 //! The primary header of a packet (CCSDS 133.0-B-2, section 4.1.3).
 
 ghost use Rattle.std.specs.Prelude.{◌≡◌, ◌<◌, ◌≤◌, ◌↔◌, ◌==◌, length, IfOk, IsErr, slice_index};
-ghost use Rattle.arch_types.specs.Packet.{IsPacket, packet_length, type_of, secondary_flag, apid_of, flags_of, count_of, is_idle};
+ghost use Rattle.arch_types.specs.Packet.{IsPacket, packet_length, type_of, secondary_flag, apid_of, flags_of, sequence_count_of, is_idle};
 
 /// The packet version number isn't 000.
 #[derive(Clone, Copy, Debug, PartialEq, Eq)]
@@ -32,7 +32,7 @@ impl Header {
         ensures secondary { IfOk result (λ h. h.secondary ≡ (secondary_flag octets.now == 1)) }
         ensures apid { IfOk result (λ h. h.apid ≡ apid_of octets.now) }
         ensures flags { IfOk result (λ h. h.flags ≡ flags_of octets.now) }
-        ensures count { IfOk result (λ h. h.count ≡ count_of octets.now) }
+        ensures count { IfOk result (λ h. h.count ≡ sequence_count_of octets.now) }
         ensures length { IfOk result (λ h. h.length ≡ packet_length octets.now) }
     {
         if octets[0] >= 32 {

@@ -4,11 +4,11 @@ use Rattle.std.specs.Prelude.{slice_range, codes}
 use Rattle.std.specs.List.{list_all}
 use Rattle.std.proofs.lemmas.Bool.{and_parts, and_from, le-leb, cond-true}
 use Rattle.std.proofs.Math.Nat.{pow-le-pow_right}
-use Rattle.time_text.specs.Digits.{fits, has_shape, two_digits_of, three_digits_of, four_digits_of}
+use Rattle.time_text.specs.Digits.{fits_shape, has_shape, two_digits_of, three_digits_of, four_digits_of}
 use Rattle.text_forms.specs.Digits.{is_digit, decimal_value}
 
 -- one place of a shape
-pub has_shape_next : (shape text : List ℕ) (i : ℕ) → i < length shape → i < length text → has_shape (drop i shape) (drop i text) ≡ (fits (get_or shape i 0) (get_or text i 0) && has_shape (drop (i + 1) shape) (drop (i + 1) text))
+pub has_shape_next : (shape text : List ℕ) (i : ℕ) → i < length shape → i < length text → has_shape (drop i shape) (drop i text) ≡ (fits_shape (get_or shape i 0) (get_or text i 0) && has_shape (drop (i + 1) shape) (drop (i + 1) text))
 unfolding has_shape
 has_shape_next shape text i s t =
     rw (add-one, drop-cons shape i 0, drop-cons text i 0) refl
@@ -19,7 +19,7 @@ has_shape-length [] [] h = refl
 has_shape-length [] (octet ∷ text) h = cc
 has_shape-length (place ∷ shape) [] h = cc
 has_shape-length (place ∷ shape) (octet ∷ text) h =
-    ap suc (has_shape-length shape text (and_parts (fits place octet) _ h).1)
+    ap suc (has_shape-length shape text (and_parts (fits_shape place octet) _ h).1)
 
 pub has_shape_none : has_shape [] [] ≡ true
 unfolding has_shape
@@ -38,7 +38,7 @@ has_shape-take [] [] (suc n) h = refl
 has_shape-take [] (octet ∷ text) (suc n) h = cc
 has_shape-take (place ∷ shape) [] (suc n) h = cc
 has_shape-take (place ∷ shape) (octet ∷ text) (suc n) h =
-    let both = and_parts (fits place octet) _ h in
+    let both = and_parts (fits_shape place octet) _ h in
     and_from _ _ both.0 (has_shape-take shape text n both.1)
 
 pub has_shape-drop : (shape text : List ℕ) (n : ℕ) → has_shape shape text ≡ true → has_shape (drop n shape) (drop n text) ≡ true
@@ -48,7 +48,7 @@ has_shape-drop [] [] (suc n) h = refl
 has_shape-drop [] (octet ∷ text) (suc n) h = cc
 has_shape-drop (place ∷ shape) [] (suc n) h = cc
 has_shape-drop (place ∷ shape) (octet ∷ text) (suc n) h =
-    has_shape-drop shape text n (and_parts (fits place octet) _ h).1
+    has_shape-drop shape text n (and_parts (fits_shape place octet) _ h).1
 
 -- a shape of nothing but digits
 abbrev pub is_zero : ℕ → Bool
@@ -60,7 +60,7 @@ digits_from_shape [] [] h zeros = refl
 digits_from_shape [] (octet ∷ text) h zeros = cc
 digits_from_shape (place ∷ shape) [] h zeros = cc
 digits_from_shape (place ∷ shape) (octet ∷ text) h zeros =
-    let both = and_parts (fits place octet) _ h in
+    let both = and_parts (fits_shape place octet) _ h in
     let first = and_parts (is_zero place) _ zeros in
     and_from _ _ (sym (cond-true (is_zero place) (is_digit octet) (eqb octet place) first.0) ∙ both.0) (digits_from_shape shape text both.1 first.1)
 
@@ -74,7 +74,7 @@ unfolding has_shape
 digits_from_front shape [] h zeros = refl
 digits_from_front [] (octet ∷ text) h zeros = cc
 digits_from_front (place ∷ shape) (octet ∷ text) h zeros =
-    let both = and_parts (fits place octet) _ h in
+    let both = and_parts (fits_shape place octet) _ h in
     let first = and_parts (is_zero place) _ zeros in
     and_from _ _ (sym (cond-true (is_zero place) (is_digit octet) (eqb octet place) first.0) ∙ both.0) (digits_from_front shape text both.1 first.1)
 
@@ -82,7 +82,7 @@ pub fraction_digits : (text : List ℕ) → has_shape (take (length text) (codes
 unfolding has_shape
 fraction_digits [] h = refl
 fraction_digits (octet ∷ text) h =
-    digits_from_front (codes "000") text (and_parts (fits 46 octet) _ h).1 refl
+    digits_from_front (codes "000") text (and_parts (fits_shape 46 octet) _ h).1 refl
 
 pub fraction_length : (text : List ℕ) → has_shape (take (length text) (codes ".000")) text ≡ true → length text ≤ 4
 fraction_length text h =
@@ -117,7 +117,7 @@ has_shape-append [] second [] back f s = s
 has_shape-append [] second (octet ∷ front) back f s = cc
 has_shape-append (place ∷ first) second [] back f s = cc
 has_shape-append (place ∷ first) second (octet ∷ front) back f s =
-    let both = and_parts (fits place octet) _ f in
+    let both = and_parts (fits_shape place octet) _ f in
     and_from _ _ both.0 (has_shape-append first second front back both.1 s)
 
 pub has_shape-four_digits_of : (n : ℕ) → n < 10_000 → has_shape (codes "0000") (four_digits_of n) ≡ true

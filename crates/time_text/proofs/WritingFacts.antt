@@ -4,7 +4,7 @@ use Rattle.std.specs.Prelude.{codes}
 use Rattle.std.proofs.lemmas.Bool.{cases_Bool, and_from, and_left, and_right, lt-leb, ne_eqb, cond-false}
 use Rattle.time_text.specs.Digits.{has_shape, two_digits_of, three_digits_of, four_digits_of}
 use Rattle.time_text.specs.Civil.{is_real, millis_of}
-use Rattle.time_text.specs.TimeText.{number_of, is_negative, count_of, without_z, is_fraction, millis_in, has_civil_shape, civil_of, civil_time, time_of}
+use Rattle.time_text.specs.TimeText.{number_of, is_negative, signed_number_of, without_z, is_fraction, millis_in, has_civil_shape, civil_of, civil_time, time_of}
 use Rattle.time_text.specs.Spelling.{spelled}
 use Rattle.time_text.specs.declared.civil.Civil.{Civil}
 use Rattle.time_text.proofs.DigitFacts.{decimal_value-two_digits_of, decimal_value-three_digits_of, decimal_value-four_digits_of, has_shape-two_digits_of, has_shape-three_digits_of, has_shape-four_digits_of, has_shape-append}
@@ -63,9 +63,9 @@ unfolding number_of
 number_of-long text long =
     cond-false _ _ _ (and_left _ _ (and_right _ _ (lt-leb (length text) 15 long)))
 
-count_of-long : (text : List ℕ) → 16 < length text → count_of text ≡ None
-unfolding count_of
-count_of-long text long =
+signed_number_of-long : (text : List ℕ) → 16 < length text → signed_number_of text ≡ None
+unfolding signed_number_of
+signed_number_of-long text long =
     elim (cases_Bool (is_negative text)) [
       | inl minus ↦
           let none = number_of-long (drop 1 text) (omega (arith, length-drop 1 text)) in
@@ -95,4 +95,4 @@ has_civil_shape-spelled c w = and_from _ _ (has_shape-to_second c w) (has_shape-
 pub time_of-spelled : (c : Civil) → IsWritable c → is_real c ≡ true → time_of (spelled c) ≡ Some (pos (millis_of c))
 unfolding time_of civil_time
 time_of-spelled c w real =
-    rw (count_of-long (spelled c) (omega arith), without_z-spelled c, has_civil_shape-spelled c w, civil_of-spelled c, real) refl
+    rw (signed_number_of-long (spelled c) (omega arith), without_z-spelled c, has_civil_shape-spelled c w, civil_of-spelled c, real) refl

@@ -3,15 +3,15 @@ use Rattle.std.specs.Prelude.{ℕ, ◌+◌, ◌/◌, ◌%◌, ◌++◌, ◌==◌
 use Rattle.text_forms.specs.Digits.{is_digit}
 
 -- a digit where the shape has 0, else the shape's own octet
-abbrev pub fits : ℕ → ℕ → Bool
-fits place octet = if place == 48 then is_digit octet else (octet == place)
+abbrev pub fits_shape : ℕ → ℕ → Bool
+fits_shape place octet = if place == 48 then is_digit octet else (octet == place)
 
 -- the text is as long as the shape, and fits it at each place
 unfoldable pub has_shape : List ℕ → List ℕ → Bool
 has_shape [] [] = true
 has_shape [] (octet ∷ text) = false
 has_shape (place ∷ shape) [] = false
-has_shape (place ∷ shape) (octet ∷ text) = fits place octet && has_shape shape text
+has_shape (place ∷ shape) (octet ∷ text) = fits_shape place octet && has_shape shape text
 
 -- numbers below 100, 1,000 and 10,000, each with all its digits
 abbrev pub two_digits_of : ℕ → List ℕ

@@ -15,8 +15,8 @@ abbrev pub is_negative : List ℕ → Bool
 is_negative text = slice_index text 0 == 45
 
 -- milliseconds: a number, with a minus before it or not
-unfoldable pub count_of : List ℕ → Option ℤ
-count_of text =
+unfoldable pub signed_number_of : List ℕ → Option ℤ
+signed_number_of text =
     if is_negative text then option_map (λ n. neg_ℤ (pos n)) (number_of (drop 1 text))
     else option_map (λ n. pos n) (number_of text)
 
@@ -58,4 +58,4 @@ civil_time text =
 
 -- the milliseconds that a text stands for, where it is a time text: a count of them, or a civil text with or without a Z
 unfoldable pub time_of : List ℕ → Option ℤ
-time_of text = option_or (count_of text) (civil_time (without_z text))
+time_of text = option_or (signed_number_of text) (civil_time (without_z text))

@@ -1,13 +1,13 @@
 //! Decimal digits, read and written, and texts of a fixed shape.
 
 ghost use Rattle.std.specs.Prelude.{◌≡◌, ◌<◌, IfSome};
-ghost use Rattle.time_text.specs.Digits.{fits, has_shape, two_digits_of, three_digits_of, four_digits_of};
+ghost use Rattle.time_text.specs.Digits.{fits_shape, has_shape, two_digits_of, three_digits_of, four_digits_of};
 ghost use Rattle.time_text.specs.TimeText.{number_of};
 
 use text_forms::digits::{is_digit, number_of};
 
 fn fits(place: u8, octet: u8) -> bool
-    ensures { result ≡ fits place octet }
+    ensures { result ≡ fits_shape place octet }
 {
     if place == b'0' {
         is_digit(octet)

@@ -1,7 +1,7 @@
 //! Time texts, read.
 
 ghost use Rattle.std.specs.Prelude.{◌≡◌, IfOk, OnErr, Some, None, true, ◌<◌, ◌≤◌, ◌-◌, ◌^◌};
-ghost use Rattle.time_text.specs.TimeText.{time_of, count_of, civil_time, civil_of, without_z, is_fraction, millis_in, has_civil_shape};
+ghost use Rattle.time_text.specs.TimeText.{time_of, signed_number_of, civil_time, civil_of, without_z, is_fraction, millis_in, has_civil_shape};
 
 use crate::civil::Civil;
 use crate::digits::{has_shape, number};
@@ -38,9 +38,9 @@ pub fn read_time_octets(text: &[u8]) -> Result<i64, BadTime>
 }
 
 /// A count of milliseconds.
-#[tactic(auto, unfolding(crate::specs::TimeText::count_of))]
+#[tactic(auto, unfolding(crate::specs::TimeText::signed_number_of))]
 fn count(text: &[u8]) -> Option<i64>
-    ensures { result ≡ count_of text.now }
+    ensures { result ≡ signed_number_of text.now }
 {
     if let [b'-', digits @ ..] = text {
         let millis = number(digits)?;

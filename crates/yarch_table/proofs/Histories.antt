@@ -10,9 +10,9 @@ use Rattle.arch_types.specs.declared.key.Key.{Key}
 use Rattle.arch_types.specs.declared.inserted.Inserted.{Inserted}
 use Rattle.arch_types.specs.declared.inserted.Inserted.TheVariants.{New, Duplicate}
 use Rattle.arch_types.specs.History.{is_in_table, has_key, is_duplicate_of, with_row}
-use Rattle.arch_types.specs.Table.{sorted, table_of, table_at, range_of, is_in_range}
+use Rattle.arch_types.specs.Table.{sorted, table_of, table_at_front, range_of, is_in_time_range}
 use Rattle.yarch_table.specs.declared.table.Stored.{Stored}
-use Rattle.yarch_table.specs.Stored.{Holding, rows_of, rows_below, seen_at, seen_between, IsKeptAt, IsInserted}
+use Rattle.yarch_table.specs.Stored.{TableView, rows_of, rows_below, seen_at, seen_between, IsKeptAt, IsInserted}
 use Rattle.yarch_table.specs.Placed.{placed, at_position}
 
 -- the rows of a table, where the history is what stands from a position on
@@ -48,12 +48,12 @@ rows_below-placed : (front table : ℕ) (history : List Row) → rows_below fron
 rows_below-placed front table history = below_from front 0 front table history (omega arith)
 
 -- what a table answers at a front is the table of the history's prefix
-pub seen_at-placed : (front table : ℕ) (history : List Row) → seen_at front (placed table history) ≡ table_at front table history
+pub seen_at-placed : (front table : ℕ) (history : List Row) → seen_at front (placed table history) ≡ table_at_front front table history
 seen_at-placed front table history = ap sorted (rows_below-placed front table history)
 
 -- and in a range it is the prefix's range
 pub seen_between-placed : (front table : ℕ) (low high : ℤ) (history : List Row) → seen_between front low high (placed table history) ≡ range_of table low high (take front history)
-seen_between-placed front table low high history = ap (filter (is_in_range low high)) (seen_at-placed front table history)
+seen_between-placed front table low high history = ap (filter (is_in_time_range low high)) (seen_at-placed front table history)
 
 -- at the front of the whole history it is the table
 pub seen_at-whole : (table : ℕ) (history : List Row) → seen_at (length history) (placed table history) ≡ table_of table history
@@ -174,19 +174,19 @@ kept_placed history row p kept = place_of (stands_from 0 p history row (kept_tes
 
 -- ---- an insert at a history's end
 
-any_known : (old : Holding) (history : List Row) (row : Row) (b : Bool) → old.stored ≡ placed row.table history →
+any_known : (old : TableView) (history : List Row) (row : Row) (b : Bool) → old.stored ≡ placed row.table history →
     list_any (has_key row.key) (rows_of old.stored) ≡ b → list_any (is_duplicate_of row) history ≡ b
 any_known old history row b h any = sym (any-placed history row) ∙ ap (λ (l : List Stored). list_any (has_key row.key) (rows_of l)) (sym h) ∙ any
 
 -- a new row comes to the history's end
-pub new-placed : (old new : Holding) (history : List Row) (row : Row) (p : ℕ) → old.stored ≡ placed row.table history →
+pub new-placed : (old new : TableView) (history : List Row) (row : Row) (p : ℕ) → old.stored ≡ placed row.table history →
     IsInserted old new row (length history) (New p) → (p ≡ length history) × (with_row history row ≡ history ++ row ∷ [])
 new-placed old new history row p h i =
     let any = any_known old history row false h i.0 in
     (i.1, rw any)
 
 -- a duplicate leaves the history, in which a row of its table and key stands at the position told
-pub duplicate-placed : (old new : Holding) (history : List Row) (row : Row) (position p : ℕ) → old.stored ≡ placed row.table history →
+pub duplicate-placed : (old new : TableView) (history : List Row) (row : Row) (position p : ℕ) → old.stored ≡ placed row.table history →
     IsInserted old new row position (Duplicate p) → (with_row history row ≡ history) × (p < length history) × ((d : Row) → is_duplicate_of row (slice_index_or history p d) ≡ true)
 duplicate-placed old new history row position p h i =
     let any = any_known old history row true h i.0 in
@@ -194,14 +194,14 @@ duplicate-placed old new history row position p h i =
     (rw any, at.0, at.1)
 
 -- an insert at the history's end ingests the row
-pub inserted-placed : (old new : Holding) (history : List Row) (row : Row) (result : Inserted) → old.stored ≡ placed row.table history →
+pub inserted-placed : (old new : TableView) (history : List Row) (row : Row) (result : Inserted) → old.stored ≡ placed row.table history →
     IsInserted old new row (length history) result → new.stored ≡ placed row.table (with_row history row)
 inserted-placed old new history row (New p) h i =
     let is = new-placed old new history row p h i in
     i.2 ∙ ap (λ (l : List Stored). l ++ record { row = row; position = length history } ∷ []) h ∙ sym (placed-push row.table history row (own_table row.table)) ∙ ap (placed row.table) (sym is.1)
 inserted-placed old new history row (Duplicate p) h i =
     let is = duplicate-placed old new history row (length history) p h i in
-    ap (λ (t : Holding). t.stored) i.2 ∙ h ∙ ap (placed row.table) (sym is.0)
+    ap (λ (t : TableView). t.stored) i.2 ∙ h ∙ ap (placed row.table) (sym is.0)
 
 other_cases : (b : Bool) (table : ℕ) (history : List Row) (row : Row) → is_in_table table row ≡ false → placed table (if b then history else history ++ row ∷ []) ≡ placed table history
 other_cases true table history row h = refl

@@ -18,7 +18,7 @@ use Rattle.arch_types.specs.Order.{key_cmp, place_by, order_by}
 use Rattle.arch_types.specs.History.{has_key}
 use Rattle.yarch_table.specs.declared.table.Stored.{Stored}
 use Rattle.yarch_table.specs.Stored.{rows_of}
-use Rattle.yarch_table.specs.Index.{stored_at, comes_before, Names, IsIndex}
+use Rattle.yarch_table.specs.Index.{stored_at, comes_before, Names, IsKeyIndex}
 
 -- the parts of an insertion, by where the new key stands to the first
 choose : {V : Type 0} (f : Key × ℕ → Stored) (o : Ordering) (less same more : List (Key × ℕ)) (x y : List Stored) (v : V) (w : Option V) →
@@ -77,7 +77,7 @@ any-entries key d stored (e ∷ es) all =
     subst P (all.0.1 d) (rw (any-entries key d stored es all.1) (test_cases (is_eq (key_cmp key e.0)) e.1 (lookup (is_at (key_cmp key)) es)))
 
 -- the index has a key exactly where the rows have it
-pub any-rows : (key : Key) (d : Stored) (stored : List Stored) (es : List (Key × ℕ)) → IsIndex stored es →
+pub any-rows : (key : Key) (d : Stored) (stored : List Stored) (es : List (Key × ℕ)) → IsKeyIndex stored es →
     list_any (has_key key) (rows_of stored) ≡ is_some (lookup (is_at (key_cmp key)) es)
 any-rows key d stored es index = any-map key stored ∙ sym (any-sorted (λ s. has_key key s.row) stored) ∙ ap (list_any (λ s. has_key key s.row)) (sym (index.order d)) ∙ any-entries key d stored es index.each
 
@@ -154,9 +154,9 @@ names-insert stored s (e ∷ es) all none =
     e.1 (lookup (is_at (key_cmp s.row.key)) es) none (names_new stored s, all_names_more stored s (e ∷ es) all) more
 
 -- an index after the insertion of a key that was absent
-pub index-insert : (stored : List Stored) (s : Stored) (es : List (Key × ℕ)) → IsIndex stored es →
+pub index-insert : (stored : List Stored) (s : Stored) (es : List (Key × ℕ)) → IsKeyIndex stored es →
     lookup (is_at (key_cmp s.row.key)) es ≡ None →
-    IsIndex (stored ++ s ∷ []) (insert_entry key_cmp es s.row.key (length stored))
+    IsKeyIndex (stored ++ s ∷ []) (insert_entry key_cmp es s.row.key (length stored))
 index-insert stored s es index none = record {
   each = names-insert stored s es index.each none;
   order = λ (d : Stored). rows-insert d stored s es index.each none ∙ ap (λ (rs : List Stored). place_by comes_before rs s) (index.order d) ∙ sym (order-push stored s);

@@ -12,11 +12,11 @@ use Rattle.std.proofs.lemmas.Option.{slice_get-get_or}
 use Rattle.arch_types.specs.declared.row.Row.{Row}
 use Rattle.arch_types.specs.declared.key.Key.{Key}
 use Rattle.arch_types.specs.Order.{key_cmp}
-use Rattle.arch_types.specs.Table.{is_in_range}
+use Rattle.arch_types.specs.Table.{is_in_time_range}
 use Rattle.block_map.specs.Rising.{IsBelow}
 use Rattle.yarch_table.specs.declared.table.Stored.{Stored}
 use Rattle.yarch_table.specs.Stored.{seen_at, seen_between}
-use Rattle.yarch_table.specs.Index.{Names, stored_at, rows_left, is_seen, is_before_end, AreRising, IsIndex}
+use Rattle.yarch_table.specs.Index.{Names, stored_at, rows_left, is_seen, is_before_end, AreRisingKeys, IsKeyIndex}
 use Rattle.yarch_table.proofs.RowsLeft.{rows_left-seen}
 
 -- what the first entry shows
@@ -69,7 +69,7 @@ none_after stored front end d k (e ∷ es) each below past =
     ∙ none_after stored front end d k es each.1 below.1 past
 
 -- no row is seen from an entry on whose time is past the end
-pub none_past : (stored : List Stored) (front : ℕ) (end : Option ℤ) (e : Key × ℕ) (es : List (Key × ℕ)) → AreRising stored (e ∷ es) → is_before_end end e.0.time ≡ false →
+pub none_past : (stored : List Stored) (front : ℕ) (end : Option ℤ) (e : Key × ℕ) (es : List (Key × ℕ)) → AreRisingKeys stored (e ∷ es) → is_before_end end e.0.time ≡ false →
     (rows_left stored front end (e ∷ es) ≡ []) × (rows_left stored front end es ≡ [])
 none_past [] front end e es up past = let within = up.each.0.0 in absurd (omega arith)
 none_past (d ∷ stored) front end e es up past =
@@ -129,13 +129,13 @@ both_cases q true false row rest both h e = e
 both_cases q false true row rest both h e = rw (h, e)
 both_cases q false false row rest both h e = e
 
-in_range : (low high : ℤ) (rows : List Row) → filter (λ row. not (int_lt row.key.time low)) (filter (λ row. int_lt row.key.time high) rows) ≡ filter (is_in_range low high) rows
+in_range : (low high : ℤ) (rows : List Row) → filter (λ row. not (int_lt row.key.time low)) (filter (λ row. int_lt row.key.time high) rows) ≡ filter (is_in_time_range low high) rows
 in_range low high [] = refl
 in_range low high (row ∷ rows) =
-    both_cases (λ r. not (int_lt r.key.time low)) (not (int_lt row.key.time low)) (int_lt row.key.time high) row (filter (λ r. int_lt r.key.time high) rows) (filter (is_in_range low high) rows) refl (in_range low high rows)
+    both_cases (λ r. not (int_lt r.key.time low)) (not (int_lt row.key.time low)) (int_lt row.key.time high) row (filter (λ r. int_lt r.key.time high) rows) (filter (is_in_time_range low high) rows) refl (in_range low high rows)
 
 -- the entries from a time on show, before an end, the rows between them
-pub rows_left-between : (stored : List Stored) (front : ℕ) (low high : ℤ) (es : List (Key × ℕ)) → IsIndex stored es →
+pub rows_left-between : (stored : List Stored) (front : ℕ) (low high : ℤ) (es : List (Key × ℕ)) → IsKeyIndex stored es →
     rows_left stored front (Some high) (entries_from (key_cmp (first_key low)) es) ≡ seen_between front low high stored
 rows_left-between stored front low high es index =
     from_shows stored front low (Some high) es index.each

@@ -13,7 +13,7 @@ use Rattle.arch_types.proofs.Ranks.{key_cmp_total}
 use Rattle.arch_types.proofs.Ordered.{filter-order}
 use Rattle.yarch_table.specs.declared.table.Stored.{Stored}
 use Rattle.yarch_table.specs.Stored.{rows_of, rows_below, seen_at}
-use Rattle.yarch_table.specs.Index.{stored_at, comes_before, Names, IsIndex, rows_left, is_seen, is_before_end}
+use Rattle.yarch_table.specs.Index.{stored_at, comes_before, Names, IsKeyIndex, rows_left, is_seen, is_before_end}
 
 -- what is seen, as a filter
 cons_cases : (b : Bool) (s : Stored) (seen : List Stored) (rows : List Row) → rows ≡ rows_of seen →
@@ -61,7 +61,7 @@ filter-filter front end (x ∷ xs) =
     two_cases (λ row. is_before_end end row.key.time) (nat_lt x.position front) (is_before_end end x.row.key.time) x (filter (is_seen front end) xs) (filter (λ s. nat_lt s.position front) xs) refl (filter-filter front end xs)
 
 -- all entries give the rows below the front and before the end
-pub rows_left-seen : (stored : List Stored) (front : ℕ) (end : Option ℤ) (es : List (Key × ℕ)) → IsIndex stored es →
+pub rows_left-seen : (stored : List Stored) (front : ℕ) (end : Option ℤ) (es : List (Key × ℕ)) → IsKeyIndex stored es →
     rows_left stored front end es ≡ filter (λ row. is_before_end end row.key.time) (seen_at front stored)
 rows_left-seen [] front end [] index = refl
 rows_left-seen [] front end (e ∷ es) index = let n = index.each.0.0 in absurd (omega arith)
@@ -77,5 +77,5 @@ filter-all [] = refl
 filter-all (row ∷ rows) = ap (λ (r : List Row). row ∷ r) (filter-all rows)
 
 -- without an end they give all rows below the front
-pub rows_left-all : (stored : List Stored) (front : ℕ) (es : List (Key × ℕ)) → IsIndex stored es → rows_left stored front None es ≡ seen_at front stored
+pub rows_left-all : (stored : List Stored) (front : ℕ) (es : List (Key × ℕ)) → IsKeyIndex stored es → rows_left stored front None es ≡ seen_at front stored
 rows_left-all stored front es index = rows_left-seen stored front None es index ∙ filter-all (seen_at front stored)

@@ -22,17 +22,17 @@ abbrev pub Names : List Stored → Key × ℕ → Type 0
 Names stored entry = (entry.1 < length stored) × ((d : Stored) → entry.0 ≡ (stored_at stored d entry).row.key)
 
 -- the entries name the stored rows, each once, in the order of their keys
-pub record IsIndex (stored : List Stored) (entries : List (Key × ℕ)) : Type 0 where
+pub record IsKeyIndex (stored : List Stored) (entries : List (Key × ℕ)) : Type 0 where
   pub each : AllByRecursion (Names stored) entries
   pub order : (d : Stored) → map (stored_at stored d) entries ≡ order_by comes_before stored
 
 -- an index of the stored rows, with room in their vector for as many more as in the index
-pub record IsTable (stored : Vec Stored) (index : Listing Key ℕ) : Type 0 where
-  pub names : IsIndex stored.items index.entries
+pub record IsIndexedTable (stored : Vec Stored) (index : Listing Key ℕ) : Type 0 where
+  pub names : IsKeyIndex stored.items index.entries
   pub has_room : vec_len stored + index.room ≤ vec_capacity stored
 
 -- entries in the order of their keys, each of which names a stored row of its key
-pub record AreRising (stored : List Stored) (entries : List (Key × ℕ)) : Type 0 where
+pub record AreRisingKeys (stored : List Stored) (entries : List (Key × ℕ)) : Type 0 where
   pub each : AllByRecursion (Names stored) entries
   pub rising : IsRising key_cmp entries
 

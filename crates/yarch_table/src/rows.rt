@@ -3,7 +3,7 @@
 ghost use Rattle.std.specs.Prelude.{◌≡◌, length};
 ghost use Rattle.std.specs.Iterator.{at_most};
 ghost use Rattle.std.specs.Map.Iter.{TakesFirst, deref};
-ghost use Rattle.yarch_table.specs.Index.{is_before_end, rows_left, AreRising};
+ghost use Rattle.yarch_table.specs.Index.{is_before_end, rows_left, AreRisingKeys};
 
 use crate::table::Stored;
 use arch_types::key::Key;
@@ -31,13 +31,13 @@ pub struct TableRows<'a> {
 impl<'a> Model for TableRows<'a> {
     ghost use Rattle.std.specs.Prelude.{List};
     ghost use Rattle.arch_types.specs.declared.row.Row.{Row};
-    ghost use Rattle.yarch_table.specs.Index.{rows_left, AreRising};
+    ghost use Rattle.yarch_table.specs.Index.{rows_left, AreRisingKeys};
 
     ghost Value = { List Row };
 
     ghost view = { λ t. rows_left t.stored.now t.window.front t.window.end t.entries };
 
-    ghost invariant = { λ t. AreRising t.stored.now t.entries };
+    ghost invariant = { λ t. AreRisingKeys t.stored.now t.entries };
 }
 
 impl<'a> TableRows<'a> {
@@ -46,7 +46,7 @@ impl<'a> TableRows<'a> {
         entries: Entries<'a, Key, usize>,
         window: Window,
     ) -> Self
-        requires { AreRising stored.now entries }
+        requires { AreRisingKeys stored.now entries }
         ensures { result ≡ rows_left stored.now window.front window.end entries.entry }
     {
         TableRows {
@@ -85,8 +85,8 @@ fn next_seen<'a>(
     entries: &mut Entries<'a, Key, usize>,
     window: &Window,
 ) -> Option<&'a Row>
-    requires { AreRising stored.now entries.old }
-    ensures rising { AreRising stored.now entries.new }
+    requires { AreRisingKeys stored.now entries.old }
+    ensures rising { AreRisingKeys stored.now entries.new }
     ensures taken { TakesFirst deref (rows_left stored.now window.now.front window.now.end entries.old) result
         (rows_left stored.now window.now.front window.now.end entries.new) }
 {

@@ -30,14 +30,14 @@ pub struct Table {
 }
 
 impl Model for Table {
-    ghost use Rattle.yarch_table.specs.Stored.{Holding};
-    ghost use Rattle.yarch_table.specs.Index.{IsTable};
+    ghost use Rattle.yarch_table.specs.Stored.{TableView};
+    ghost use Rattle.yarch_table.specs.Index.{IsIndexedTable};
 
-    ghost Value = { Holding };
+    ghost Value = { TableView };
 
     ghost view = { λ t. record { stored = t.stored.items; room = t.index.room } };
 
-    ghost invariant = { λ t. IsTable t.stored t.index };
+    ghost invariant = { λ t. IsIndexedTable t.stored t.index };
 }
 
 impl Table {

@@ -3,7 +3,7 @@ use Rattle.arch_types.specs.declared.cell.Cell.{Cell}
 use Rattle.mdb_items.specs.declared.calibration.Calibration.{Calibration}
 use Rattle.container_extract.specs.Extraction.{cell_of}
 use Rattle.retrieval.specs.CellText.{cell_line}
-use Rattle.archive_cli.specs.ValuesPrinting.{count_if, count_of, line_if, line_of}
+use Rattle.archive_cli.specs.ValuesPrinting.{count_if, cells_in_row, line_if, line_of}
 use Rattle.mdb_model.specs.Lookups.{calibration_of}
 use Rattle.archive_cli.proofs.values.put_cell_of.Goals as goal
 
@@ -16,7 +16,7 @@ returns-in-None-clause-line c =
     sym (ap (λ (o : Option Cell). c.args.line_buffer.now ++ line_if (calibration_of db number) o) none ∙ append-nil c.args.line_buffer.now)
 
 pub returns-in-None-clause-count : goal.returns-in-None-clause-count
-unfolding count_of
+unfolding cells_in_row
 returns-in-None-clause-count c =
     let none : cell_of c.args.known.now.mdb c.args.known.now.number c.args.row.now ≡ None = sym c.in_ok-cell.ensures ∙ c.in-None.is in
     sym (ap count_if none)
@@ -31,7 +31,7 @@ returns-in-Some-clause-line c =
     sym (ap (λ (o : Option Cell). c.args.line_buffer.now ++ line_if (calibration_of db number) o) some)
 
 pub returns-in-Some-clause-count : goal.returns-in-Some-clause-count
-unfolding count_of
+unfolding cells_in_row
 returns-in-Some-clause-count c =
     let some : cell_of c.args.known.now.mdb c.args.known.now.number c.args.row.now ≡ Some c.in-Some.cell = sym c.in_ok-cell.ensures ∙ c.in-Some.is in
     sym (ap count_if some)

@@ -5,7 +5,7 @@ use Rattle.arch_disk.proofs.Moments.{looked_on}
 use Rattle.arch_types.specs.declared.refusal.Refusal.{Refusal}
 use Rattle.arch_types.specs.declared.refusal.Refusal.TheVariants.{Damaged}
 use Rattle.disk_journal.specs.Format.{HasRecords}
-use Rattle.disk_journal.specs.Reading.{IsAt, IsCutShortAt, IsFinished, file_read}
+use Rattle.disk_journal.specs.Reading.{IsAt, IsCutShortAt, IsReadJournal, file_read}
 use Rattle.field_codec.specs.declared.entry.Entry.{Entry}
 use Rattle.field_codec.specs.Spelling.{entry_octets}
 use Rattle.archive_store.specs.declared.reading.ReadArchive.{ReadArchive}
@@ -30,13 +30,13 @@ returns-in-Ok-None-clause-found g c transparent =
     let same = same_file (reads c.entries.disk) (reads c.args.disk.now) (file_read c.entries.opening) inv.looked.reads_same inv.file in
     let at_old = subst (λ (l : List ℕ). IsAt c.entries.opening l (map entry_octets s.0)) (sym same) s.1 in
     let x = c.in-Ok-None.ensures.none transparent (map entry_octets s.0) at_old c.in-Ok-None.field-0-is in
-    if_ok c.finished.result (λ f. (Some f.made ≡ c.entries.made) × IsFinished c.next.new.self f.journal) (λ f. IsReadArchive content f.journal (archive f.made.head f.made.history.items))
+    if_ok c.finished.result (λ f. (Some f.made ≡ c.entries.made) × IsReadJournal c.next.new.self f.journal) (λ f. IsReadArchive content f.journal (archive f.made.head f.made.history.items))
     (λ f p. found_is content c.next.new.self s.0 c.entries.made f p.0 p.1 (subst (λ (l : List ℕ). HasRecords l (map entry_octets s.0)) same x.0) (subst (λ (l : List ℕ). IsAt c.next.new.self l (map entry_octets s.0)) same x.1) s.2)
     c.finished.ensures.ok
 
 pub returns-in-Ok-None-clause-tables : goal.returns-in-Ok-None-clause-tables
 returns-in-Ok-None-clause-tables g c =
-    if_ok c.finished.result (λ f. (Some f.made ≡ c.entries.made) × IsFinished c.next.new.self f.journal) (λ f. HasTables (Some f.made))
+    if_ok c.finished.result (λ f. (Some f.made ≡ c.entries.made) × IsReadJournal c.next.new.self f.journal) (λ f. HasTables (Some f.made))
     (λ f p. tables_found c.entries.made f p.0 c.entries.invariant.tables) c.finished.ensures.ok
 
 pub returns-in-Ok-None-clause-damaged : goal.returns-in-Ok-None-clause-damaged

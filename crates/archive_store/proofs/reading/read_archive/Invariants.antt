@@ -1,7 +1,7 @@
 use Rattle.std.proofs.Common.{◌≡◌, ◌-◌, ◌^◌, List, map, None}
 use Rattle.std.specs.Prelude.{IsTrue}
 use Rattle.arch_disk.specs.Disk.{OnlyReads}
-use Rattle.disk_journal.specs.Reading.{IsAt, file_read, place_of}
+use Rattle.disk_journal.specs.Reading.{IsAt, file_read, gate_of}
 use Rattle.field_codec.specs.declared.entry.Entry.{Entry}
 use Rattle.field_codec.specs.Spelling.{entry_octets}
 use Rattle.archive_store.specs.Entries.{Replays}
@@ -17,4 +17,4 @@ invariant-entries g l = record {
 }
 
 abbrev pub decreases-entries : goal.decreases-entries
-decreases-entries g l = 2 ^ 64 - place_of l.opening
+decreases-entries g l = 2 ^ 64 - gate_of l.opening

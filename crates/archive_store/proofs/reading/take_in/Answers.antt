@@ -4,7 +4,7 @@ use Rattle.arch_types.specs.declared.row.Row.{Row}
 use Rattle.archive_core.specs.Items.{Item}
 use Rattle.field_codec.specs.declared.entry.Entry.{Entry}
 use Rattle.field_codec.specs.declared.entry.Entry.TheVariants as kinds
-use Rattle.field_codec.specs.Entries.{IsEntry}
+use Rattle.field_codec.specs.Entries.{IsArchiveEntry}
 use Rattle.field_codec.specs.Spelling.{entry_octets}
 use Rattle.archive_store.specs.declared.head.Head.{Head}
 use Rattle.archive_store.specs.declared.reading.PartialArchive.{PartialArchive}
@@ -20,7 +20,7 @@ abbrev IsTaken : Option PartialArchive → List ℕ → Head → List Item → T
 IsTaken was body head items = (entry : Entry) × (body ≡ entry_octets entry) × (after : Archive) × (Some (archive head items) ≡ Some after) × Applies (archive_made was) entry after
 
 -- a first head
-takes_head : (was : Option PartialArchive) (head : Head) (items : List Item) → is_some was ≡ false → IsEntry (kinds.Head head.tables head.mdb) → items ≡ [] → Applies (archive_made was) (kinds.Head head.tables head.mdb) (archive head items)
+takes_head : (was : Option PartialArchive) (head : Head) (items : List Item) → is_some was ≡ false → IsArchiveEntry (kinds.Head head.tables head.mdb) → items ≡ [] → Applies (archive_made was) (kinds.Head head.tables head.mdb) (archive head items)
 takes_head None head items none fits empty = (fits, ap (archive head) empty)
 takes_head (Some made) head items none fits empty = absurd (true≢false none)
 

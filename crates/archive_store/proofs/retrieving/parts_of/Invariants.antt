@@ -5,15 +5,15 @@ use Rattle.arch_types.specs.declared.row.Row.{Row}
 use Rattle.arch_types.specs.Interval.{interval_of}
 use Rattle.arch_types.specs.Order.{is_before}
 use Rattle.arch_types.specs.Table.{range_of}
-use Rattle.archive_store.specs.Plans.{rows_of_parts, IsPart, AreRising}
+use Rattle.archive_store.specs.Plans.{rows_of_parts, IsPlanPart, AreRisingIntervals}
 use Rattle.archive_store.proofs.Planning.{bounded}
 use Rattle.archive_store.proofs.retrieving.parts_of.Given as goal
 
 abbrev pub invariant-loop-row : goal.invariant-loop-row
 invariant-loop-row l = record {
   rows : rows_of_parts l.parts.items ++ l.row-iterator ≡ range_of 0 l.fn.from l.fn.to l.history.items;
-  each : AllByRecursion IsPart l.parts.items;
-  rising : AreRising l.parts.items;
+  each : AllByRecursion IsPlanPart l.parts.items;
+  rising : AreRisingIntervals l.parts.items;
   classified : IsSortedBy is_before l.row-iterator;
   earlier : (k : ℕ) (d : Row) → k < length l.row-iterator → bounded (interval_of (get_or l.row-iterator k d).key.time) l.parts.items;
 }

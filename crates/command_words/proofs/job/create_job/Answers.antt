@@ -4,7 +4,7 @@ use Rattle.clap.specs.Walk.{Row, first_of}
 use Rattle.clap.specs.Words.{is_simple, rows_of, found_of}
 use Rattle.clap.specs.Faults.{is_simple_and_free}
 use Rattle.clap.proofs.OnLiterals.{clap_on_literals}
-use Rattle.command_words.specs.Job.{Create, create_app, create_of}
+use Rattle.command_words.specs.Job.{Create, create_app, create_job}
 use Rattle.command_words.specs.Words.{rows_of_words}
 use Rattle.command_words.proofs.Jobs.{no_rows, no_word, found_job, create_there, no_first, no_second, no_third}
 use Rattle.command_words.proofs.job.create_job.Goals as goal
@@ -33,7 +33,7 @@ pub returns-in_err-found : goal.returns-in_err-found
 returns-in_err-found c =
     let words = map (λ w. string_bytes w) c.args.words.now in
     let p = err_from_is_err_and c.from_residual.result c.from_residual.ensures.1 in
-    rw (p.1, p.2) (record { job = tt; none = no_rows create_of (rows_of_words create_app words) _ c.in_err-found.ensures.none })
+    rw (p.1, p.2) (record { job = tt; none = no_rows create_job (rows_of_words create_app words) _ c.in_err-found.ensures.none })
 
 pub returns-in_err-parameters : goal.returns-in_err-parameters
 returns-in_err-parameters c =
@@ -42,7 +42,7 @@ returns-in_err-parameters c =
     let p = err_from_is_err_and c.from_residual-in_err-parameters.result c.from_residual-in_err-parameters.ensures.1 in
     rw (p.1, p.2) (record {
       job = tt;
-      none = no_word create_of (rows_of_words create_app words) rows _ c.in_ok-found.ensures.found
+      none = no_word create_job (rows_of_words create_app words) rows _ c.in_ok-found.ensures.found
           (no_first (parameters_in rows) (calibrations_in rows) (containers_in rows) c.in_err-parameters.ensures.none.1) c.in_err-parameters.ensures.none.0;
     })
 
@@ -53,7 +53,7 @@ returns-in_err-calibrations c =
     let p = err_from_is_err_and c.from_residual-in_err-calibrations.result c.from_residual-in_err-calibrations.ensures.1 in
     rw (p.1, p.2) (record {
       job = tt;
-      none = no_word create_of (rows_of_words create_app words) rows _ c.in_ok-found.ensures.found
+      none = no_word create_job (rows_of_words create_app words) rows _ c.in_ok-found.ensures.found
           (no_second (parameters_in rows) (calibrations_in rows) (containers_in rows) c.in_ok-parameters.parameters.now c.in_ok-parameters.ensures.word c.in_err-calibrations.ensures.none.1)
           c.in_err-calibrations.ensures.none.0;
     })
@@ -65,7 +65,7 @@ returns-in_err-containers c =
     let p = err_from_is_err_and c.from_residual-in_err-containers.result c.from_residual-in_err-containers.ensures.1 in
     rw (p.1, p.2) (record {
       job = tt;
-      none = no_word create_of (rows_of_words create_app words) rows _ c.in_ok-found.ensures.found
+      none = no_word create_job (rows_of_words create_app words) rows _ c.in_ok-found.ensures.found
           (no_third (parameters_in rows) (calibrations_in rows) (containers_in rows) c.in_ok-parameters.parameters.now c.in_ok-calibrations.calibrations.now
           c.in_ok-parameters.ensures.word c.in_ok-calibrations.ensures.word c.in_err-containers.ensures.none.1) c.in_err-containers.ensures.none.0;
     })
@@ -74,7 +74,7 @@ pub returns : goal.returns
 returns c =
     let words = map (λ w. string_bytes w) c.args.words.now in
     let rows = rows_of (found_of c.in_ok-found.found) in record {
-      job = found_job create_of (rows_of_words create_app words) rows
+      job = found_job create_job (rows_of_words create_app words) rows
           (Some (Create (record { parameters = c.in_ok-parameters.parameters.now; calibrations = c.in_ok-calibrations.calibrations.now; containers = c.in_ok-containers.containers.now })))
           c.in_ok-found.ensures.found
           (create_there (parameters_in rows) (calibrations_in rows) (containers_in rows) c.in_ok-parameters.parameters.now c.in_ok-calibrations.calibrations.now

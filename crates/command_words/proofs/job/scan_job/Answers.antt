@@ -3,7 +3,7 @@ use Rattle.std.proofs.lemmas.Result.{err_from_is_err_and}
 use Rattle.clap.specs.Words.{is_simple, rows_of, found_of}
 use Rattle.clap.specs.Faults.{is_simple_and_free}
 use Rattle.clap.proofs.OnLiterals.{clap_on_literals}
-use Rattle.command_words.specs.Job.{Scan, scan_app, scan_of}
+use Rattle.command_words.specs.Job.{Scan, scan_app, scan_job}
 use Rattle.command_words.specs.Words.{rows_of_words}
 use Rattle.command_words.proofs.Jobs.{no_rows, no_word, found_job, scan_there, scan_missing}
 use Rattle.command_words.proofs.job.scan_job.Goals as goal
@@ -23,13 +23,13 @@ pub returns-in_err-found : goal.returns-in_err-found
 returns-in_err-found c =
     let words = map (λ w. string_bytes w) c.args.words.now in
     let p = err_from_is_err_and c.from_residual.result c.from_residual.ensures.1 in
-    rw (p.1, p.2) (record { job = tt; none = no_rows scan_of (rows_of_words scan_app words) _ c.in_err-found.ensures.none })
+    rw (p.1, p.2) (record { job = tt; none = no_rows scan_job (rows_of_words scan_app words) _ c.in_err-found.ensures.none })
 
 pub returns : goal.returns
 returns c =
     let words = map (λ w. string_bytes w) c.args.words.now in
     let rows = rows_of (found_of c.in_ok-found.found) in record {
-      job = found_job scan_of (rows_of_words scan_app words) rows (Some (Scan c.in_ok-dump.dump.now)) c.in_ok-found.ensures.found (scan_there rows c.in_ok-dump.dump.now c.in_ok-dump.ensures.word);
+      job = found_job scan_job (rows_of_words scan_app words) rows (Some (Scan c.in_ok-dump.dump.now)) c.in_ok-found.ensures.found (scan_there rows c.in_ok-dump.dump.now c.in_ok-dump.ensures.word);
       none = tt;
     }
 
@@ -40,5 +40,5 @@ returns-in_err-dump c =
     let p = err_from_is_err_and c.from_residual-in_err-dump.result c.from_residual-in_err-dump.ensures.1 in
     rw (p.1, p.2) (record {
       job = tt;
-      none = no_word scan_of (rows_of_words scan_app words) rows _ c.in_ok-found.ensures.found (scan_missing rows c.in_err-dump.ensures.none.1) c.in_err-dump.ensures.none.0;
+      none = no_word scan_job (rows_of_words scan_app words) rows _ c.in_ok-found.ensures.found (scan_missing rows c.in_err-dump.ensures.none.1) c.in_err-dump.ensures.none.0;
     })

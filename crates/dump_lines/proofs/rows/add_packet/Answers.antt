@@ -2,7 +2,7 @@ use Rattle.std.proofs.Common.{◌≡◌, ◌∙◌, sym, ap, w64, refl, false}
 use Rattle.std.specs.Prelude.{slice_range}
 use Rattle.std.proofs.lemmas.Int.{to_z-of_z}
 use Rattle.arch_types.specs.Packet.{is_idle}
-use Rattle.yarch_table.specs.Stored.{Holding}
+use Rattle.yarch_table.specs.Stored.{TableView}
 use Rattle.dump_lines.specs.DumpTable.{scanned_row}
 use Rattle.dump_lines.proofs.Gathered.{duplicate-is}
 use Rattle.dump_lines.proofs.rows.add_packet.Goals as goal
@@ -26,5 +26,5 @@ returns-in-Duplicate c =
     let found : false ≡ is_idle c.as_slice.result.now = c.if-is_idle_packet.ensures in
     let idle : is_idle (slice_range c.args.dump.now c.args.part.start c.args.part.end) ≡ false = sym (rw (c.as_slice.ensures, c.in_ok-packet.ensures) at found) in
     record {
-      added = (idle, duplicate-is c.args.moment (slice_range c.args.dump.now c.args.part.start c.args.part.end) c.args.table.now.stored c.requires.shown ∙ inserted.0, ap (λ (h : Holding). h.stored) inserted.2);
+      added = (idle, duplicate-is c.args.moment (slice_range c.args.dump.now c.args.part.start c.args.part.end) c.args.table.now.stored c.requires.shown ∙ inserted.0, ap (λ (h : TableView). h.stored) inserted.2);
     }

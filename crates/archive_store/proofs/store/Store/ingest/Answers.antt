@@ -9,7 +9,7 @@ use Rattle.archive_core.specs.Items.{Item}
 use Rattle.archive_core.specs.Outcomes.{outcomes_of, fresh_of}
 use Rattle.archive_store.specs.Batches.{batch_rows, IsBatch}
 use Rattle.archive_store.specs.Entries.{archive, AreAdmitted}
-use Rattle.archive_history.specs.Limits.{IsWithin, IsLimit, IsBelow}
+use Rattle.archive_history.specs.Limits.{IsWithin, IsLimit, IsBelowLimits}
 use Rattle.archive_store.specs.StoreView.{StoreView, CrashInvariant}
 use Rattle.archive_store.specs.Stands.{StandsFor}
 use Rattle.archive_store.proofs.Batching.{admitted, sortable}
@@ -36,7 +36,7 @@ returns-then-len-eq0-clause-below g c =
     let rows = batch_rows c.args.batch.now in
     let classified = c.in-Ok.classified in
     let items = c.self.inside.history.items in
-    subst (λ (x : StoreView g.row.D.Denot). IsBelow x.records x.history rows) c.self.view_is
+    subst (λ (x : StoreView g.row.D.Denot). IsBelowLimits x.records x.history rows) c.self.view_is
     (below_none _ items rows classified.fresh c.in-Ok.ensures.fresh (omega (arith, c.len.ensures, c.if-len-eq0.true)) c.len-known.ensures.within)
 
 pub returns-in-Some-limit_passed-clause-limit : goal.returns-in-Some-limit_passed-clause-limit
@@ -79,7 +79,7 @@ returns-in_err-append-clause-below g c =
     let now = c.args.self.now in
     let none = c.in_default-limit_passed.ensures.none in
     let fresh : c.as_slice.result.now ≡ fresh_of now.history rows = c.as_slice.ensures ∙ subst (λ (x : StoreView g.row.D.Denot). c.in-Ok.classified.fresh ≡ fresh_of x.history rows) c.self.view_is c.in-Ok.ensures.fresh in
-    match_known c.from_residual.result (IsBelow now.records now.history rows) (λ e. e ≡ DiskFault)
+    match_known c.from_residual.result (IsBelowLimits now.records now.history rows) (λ e. e ≡ DiskFault)
     (below_some now.records now.history rows c.as_slice.result.now fresh none.0 none.1)
 
 pub returns-clause-ok : goal.returns-clause-ok

@@ -9,7 +9,7 @@ use Rattle.archive_store.specs.Answers.{IsOpenAnswer, IsOpenRefusal}
 use Rattle.archive_store.specs.Entries.{archive}
 use Rattle.archive_store.specs.Inside.{StoreInvariant}
 use Rattle.archive_store.specs.PartialArchive.{read_refusal}
-use Rattle.archive_store.specs.Stands.{IsDamagedAt}
+use Rattle.archive_store.specs.Stands.{IsArchiveDamagedAt}
 use Rattle.archive_store.proofs.Opened.{kept_open, stands_found}
 use Rattle.archive_store.proofs.Exact.{stands_once, stands_not_damaged}
 use Rattle.archive_store.proofs.Refusals.{begin_answers, begin_refused, read_answers, read_refused, damaged_refused, archive_refused}
@@ -31,14 +31,14 @@ pub returns-in-Err-read_archive-clause-damaged : goal.returns-in-Err-read_archiv
 returns-in-Err-read_archive-clause-damaged g c transparent at d =
     let reads = g.D.Disk.device.reads c.args.disk in
     let e = c.in-Err-read_archive.refusal in
-    let r : IsOpenRefusal reads e = read_refused reads e c.in-Err-read_archive.ensures.only (λ file at is. subst (λ (x : Image). (file ≡ 0) × IsDamagedAt x at) c.begin.ensures.reads (c.in-Err-read_archive.ensures.damaged transparent file at (cc (is)))) in
+    let r : IsOpenRefusal reads e = read_refused reads e c.in-Err-read_archive.ensures.only (λ file at is. subst (λ (x : Image). (file ≡ 0) × IsArchiveDamagedAt x at) c.begin.ensures.reads (c.in-Err-read_archive.ensures.damaged transparent file at (cc (is)))) in
     damaged_refused reads at e r d
 
 pub returns-in-Err-read_archive-clause-stands : goal.returns-in-Err-read_archive-clause-stands
 returns-in-Err-read_archive-clause-stands g c transparent x s =
     let reads = g.D.Disk.device.reads c.args.disk in
     let e = c.in-Err-read_archive.refusal in
-    let r : IsOpenRefusal reads e = read_refused reads e c.in-Err-read_archive.ensures.only (λ file at is. subst (λ (x : Image). (file ≡ 0) × IsDamagedAt x at) c.begin.ensures.reads (c.in-Err-read_archive.ensures.damaged transparent file at (cc (is)))) in
+    let r : IsOpenRefusal reads e = read_refused reads e c.in-Err-read_archive.ensures.only (λ file at is. subst (λ (x : Image). (file ≡ 0) × IsArchiveDamagedAt x at) c.begin.ensures.reads (c.in-Err-read_archive.ensures.damaged transparent file at (cc (is)))) in
     archive_refused reads x e r s
 
 pub invariant_of-result : goal.invariant_of-result

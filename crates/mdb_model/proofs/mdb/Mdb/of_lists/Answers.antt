@@ -6,7 +6,7 @@ use Rattle.mdb_items.specs.declared.container.Container.{Container}
 use Rattle.mdb_items.specs.declared.parameter.Parameter.{Parameter}
 use Rattle.mdb_items.specs.CalibrationRows.{calibrations_of, rows_of_calibration}
 use Rattle.mdb_items.specs.ContainerRows.{containers_of, rows_of_container}
-use Rattle.mdb_items.specs.Database.{Database, IsDatabase, limit_passed, rows_of, table_len}
+use Rattle.mdb_items.specs.Database.{Database, IsDatabase, limit_passed, database_rows, table_len}
 use Rattle.octet_fields.specs.declared.fault.DecodeError.{DecodeError}
 use Rattle.mdb_items.specs.ParameterRows.{row_of_parameter}
 use Rattle.mdb_model.specs.Rechecking.{HasRows, ListsRechecked, Refused, calibrations_sound, containers_sound, parameters_sound}
@@ -92,7 +92,7 @@ within_limits-requires c =
     let S : List Parameter → Type 0 = λ xs. containers_sound xs [] (flat_map rows_of_container c.deref-4.result.now) ≡ true in
     let T : List Container → Type 0 = λ xs. containers_sound ps [] (flat_map rows_of_container xs) ≡ true in
     record {
-      rows = rows_of d;
+      rows = database_rows d;
       sound = all_sound d cs ps ec ep (some_item d.containers some) (subst P c.deref-2.ensures.value c.in_ok-calibrations.ensures.0) (subst R c.deref-3.ensures.value (subst Q c.as_slice.ensures.value c.in_ok-parameters.ensures.0))
           (subst T c.deref-4.ensures.value (subst S c.as_slice-2.ensures.value c.in_ok-containers.ensures.0));
       spelled = all_spelled d cs ps ks ec ep ek;

@@ -3,7 +3,7 @@ use Rattle.mdb_items.specs.declared.container.Container.{Container}
 use Rattle.mdb_rules.specs.declared.container_rows.PathTotals.{PathTotals}
 use Rattle.mdb_items.specs.ContainerRows.{path_up}
 use Rattle.mdb_items.specs.Paths.{path_at, paths_of}
-use Rattle.mdb_items.specs.ParameterRows.{number_of}
+use Rattle.mdb_items.specs.ParameterRows.{referenced_number}
 use Rattle.mdb_rules.specs.Totals.{totals_at, totals_of}
 use Rattle.mdb_rules.proofs.ContainerSteps.{begun_depth, begun_parent}
 use Rattle.mdb_rules.proofs.TotalsSteps.{in_path_begun, totals_is}
@@ -13,7 +13,7 @@ pub overflow_add-up : goal.overflow_add-up
 overflow_add-up c =
     let old = c.args.self.now in
     let up = path_up old.items.items c.args.begun in
-    let is = c.totals-up.ensures ∙ ap (totals_at old.all_totals.items) c.number_of-parent.ensures ∙ totals_is c.requires.path.0 old.items.items old.all_totals.items (number_of c.args.begun.parent) c.requires.path.1.all_totals in
+    let is = c.totals-up.ensures ∙ ap (totals_at old.all_totals.items) c.number_of-parent.ensures ∙ totals_is c.requires.path.0 old.items.items old.all_totals.items (referenced_number c.args.begun.parent) c.requires.path.1.all_totals in
     let same : c.totals-up.result.containers ≡ up.containers = ap (λ (s : PathTotals). s.containers) is in
     let deep = begun_depth old.items.items up c.args.begun c.requires.sound in
     omega arith

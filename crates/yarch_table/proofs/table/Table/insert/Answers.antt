@@ -5,7 +5,7 @@ use Rattle.std.specs.List.{list_any}
 use Rattle.arch_types.specs.History.{has_key}
 use Rattle.arch_types.specs.declared.key.Key.{Key}
 use Rattle.block_map.specs.Index.{Listing}
-use Rattle.yarch_table.specs.Stored.{rows_of, Holding}
+use Rattle.yarch_table.specs.Stored.{rows_of, TableView}
 use Rattle.yarch_table.specs.declared.table.Stored.{Stored}
 use Rattle.yarch_table.proofs.Insertion.{found_row, any-rows, index-insert}
 use Rattle.yarch_table.proofs.table.Table.insert.Goals as goal
@@ -27,7 +27,7 @@ returns-in-Some-clause-inserted c =
     let is : slice_index_or stored c.in-Some.i found_at ≡ found_at = sym c.index.ensures in
     let P : Stored → Type 0 = λ s. has_key c.args.row.key s.row ≡ true in
     let key : has_key c.args.row.key found_at.row ≡ true = subst P is (row.1 found_at) in
-    let same = ap (λ (i : Listing Key ℕ). let h : Holding = record { stored = stored; room = i.room } in h) c.in-Some.ensures.present ∙ c.self.view_is in
+    let same = ap (λ (i : Listing Key ℕ). let h : TableView = record { stored = stored; room = i.room } in h) c.in-Some.ensures.present ∙ c.self.view_is in
     (rw (← c.self.view_is) any, rw (← c.self.view_is) (c.in-Some.i, found_at, row.0, is, (key, refl)), same)
 
 pub invariant_of-self-in-None : goal.invariant_of-self-in-None
