@@ -1,4 +1,4 @@
-# Completion of cudrakh's words for bash: `source` this file, or ./install puts it where the package bash-completion looks.
+# Completion of cudrakh's words for bash: `source` this file, or ./install it below /usr or /usr/local, where the package bash-completion finds it.
 
 # The names of the parameters of a sheet, below its header.
 _cudrakh_parameters() {
