@@ -9,7 +9,7 @@ use Rattle.block_map.specs.Index.{Listing, IsAdded}
 use Rattle.block_map.specs.Rising.{IsRising}
 use Rattle.histogram.specs.declared.histogram.NamedTime.{NamedTime}
 use Rattle.histogram.specs.declared.near.SpanStart.{SpanStart}
-use Rattle.histogram.specs.Times.{named_time_cmp, HistogramView, spans_of, records_of, times_of, IsHistogramOf}
+use Rattle.histogram.specs.Times.{named_time_cmp, HistogramView, spans_of, spans_of_times, times_of, IsHistogramOf}
 use Rattle.histogram.specs.Spans.{histogram_of}
 use Rattle.histogram.specs.Near.{span_of_time, with_span}
 use Rattle.histogram.specs.SpanEntries.{spans_in, earliest_key, near_span, last_key, HasTakenNear}
@@ -26,7 +26,7 @@ pub record IsAddition (at : NamedTime) (old new : HistogramView) : Type 0 where
   pub others : (pname : ℕ) → pname ≢ at.pname → spans_of pname new ≡ spans_of pname old
 
 -- for whatever times of the packet name the records were those
-pub records-push : (at : NamedTime) (old new : HistogramView) → IsAddition at old new → (times : List ℤ) → spans_of at.pname old ≡ records_of times → spans_of at.pname new ≡ records_of (times ++ at.time ∷ [])
+pub records-push : (at : NamedTime) (old new : HistogramView) → IsAddition at old new → (times : List ℤ) → spans_of at.pname old ≡ spans_of_times times → spans_of at.pname new ≡ spans_of_times (times ++ at.time ∷ [])
 records-push at old new is times were =
     let ordered = order_by int_lt times in
     is.own ∙ ap (with_span at.time (span_of_time at.time)) were
@@ -37,14 +37,14 @@ records-push at old new is times were =
 pub histogram-push : (at : NamedTime) (old new : HistogramView) → IsAddition at old new → (times : List NamedTime) → IsHistogramOf old times → IsHistogramOf new (times ++ at ∷ [])
 histogram-push at old new is times were pname = by (eqb pname at.pname) refl
   where
-    own : spans_of at.pname new ≡ records_of (times_of at.pname (times ++ at ∷ []))
-    own = records-push at old new is (times_of at.pname times) (were at.pname) ∙ ap records_of (sym (own_times at times))
+    own : spans_of at.pname new ≡ spans_of_times (times_of at.pname (times ++ at ∷ []))
+    own = records-push at old new is (times_of at.pname times) (were at.pname) ∙ ap spans_of_times (sym (own_times at times))
 
-    by : (b : Bool) → eqb pname at.pname ≡ b → spans_of pname new ≡ records_of (times_of pname (times ++ at ∷ []))
-    by true same = subst (λ (n : ℕ). spans_of n new ≡ records_of (times_of n (times ++ at ∷ []))) (sym (eqb-true pname at.pname same)) own
+    by : (b : Bool) → eqb pname at.pname ≡ b → spans_of pname new ≡ spans_of_times (times_of pname (times ++ at ∷ []))
+    by true same = subst (λ (n : ℕ). spans_of n new ≡ spans_of_times (times_of n (times ++ at ∷ []))) (sym (eqb-true pname at.pname same)) own
     by false differ =
         let ne = eqb-false pname at.pname differ in
-        is.others pname ne ∙ were pname ∙ ap records_of (sym (other_times pname at times ne))
+        is.others pname ne ∙ were pname ∙ ap spans_of_times (sym (other_times pname at times ne))
 
 -- ---- the fields
 

@@ -21,8 +21,8 @@ abbrev pub spans_of : ℕ → HistogramView → List Span
 spans_of pname histogram = map (λ r. r.1) (filter (λ r. r.0 == pname) histogram.records)
 
 -- the histogram of times that came in any order
-abbrev pub records_of : List ℤ → List Span
-records_of times = histogram_of (order_by int_lt times)
+abbrev pub spans_of_times : List ℤ → List Span
+spans_of_times times = histogram_of (order_by int_lt times)
 
 -- the times of one packet name, as they came
 abbrev pub times_of : ℕ → List NamedTime → List ℤ
@@ -30,7 +30,7 @@ times_of pname times = map (λ at. at.time) (filter (λ at. at.pname == pname) t
 
 -- the records of each packet name are those of its times
 abbrev pub IsHistogramOf : HistogramView → List NamedTime → Type 0
-IsHistogramOf histogram times = (pname : ℕ) → spans_of pname histogram ≡ records_of (times_of pname times)
+IsHistogramOf histogram times = (pname : ℕ) → spans_of pname histogram ≡ spans_of_times (times_of pname times)
 
 -- there are times whose records these are
 pub record HasTimes (histogram : HistogramView) : Type 0 where

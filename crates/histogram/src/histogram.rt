@@ -1,7 +1,7 @@
 //! The histogram.
 
 ghost use Rattle.std.specs.Prelude.{◌≡◌, ◌≢◌, ℕ, ℤ, ◌+◌, ◌<◌, List, [], ◌∷◌, ◌++◌, max, IfOk, OnOk, OnErr};
-ghost use Rattle.histogram.specs.Times.{spans_of, records_of, IsHistogramOf, HasTimes};
+ghost use Rattle.histogram.specs.Times.{spans_of, spans_of_times, IsHistogramOf, HasTimes};
 
 use crate::near::{SpanStart, take_near};
 use crate::walk::next_of;
@@ -78,7 +78,7 @@ impl Histogram {
         requires { 0 < self.old.room }
         ensures times { (times : List NamedTime) → IsHistogramOf self.old times → IsHistogramOf self.new (times ++ record
             { pname = pname; time = time } ∷ []) }
-        ensures added { (times : List ℤ) → spans_of pname self.old ≡ records_of times → spans_of pname self.new ≡ records_of
+        ensures added { (times : List ℤ) → spans_of pname self.old ≡ spans_of_times times → spans_of pname self.new ≡ spans_of_times
             (times ++ time ∷ []) }
         ensures others { (other : ℕ) → other ≢ pname → spans_of other self.new ≡ spans_of other self.old }
         ensures room { self.new.room + 1 ≡ self.old.room }
