@@ -120,7 +120,7 @@ const LABELLED: &str = "name,coding,bits,calibration|a,int,8,e|b,int,8,";
 
 const LABELS: &str = "name,kind,x,y|e,enum,7,SEVEN|e,enum,-1,BELOW|e,enum,3,THREE";
 
-const ROOT: &str = "container,parent,condition,archive,entry,position|r,,,,a,";
+const LABELLED_ROOT: &str = "container,parent,condition,archive,entry,position|r,,,,a,";
 
 fn record(alloc: Global, line: &str) -> Result<Record, AllocError> {
     let mut fields = Record::new(alloc);
@@ -463,7 +463,7 @@ fn label_row(mdb: &Mdb, number: u16, raw: i128) -> Option<usize> {
 
 #[test]
 fn labels_by_number(rt: HostRuntime) -> Result<(), Fail> {
-    let mdb = check(rt.alloc(), LABELLED, LABELS, ROOT)?;
+    let mdb = check(rt.alloc(), LABELLED, LABELS, LABELLED_ROOT)?;
     for (raw, row) in [(7, Some(0)), (-1, Some(1)), (3, Some(2)), (4, None)] {
         assert_eq!(rt; label_row(&mdb, 0, raw), row);
     }
@@ -475,7 +475,7 @@ fn labels_by_number(rt: HostRuntime) -> Result<(), Fail> {
 fn equal_databases(rt: HostRuntime) -> Result<(), Fail> {
     let mdb = each(rt.alloc())?;
     let again = each(rt.alloc())?;
-    let other = check(rt.alloc(), LABELLED, LABELS, ROOT)?;
+    let other = check(rt.alloc(), LABELLED, LABELS, LABELLED_ROOT)?;
     assert_eq!(rt; mdb.equals(&again), true);
     assert_eq!(rt; mdb.equals(&other), false);
     Ok(())
