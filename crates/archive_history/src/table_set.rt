@@ -13,33 +13,27 @@ use arch_types::key::Key;
 use arch_types::row::Row;
 use std::alloc::{AllocError, Global};
 use std::marker::Model;
+use std::snapshot::Snapshot;
 use yarch_table::rows::TableRows;
 use yarch_table::table::Table;
-
-/// Where a row stands: in which table, and at which place among its rows in the order of their coming.
-#[derive(Clone, Copy, Debug)]
-pub struct Place {
-    pub table: u8,
-    pub at: u32,
-}
 
 /// The rows of each table, and their order in the history.
 #[derive(Drop)]
 pub struct TableSet {
     tables: Vec<Table>,
-    /// The place of each row, in the order of the history.
-    order: Vec<Place>,
+    /// Each row in the order of the history, for contracts alone: a snapshot takes no memory.
+    order: Vec<Snapshot<Row>>,
     /// How many more rows come without memory.
     room: usize,
 }
 
 impl Model for TableSet {
     ghost use Rattle.std.specs.Prelude.{length};
-    ghost use Rattle.archive_history.specs.TableSet.{HistoryView, items_at, IsTableSet};
+    ghost use Rattle.archive_history.specs.TableSet.{HistoryView, items_in, IsTableSet};
 
     ghost Value = { HistoryView };
 
-    ghost view = { λ s. record { items = items_at s.tables.items s.order.items; tables = length s.tables.items; room = s.room } };
+    ghost view = { λ s. record { items = items_in s.order.items; tables = length s.tables.items; room = s.room } };
 
     ghost invariant = { λ s. IsTableSet s.tables.items s.order s.room };
 }
@@ -121,7 +115,6 @@ impl TableSet {
     pub fn add(&mut self, row: Row) -> bool
         requires room { 0 < self.old.room }
         requires table { row.table < self.old.tables }
-        requires small { length self.old.items + 1 < 2 ^ 32 }
         ensures items { self.new.items ≡ with_row self.old.items row }
         ensures fresh { result ≡ true → self.new.items ≡ self.old.items ++ row ∷ [] }
         ensures known { result ≡ false → self.new.items ≡ self.old.items }
@@ -130,11 +123,11 @@ impl TableSet {
     {
         let table = row.table;
         let position = self.order.len() as u64;
-        let at = self.tables[table as usize].len() as u32;
+        let noted = Snapshot::of(&row);
         self.room -= 1;
         match self.tables[table as usize].insert(row, position) {
             Inserted::New(_) => {
-                self.order.push_reserved(Place { table, at });
+                self.order.push_reserved(noted);
                 true
             }
             Inserted::Duplicate(_) => false,

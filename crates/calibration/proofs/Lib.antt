@@ -5,3 +5,4 @@ pub mod Line
 pub mod Sums
 pub mod Admission
 pub mod Rules
+pub mod Labels

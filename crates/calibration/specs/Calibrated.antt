@@ -1,5 +1,5 @@
 -- The engineering value of a raw number.
-use Rattle.std.specs.Prelude.{ℕ, List, take, fold, slice_get, Option, Some, None, ℤ, pos, ◌+ℤ◌, ◌-ℤ◌, ◌*ℤ◌, int_le}
+use Rattle.std.specs.Prelude.{ℕ, Bool, true, false, List, take, fold, slice_get, Option, Some, None, ℤ, pos, ◌+ℤ◌, ◌-ℤ◌, ◌*ℤ◌, int_le}
 use Rattle.std.specs.Int.{int_pow, int_div_euclid}
 use Rattle.std.specs.List.{position, prefix_len}
 use Rattle.std.specs.Ordering.{int_eq}
@@ -54,3 +54,14 @@ value_by (Enum rows) raw = label_at (position (λ row. int_eq row.x raw) rows)
 abbrev pub calibrated : Option Calibration → ℤ → Eng
 calibrated None raw = Whole
 calibrated (Some calibration) raw = value_by calibration.table raw
+
+-- the table is an enumeration
+abbrev pub is_enum : Table → Bool
+is_enum (Poly rows) = false
+is_enum (Points points) = false
+is_enum (Enum rows) = true
+
+-- the calibration is an enumeration
+abbrev pub is_enumeration : Option Calibration → Bool
+is_enumeration None = false
+is_enumeration (Some calibration) = is_enum calibration.table

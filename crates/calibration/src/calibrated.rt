@@ -1,15 +1,16 @@
 //! Calibrated values.
 
-ghost use Rattle.std.specs.Prelude.{◌≡◌, ◌≤◌, length, option_copied};
+ghost use Rattle.std.specs.Prelude.{◌≡◌, ◌<◌, ℕ, Some, length, option_copied};
 ghost use Rattle.std.specs.List.{position};
 ghost use Rattle.std.specs.Ordering.{int_eq};
 ghost use Rattle.calibration.specs.Admitted.{IsAdmitted};
-ghost use Rattle.calibration.specs.Calibrated.{calibrated, label_at};
+ghost use Rattle.calibration.specs.Calibrated.{calibrated, is_enumeration, label_at};
+ghost use Rattle.mdb_model.specs.Lookups.{calibration_of};
 
 use crate::points::on_points;
 use crate::polynomial::polynomial;
 use arch_types::cell::Eng;
-use mdb_model::{Calibration, EnumRow, Table};
+use mdb_model::{Calibration, EnumRow, Mdb, Table};
 
 /// The row of a raw number, counted from 0.
 fn row_of(rows: &[EnumRow], raw: i128) -> Option<usize>
@@ -18,12 +19,12 @@ fn row_of(rows: &[EnumRow], raw: i128) -> Option<usize>
     rows.iter().position(|row| row.x == raw)
 }
 
-/// The row of the label of a raw number.
-fn label(rows: &[EnumRow], raw: i128) -> Eng
-    requires { length rows.now ≤ 65536 }
-    ensures { result ≡ label_at (position (λ row. int_eq row.x raw) rows.now) }
+/// The label of a row, where there is one.
+fn label(row: Option<usize>) -> Eng
+    requires { (n : ℕ) → row ≡ Some n → n < 65536 }
+    ensures { result ≡ label_at row }
 {
-    match row_of(rows, raw) {
+    match row {
         None => Eng::Undef,
         Some(row) => Eng::Label(row as u16),
     }
@@ -41,6 +42,30 @@ pub fn calibrate(calibration: Option<&Calibration>, raw: i128) -> Eng
     match &calibration.table {
         Table::Poly(rows) => Eng::Fixed(polynomial(rows.as_slice(), raw)),
         Table::Points(points) => Eng::Fixed(on_points(points.as_slice(), raw)),
-        Table::Enum(rows) => label(rows.as_slice(), raw),
+        Table::Enum(rows) => label(row_of(rows.as_slice(), raw)),
     }
+}
+
+/// The calibration is an enumeration.
+fn is_enumeration(calibration: Option<&Calibration>) -> bool
+    ensures { result ≡ is_enumeration (option_copied calibration.entry) }
+{
+    match calibration {
+        None => false,
+        Some(calibration) => matches!(&calibration.table, Table::Enum(_)),
+    }
+}
+
+/// The engineering value of a raw number of the parameter with a number, as `calibrate` gives it by the parameter's calibration.
+/// The database finds a label without a look at the others.
+pub fn calibrate_parameter(mdb: &Mdb, parameter: u16, raw: i128) -> Eng
+    requires known { parameter < length mdb.now.parameters }
+    requires admitted { IsAdmitted (calibration_of mdb.now parameter) raw }
+    ensures { result ≡ calibrated (calibration_of mdb.now parameter) raw }
+{
+    let calibration = mdb.calibration_of(parameter);
+    if is_enumeration(calibration) {
+        return label(mdb.label_row(parameter, raw));
+    }
+    calibrate(calibration, raw)
 }

@@ -6,7 +6,7 @@ ghost use Rattle.container_extract.specs.Values.{IsRawValue, calibrated_value, e
 
 use crate::values::{ParameterValue, RawValue, Values};
 use arch_types::cell::Eng;
-use calibration::calibrate;
+use calibration::calibrate_parameter;
 use mdb_model::Mdb;
 use std::alloc::{AllocError, Global};
 
@@ -16,7 +16,7 @@ pub fn eng_of(mdb: &Mdb, value: RawValue) -> Eng
     ensures { result ≡ eng_of mdb.now value }
 {
     mdb.is_sound();
-    calibrate(mdb.calibration_of(value.parameter), value.raw)
+    calibrate_parameter(mdb, value.parameter, value.raw)
 }
 
 /// A raw value of the database with its engineering value.

@@ -4,7 +4,7 @@
 // on), Values says what an entry's raw value is, its engineering value, and when a condition holds, Chain is a relation between a packet and a
 // list of container numbers (`IsChain`, of which `laws` says that there is exactly one), and Extraction is the values along it, raw and
 // calibrated. An `Extractor` takes the raw values of one packet after the other and takes memory once; `eng_of` calibrates those that are
-// asked for. The archive names each arrival by `packet_name`, and reads packets by an `Extractor`; `extract` is its values, all calibrated.
+// asked for. The archive names each arrival and reads packets by an `Extractor`; `extract` and `packet_name` are for one packet alone.
 //
 // The idea of the proof: whatever goes on from the containers so far makes a chain (proofs/Walk.antt), so that the walk ends with one.
 // A container's children all stand after it in the sheet, so the walk ends: that and what else is used of a database is mdb_model's law (`IsStructured`).

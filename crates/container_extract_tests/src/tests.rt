@@ -78,7 +78,7 @@ const FLAGGED: Worked = (
 fn record(alloc: Global, line: &str) -> Result<Record, AllocError> {
     let mut fields = Record::new(alloc);
     for field in line.split(',') {
-        fields.push(Vec::from_slice(alloc, field.as_bytes())?)?;
+        fields.push(field.as_bytes())?;
     }
     Ok(fields)
 }

@@ -5,4 +5,5 @@ pub mod Elsewhere
 pub mod Files
 pub mod Once
 pub mod Opened
+pub mod Pieces
 pub mod Reading

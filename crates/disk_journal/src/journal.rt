@@ -166,7 +166,8 @@ impl Journal {
         }
     }
 
-    /// Opens the journal in a file. It begins with a sync, and reads of each record the gate and the length.
+    /// Opens the journal in a file. It begins with a sync, and reads the file in pieces of 256 KiB; a body that passes the
+    /// end of a piece is passed over.
     pub fn open<D: Disk>(alloc: Global, disk: &mut D, file: u32) -> Result<Journal, JournalFault>
         // Ok: the journal has just the records of the file.
         ensures opened { IfOk result (IsJournalOpened D.device file disk.old disk.new) }

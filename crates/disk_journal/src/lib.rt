@@ -20,6 +20,7 @@ mod frame;
 mod journal;
 pub mod laws;
 mod opening;
+mod piece_reader;
 mod steps;
 
 pub use fault::JournalFault;

@@ -7,19 +7,18 @@ ghost use Rattle.disk_journal.specs.State.{IsReadFault, unhealed_fault, file_of}
 
 use crate::JournalFault;
 use crate::journal::{Extent, Journal, PendingFault, begins_open};
-use crate::steps::{flush, number_at, octet_at, octets_at};
+use crate::piece_reader::PieceReader;
+use crate::steps::flush;
 use arch_disk::Disk;
 use std::alloc::{AllocError, Global};
 
 /// A reading of a file, up to a gate.
 #[derive(Drop)]
 pub struct Opening {
-    file: u32,
+    reader: PieceReader,
     extents: Vec<Extent>,
     /// The gate that is read next; the one at 0 was found open at the beginning.
     at: u64,
-    /// The length of the file.
-    len: u64,
 }
 
 impl Opening {
@@ -51,42 +50,44 @@ impl Opening {
         match begins_open(disk, file)? {
             None => Err(JournalFault::NoArchive),
             Some(len) => Ok(Opening {
-                file,
+                reader: PieceReader::new(alloc, file, len),
                 extents: Vec::new(alloc),
                 at: 0,
-                len,
             }),
         }
     }
 
     // Where the body of the next record stands; None at a closed gate.
-    fn read_header<D: Disk>(&self, disk: &mut D) -> Result<Option<Extent>, JournalFault>
-        requires { IsTrue D.device.is_transparent → (self.now.len ≡ length (D.device.reads disk.old self.now.file)) ×
-            (self.now.at < self.now.len)
-            × (self.now.at ≡ 0 → get_or (D.device.reads disk.old self.now.file) self.now.at 0 ≡ 1) }
+    fn read_header<D: Disk>(&mut self, disk: &mut D) -> Result<Option<Extent>, JournalFault>
+        requires { IsTrue D.device.is_transparent → (bodies : List (List ℕ)) ×
+            IsAt self.old (D.device.reads disk.old (file_read self.old)) bodies }
         ensures some { IsTrue D.device.is_transparent →
-            IfOk result (λ next. IfSome next (λ extent. IsWholeAt (D.device.reads disk.old self.now.file) self.now.at
+            IfOk result (λ next. IfSome next (λ extent. IsWholeAt (D.device.reads disk.old (file_read self.old)) (gate_of self.old)
             extent)) }
         ensures none { IsTrue D.device.is_transparent → IfOk result (λ next. next ≡ None →
-            get_or (D.device.reads disk.old self.now.file) self.now.at 0 ≢ 1) }
-        ensures within { IfOk result (λ next. IfSome next (λ extent. (extent.at ≡ self.now.at + 5) ×
-            (self.now.at + 5 + extent.len < 2 ^ 64))) }
+            get_or (D.device.reads disk.old (file_read self.old)) (gate_of self.old) 0 ≢ 1) }
+        ensures within { IfOk result (λ next. IfSome next (λ extent. (extent.at ≡ gate_of self.old + 5) ×
+            (extent.at + extent.len < 2 ^ 64))) }
         ensures damaged { IsTrue D.device.is_transparent → (bodies : List (List ℕ)) →
-            IsAt self.now (D.device.reads disk.old self.now.file) bodies
-            → (at : ℕ) → result ≡ Err (JournalFault.Damaged at) → (at ≡ self.now.at) × IsCutShortAt (D.device.reads disk.old self.now.file) bodies }
+            IsAt self.old (D.device.reads disk.old (file_read self.old)) bodies
+            → (at : ℕ) → result ≡ Err (JournalFault.Damaged at) → (at ≡ gate_of self.old) × IsCutShortAt (D.device.reads disk.old (file_read self.old)) bodies }
+        ensures stays { IsTrue D.device.is_transparent → (bodies : List (List ℕ)) →
+            IsAt self.old (D.device.reads disk.old (file_read self.old)) bodies
+            → OnOk result (IsAt self.new (D.device.reads disk.old (file_read self.old)) bodies) }
+        ensures place { (gate_of self.new ≡ gate_of self.old) × (file_read self.new ≡ file_read self.old) }
         ensures looked { OnlyReads D.device disk.old disk.new }
         ensures only { IfErr result IsReadFault }
         ensures cause { result ≡ Err JournalFault.DiskFault →
             raised (D.device.fault_count disk.old) ≤ D.device.fault_count disk.new }
     {
-        if self.at > 0 && octet_at(disk, self.file, self.at)? != 1 {
+        if self.at > 0 && self.reader.octet(disk, self.at)? != 1 {
             return Ok(None);
         }
-        let left = self.len.saturating_sub(self.at);
+        let left = self.reader.len.saturating_sub(self.at);
         if left < 6 {
             return Err(JournalFault::Damaged { at: self.at });
         }
-        let len = number_at(disk, self.file, self.at + 1)?;
+        let len = self.reader.number(disk, self.at + 1)?;
         if u64::from(len) > left - 6 {
             return Err(JournalFault::Damaged { at: self.at });
         }
@@ -138,7 +139,7 @@ impl Opening {
         match self.read_header(disk)? {
             None => Ok(None),
             Some(extent) => {
-                let body = octets_at(alloc, disk, self.file, extent.at, extent.len)?;
+                let body = self.reader.octets(alloc, disk, extent.at, extent.len)?;
                 self.advance(extent)?;
                 Ok(Some(body))
             }
@@ -177,13 +178,12 @@ impl Opening {
         ensures { IsReadJournal self result }
     {
         let Opening {
-            file,
+            reader,
             extents,
             at,
-            len: _,
         } = self;
         Journal {
-            file,
+            file: reader.file,
             extents,
             end: at,
             pending_fault: PendingFault::Absent,

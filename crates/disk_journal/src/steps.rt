@@ -54,27 +54,12 @@ pub fn octet_at<D: Disk>(disk: &mut D, file: u32, at: u64) -> Result<u8, Failed>
 }
 
 // The number that four octets spell.
-fn number_of(octets: &[u8]) -> u32
+pub fn number_of(octets: &[u8]) -> u32
     requires { length octets.now ≡ 4 }
     ensures number { result ≡ from_be_bytes w32 octets.now }
     ensures octets { to_be_bytes w32 result ≡ octets.now }
 {
     u32::from_be_bytes([octets[0], octets[1], octets[2], octets[3]])
-}
-
-// A number of four octets.
-pub fn number_at<D: Disk>(disk: &mut D, file: u32, at: u64) -> Result<u32, Failed>
-    requires { IsTrue D.device.is_transparent → at + 4 ≤ length (D.device.reads disk.old file) }
-    ensures number { IfOk result (λ number. IsTrue D.device.is_transparent →
-        number ≡ from_be_bytes w32 (take 4 (drop at (D.device.reads disk.old file)))) }
-    ensures octets { IfOk result (λ number. IsTrue D.device.is_transparent →
-        to_be_bytes w32 number ≡ take 4 (drop at (D.device.reads disk.old file))) }
-    ensures looked { OnlyReads D.device disk.old disk.new }
-    ensures cause { HasCause D.device disk.old disk.new result }
-{
-    let mut octets = [0; 4];
-    disk.read_at(file, at, &mut octets)?;
-    Ok(number_of(&octets))
 }
 
 // The length of a file.

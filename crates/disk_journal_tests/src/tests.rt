@@ -4,7 +4,7 @@ ghost use Rattle.std.specs.Prelude.{◌<◌, ◌^◌, IsTrue, length, IfOk};
 ghost use Rattle.disk_journal.specs.State.{IsOnDisk};
 
 use arch_disk::{Crash, Disk, Length, MemDisk, OpaqueDisk, Unsynced};
-use disk_journal::{Frame, Journal, JournalFault};
+use disk_journal::{Frame, Journal, JournalFault, Opening};
 use std::alloc::{AllocError, Global};
 use std::process::Abort;
 use std::test::Fail;
@@ -277,7 +277,7 @@ fn images_of_appends_and_heals(rt: HostRuntime) -> Result<(), Fail> {
 }
 
 // 100,000 appends, over a disk that doesn't tell what it holds. Opening them makes a sync, asks for the length of the
-// file, and reads each gate but the first and each record's length once.
+// file, and reads the first gate; the 1.8 MB behind it are seven pieces.
 #[test]
 fn many_appends(rt: HostRuntime) -> Result<(), Fail> {
     let mut disk = OpaqueDisk::new(MemDisk::new(rt.alloc()));
@@ -290,7 +290,48 @@ fn many_appends(rt: HostRuntime) -> Result<(), Fail> {
         Journal::open(rt.alloc(), &mut disk, FILE)?.count(),
         100_001
     );
-    assert_eq!(rt; disk.made().saturating_sub(made), 2 + 100_002 + 100_001);
+    assert_eq!(rt; disk.made().saturating_sub(made), 3 + 7);
+    Ok(())
+}
+
+// Six bodies of 100,000 octets behind a short one. The third and the sixth pass the end of a piece, so their rests are
+// read alone; the next piece begins at the gate behind them, and the third one is the closed gate at the end.
+#[test]
+fn an_opening_reads_in_pieces(rt: HostRuntime) -> Result<(), Fail> {
+    let mut disk = OpaqueDisk::new(MemDisk::new(rt.alloc()));
+    let mut journal = created(rt.alloc(), &mut disk)?;
+    for i in 0..6u8 {
+        let body = vec![in rt.alloc(); i; 100_000]?;
+        add(rt.alloc(), &mut journal, &mut disk, &body)?;
+    }
+    let disk = disk.into_inner();
+    let made = disk.made();
+    let mut disk = OpaqueDisk::new(disk);
+    let mut opening = Opening::begin(rt.alloc(), &mut disk, FILE)?;
+    let first = opening.next(rt.alloc(), &mut disk)?;
+    assert_eq!(rt; first.as_deref(), Some(body_at(0)));
+    for i in 0..6u8 {
+        let body = opening.next(rt.alloc(), &mut disk)?;
+        let wanted = vec![in rt.alloc(); i; 100_000]?;
+        assert!(rt; body.as_deref() == Some(wanted.as_slice()), "body {i}");
+    }
+    assert!(rt; opening.next(rt.alloc(), &mut disk)?.is_none());
+    assert_eq!(rt; opening.finish().count(), 7);
+    assert_eq!(rt; disk.into_inner().made().saturating_sub(made), 3 + 3 + 2);
+    Ok(())
+}
+
+// The look that failed is made again: what the failed read left is not taken for a piece.
+#[test]
+fn a_failed_look_is_made_again(rt: HostRuntime) -> Result<(), Fail> {
+    let disk = failing_at(rt.alloc(), 12)?;
+    let mut disk = OpaqueDisk::new(disk);
+    let _ = created(rt.alloc(), &mut disk)?;
+    let mut opening = Opening::begin(rt.alloc(), &mut disk, FILE)?;
+    let failed = opening.next(rt.alloc(), &mut disk);
+    assert!(rt; failed.err() == Some(JournalFault::DiskFault));
+    let body = opening.next(rt.alloc(), &mut disk)?;
+    assert_eq!(rt; body.as_deref(), Some(body_at(0)));
     Ok(())
 }
 

@@ -1,16 +1,13 @@
 -- Ends of a block, and the parts that stand before them.
-use Rattle.std.proofs.Common.{◌≡◌, ℕ, zero, suc, ◌+◌, ◌-◌, ◌<◌, ltb, List, [], ◌∷◌, ◌++◌, length, take, drop, get_or, Some, refl, sym, ap, subst, ◌∙◌, append_assoc, append-nil, add-one, arith, length-append}
+use Rattle.std.proofs.Common.{◌≡◌, ℕ, ◌+◌, ◌<◌, ltb, List, [], ◌∷◌, ◌++◌, length, take, drop, get_or, Some, sym, ap, subst, ◌∙◌, append_assoc, append-nil, add-one, length-append}
 use Rattle.std.specs.Int.{Width, byte_len, from_be_bytes}
-use Rattle.std.specs.List.{flat_map, AllByRecursion}
+use Rattle.std.specs.List.{flat_map}
 use Rattle.std.proofs.Math.Seq.{take-suc}
 use Rattle.std.proofs.lemmas.Grind.{flat_map-append}
 use Rattle.std.proofs.lemmas.List.{take-append-drop}
 use Rattle.octet_fields.specs.Reading.{number_at}
 use Rattle.octet_fields.proofs.Exact.{guard_some, some_is}
 use Rattle.field_codec.specs.Reading.{IsEndOf}
-
-pub end_itself : (octets : List ℕ) → IsEndOf octets octets
-end_itself octets = ([], refl)
 
 -- an end of an end
 pub end_behind : (block front rest : List ℕ) → IsEndOf (front ++ rest) block → IsEndOf rest block
@@ -38,8 +35,3 @@ size_more f xs i x lt is =
     ∙ ap length (flat_map-append f (take i xs) (x ∷ []))
     ∙ length-append (flat_map f (take i xs)) (f x ++ [])
     ∙ ap (λ l. length (flat_map f (take i xs)) + length l) (append-nil (f x))
-
-pub each_at : {X : Type 0} (P : X → Type 0) (xs : List X) (i : ℕ) (x : X) → AllByRecursion P xs → i < length xs → x ≡ get_or xs i x → P x
-each_at P [] i x all lt is = absurd (omega arith)
-each_at P (y ∷ xs) zero x all lt is = subst P (sym is) all.0
-each_at P (y ∷ xs) (suc i) x all lt is = each_at P xs i x all.1 (omega arith) is

@@ -1,5 +1,5 @@
 -- The opening of a head is read exactly.
-use Rattle.std.proofs.Common.{◌≡◌, ◌≢◌, ℕ, ◌<◌, ◌≤◌, ◌^◌, Bool, true, false, eqb, leb, true≢false, not, ◌&&◌, List, [], ◌∷◌, ◌++◌, length, Option, Some, None, refl, sym, ap, ◌∙◌, arith}
+use Rattle.std.proofs.Common.{◌≡◌, ◌≢◌, ℕ, ◌<◌, ◌^◌, Bool, true, false, eqb, leb, true≢false, not, ◌&&◌, List, [], ◌∷◌, length, Option, Some, refl, sym, ap, ◌∙◌, arith}
 use Rattle.std.specs.Prelude.{slice_get, ◌||◌}
 use Rattle.std.specs.Int.{w8}
 use Rattle.std.specs.List.{AllByRecursion, list_any}
@@ -8,7 +8,6 @@ use Rattle.std.proofs.lemmas.Bool.{eqb-true, leb-true, le-leb}
 use Rattle.std.proofs.lemmas.Slice.Eq.{bytes_eq-Decides}
 use Rattle.text_forms.specs.Names.{is_name}
 use Rattle.octet_fields.specs.Exact.{IsExact}
-use Rattle.octet_fields.specs.Reading.{number_at}
 use Rattle.octet_fields.specs.Spelling.{counted, name, number}
 use Rattle.octet_fields.proofs.Exact.{IsExact-as, IsExact-both, IsExact-mapped, IsExact-tested}
 use Rattle.octet_fields.proofs.Numbers.{exact8, exact_counted8, exact_name}
@@ -117,3 +116,10 @@ opening_here tables h = (((omega arith, refl), ((omega arith, refl), h)), refl)
 pub opening_exact : IsExact AreTables opening_octets opening_at
 unfolding opening_octets opening_at
 opening_exact = IsExact-mapped (IsExact-both (this_exact 1) (λ _ _. IsExact-both (this_exact 22) (λ _ _. tables_exact))) AreTables (λ (p : Numbered). p.1.1) (λ tables. (1, (22, tables))) opening_there opening_here
+
+-- ---- names that are put
+
+-- any name has a spelling
+pub any_fits : (names : List (List ℕ)) → AllByRecursion (λ name. Unit {0}) names
+any_fits [] = tt
+any_fits (name ∷ names) = (tt, any_fits names)

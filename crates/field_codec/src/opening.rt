@@ -6,7 +6,7 @@ ghost use Rattle.std.specs.List.{AllByRecursion, flat_map, list_any};
 ghost use Rattle.std.specs.Str.{bytes_eq};
 ghost use Rattle.text_forms.specs.Names.{is_name};
 ghost use Rattle.octet_fields.specs.Answers.{Gives};
-ghost use Rattle.octet_fields.specs.Reading.{counted_at, times_at};
+ghost use Rattle.octet_fields.specs.Reading.{counted_at};
 ghost use Rattle.octet_fields.specs.Spelling.{counted, name, number};
 ghost use Rattle.field_codec.specs.Entries.{AreTables};
 ghost use Rattle.field_codec.specs.Spelling.{opening_octets};
@@ -14,7 +14,9 @@ ghost use Rattle.field_codec.specs.Reading.{are_tables, begins_with_tm, is_disti
 
 use arch_types::name::{Name, Names};
 use arch_types::octets::Octets;
-use octet_fields::{DecodeError, name_at, put_name, put_u8, u8_at};
+use octet_fields::{
+    Decode, DecodeError, Encode, each_at, name_at, put_each, put_name, put_u8, u8_at,
+};
 use std::alloc::{AllocError, Global};
 
 /// The number of the format.
@@ -80,29 +82,34 @@ fn this_at(number: u8, octets: &[u8]) -> Result<(u8, &[u8]), DecodeError>
     Ok((found, rest))
 }
 
-#[tactic(auto, unfolding(crate::specs::Reading::table_name_at))]
-fn table_at(alloc: Global, octets: &[u8]) -> Result<(Name, &[u8]), DecodeError>
-    ensures { Gives (λ x. (x.0, x.1.now)) result (table_name_at octets.now) }
-{
-    let (name, rest) = name_at(octets)?;
-    match Name::of(Octets::from_slice(alloc, name)?) {
-        Some(name) => Ok((name, rest)),
-        None => Err(DecodeError::Malformed),
+/// How the name of a table is spelled.
+struct TableCodec;
+
+impl Decode for TableCodec {
+    type Value = Name;
+
+    ghost read = { table_name_at };
+
+    #[tactic(auto, unfolding(crate::specs::Reading::table_name_at))]
+    fn at(alloc: Global, octets: &[u8]) -> Result<(Name, &[u8]), DecodeError> {
+        let (name, rest) = name_at(octets)?;
+        match Name::of(Octets::from_slice(alloc, name)?) {
+            Some(name) => Ok((name, rest)),
+            None => Err(DecodeError::Malformed),
+        }
     }
 }
 
-/// So many names of tables.
-fn some_tables_at(alloc: Global, count: u8, octets: &[u8]) -> Result<(Names, &[u8]), DecodeError>
-    ensures { Gives (λ x. (x.0, x.1.now)) result (times_at table_name_at count octets.now) }
-{
-    let mut tables = Names::new(alloc);
-    let mut rest = octets;
-    for _ in 0..count {
-        let (table, after) = table_at(alloc, rest)?;
-        tables.push(table)?;
-        rest = after;
+impl Encode for TableCodec {
+    type Value = Name;
+
+    ghost fits = { λ _. Unit {0} };
+
+    ghost spell = { name };
+
+    fn put(out: &mut Vec<u8>, table: &Name) -> Result<(), AllocError> {
+        put_name(out, table.as_slice())
     }
-    Ok((tables, rest))
 }
 
 #[tactic(auto, unfolding(crate::specs::Reading::tables_at, octet_fields::specs::Reading::counted_at))]
@@ -110,7 +117,8 @@ fn tables_at(alloc: Global, octets: &[u8]) -> Result<(Names, &[u8]), DecodeError
     ensures { Gives (λ x. (x.0, x.1.now)) result (tables_at octets.now) }
 {
     let (count, rest) = u8_at(octets)?;
-    let (tables, rest) = some_tables_at(alloc, count, rest)?;
+    let (tables, rest) = each_at::<TableCodec>(alloc, usize::from(count), rest)?;
+    let tables = Names::from_vec(tables);
     if !are_tables(tables.as_slice()) {
         return Err(DecodeError::Malformed);
     }
@@ -148,15 +156,6 @@ pub(crate) fn opening_size(tables: &[Name]) -> usize
     3 + names_size(tables)
 }
 
-fn put_each_name(out: &mut Vec<u8>, names: &[Name]) -> Result<(), AllocError>
-    ensures { OnOk result (out.new.items ≡ out.old.items ++ flat_map name names.now) }
-{
-    for table in names {
-        put_name(out, table.as_slice())?;
-    }
-    Ok(())
-}
-
 #[tactic(auto, unfolding(crate::specs::Spelling::opening_octets, octet_fields::specs::Spelling::counted))]
 pub(crate) fn put_opening(out: &mut Vec<u8>, tables: &[Name]) -> Result<(), AllocError>
     requires { length tables.now ≤ 16 }
@@ -165,5 +164,5 @@ pub(crate) fn put_opening(out: &mut Vec<u8>, tables: &[Name]) -> Result<(), Allo
     put_u8(out, FORMAT)?;
     put_u8(out, EXPONENT)?;
     put_u8(out, tables.len() as u8)?;
-    put_each_name(out, tables)
+    put_each::<TableCodec>(out, tables)
 }

@@ -1,6 +1,6 @@
 //! Rows as octets, both ways.
 
-ghost use Rattle.std.specs.Prelude.{◌≡◌, ◌*◌, ◌<◌, ◌≤◌, ◌^◌, ◌++◌, length, IfOk, OnOk};
+ghost use Rattle.std.specs.Prelude.{◌≡◌, ◌*◌, ◌<◌, ◌≤◌, ◌^◌, ◌++◌, length, IfOk};
 ghost use Rattle.std.specs.Int.{w8};
 ghost use Rattle.std.specs.List.{AllByRecursion, flat_map};
 ghost use Rattle.arch_types.specs.Packet.{IsPacket};
@@ -14,7 +14,9 @@ ghost use Rattle.field_codec.specs.Reading.{IsEndOf, fields_at, packet_at, row_a
 
 use arch_types::octets::Octets;
 use arch_types::row::{Row, Rows};
-use octet_fields::{DecodeError, Short, i64_at, put_i64, put_u8, put_u16, u8_at, u16_at};
+use octet_fields::{
+    DecodeError, Encode, Short, i64_at, put_each, put_i64, put_u8, put_u16, u8_at, u16_at,
+};
 use space_packet::dump::first_packet;
 use space_packet::header::is_idle_packet;
 use space_packet::key::key_of;
@@ -144,26 +146,24 @@ pub(crate) fn read_rows(alloc: Global, block: &Octets, octets: &[u8]) -> Result<
     whole_rows(alloc, block, octets)
 }
 
-#[tactic(auto, unfolding(crate::specs::Spelling::row_octets))]
-fn put_row(out: &mut Vec<u8>, row: &Row) -> Result<(), AllocError>
-    requires { IsStored row.now }
-    ensures { OnOk result (out.new.items ≡ out.old.items ++ row_octets row.now) }
-{
-    put_u8(out, row.table)?;
-    put_i64(out, row.rectime)?;
-    put_u8(out, row.link as u8)?;
-    put_u16(out, row.pname)?;
-    out.extend_from_slice(row.packet.as_slice())
-}
+/// How a row is spelled. It is read beside its block, by `row_at`.
+struct RowCodec;
 
-fn put_each_row(out: &mut Vec<u8>, rows: &[Row]) -> Result<(), AllocError>
-    requires { AllByRecursion IsStored rows.now }
-    ensures { OnOk result (out.new.items ≡ out.old.items ++ flat_map row_octets rows.now) }
-{
-    for row in rows {
-        put_row(out, row)?;
+impl Encode for RowCodec {
+    type Value = Row;
+
+    ghost fits = { IsStored };
+
+    ghost spell = { row_octets };
+
+    #[tactic(auto, unfolding(crate::specs::Spelling::row_octets))]
+    fn put(out: &mut Vec<u8>, row: &Row) -> Result<(), AllocError> {
+        put_u8(out, row.table)?;
+        put_i64(out, row.rectime)?;
+        put_u8(out, row.link as u8)?;
+        put_u16(out, row.pname)?;
+        out.extend_from_slice(row.packet.as_slice())
     }
-    Ok(())
 }
 
 /// How many octets a packet has, which is at most 65,542.
@@ -199,6 +199,6 @@ pub(crate) fn write_rows(alloc: Global, rows: &[Row]) -> Result<Vec<u8>, AllocEr
     let mut out = Vec::with_capacity(alloc, 3 + rows_size(rows))?;
     put_u8(&mut out, 2)?;
     put_u16(&mut out, rows.len() as u16)?;
-    put_each_row(&mut out, rows)?;
+    put_each::<RowCodec>(&mut out, rows)?;
     Ok(out)
 }

@@ -1,3 +1,6 @@
 pub mod Order
 pub mod Times
-pub mod Records
+pub mod Addition
+pub mod Entries
+pub mod Ahead
+pub mod Added

@@ -6,7 +6,7 @@ use Rattle.std.specs.declared.cmp.Ordering.{Ordering}
 use Rattle.std.specs.declared.cmp.Ordering.TheVariants.{Equal}
 use Rattle.block_map.proofs.Pairs.{pair_ranks}
 use Rattle.histogram.specs.declared.histogram.NamedTime.{NamedTime}
-use Rattle.histogram.specs.Counts.{named_time_cmp}
+use Rattle.histogram.specs.Times.{named_time_cmp}
 
 pub named_cmp_total : IsTotalOrder named_time_cmp
 named_cmp_total = then_total (on_total (λ (n : NamedTime). n.pname) nat_cmp_total) (on_total (λ (n : NamedTime). n.time) int_cmp_total)

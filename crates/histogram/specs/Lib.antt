@@ -1,4 +1,6 @@
 pub mod Spans
-pub mod Counts
+pub mod Times
 pub mod Histogram
+pub mod Near
+pub mod SpanEntries
 pub mod Walk

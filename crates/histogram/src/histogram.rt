@@ -1,11 +1,11 @@
 //! The histogram.
 
-ghost use Rattle.std.specs.Prelude.{◌≡◌, ◌≢◌, ℕ, ◌+◌, ◌<◌, ◌≤◌, [], max, IfOk, OnOk, OnErr};
-ghost use Rattle.histogram.specs.Counts.{times_of, AreSorted, HasOneMore};
-ghost use Rattle.histogram.specs.Spans.{histogram_of};
+ghost use Rattle.std.specs.Prelude.{◌≡◌, ◌≢◌, ℕ, ℤ, ◌+◌, ◌<◌, List, [], ◌∷◌, ◌++◌, max, IfOk, OnOk, OnErr};
+ghost use Rattle.histogram.specs.Times.{spans_of, spans_of_times, IsHistogramOf, HasTimes};
 
-use crate::walk::{absorb, closed, next_of};
-use arch_types::spans::{Span, Spans};
+use crate::near::{SpanStart, take_near};
+use crate::walk::next_of;
+use arch_types::spans::Spans;
 use block_map::index::Index;
 use std::alloc::{AllocError, Global};
 use std::marker::Model;
@@ -18,12 +18,12 @@ pub struct NamedTime {
     pub time: i64,
 }
 
-/// The times of packet names.
+/// The records of packet names.
 #[derive(Drop)]
 pub struct Histogram {
     alloc: Global,
-    /// How often each time was added.
-    index: Index<NamedTime, u64>,
+    /// The records, each under its packet name and its last time.
+    index: Index<NamedTime, SpanStart>,
     /// How many additions there were.
     rows: u64,
     /// How many more take no memory.
@@ -31,20 +31,21 @@ pub struct Histogram {
 }
 
 impl Model for Histogram {
-    ghost use Rattle.histogram.specs.Counts.{Counts};
-    ghost use Rattle.histogram.specs.Histogram.{IsHistogram};
+    ghost use Rattle.histogram.specs.Times.{HistogramView};
+    ghost use Rattle.histogram.specs.Histogram.{histogram_view, IsHistogram};
 
-    ghost Value = { Counts };
+    ghost Value = { HistogramView };
 
-    ghost view = { λ h. record { counts = h.index.entries; room = h.room } };
+    ghost view = { λ h. histogram_view h.index h.room };
 
     ghost invariant = { λ h. IsHistogram h.index h.rows h.room };
 }
 
 impl Histogram {
-    /// No time, and no room. Takes no memory.
+    /// No record, and no room. Takes no memory.
     pub fn new(alloc: Global) -> Self
-        ensures { result ≡ record { counts = []; room = 0 } }
+        ensures empty { result ≡ record { records = []; room = 0 } }
+        ensures times { IsHistogramOf result [] }
     {
         Histogram {
             alloc,
@@ -56,9 +57,10 @@ impl Histogram {
 
     /// Makes the room at least `rows`. The one error is want of memory, and then all is as before.
     pub fn reserve(&mut self, rows: u64) -> Result<(), AllocError>
-        ensures ok { OnOk result (self.new ≡ record { counts = self.old.counts; room = max self.old.room rows }) }
+        ensures ok { OnOk result (self.new ≡ record { records = self.old.records; room = max self.old.room rows }) }
         ensures err { OnErr result (self.new ≡ self.old) }
         ensures full { OnErr result (self.old.room < rows) }
+        ensures times { (times : List NamedTime) → IsHistogramOf self.old times → IsHistogramOf self.new times }
     {
         if rows <= self.room {
             return Ok(());
@@ -74,27 +76,32 @@ impl Histogram {
     /// Adds the time of a row with this packet name, in milliseconds. Takes no memory.
     pub fn add(&mut self, pname: u16, time: i64)
         requires { 0 < self.old.room }
-        ensures added { HasOneMore (times_of pname self.old) (times_of pname self.new) time }
-        ensures others { (other : ℕ) → other ≢ pname → times_of other self.new ≡ times_of other self.old }
+        ensures times { (times : List NamedTime) → IsHistogramOf self.old times → IsHistogramOf self.new (times ++ record
+            { pname = pname; time = time } ∷ []) }
+        ensures added { (times : List ℤ) → spans_of pname self.old ≡ spans_of_times times → spans_of pname self.new ≡ spans_of_times
+            (times ++ time ∷ []) }
+        ensures others { (other : ℕ) → other ≢ pname → spans_of other self.new ≡ spans_of other self.old }
         ensures room { self.new.room + 1 ≡ self.old.room }
     {
         self.rows += 1;
         self.room -= 1;
         let at = NamedTime { pname, time };
-        match self.index.get(at) {
-            Some(count) => {
-                self.index.replace(at, count + 1);
-            }
-            None => {
-                self.index.insert(at, 1);
-            }
-        }
+        let span = take_near(&mut self.index, at);
+        let last = NamedTime {
+            pname,
+            time: span.last,
+        };
+        let start = SpanStart {
+            first: span.first,
+            count: span.count,
+        };
+        self.index.insert(last, start);
     }
 
     /// The records of a packet name, in the order of their times. The one error is want of memory.
     pub fn records(&self, pname: u16) -> Result<Spans, AllocError>
-        ensures sorted { AreSorted (times_of pname self.now) }
-        ensures records { IfOk result (λ spans. spans ≡ histogram_of (times_of pname self.now)) }
+        ensures records { IfOk result (λ spans. spans ≡ spans_of pname self.now) }
+        ensures times { HasTimes self.now }
     {
         let least = NamedTime {
             pname,
@@ -102,10 +109,9 @@ impl Histogram {
         };
         let mut entries = self.index.from_key(least);
         let mut spans = Spans::new(self.alloc);
-        let mut current: Option<Span> = None;
-        while let Some((time, count)) = next_of(&mut entries, pname) {
-            current = Some(absorb(&mut spans, current, time, count)?);
+        while let Some(span) = next_of(&mut entries, pname) {
+            spans.push(span)?;
         }
-        closed(spans, current)
+        Ok(spans)
     }
 }

@@ -1,15 +1,19 @@
 // The histogram of a table: for each packet name, the spans of time without a gap of more than a minute.
 //
-// Contracts see a `Histogram` as how often each time of each packet name was added (`Counts`, specs/Counts.antt), and so as the
-// sorted list of times of a name (`times_of`). The records of a name are that list, cut between neighbours that differ by more than
-// 60,000 ms, each piece as its first and last time and their number (`histogram_of`, specs/Spans.antt).
+// Contracts see a `Histogram` as the records of each packet name (`HistogramView`, specs/Times.antt). The records of times are the
+// sorted times, cut between neighbours that differ by more than 60,000 ms, each piece as its first and last time and their number
+// (`histogram_of`, specs/Spans.antt). A caller that knows which times it added keeps `IsHistogramOf` of them (specs/Times.antt): a new
+// histogram is that of no time, and an addition makes that of any list of times that of the list with one more.
 // Callers: the store, which adds the time of each row and prints the records.
 //
-// The times stand in an ordered index with their counts, so that additions may come in any order and rows of one time take one
-// entry. The records of a name are made on one walk over its entries. The one idea of the proof: the records so far, then the
-// open record continued by the times ahead, are at each step the records of all (`continued`, specs/Walk.antt).
-// To be changed together: `is_near` in specs/Spans.antt and src/walk.rt.
+// Memory holds the records and not the times: an ordered index has each record under its name and its last time. An addition takes
+// out the records that are near its time, at most two, joins them with it, and puts the one record in.
+// Keyed by the last time, the records near a time are the first from 60,000 ms before it on. The one idea of the proof: to put a time
+// in and to put an earlier one before all records are free to swap (`behind`, proofs/Addition.antt), so additions in any order are
+// those of the sorted times (`with_span`, specs/Near.antt; `one_more`, proofs/Addition.antt).
+// To be changed together: `is_near` in specs/Spans.antt, `is_apart` in specs/Near.antt and `GAP` in src/near.rt.
 #![tactic(auto)]
 
 pub mod histogram;
+mod near;
 mod walk;

@@ -57,3 +57,45 @@ fn records(rt: HostRuntime) -> Result<(), AllocError> {
     assert_eq!(rt; none.as_slice().len(), 0);
     Ok(())
 }
+
+#[test]
+fn between_two_records(rt: HostRuntime) -> Result<(), AllocError> {
+    let times = [(3, 0), (3, 120_000), (3, 300_000), (3, 60_000)];
+    let histogram = histogram_of(rt.alloc(), &times)?;
+    let spans = histogram.records(3)?;
+    let joined = [
+        Span {
+            first: 0,
+            last: 120_000,
+            count: 3,
+        },
+        Span {
+            first: 300_000,
+            last: 300_000,
+            count: 1,
+        },
+    ];
+    assert_eq!(rt; spans.as_slice(), joined.as_slice());
+    Ok(())
+}
+
+#[test]
+fn least_and_greatest_times(rt: HostRuntime) -> Result<(), AllocError> {
+    let times = [(3, i64::MAX), (3, i64::MIN), (3, i64::MIN + 60_000)];
+    let histogram = histogram_of(rt.alloc(), &times)?;
+    let spans = histogram.records(3)?;
+    let apart = [
+        Span {
+            first: i64::MIN,
+            last: i64::MIN + 60_000,
+            count: 2,
+        },
+        Span {
+            first: i64::MAX,
+            last: i64::MAX,
+            count: 1,
+        },
+    ];
+    assert_eq!(rt; spans.as_slice(), apart.as_slice());
+    Ok(())
+}

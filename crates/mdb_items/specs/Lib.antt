@@ -2,6 +2,7 @@ pub mod Texts
 pub mod Numbers
 pub mod Conditions
 pub mod Checks
+pub mod Records
 pub mod Lists
 pub mod CalibrationRows
 pub mod ParameterRows

@@ -1,5 +1,5 @@
 -- The texts of a sheet's fields: labels and numbers, and the place of a name. What a name is, text_forms says (specs/Names.antt).
-use Rattle.std.specs.Prelude.{ℕ, ◌+◌, ◌*◌, ◌-◌, ◌^◌, ◌==◌, ◌&&◌, Bool, true, false, List, [], ◌∷◌, length, take, drop, Option, Some, None, if◌then◌else◌, nat_le, slice_get, unwrap_or, position, fold, option_map, ℤ, pos, negsuc, neg_ℤ, min}
+use Rattle.std.specs.Prelude.{ℕ, ◌+◌, ◌*◌, ◌-◌, ◌^◌, ◌==◌, ◌&&◌, Bool, true, false, List, [], ◌∷◌, length, take, drop, Option, Some, None, if◌then◌else◌, nat_le, slice_get, unwrap_or, position, option_map, ℤ, pos, negsuc, neg_ℤ, min}
 use Rattle.std.specs.List.{list_all}
 use Rattle.std.specs.Str.{bytes_eq}
 use Rattle.text_forms.specs.Digits.{decimal_value, digits_at_most, is_digit}

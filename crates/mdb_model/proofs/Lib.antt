@@ -18,3 +18,7 @@ pub mod Structure
 pub mod FirstOfKey
 pub mod NamesInOrder
 pub mod SortedNames
+pub mod ItemEquality
+pub mod SortedKeys
+pub mod LabelsInOrder
+pub mod LabelOrders

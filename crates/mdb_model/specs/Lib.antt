@@ -5,3 +5,5 @@ pub mod SheetResults
 pub mod Rechecking
 pub mod NameOrder
 pub mod Lookups
+pub mod SortedKeys
+pub mod LabelOrder

@@ -6,6 +6,7 @@ use Rattle.std.specs.List.Sorted.{IsPartitionPoint, IsSorted}
 use Rattle.std.specs.Ordering.{is_lt, nat_cmp, ordering_then}
 use Rattle.std.specs.declared.cmp.Ordering.{Ordering}
 use Rattle.mdb_items.specs.Texts.{Text}
+use Rattle.mdb_model.specs.SortedKeys.{AreKeysSorted}
 
 -- the name with a number, without octets where there is none
 abbrev pub name_numbered : List Text → ℕ → Text
@@ -30,7 +31,5 @@ abbrev pub IsCountBelow : List Text → List ℕ → Text → ℕ → Type 0
 IsCountBelow names order name count = IsPartitionPoint (λ n. is_below names name n ≡ true) (λ n. is_below names name n ≡ false) order count
 
 -- names with the numbers of their items, sorted
-pub record AreNamesSorted (names : List Text) (named : List (Text × ℕ)) : Type 0 where
-  pub sorted : IsSorted (λ a b. ordering_then (slice_cmp nat_cmp a.0 b.0) (nat_cmp a.1 b.1)) named
-  pub known : All (λ p. (p.1 < length names) × (p.0 ≡ name_numbered names p.1)) named
-  pub each : (n : ℕ) → n < length names → Contains named (name_numbered names n, n)
+abbrev pub AreNamesSorted : List Text → List (Text × ℕ) → Type 0
+AreNamesSorted names named = AreKeysSorted (slice_cmp nat_cmp) [] names named

@@ -3,7 +3,8 @@
 // break, or else the first limit that they pass. `Mdb::to_bytes` and `Mdb::from_bytes` spell a database in octets.
 // A database's type keeps what `IsDatabase` of mdb_items says: its own rows spell it, they break no rule, and
 // it passes no limit. Copies share the items. Beside them stand the numbers in the order of the names, which find a
-// name by halving (specs/NameOrder.antt), and for each container the numbers of those directly below it. `laws` says what callers
+// name by halving (specs/NameOrder.antt), the raw numbers of labels in their order, which find a label likewise
+// (specs/LabelOrder.antt), and for each container the numbers of those directly below it. `laws` says what callers
 // need of any database. The rules stand in mdb_items, each as a numbered test of one row below the items above it; mdb_rules
 // asks them, and mdb_octets has the octets.
 // The one idea of the proof: reading, checking and decoding all take rows in one after the other, below what those
@@ -15,6 +16,8 @@
 #![tactic(auto)]
 
 mod children;
+mod equality;
+mod label_order;
 pub mod laws;
 mod mdb;
 mod name_order;

@@ -1,9 +1,10 @@
 //! The checked mission database.
 
-ghost use Rattle.std.specs.Prelude.{◌≡◌, ◌<◌, IfOk, Some, is_some, length, map, option_copied, slice_get};
+ghost use Rattle.std.specs.Prelude.{◌≡◌, ◌<◌, ◌↔◌, IfOk, Some, is_some, length, map, option_copied, slice_get, true};
 ghost use Rattle.mdb_items.specs.declared.not_mdb.NotMdb.TheVariants.{OutOfMemory};
 ghost use Rattle.mdb_model.specs.Children.{children_of};
 ghost use Rattle.mdb_items.specs.Database.{IsDatabase, limit_passed};
+ghost use Rattle.mdb_model.specs.LabelOrder.{label_row_by};
 ghost use Rattle.mdb_model.specs.Lookups.{calibration_numbered, calibration_of};
 ghost use Rattle.mdb_model.specs.SheetResults.{AreSpelledLists, IsCalibrationSheetResult, IsContainerSheetResult, IsParameterSheetResult, IsLimitsResult, database_of_lists};
 ghost use Rattle.mdb_model.specs.Rechecking.{ListsRechecked, refusal};
@@ -13,6 +14,8 @@ ghost use Rattle.mdb_items.specs.Texts.{place_of};
 ghost use Rattle.octet_fields.specs.Answers.{ReadsEach, ReadsOnly};
 
 use crate::children::children_of;
+use crate::equality::are_same;
+use crate::label_order::{label_orders, label_row_by};
 use crate::name_order::{name_order, number_of};
 use crate::rechecking::{
     have_rows, rechecked_calibrations, rechecked_containers, rechecked_parameters,
@@ -49,6 +52,8 @@ struct Inner {
     containers: Vec<Container>,
     /// For each container the numbers of those directly below it.
     children: Vec<Items<u16>>,
+    /// For each calibration the raw numbers of its labels with their rows, sorted.
+    label_orders: Vec<Items<(i128, usize)>>,
 }
 
 impl Model for Inner {
@@ -177,6 +182,7 @@ pub(crate) fn within_limits(
     let parameter_order = name_order(alloc, parameters.items.as_slice())?;
     let container_order = name_order(alloc, containers.items.as_slice())?;
     let children = children_of(alloc, containers.items.as_slice())?;
+    let label_orders = label_orders(alloc, calibrations.items.as_slice())?;
     let mdb = shared(
         alloc,
         Inner {
@@ -186,6 +192,7 @@ pub(crate) fn within_limits(
             calibrations: calibrations.items,
             containers: containers.items,
             children,
+            label_orders,
         },
     )?;
     Ok(mdb)
@@ -293,6 +300,20 @@ impl Mdb {
         )
     }
 
+    /// The row of the label that the calibration of the parameter with a number gives a raw number, counted from 0, where
+    /// it gives one. However many labels there are, it is found by halving.
+    pub fn label_row(&self, parameter: u16, raw: i128) -> Option<usize>
+        requires { parameter < length self.now.parameters }
+        ensures { result ≡ label_row_by (calibration_of self.now parameter) raw }
+    {
+        let inner = &*self.inner;
+        label_row_by(
+            inner.label_orders.as_slice(),
+            inner.parameters[parameter as usize].calibration,
+            raw,
+        )
+    }
+
     /// The calibrations in the order of their sheet.
     pub fn calibration_list(&self) -> &[Calibration]
         ensures value { result.now ≡ self.now.calibrations }
@@ -322,6 +343,17 @@ impl Mdb {
         ensures { IsDatabase self.now }
     {
         let _ = &self.inner.parameters;
+    }
+
+    /// The other database has the same items.
+    pub fn equals(&self, other: &Mdb) -> bool
+        ensures { (result ≡ true) ↔ (self.now ≡ other.now) }
+    {
+        let left = &*self.inner;
+        let right = &*other.inner;
+        are_same(left.parameters.as_slice(), right.parameters.as_slice())
+            && are_same(left.calibrations.as_slice(), right.calibrations.as_slice())
+            && are_same(left.containers.as_slice(), right.containers.as_slice())
     }
 
     /// An equal value, which shares the items.

@@ -116,10 +116,16 @@ const BROKEN_CONTAINERS: &str = "2#2#|HDR,,,,apid
 3#25#|HDR,,,,apid,5|A,HDR,,,apid,x
 3#26#|HDR,,,,apid,5|,,,,,x";
 
+const LABELLED: &str = "name,coding,bits,calibration|a,int,8,e|b,int,8,";
+
+const LABELS: &str = "name,kind,x,y|e,enum,7,SEVEN|e,enum,-1,BELOW|e,enum,3,THREE";
+
+const LABELLED_ROOT: &str = "container,parent,condition,archive,entry,position|r,,,,a,";
+
 fn record(alloc: Global, line: &str) -> Result<Record, AllocError> {
     let mut fields = Record::new(alloc);
     for field in line.split(',') {
-        fields.push(Vec::from_slice(alloc, field.as_bytes())?)?;
+        fields.push(field.as_bytes())?;
     }
     Ok(fields)
 }
@@ -443,6 +449,35 @@ fn items_by_number(rt: HostRuntime) -> Result<(), Fail> {
     assert_eq!(rt; links(&mdb, 1), (Some(0), Some(0)));
     assert_eq!(rt; calibration_name(&mdb, 2), b"e".as_slice());
     assert_eq!(rt; children(&mdb, 0), [1].as_slice());
+    Ok(())
+}
+
+/// The row of the label of a raw number, where the parameter with a number is there.
+fn label_row(mdb: &Mdb, number: u16, raw: i128) -> Option<usize> {
+    if number < mdb.parameters() {
+        mdb.label_row(number, raw)
+    } else {
+        None
+    }
+}
+
+#[test]
+fn labels_by_number(rt: HostRuntime) -> Result<(), Fail> {
+    let mdb = check(rt.alloc(), LABELLED, LABELS, LABELLED_ROOT)?;
+    for (raw, row) in [(7, Some(0)), (-1, Some(1)), (3, Some(2)), (4, None)] {
+        assert_eq!(rt; label_row(&mdb, 0, raw), row);
+    }
+    assert_eq!(rt; label_row(&mdb, 1, 7), None);
+    Ok(())
+}
+
+#[test]
+fn equal_databases(rt: HostRuntime) -> Result<(), Fail> {
+    let mdb = each(rt.alloc())?;
+    let again = each(rt.alloc())?;
+    let other = check(rt.alloc(), LABELLED, LABELS, LABELLED_ROOT)?;
+    assert_eq!(rt; mdb.equals(&again), true);
+    assert_eq!(rt; mdb.equals(&other), false);
     Ok(())
 }
 

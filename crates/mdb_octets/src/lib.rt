@@ -4,5 +4,6 @@
 //! the database, which spells and reads its three lists by them.
 #![tactic(auto)]
 
+mod codec;
 pub mod reading;
 pub mod spelling;

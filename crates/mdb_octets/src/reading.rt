@@ -3,15 +3,21 @@
 ghost use Rattle.std.specs.Prelude.{◌≡◌, length};
 ghost use Rattle.std.specs.Int.{w8, w16, w32};
 ghost use Rattle.octet_fields.specs.Answers.{Answers, Gives};
-ghost use Rattle.octet_fields.specs.Reading.{counted_at, times_at, whole};
+ghost use Rattle.octet_fields.specs.Reading.{counted_at, whole};
 ghost use Rattle.mdb_octets.specs.Reading.{archive_at, calibration_at, coding_at, comparison_at, container_at, database_at, entry_at, enum_at, from_link, link_at, operator_at, parameter_at, points_at, poly_at, table_at};
 
+use crate::codec::{
+    CalibrationCodec, ComparisonCodec, ContainerCodec, EntryCodec, EnumRowCodec, ParameterCodec,
+    PointsRowCodec, PolyRowCodec,
+};
 use item_list::items::Items;
 use mdb_items::calibration::{Calibration, EnumRow, PointsRow, PolyRow, Table};
 use mdb_items::container::{Comparison, Container, Entry, Operator};
 use mdb_items::name::MdbName;
 use mdb_items::parameter::{Coding, Parameter};
-use octet_fields::{DecodeError, Short, i64_at, i128_at, name_at, u8_at, u16_at, u32_at};
+use octet_fields::{
+    Decode, DecodeError, Short, each_at, i64_at, i128_at, name_at, u8_at, u16_at, u32_at,
+};
 use std::alloc::Global;
 
 /// The number of an item, where there is one.
@@ -42,126 +48,74 @@ fn coding_at(octets: &[u8]) -> Result<(Coding, &[u8]), DecodeError>
     }
 }
 
-#[tactic(auto, unfolding(crate::specs::Reading::parameter_at))]
-fn parameter_at(alloc: Global, octets: &[u8]) -> Result<(Parameter, &[u8]), DecodeError>
-    ensures { Gives (λ x. (x.0, x.1.now)) result (parameter_at octets.now) }
-{
-    let (name, rest) = name_at(octets)?;
-    let (coding, rest) = coding_at(rest)?;
-    let (bits, rest) = u8_at(rest)?;
-    let (calibration, rest) = link_at(rest)?;
-    let name = MdbName::from_slice(alloc, name)?;
-    Ok((
-        Parameter {
-            name,
-            coding,
-            bits,
-            calibration,
-        },
-        rest,
-    ))
-}
+impl Decode for ParameterCodec {
+    type Value = Parameter;
 
-fn parameters_at(
-    alloc: Global,
-    count: u16,
-    octets: &[u8],
-) -> Result<(Vec<Parameter>, &[u8]), DecodeError>
-    ensures { Gives (λ x. (x.0.items, x.1.now)) result (times_at parameter_at count octets.now) }
-{
-    let mut items = Vec::new(alloc);
-    let mut rest = octets;
-    for _ in 0..count {
-        let (item, after) = parameter_at(alloc, rest)?;
-        items.push(item)?;
-        rest = after;
+    ghost read = { parameter_at };
+
+    #[tactic(auto, unfolding(crate::specs::Reading::parameter_at))]
+    fn at(alloc: Global, octets: &[u8]) -> Result<(Parameter, &[u8]), DecodeError> {
+        let (name, rest) = name_at(octets)?;
+        let (coding, rest) = coding_at(rest)?;
+        let (bits, rest) = u8_at(rest)?;
+        let (calibration, rest) = link_at(rest)?;
+        let name = MdbName::from_slice(alloc, name)?;
+        Ok((
+            Parameter {
+                name,
+                coding,
+                bits,
+                calibration,
+            },
+            rest,
+        ))
     }
-    Ok((items, rest))
 }
 
-#[tactic(auto, unfolding(crate::specs::Reading::poly_at))]
-fn poly_at(octets: &[u8]) -> Result<(PolyRow, &[u8]), DecodeError>
-    ensures { Gives (λ x. (x.0, x.1.now)) result (poly_at octets.now) }
-{
-    let (exponent, rest) = u8_at(octets)?;
-    let (millionths, rest) = i64_at(rest)?;
-    Ok((
-        PolyRow {
-            exponent,
-            millionths,
-        },
-        rest,
-    ))
-}
+impl Decode for PolyRowCodec {
+    type Value = PolyRow;
 
-fn poly_rows_at(
-    alloc: Global,
-    count: u32,
-    octets: &[u8],
-) -> Result<(Vec<PolyRow>, &[u8]), DecodeError>
-    ensures { Gives (λ x. (x.0.items, x.1.now)) result (times_at poly_at count octets.now) }
-{
-    let mut items = Vec::new(alloc);
-    let mut rest = octets;
-    for _ in 0..count {
-        let (item, after) = poly_at(rest)?;
-        items.push(item)?;
-        rest = after;
+    ghost read = { poly_at };
+
+    #[tactic(auto, unfolding(crate::specs::Reading::poly_at))]
+    fn at(_alloc: Global, octets: &[u8]) -> Result<(PolyRow, &[u8]), DecodeError> {
+        let (exponent, rest) = u8_at(octets)?;
+        let (millionths, rest) = i64_at(rest)?;
+        Ok((
+            PolyRow {
+                exponent,
+                millionths,
+            },
+            rest,
+        ))
     }
-    Ok((items, rest))
 }
 
-#[tactic(auto, unfolding(crate::specs::Reading::points_at))]
-fn points_at(octets: &[u8]) -> Result<(PointsRow, &[u8]), DecodeError>
-    ensures { Gives (λ x. (x.0, x.1.now)) result (points_at octets.now) }
-{
-    let (x, rest) = i128_at(octets)?;
-    let (millionths, rest) = i64_at(rest)?;
-    Ok((PointsRow { x, millionths }, rest))
-}
+impl Decode for PointsRowCodec {
+    type Value = PointsRow;
 
-fn points_rows_at(
-    alloc: Global,
-    count: u32,
-    octets: &[u8],
-) -> Result<(Vec<PointsRow>, &[u8]), DecodeError>
-    ensures { Gives (λ x. (x.0.items, x.1.now)) result (times_at points_at count octets.now) }
-{
-    let mut items = Vec::new(alloc);
-    let mut rest = octets;
-    for _ in 0..count {
-        let (item, after) = points_at(rest)?;
-        items.push(item)?;
-        rest = after;
+    ghost read = { points_at };
+
+    #[tactic(auto, unfolding(crate::specs::Reading::points_at))]
+    fn at(_alloc: Global, octets: &[u8]) -> Result<(PointsRow, &[u8]), DecodeError> {
+        let (x, rest) = i128_at(octets)?;
+        let (millionths, rest) = i64_at(rest)?;
+        Ok((PointsRow { x, millionths }, rest))
     }
-    Ok((items, rest))
 }
 
-#[tactic(auto, unfolding(crate::specs::Reading::enum_at))]
-fn enum_at(alloc: Global, octets: &[u8]) -> Result<(EnumRow, &[u8]), DecodeError>
-    ensures { Gives (λ x. (x.0, x.1.now)) result (enum_at octets.now) }
-{
-    let (x, rest) = i128_at(octets)?;
-    let (label, rest) = name_at(rest)?;
-    let label = MdbName::from_slice(alloc, label)?;
-    Ok((EnumRow { x, label }, rest))
-}
+impl Decode for EnumRowCodec {
+    type Value = EnumRow;
 
-fn enum_rows_at(
-    alloc: Global,
-    count: u32,
-    octets: &[u8],
-) -> Result<(Vec<EnumRow>, &[u8]), DecodeError>
-    ensures { Gives (λ x. (x.0.items, x.1.now)) result (times_at enum_at count octets.now) }
-{
-    let mut items = Vec::new(alloc);
-    let mut rest = octets;
-    for _ in 0..count {
-        let (item, after) = enum_at(alloc, rest)?;
-        items.push(item)?;
-        rest = after;
+    ghost read = { enum_at };
+
+    #[tactic(auto, unfolding(crate::specs::Reading::enum_at))]
+    fn at(alloc: Global, octets: &[u8]) -> Result<(EnumRow, &[u8]), DecodeError> {
+        let (x, rest) = i128_at(octets)?;
+        let (label, rest) = name_at(rest)?;
+        let label = MdbName::from_slice(alloc, label)?;
+        Ok((EnumRow { x, label }, rest))
     }
-    Ok((items, rest))
 }
 
 /// The kind, and the rows.
@@ -176,45 +130,32 @@ fn table_at(alloc: Global, octets: &[u8]) -> Result<(Table, &[u8]), DecodeError>
     let (count, rest) = u32_at(rest)?;
     match kind {
         0 => {
-            let (rows, rest) = poly_rows_at(alloc, count, rest)?;
+            let (rows, rest) = each_at::<PolyRowCodec>(alloc, count as usize, rest)?;
             Ok((Table::Poly(Items::from_vec(rows)), rest))
         }
         1 => {
-            let (rows, rest) = points_rows_at(alloc, count, rest)?;
+            let (rows, rest) = each_at::<PointsRowCodec>(alloc, count as usize, rest)?;
             Ok((Table::Points(Items::from_vec(rows)), rest))
         }
         _ => {
-            let (rows, rest) = enum_rows_at(alloc, count, rest)?;
+            let (rows, rest) = each_at::<EnumRowCodec>(alloc, count as usize, rest)?;
             Ok((Table::Enum(Items::from_vec(rows)), rest))
         }
     }
 }
 
-#[tactic(auto, unfolding(crate::specs::Reading::calibration_at))]
-fn calibration_at(alloc: Global, octets: &[u8]) -> Result<(Calibration, &[u8]), DecodeError>
-    ensures { Gives (λ x. (x.0, x.1.now)) result (calibration_at octets.now) }
-{
-    let (name, rest) = name_at(octets)?;
-    let (table, rest) = table_at(alloc, rest)?;
-    let name = MdbName::from_slice(alloc, name)?;
-    Ok((Calibration { name, table }, rest))
-}
+impl Decode for CalibrationCodec {
+    type Value = Calibration;
 
-fn calibrations_at(
-    alloc: Global,
-    count: u16,
-    octets: &[u8],
-) -> Result<(Vec<Calibration>, &[u8]), DecodeError>
-    ensures { Gives (λ x. (x.0.items, x.1.now)) result (times_at calibration_at count octets.now) }
-{
-    let mut items = Vec::new(alloc);
-    let mut rest = octets;
-    for _ in 0..count {
-        let (item, after) = calibration_at(alloc, rest)?;
-        items.push(item)?;
-        rest = after;
+    ghost read = { calibration_at };
+
+    #[tactic(auto, unfolding(crate::specs::Reading::calibration_at))]
+    fn at(alloc: Global, octets: &[u8]) -> Result<(Calibration, &[u8]), DecodeError> {
+        let (name, rest) = name_at(octets)?;
+        let (table, rest) = table_at(alloc, rest)?;
+        let name = MdbName::from_slice(alloc, name)?;
+        Ok((Calibration { name, table }, rest))
     }
-    Ok((items, rest))
 }
 
 #[tactic(auto, unfolding(crate::specs::Reading::operator_at))]
@@ -233,62 +174,40 @@ fn operator_at(octets: &[u8]) -> Result<(Operator, &[u8]), DecodeError>
     }
 }
 
-#[tactic(auto, unfolding(crate::specs::Reading::comparison_at))]
-fn comparison_at(octets: &[u8]) -> Result<(Comparison, &[u8]), DecodeError>
-    ensures { Gives (λ x. (x.0, x.1.now)) result (comparison_at octets.now) }
-{
-    let (parameter, rest) = u16_at(octets)?;
-    let (operator, rest) = operator_at(rest)?;
-    let (number, rest) = i128_at(rest)?;
-    let parameter = usize::from(parameter);
-    Ok((
-        Comparison {
-            parameter,
-            operator,
-            number,
-        },
-        rest,
-    ))
-}
+impl Decode for ComparisonCodec {
+    type Value = Comparison;
 
-fn condition_at(
-    alloc: Global,
-    count: u8,
-    octets: &[u8],
-) -> Result<(Vec<Comparison>, &[u8]), DecodeError>
-    ensures { Gives (λ x. (x.0.items, x.1.now)) result (times_at comparison_at count octets.now) }
-{
-    let mut items = Vec::new(alloc);
-    let mut rest = octets;
-    for _ in 0..count {
-        let (item, after) = comparison_at(rest)?;
-        items.push(item)?;
-        rest = after;
+    ghost read = { comparison_at };
+
+    #[tactic(auto, unfolding(crate::specs::Reading::comparison_at))]
+    fn at(_alloc: Global, octets: &[u8]) -> Result<(Comparison, &[u8]), DecodeError> {
+        let (parameter, rest) = u16_at(octets)?;
+        let (operator, rest) = operator_at(rest)?;
+        let (number, rest) = i128_at(rest)?;
+        let parameter = usize::from(parameter);
+        Ok((
+            Comparison {
+                parameter,
+                operator,
+                number,
+            },
+            rest,
+        ))
     }
-    Ok((items, rest))
 }
 
-#[tactic(auto, unfolding(crate::specs::Reading::entry_at))]
-fn entry_at(octets: &[u8]) -> Result<(Entry, &[u8]), DecodeError>
-    ensures { Gives (λ x. (x.0, x.1.now)) result (entry_at octets.now) }
-{
-    let (parameter, rest) = u16_at(octets)?;
-    let (at, rest) = u32_at(rest)?;
-    let parameter = usize::from(parameter);
-    Ok((Entry { parameter, at }, rest))
-}
+impl Decode for EntryCodec {
+    type Value = Entry;
 
-fn entries_at(alloc: Global, count: u16, octets: &[u8]) -> Result<(Vec<Entry>, &[u8]), DecodeError>
-    ensures { Gives (λ x. (x.0.items, x.1.now)) result (times_at entry_at count octets.now) }
-{
-    let mut items = Vec::new(alloc);
-    let mut rest = octets;
-    for _ in 0..count {
-        let (item, after) = entry_at(rest)?;
-        items.push(item)?;
-        rest = after;
+    ghost read = { entry_at };
+
+    #[tactic(auto, unfolding(crate::specs::Reading::entry_at))]
+    fn at(_alloc: Global, octets: &[u8]) -> Result<(Entry, &[u8]), DecodeError> {
+        let (parameter, rest) = u16_at(octets)?;
+        let (at, rest) = u32_at(rest)?;
+        let parameter = usize::from(parameter);
+        Ok((Entry { parameter, at }, rest))
     }
-    Ok((items, rest))
 }
 
 #[tactic(auto, unfolding(crate::specs::Reading::archive_at))]
@@ -303,42 +222,29 @@ fn archive_at(octets: &[u8]) -> Result<(bool, &[u8]), DecodeError>
     }
 }
 
-#[tactic(auto, unfolding(crate::specs::Reading::container_at, octet_fields::specs::Reading::counted_at))]
-fn container_at(alloc: Global, octets: &[u8]) -> Result<(Container, &[u8]), DecodeError>
-    ensures { Gives (λ x. (x.0, x.1.now)) result (container_at octets.now) }
-{
-    let (name, rest) = name_at(octets)?;
-    let (parent, rest) = link_at(rest)?;
-    let (archive, rest) = archive_at(rest)?;
-    let (count, rest) = u8_at(rest)?;
-    let (condition, rest) = condition_at(alloc, count, rest)?;
-    let (count, rest) = u16_at(rest)?;
-    let (entries, rest) = entries_at(alloc, count, rest)?;
-    let container = Container {
-        name: MdbName::from_slice(alloc, name)?,
-        parent,
-        archive,
-        condition: Items::from_vec(condition),
-        entries: Items::from_vec(entries),
-    };
-    Ok((container, rest))
-}
+impl Decode for ContainerCodec {
+    type Value = Container;
 
-fn containers_at(
-    alloc: Global,
-    count: u16,
-    octets: &[u8],
-) -> Result<(Vec<Container>, &[u8]), DecodeError>
-    ensures { Gives (λ x. (x.0.items, x.1.now)) result (times_at container_at count octets.now) }
-{
-    let mut items = Vec::new(alloc);
-    let mut rest = octets;
-    for _ in 0..count {
-        let (item, after) = container_at(alloc, rest)?;
-        items.push(item)?;
-        rest = after;
+    ghost read = { container_at };
+
+    #[tactic(auto, unfolding(crate::specs::Reading::container_at, octet_fields::specs::Reading::counted_at))]
+    fn at(alloc: Global, octets: &[u8]) -> Result<(Container, &[u8]), DecodeError> {
+        let (name, rest) = name_at(octets)?;
+        let (parent, rest) = link_at(rest)?;
+        let (archive, rest) = archive_at(rest)?;
+        let (count, rest) = u8_at(rest)?;
+        let (condition, rest) = each_at::<ComparisonCodec>(alloc, usize::from(count), rest)?;
+        let (count, rest) = u16_at(rest)?;
+        let (entries, rest) = each_at::<EntryCodec>(alloc, usize::from(count), rest)?;
+        let container = Container {
+            name: MdbName::from_slice(alloc, name)?,
+            parent,
+            archive,
+            condition: Items::from_vec(condition),
+            entries: Items::from_vec(entries),
+        };
+        Ok((container, rest))
     }
-    Ok((items, rest))
 }
 
 /// The parameters, calibrations and containers that all of the octets spell.
@@ -359,11 +265,11 @@ pub fn item_lists(alloc: Global, octets: &[u8]) -> Result<ItemLists, DecodeError
     }) result (whole database_at octets.now) }
 {
     let (count, rest) = u16_at(octets)?;
-    let (parameters, rest) = parameters_at(alloc, count, rest)?;
+    let (parameters, rest) = each_at::<ParameterCodec>(alloc, usize::from(count), rest)?;
     let (count, rest) = u16_at(rest)?;
-    let (calibrations, rest) = calibrations_at(alloc, count, rest)?;
+    let (calibrations, rest) = each_at::<CalibrationCodec>(alloc, usize::from(count), rest)?;
     let (count, rest) = u16_at(rest)?;
-    let (containers, rest) = containers_at(alloc, count, rest)?;
+    let (containers, rest) = each_at::<ContainerCodec>(alloc, usize::from(count), rest)?;
     if !rest.is_empty() {
         return Err(DecodeError::Malformed);
     }

@@ -2,14 +2,18 @@
 
 ghost use Rattle.std.specs.Prelude.{◌≡◌, ◌<◌, ◌^◌, ◌++◌, length, OnOk, IfOk};
 ghost use Rattle.std.specs.Int.{w8, w16, w32};
-ghost use Rattle.std.specs.List.{AllByRecursion, flat_map};
+ghost use Rattle.std.specs.List.{AllByRecursion};
 ghost use Rattle.octet_fields.specs.Spelling.{counted, number};
 ghost use Rattle.mdb_octets.specs.Spelling.{FitsCalibration, FitsComparison, FitsContainer, FitsDatabase, FitsEntry, FitsEnum, FitsParameter, FitsPoints, FitsPoly, FitsTable, archive_code, calibration_octets, coding_code, comparison_octets, container_octets, database_octets, container_entry_octets, enum_octets, kind_code, link, operator_code, parameter_octets, points_octets, poly_octets, table_rows_octets};
 
+use crate::codec::{
+    CalibrationCodec, ComparisonCodec, ContainerCodec, EntryCodec, EnumRowCodec, ParameterCodec,
+    PointsRowCodec, PolyRowCodec,
+};
 use mdb_items::calibration::{Calibration, EnumRow, PointsRow, PolyRow, Table};
 use mdb_items::container::{Comparison, Container, Entry, Operator};
 use mdb_items::parameter::{Coding, Parameter};
-use octet_fields::{put_i64, put_i128, put_name, put_u8, put_u16, put_u32};
+use octet_fields::{Encode, put_each, put_i64, put_i128, put_name, put_u8, put_u16, put_u32};
 use std::alloc::{AllocError, Global};
 
 /// 0 where there is no item, else the item's number plus 1.
@@ -53,78 +57,62 @@ fn archive_code(archive: bool) -> u8
     if archive { 1 } else { 0 }
 }
 
-#[tactic(auto, unfolding(crate::specs::Spelling::parameter_octets))]
-fn put_parameter(out: &mut Vec<u8>, p: &Parameter) -> Result<(), AllocError>
-    requires { FitsParameter p.now }
-    ensures { OnOk result (out.new.items ≡ out.old.items ++ parameter_octets p.now) }
-{
-    put_name(out, p.name.as_bytes())?;
-    put_u8(out, coding_code(p.coding))?;
-    put_u8(out, p.bits)?;
-    put_u16(out, link(p.calibration))
-}
+impl Encode for ParameterCodec {
+    type Value = Parameter;
 
-fn put_parameters(out: &mut Vec<u8>, parameters: &[Parameter]) -> Result<(), AllocError>
-    requires { AllByRecursion FitsParameter parameters.now }
-    ensures { OnOk result (out.new.items ≡ out.old.items ++ flat_map parameter_octets parameters.now) }
-{
-    for p in parameters {
-        put_parameter(out, p)?;
+    ghost fits = { FitsParameter };
+
+    ghost spell = { parameter_octets };
+
+    #[tactic(auto, unfolding(crate::specs::Spelling::parameter_octets))]
+    fn put(out: &mut Vec<u8>, p: &Parameter) -> Result<(), AllocError> {
+        put_name(out, p.name.as_bytes())?;
+        put_u8(out, coding_code(p.coding))?;
+        put_u8(out, p.bits)?;
+        put_u16(out, link(p.calibration))
     }
-    Ok(())
 }
 
-#[tactic(auto, unfolding(crate::specs::Spelling::poly_octets))]
-fn put_poly_row(out: &mut Vec<u8>, row: &PolyRow) -> Result<(), AllocError>
-    ensures { OnOk result (out.new.items ≡ out.old.items ++ poly_octets row.now) }
-{
-    put_u8(out, row.exponent)?;
-    put_i64(out, row.millionths)
-}
+impl Encode for PolyRowCodec {
+    type Value = PolyRow;
 
-fn put_poly(out: &mut Vec<u8>, rows: &[PolyRow]) -> Result<(), AllocError>
-    ensures { OnOk result (out.new.items ≡ out.old.items ++ flat_map poly_octets rows.now) }
-{
-    for row in rows {
-        put_poly_row(out, row)?;
+    ghost fits = { FitsPoly };
+
+    ghost spell = { poly_octets };
+
+    #[tactic(auto, unfolding(crate::specs::Spelling::poly_octets))]
+    fn put(out: &mut Vec<u8>, row: &PolyRow) -> Result<(), AllocError> {
+        put_u8(out, row.exponent)?;
+        put_i64(out, row.millionths)
     }
-    Ok(())
 }
 
-#[tactic(auto, unfolding(crate::specs::Spelling::points_octets))]
-fn put_points_row(out: &mut Vec<u8>, row: &PointsRow) -> Result<(), AllocError>
-    ensures { OnOk result (out.new.items ≡ out.old.items ++ points_octets row.now) }
-{
-    put_i128(out, row.x)?;
-    put_i64(out, row.millionths)
-}
+impl Encode for PointsRowCodec {
+    type Value = PointsRow;
 
-fn put_points(out: &mut Vec<u8>, rows: &[PointsRow]) -> Result<(), AllocError>
-    ensures { OnOk result (out.new.items ≡ out.old.items ++ flat_map points_octets rows.now) }
-{
-    for row in rows {
-        put_points_row(out, row)?;
+    ghost fits = { FitsPoints };
+
+    ghost spell = { points_octets };
+
+    #[tactic(auto, unfolding(crate::specs::Spelling::points_octets))]
+    fn put(out: &mut Vec<u8>, row: &PointsRow) -> Result<(), AllocError> {
+        put_i128(out, row.x)?;
+        put_i64(out, row.millionths)
     }
-    Ok(())
 }
 
-#[tactic(auto, unfolding(crate::specs::Spelling::enum_octets))]
-fn put_enum_row(out: &mut Vec<u8>, row: &EnumRow) -> Result<(), AllocError>
-    requires { FitsEnum row.now }
-    ensures { OnOk result (out.new.items ≡ out.old.items ++ enum_octets row.now) }
-{
-    put_i128(out, row.x)?;
-    put_name(out, row.label.as_bytes())
-}
+impl Encode for EnumRowCodec {
+    type Value = EnumRow;
 
-fn put_enum(out: &mut Vec<u8>, rows: &[EnumRow]) -> Result<(), AllocError>
-    requires { AllByRecursion FitsEnum rows.now }
-    ensures { OnOk result (out.new.items ≡ out.old.items ++ flat_map enum_octets rows.now) }
-{
-    for row in rows {
-        put_enum_row(out, row)?;
+    ghost fits = { FitsEnum };
+
+    ghost spell = { enum_octets };
+
+    #[tactic(auto, unfolding(crate::specs::Spelling::enum_octets))]
+    fn put(out: &mut Vec<u8>, row: &EnumRow) -> Result<(), AllocError> {
+        put_i128(out, row.x)?;
+        put_name(out, row.label.as_bytes())
     }
-    Ok(())
 }
 
 /// The kind, and the rows.
@@ -138,58 +126,62 @@ fn put_table(out: &mut Vec<u8>, table: &Table) -> Result<(), AllocError>
         Table::Poly(rows) => {
             put_u8(out, 0)?;
             put_u32(out, rows.len() as u32)?;
-            put_poly(out, rows.as_slice())
+            put_each::<PolyRowCodec>(out, rows.as_slice())
         }
         Table::Points(rows) => {
             put_u8(out, 1)?;
             put_u32(out, rows.len() as u32)?;
-            put_points(out, rows.as_slice())
+            put_each::<PointsRowCodec>(out, rows.as_slice())
         }
         Table::Enum(rows) => {
             put_u8(out, 2)?;
             put_u32(out, rows.len() as u32)?;
-            put_enum(out, rows.as_slice())
+            put_each::<EnumRowCodec>(out, rows.as_slice())
         }
     }
 }
 
-#[tactic(auto, unfolding(crate::specs::Spelling::calibration_octets))]
-fn put_calibration(out: &mut Vec<u8>, c: &Calibration) -> Result<(), AllocError>
-    requires { FitsCalibration c.now }
-    ensures { OnOk result (out.new.items ≡ out.old.items ++ calibration_octets c.now) }
-{
-    put_name(out, c.name.as_bytes())?;
-    put_table(out, &c.table)
-}
+impl Encode for CalibrationCodec {
+    type Value = Calibration;
 
-fn put_calibrations(out: &mut Vec<u8>, calibrations: &[Calibration]) -> Result<(), AllocError>
-    requires { AllByRecursion FitsCalibration calibrations.now }
-    ensures { OnOk result (out.new.items ≡ out.old.items ++ flat_map calibration_octets calibrations.now) }
-{
-    for c in calibrations {
-        put_calibration(out, c)?;
+    ghost fits = { FitsCalibration };
+
+    ghost spell = { calibration_octets };
+
+    #[tactic(auto, unfolding(crate::specs::Spelling::calibration_octets))]
+    fn put(out: &mut Vec<u8>, c: &Calibration) -> Result<(), AllocError> {
+        put_name(out, c.name.as_bytes())?;
+        put_table(out, &c.table)
     }
-    Ok(())
 }
 
-#[tactic(auto, unfolding(crate::specs::Spelling::comparison_octets))]
-fn put_comparison(out: &mut Vec<u8>, c: &Comparison) -> Result<(), AllocError>
-    requires { FitsComparison c.now }
-    ensures { OnOk result (out.new.items ≡ out.old.items ++ comparison_octets c.now) }
-{
-    put_u16(out, c.parameter as u16)?;
-    put_u8(out, operator_code(c.operator))?;
-    put_i128(out, c.number)
-}
+impl Encode for ComparisonCodec {
+    type Value = Comparison;
 
-fn put_comparisons(out: &mut Vec<u8>, condition: &[Comparison]) -> Result<(), AllocError>
-    requires { AllByRecursion FitsComparison condition.now }
-    ensures { OnOk result (out.new.items ≡ out.old.items ++ flat_map comparison_octets condition.now) }
-{
-    for c in condition {
-        put_comparison(out, c)?;
+    ghost fits = { FitsComparison };
+
+    ghost spell = { comparison_octets };
+
+    #[tactic(auto, unfolding(crate::specs::Spelling::comparison_octets))]
+    fn put(out: &mut Vec<u8>, c: &Comparison) -> Result<(), AllocError> {
+        put_u16(out, c.parameter as u16)?;
+        put_u8(out, operator_code(c.operator))?;
+        put_i128(out, c.number)
     }
-    Ok(())
+}
+
+impl Encode for EntryCodec {
+    type Value = Entry;
+
+    ghost fits = { FitsEntry };
+
+    ghost spell = { container_entry_octets };
+
+    #[tactic(auto, unfolding(crate::specs::Spelling::container_entry_octets))]
+    fn put(out: &mut Vec<u8>, e: &Entry) -> Result<(), AllocError> {
+        put_u16(out, e.parameter as u16)?;
+        put_u32(out, e.at)
+    }
 }
 
 #[tactic(auto, unfolding(octet_fields::specs::Spelling::counted))]
@@ -199,26 +191,7 @@ fn put_condition(out: &mut Vec<u8>, condition: &[Comparison]) -> Result<(), Allo
     ensures { OnOk result (out.new.items ≡ out.old.items ++ counted w8 comparison_octets condition.now) }
 {
     put_u8(out, condition.len() as u8)?;
-    put_comparisons(out, condition)
-}
-
-#[tactic(auto, unfolding(crate::specs::Spelling::container_entry_octets))]
-fn put_entry(out: &mut Vec<u8>, e: &Entry) -> Result<(), AllocError>
-    requires { FitsEntry e.now }
-    ensures { OnOk result (out.new.items ≡ out.old.items ++ container_entry_octets e.now) }
-{
-    put_u16(out, e.parameter as u16)?;
-    put_u32(out, e.at)
-}
-
-fn put_each_entry(out: &mut Vec<u8>, entries: &[Entry]) -> Result<(), AllocError>
-    requires { AllByRecursion FitsEntry entries.now }
-    ensures { OnOk result (out.new.items ≡ out.old.items ++ flat_map container_entry_octets entries.now) }
-{
-    for e in entries {
-        put_entry(out, e)?;
-    }
-    Ok(())
+    put_each::<ComparisonCodec>(out, condition)
 }
 
 #[tactic(auto, unfolding(octet_fields::specs::Spelling::counted))]
@@ -228,29 +201,24 @@ fn put_entries(out: &mut Vec<u8>, entries: &[Entry]) -> Result<(), AllocError>
     ensures { OnOk result (out.new.items ≡ out.old.items ++ counted w16 container_entry_octets entries.now) }
 {
     put_u16(out, entries.len() as u16)?;
-    put_each_entry(out, entries)
+    put_each::<EntryCodec>(out, entries)
 }
 
-#[tactic(auto, unfolding(crate::specs::Spelling::container_octets))]
-fn put_container(out: &mut Vec<u8>, c: &Container) -> Result<(), AllocError>
-    requires { FitsContainer c.now }
-    ensures { OnOk result (out.new.items ≡ out.old.items ++ container_octets c.now) }
-{
-    put_name(out, c.name.as_bytes())?;
-    put_u16(out, link(c.parent))?;
-    put_u8(out, archive_code(c.archive))?;
-    put_condition(out, c.condition.as_slice())?;
-    put_entries(out, c.entries.as_slice())
-}
+impl Encode for ContainerCodec {
+    type Value = Container;
 
-fn put_containers(out: &mut Vec<u8>, containers: &[Container]) -> Result<(), AllocError>
-    requires { AllByRecursion FitsContainer containers.now }
-    ensures { OnOk result (out.new.items ≡ out.old.items ++ flat_map container_octets containers.now) }
-{
-    for c in containers {
-        put_container(out, c)?;
+    ghost fits = { FitsContainer };
+
+    ghost spell = { container_octets };
+
+    #[tactic(auto, unfolding(crate::specs::Spelling::container_octets))]
+    fn put(out: &mut Vec<u8>, c: &Container) -> Result<(), AllocError> {
+        put_name(out, c.name.as_bytes())?;
+        put_u16(out, link(c.parent))?;
+        put_u8(out, archive_code(c.archive))?;
+        put_condition(out, c.condition.as_slice())?;
+        put_entries(out, c.entries.as_slice())
     }
-    Ok(())
 }
 
 /// The one spelling of a database, whose lists these are.
@@ -277,10 +245,10 @@ pub fn spelling(
 {
     let mut out = Vec::new(alloc);
     put_u16(&mut out, parameters.len() as u16)?;
-    put_parameters(&mut out, parameters)?;
+    put_each::<ParameterCodec>(&mut out, parameters)?;
     put_u16(&mut out, calibrations.len() as u16)?;
-    put_calibrations(&mut out, calibrations)?;
+    put_each::<CalibrationCodec>(&mut out, calibrations)?;
     put_u16(&mut out, containers.len() as u16)?;
-    put_containers(&mut out, containers)?;
+    put_each::<ContainerCodec>(&mut out, containers)?;
     Ok(out)
 }

@@ -40,9 +40,9 @@ fn record_of(alloc: Global, row: &ByteRecord) -> Result<Record, AllocError>
     ensures { IfOk result (λ copy. copy ≡ fields_of row.now) }
 {
     let mut copy = Record::new(alloc);
+    copy.reserve(row.len(), row.as_slice().len())?;
     for octets in row {
-        let field = Vec::from_slice(alloc, octets)?;
-        copy.push(field)?;
+        copy.push(octets)?;
     }
     Ok(copy)
 }

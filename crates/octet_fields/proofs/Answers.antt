@@ -1,7 +1,5 @@
 -- From what a function gives to what its callers are told: it reads the spellings only, and each of them.
-use Rattle.std.proofs.Common.{◌≡◌, ℕ, List, [], ◌∷◌, length, get_or, zero, suc, ◌<◌, Some, Result, Ok, Err, refl, sym, ap, subst, ◌∙◌, arith}
-use Rattle.std.specs.Prelude.{map}
-use Rattle.std.specs.List.{AllByRecursion}
+use Rattle.std.proofs.Common.{◌≡◌, ℕ, List, [], Some, Result, Ok, Err, refl, sym, ap, ◌∙◌}
 use Rattle.octet_fields.specs.declared.fault.DecodeError.{DecodeError}
 use Rattle.octet_fields.specs.declared.fault.DecodeError.TheVariants as errors
 use Rattle.octet_fields.specs.Answers.{Fails, Gives, ReadsOnly, ReadsEach, ReadsOnlyFirst, ReadsEachFirst}
@@ -37,9 +35,3 @@ module _ {A : Type 0} {Fits : A → Type 0} {spell : A → List ℕ} {read : Rea
   reads_each_first view octets (Ok x) given a rest fits is = some_is (view x) (a, rest) (sym given ∙ ap read is ∙ exact.again a rest tt fits)
   reads_each_first view octets (Err errors.Memory) given a rest fits is = refl
   reads_each_first view octets (Err errors.Malformed) given a rest fits is = absurd (cc (sym given ∙ ap read is ∙ exact.again a rest tt fits))
-
--- Each of a list fits, as a loop over it needs.
-pub each_fits : {X A : Type 0} (Fits : A → Type 0) (view : X → A) (xs : List X) (i : ℕ) (x : X) → AllByRecursion Fits (map view xs) → i < length xs → x ≡ get_or xs i x → Fits (view x)
-each_fits Fits view [] i x h lt is = absurd (omega arith)
-each_fits Fits view (y ∷ xs) zero x h lt is = subst (λ (z : _). Fits (view z)) (sym is) h.0
-each_fits Fits view (y ∷ xs) (suc i) x h lt is = each_fits Fits view xs i x h.1 (omega arith) is

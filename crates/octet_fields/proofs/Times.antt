@@ -1,8 +1,8 @@
 -- Reading so many values, as a loop does. The invariant of `for _ in 0..count`, with what was read so far at its front, is
 -- `Remaining read front (count - i) rest (times_at read count octets)`; its three goals are `goes_on`, `ends` and `is_done`.
 use Rattle.std.proofs.Common.{◌≡◌, ℕ, suc, ◌-◌, ◌+◌, ◌≤◌, ◌<◌, List, [], ◌∷◌, ◌++◌, Option, Some, None, Result, refl, sym, ap, ◌∙◌, append_assoc, arith}
-use Rattle.std.specs.Prelude.{map, IsErrAnd}
-use Rattle.std.proofs.lemmas.List.{append-nil, map_push}
+use Rattle.std.specs.Prelude.{IsErrAnd}
+use Rattle.std.proofs.lemmas.List.{append-nil}
 use Rattle.std.proofs.lemmas.Result.{err_from_is_err_and}
 use Rattle.octet_fields.specs.declared.fault.DecodeError.{DecodeError}
 use Rattle.octet_fields.specs.declared.fault.DecodeError.TheVariants as errors
@@ -54,9 +54,3 @@ module _ {A : Type 0} where
         let k : count - i ≡ 0 = omega arith in
         let here : with_front front (times_at read (count - i) rest) ≡ Some (front, rest) = rw k (ap (λ (items : List A). Some (items, rest)) (append-nil front)) in
         sym so_far ∙ here
-
--- `goes_on` for a loop whose items are seen by view: the front is `map view items`.
-pub seen_goes_on : {X A : Type 0} (view : X → A) (read : Reader A) (items pushed : List X) (count i : ℕ) (rest : List ℕ) (x : X) (after : List ℕ) (total : Option (List A × List ℕ)) →
-    pushed ≡ items ++ x ∷ [] → i < count → read rest ≡ Some (view x, after) → Remaining read (map view items) (count - i) rest total → Remaining read (map view pushed) (count - (i + 1)) after total
-seen_goes_on view read items pushed count i rest x after total is lt h so_far =
-    goes_on read (map view items) (map view pushed) count i rest (view x) after total (rw is (map_push view items x)) lt h so_far

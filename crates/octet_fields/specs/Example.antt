@@ -1,11 +1,10 @@
 -- A list of ground stations as octets: what the list is seen as, its one spelling, and its reader.
-use Rattle.std.specs.Prelude.{ℕ, zero, suc, ℤ, ◌<◌, ◌^◌, List, ◌++◌, length, map, Option, Some, None}
+use Rattle.std.specs.Prelude.{ℕ, zero, suc, ℤ, ◌<◌, ◌^◌, List, ◌++◌, length, Option, Some, None}
 use Rattle.std.specs.List.{AllByRecursion}
 use Rattle.std.specs.Int.{w8, w16, w64}
 use Rattle.std.specs.Int.RustNames.{FitsSigned}
 use Rattle.octet_fields.specs.declared.example.Band.{Band}
 use Rattle.octet_fields.specs.declared.example.Band.TheVariants as bands
-use Rattle.octet_fields.specs.declared.example.Station.{Station}
 use Rattle.octet_fields.specs.Reading.{Reader, both_at, mapped_at, decoded_at, name_at, number_at, signed_at}
 use Rattle.octet_fields.specs.Spelling.{name, number, signed, counted}
 
@@ -14,14 +13,6 @@ pub record Seen : Type 0 where
   pub name : List ℕ
   pub band : Band
   pub delay : ℤ
-
--- a station, as contracts see it
-abbrev pub seen : Station → Seen
-seen s = record { name = s.name.items; band = s.band; delay = s.delay }
-
--- a list of stations, as contracts see it
-abbrev pub seen_all : List Station → List Seen
-seen_all stations = map seen stations
 
 -- what has a spelling
 pub record IsStation (s : Seen) : Type 0 where

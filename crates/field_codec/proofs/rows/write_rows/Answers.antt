@@ -9,5 +9,5 @@ use Rattle.field_codec.proofs.rows.write_rows.Goals as goal
 pub returns-clause-short : goal.returns-clause-short
 unfolding counted
 returns-clause-short c =
-    let is : c.put_each_row.new.out.items ≡ number w8 2 ++ rows_octets c.args.rows.now = grind (arith, common_steps) in
+    let is : c.put_each.new.out.items ≡ number w8 2 ++ rows_octets c.args.rows.now = grind (arith, common_steps) in
     omega (arith, ap length is, rows_size c.args.rows.now, c.rows_size.ensures.size, c.rows_size.ensures.small)

@@ -13,7 +13,7 @@ loop-octets-preserved c =
     let inv = c.loop-octets.invariant in
     let step = rw c.in-Some.is at c.next.ensures.steps in (
       ap (λ (r : Bor Row). r.now) step.0 ∙ inv.0,
-      field_more _ _ _ _ _ _ _ inv.1 (rw inv.0 at step.1) step.2 c.in_ok-field.ensures.items c.in_ok-push.ensures.pushed,
+      field_more _ _ _ _ _ _ inv.1 (rw inv.0 at step.1) step.2 c.in_ok-push.ensures.pushed,
     )
 
 pub returns : goal.returns

@@ -5,7 +5,7 @@ use Rattle.arch_types.specs.History.{has_key}
 use Rattle.archive_core.specs.Items.{Item}
 use Rattle.yarch_table.specs.Stored.{TableView, IsKeptAt, rows_of}
 use Rattle.yarch_table.specs.Placed.{placed}
-use Rattle.archive_history.specs.TableSet.{HistoryView, table_in, no_table, items_at, is_at_key}
+use Rattle.archive_history.specs.TableSet.{HistoryView, table_in, no_table, items_in, is_at_key}
 use Rattle.archive_history.proofs.TableSetFacts.{row_of_key, no_row_of_key}
 use Rattle.archive_history.proofs.Steps.{default_free, if_some, if_none}
 use Rattle.archive_history.proofs.table_set.TableSet.position.Goals as goal
@@ -14,7 +14,7 @@ pub returns-clause-some : goal.returns-clause-some
 returns-clause-some c =
     let tables = c.self.inside.tables.items in
     let t = c.args.table in
-    let items = items_at tables c.self.inside.order.items in
+    let items = items_in c.self.inside.order.items in
     let within : t < length tables = omega (arith, c.requires, ap (λ (x : HistoryView). x.tables) c.self.view_is) in
     let at_is : table_in tables t ≡ c.index.result.now = default_free tables t no_table c.index.result.now within ∙ sym c.index.ensures in
     let placed_here : c.index.result.now.stored ≡ placed t items = ap (λ (h : TableView). h.stored) (sym at_is) ∙ c.self.invariant.placed_in t within in
@@ -26,7 +26,7 @@ pub returns-clause-none : goal.returns-clause-none
 returns-clause-none c =
     let tables = c.self.inside.tables.items in
     let t = c.args.table in
-    let items = items_at tables c.self.inside.order.items in
+    let items = items_in c.self.inside.order.items in
     let within : t < length tables = omega (arith, c.requires, ap (λ (x : HistoryView). x.tables) c.self.view_is) in
     let at_is : table_in tables t ≡ c.index.result.now = default_free tables t no_table c.index.result.now within ∙ sym c.index.ensures in
     let placed_here : c.index.result.now.stored ≡ placed t items = ap (λ (h : TableView). h.stored) (sym at_is) ∙ c.self.invariant.placed_in t within in

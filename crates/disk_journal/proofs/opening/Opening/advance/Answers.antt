@@ -10,6 +10,7 @@ returns-clause-at c content bodies is whole =
       extents = more_extents content old.at bodies e old.extents.items c.push.new.self.items whole is.up_to is.extents c.in_ok-push.ensures.items;
       up_to = one_more content old.at bodies e whole is.up_to;
       len = is.len;
+      piece = is.piece;
       inside = omega (arith, is.len, whole.fits, whole.body_at);
       first = λ zero_at. absurd (omega (arith, zero_at, whole.body_at));
     }

@@ -1,105 +1,51 @@
-use Rattle.std.proofs.Common.{◌≡◌, ℕ, ℤ, ◌+◌, ◌<◌, Some, None, ◌^◌, ap, sym, ◌∙◌, arith, rules, w64}
-use Rattle.std.specs.Map.{lookup}
-use Rattle.std.specs.BTreeMap.{is_at, insert_entry}
+use Rattle.std.proofs.Common.{◌≡◌, ℕ, ℤ, ◌+◌, ◌-◌, ◌≤ℤ◌, None, FitsSigned, neg_ℤ, pos, ◌^◌, ap, subst, ◌∙◌, arith, rules, w64}
 use Rattle.std.proofs.lemmas.Int.{ints, to_z-of_z}
-use Rattle.block_map.specs.Index.{Listing}
-use Rattle.block_map.proofs.KeyedLists.{insert_entry-parts}
 use Rattle.histogram.specs.declared.histogram.NamedTime.{NamedTime}
-use Rattle.histogram.specs.Counts.{Counts, named_time_cmp}
-use Rattle.histogram.proofs.Times.{changed-parts, one_more-new, one_more-again, others-new, others-again, total-new, total-again, AreTimes-changed}
+use Rattle.histogram.specs.Times.{HistogramView}
+use Rattle.histogram.specs.Histogram.{histogram_view, IsHistogram}
+use Rattle.histogram.proofs.Entries.{put}
+use Rattle.histogram.proofs.Added.{IsAddition, records-push, histogram-push, added_to, added}
+use Rattle.histogram.proofs.histogram.Histogram.add.Goals.{After-insert}
 use Rattle.histogram.proofs.histogram.Histogram.add.Goals as goal
 
 abbrev key : ℕ → ℤ → NamedTime
 key pname time = record { pname = pname; time = time }
 
--- ---- the time was added before
-
-pub overflow_add-count : goal.overflow_add-count
-overflow_add-count c =
+-- after the calls the fields have one more time
+inserted : (c : After-insert) → IsAddition (key c.args.pname c.args.time) c.args.self.now (histogram_view c.insert.new.self (c.self.inside.room - 1)) × IsHistogram c.insert.new.self (c.self.inside.rows + 1) (c.self.inside.room - 1)
+inserted c =
     let time = to_z-of_z w64 c.args.time c.ranges.time in
     let k = key c.args.pname c.args.time in
-    let found : lookup (is_at (named_time_cmp k)) c.self.inside.index.entries ≡ Some c.in-Some.count = sym (rw time at c.in-Some.ensures) in
-    let parts = changed-parts k (c.in-Some.count + 1) c.in-Some.count c.self.inside.index.entries c.self.invariant.rising found in
-    let total = total-again k parts.0 parts.1 c.in-Some.count (c.in-Some.count + 1) c.self.inside.index.entries (insert_entry named_time_cmp c.self.inside.index.entries k (c.in-Some.count + 1)) parts.2 parts.3 in
-    let less : c.in-Some.count + 1 < 2 ^ 64 = omega (arith, total.1, c.self.invariant.counted, c.self.invariant.small, ap (λ (m : Counts). m.room) c.self.view_is) in
-    search (rules, arith)
+    let span = c.take_near-span.result in
+    let fits_first : FitsSigned w64 span.first = search rules in
+    let first = to_z-of_z w64 span.first fits_first in
+    let fits_last : FitsSigned w64 span.last = search rules in
+    let last = to_z-of_z w64 span.last fits_last in
+    let least : neg_ℤ (pos (2 ^ 63)) ≤ℤ c.args.time = omega (arith, ints, c.ranges.time) in
+    let mid = c.take_near-span.new.index in
+    let taken = rw time at c.take_near-span.ensures.taken in
+    let all = rw time at c.take_near-span.ensures.all in
+    let p = put k span taken.holds taken.ordered least mid.entries taken.rising taken.whole taken.clear all in
+    let none : c.insert.result ≡ None = (rw last at c.insert.ensures.found) ∙ p.absent in
+    let is = rw none at (rw (first, last) at c.insert.ensures.absent) in
+    let room = ap (λ (h : HistogramView). h.room) c.self.view_is in
+    let left = c.self.inside.room - 1 in (
+      subst (λ (h : HistogramView). IsAddition k h (histogram_view c.insert.new.self left)) c.self.view_is
+          (added_to c.self.inside.index mid c.insert.new.self k span least taken all is c.self.inside.room left),
+      added c.self.inside.index mid c.insert.new.self k span least taken all is c.self.inside.rows c.self.inside.room left
+          c.self.invariant (omega (arith, room, c.requires)) c.insert.ensures.rising,
+    )
 
 pub invariant_of-self : goal.invariant_of-self
-invariant_of-self c =
-    let time = to_z-of_z w64 c.args.time c.ranges.time in
-    let k = key c.args.pname c.args.time in
-    let found : lookup (is_at (named_time_cmp k)) c.self.inside.index.entries ≡ Some c.in-Some.count = sym (rw time at c.in-Some.ensures) in
-    let parts = changed-parts k (c.in-Some.count + 1) c.in-Some.count c.self.inside.index.entries c.self.invariant.rising found in
-    let some : c.replace.result ≡ Some c.in-Some.count = (rw time at c.replace.ensures.found) ∙ found in
-    let replaced = rw some at (rw time at c.replace.ensures.replaced) in
-    let entries = ap (λ (l : Listing NamedTime ℕ). l.entries) replaced ∙ parts.3 in
-    let total = total-again k parts.0 parts.1 c.in-Some.count (c.in-Some.count + 1) c.self.inside.index.entries c.replace.new.self.entries parts.2 entries in
-    record {
-      rising = c.replace.ensures.rising;
-      times = rw (ap (λ (l : Listing NamedTime ℕ). l.entries) replaced) (AreTimes-changed k (c.in-Some.count + 1) c.self.inside.index.entries (omega arith) (omega (arith, ints, c.ranges.time)) c.self.invariant.times);
-      counted = omega (arith, total.0, c.self.invariant.counted);
-      has_room = omega (arith, ap (λ (l : Listing NamedTime ℕ). l.room) replaced, c.self.invariant.has_room);
-      small = omega (arith, c.self.invariant.small, ap (λ (m : Counts). m.room) c.self.view_is);
-    }
+invariant_of-self c = (inserted (goal.at.invariant_of-self c).After-insert).1
 
-pub returns-in-Some-clause-added : goal.returns-in-Some-clause-added
-returns-in-Some-clause-added c =
-    let time = to_z-of_z w64 c.args.time c.ranges.time in
-    let k = key c.args.pname c.args.time in
-    let found : lookup (is_at (named_time_cmp k)) c.self.inside.index.entries ≡ Some c.in-Some.count = sym (rw time at c.in-Some.ensures) in
-    let parts = changed-parts k (c.in-Some.count + 1) c.in-Some.count c.self.inside.index.entries c.self.invariant.rising found in
-    let some : c.replace.result ≡ Some c.in-Some.count = (rw time at c.replace.ensures.found) ∙ found in
-    let replaced = rw some at (rw time at c.replace.ensures.replaced) in
-    let entries = ap (λ (l : Listing NamedTime ℕ). l.entries) replaced ∙ parts.3 in
-    one_more-again k parts.0 parts.1 c.in-Some.count c.args.self.now.counts c.replace.new.self.entries (ap (λ (m : Counts). m.counts) (sym c.self.view_is) ∙ parts.2) entries
+pub returns-clause-times : goal.returns-clause-times
+returns-clause-times c =
+    histogram-push (key c.args.pname c.args.time) c.args.self.now (histogram_view c.insert.new.self (c.self.inside.room - 1)) (inserted (goal.at.returns-clause-times c).After-insert).0
 
-pub returns-in-Some-clause-others : goal.returns-in-Some-clause-others
-returns-in-Some-clause-others c = λ other ne.
-    let time = to_z-of_z w64 c.args.time c.ranges.time in
-    let k = key c.args.pname c.args.time in
-    let found : lookup (is_at (named_time_cmp k)) c.self.inside.index.entries ≡ Some c.in-Some.count = sym (rw time at c.in-Some.ensures) in
-    let parts = changed-parts k (c.in-Some.count + 1) c.in-Some.count c.self.inside.index.entries c.self.invariant.rising found in
-    let some : c.replace.result ≡ Some c.in-Some.count = (rw time at c.replace.ensures.found) ∙ found in
-    let replaced = rw some at (rw time at c.replace.ensures.replaced) in
-    let entries = ap (λ (l : Listing NamedTime ℕ). l.entries) replaced ∙ parts.3 in
-    others-again k parts.0 parts.1 other c.in-Some.count (c.in-Some.count + 1) c.args.self.now.counts c.replace.new.self.entries ne (ap (λ (m : Counts). m.counts) (sym c.self.view_is) ∙ parts.2) entries
+pub returns-clause-added : goal.returns-clause-added
+returns-clause-added c =
+    records-push (key c.args.pname c.args.time) c.args.self.now (histogram_view c.insert.new.self (c.self.inside.room - 1)) (inserted (goal.at.returns-clause-added c).After-insert).0
 
--- ---- the time is new
-
-pub invariant_of-self-in-None : goal.invariant_of-self-in-None
-invariant_of-self-in-None c =
-    let time = to_z-of_z w64 c.args.time c.ranges.time in
-    let k = key c.args.pname c.args.time in
-    let absent : lookup (is_at (named_time_cmp k)) c.self.inside.index.entries ≡ None = sym (rw time at c.in-None.ensures) in
-    let none : c.insert.result ≡ None = (rw time at c.insert.ensures.found) ∙ absent in
-    let added = rw none at (rw time at c.insert.ensures.absent) in
-    let parts = insert_entry-parts named_time_cmp k 1 c.self.inside.index.entries absent in
-    let total = total-new k parts.0 parts.1 1 c.self.inside.index.entries c.insert.new.self.entries parts.2 (added.0 ∙ parts.3) in
-    let room = ap (λ (m : Counts). m.room) c.self.view_is in
-    record {
-      rising = c.insert.ensures.rising;
-      times = rw added.0 (AreTimes-changed k 1 c.self.inside.index.entries (omega arith) (omega (arith, ints, c.ranges.time)) c.self.invariant.times);
-      counted = omega (arith, total, c.self.invariant.counted);
-      has_room = omega (arith, added.1, c.self.invariant.has_room);
-      small = omega (arith, c.self.invariant.small, room);
-    }
-
-pub returns-in-None-clause-added : goal.returns-in-None-clause-added
-returns-in-None-clause-added c =
-    let time = to_z-of_z w64 c.args.time c.ranges.time in
-    let k = key c.args.pname c.args.time in
-    let absent : lookup (is_at (named_time_cmp k)) c.self.inside.index.entries ≡ None = sym (rw time at c.in-None.ensures) in
-    let none : c.insert.result ≡ None = (rw time at c.insert.ensures.found) ∙ absent in
-    let added = rw none at (rw time at c.insert.ensures.absent) in
-    let parts = insert_entry-parts named_time_cmp k 1 c.self.inside.index.entries absent in
-    one_more-new k parts.0 parts.1 c.args.self.now.counts c.insert.new.self.entries (ap (λ (m : Counts). m.counts) (sym c.self.view_is) ∙ parts.2) (added.0 ∙ parts.3)
-
-pub returns-in-None-clause-others : goal.returns-in-None-clause-others
-returns-in-None-clause-others c = λ other ne.
-    let time = to_z-of_z w64 c.args.time c.ranges.time in
-    let k = key c.args.pname c.args.time in
-    let absent : lookup (is_at (named_time_cmp k)) c.self.inside.index.entries ≡ None = sym (rw time at c.in-None.ensures) in
-    let none : c.insert.result ≡ None = (rw time at c.insert.ensures.found) ∙ absent in
-    let added = rw none at (rw time at c.insert.ensures.absent) in
-    let parts = insert_entry-parts named_time_cmp k 1 c.self.inside.index.entries absent in
-    others-new k parts.0 parts.1 other 1 c.args.self.now.counts c.insert.new.self.entries ne (ap (λ (m : Counts). m.counts) (sym c.self.view_is) ∙ parts.2) (added.0 ∙ parts.3)
+pub returns-clause-others : goal.returns-clause-others
+returns-clause-others c = (inserted (goal.at.returns-clause-others c).After-insert).0.others

@@ -1,7 +1,0 @@
-use Rattle.std.proofs.Common.{◌≡◌, ◌++◌, take}
-use Rattle.std.specs.List.{flat_map}
-use Rattle.mdb_octets.specs.Spelling.{poly_octets}
-use Rattle.mdb_octets.proofs.spelling.put_poly.Given as goal
-
-abbrev pub invariant-loop-row : goal.invariant-loop-row
-invariant-loop-row l = l.out.items ≡ l.initial.out.items ++ flat_map poly_octets (take l.row-index l.rows)
