@@ -146,7 +146,8 @@ impl Opening {
         }
     }
 
-    // Reads on to the closed gate that ends the records, over the bodies.
+    // Reads on to the closed gate that ends the records, over the bodies. Behind a body that passes the end of a piece it
+    // takes a whole one for the next header: 256 KiB a record at most, and for all together about the file's length.
     pub(crate) fn finish_all<D: Disk>(mut self, disk: &mut D) -> Result<Journal, JournalFault>
         requires { IsTrue D.device.is_transparent → IsAt self (D.device.reads disk.old (file_read self)) [] }
         ensures records { IsTrue D.device.is_transparent →

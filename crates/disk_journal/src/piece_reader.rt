@@ -12,7 +12,8 @@ use std::alloc::Global;
 // The most octets that a piece has.
 const PIECE_LEN: u64 = 256 * 1024;
 
-/// A reading of a file in pieces. Its reader asks for rising places; each octet is then read at most once.
+/// A reading of a file in pieces. Who asks for rising places reads each octet once, but for up to three of a number that
+/// passes the end of a piece.
 #[derive(Drop)]
 pub struct PieceReader {
     pub(crate) file: u32,
