@@ -8,7 +8,7 @@
 //
 // A fill list holds what happened to fills and each fault of the disk, in the order in which it happened. Which intervals have a fill, and
 // which are in flight, is read from it (specs/Fills.antt), by the last item that says so (`IsLastDone`, `IsBegunLast`). Whether an interval is
-// late is said of every position (`IsLate` of specs/Late.antt), and decided by the last row alone (`is_late`), as `late_marks` decides it of a
+// late is said of every position (`IsLate` of specs/Late.antt), and decided by the last row alone (`is_late_in`), as `late_marks` decides it of a
 // mark. What holds of the definitions is in specs/Laws.antt, and `laws` carries the proofs.
 #![tactic(auto)]
 
