@@ -5,7 +5,8 @@ use Rattle.std.specs.List.{AllByRecursion}
 use Rattle.std.specs.Int.{int_min, int_max}
 use Rattle.std.proofs.lemmas.Int.{ints, clamps}
 use Rattle.arch_types.specs.declared.spans.Span.{Span}
-use Rattle.histogram.proofs.Times.{AreSorted, HasOneMore}
+use Rattle.histogram.specs.Times.{AreSorted}
+use Rattle.histogram.proofs.Times.{HasOneMore}
 use Rattle.histogram.specs.Spans.{is_near, with_first, pieces_of, last_time, span_of, histogram_of}
 use Rattle.histogram.specs.Near.{is_apart, span_of_time, joined, joined_near, with_span}
 

@@ -9,12 +9,7 @@ use Rattle.std.proofs.lemmas.List.Elements.{filter-append}
 use Rattle.std.proofs.lemmas.List.Sums.{fold-append}
 use Rattle.arch_types.specs.Order.{place_by, order_by}
 use Rattle.histogram.specs.declared.histogram.NamedTime.{NamedTime}
-use Rattle.histogram.specs.Times.{times_of}
-
--- each time is no later than those after it
-abbrev pub AreSorted : List ℤ → Type 0
-AreSorted [] = Unit {0}
-AreSorted (time ∷ times) = AllByRecursion (λ later. time ≤ℤ later) times × AreSorted times
+use Rattle.histogram.specs.Times.{times_of, AreSorted}
 
 -- a list with one more time, at some place
 pub record HasOneMore (old new : List ℤ) (time : ℤ) : Type 0 where

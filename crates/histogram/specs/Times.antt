@@ -1,5 +1,6 @@
 -- The times of packet names, and their records.
-use Rattle.std.specs.Prelude.{◌≡◌, ℕ, ◌==◌, List, filter, map, ℤ, int_lt}
+use Rattle.std.specs.Prelude.{◌≡◌, ℕ, ◌==◌, List, [], ◌∷◌, filter, map, ℤ, ◌≤ℤ◌, int_lt}
+use Rattle.std.specs.List.{AllByRecursion}
 use Rattle.std.specs.Ordering.{nat_cmp, int_cmp, ordering_then}
 use Rattle.std.specs.declared.cmp.Ordering.{Ordering}
 use Rattle.arch_types.specs.Order.{order_by}
@@ -19,6 +20,11 @@ pub record HistogramView : Type 0 where
 -- the records of one packet name
 abbrev pub spans_of : ℕ → HistogramView → List Span
 spans_of pname histogram = map (λ r. r.1) (filter (λ r. r.0 == pname) histogram.records)
+
+-- each time is no later than those after it
+abbrev pub AreSorted : List ℤ → Type 0
+AreSorted [] = Unit {0}
+AreSorted (time ∷ times) = AllByRecursion (λ later. time ≤ℤ later) times × AreSorted times
 
 -- the histogram of times that came in any order
 abbrev pub spans_of_times : List ℤ → List Span

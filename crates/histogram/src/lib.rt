@@ -15,5 +15,6 @@
 #![tactic(auto)]
 
 pub mod histogram;
+pub mod laws;
 mod near;
 mod walk;

@@ -1,17 +1,26 @@
 //! What no clause says: that calls succeed where memory is ample, and worked rows.
 
+ghost use Rattle.std.specs.Prelude.{IfOk};
+ghost use Rattle.histogram.specs.Times.{IsHistogramOf};
+
 use arch_types::spans::Span;
-use histogram::histogram::Histogram;
+use histogram::histogram::{Histogram, NamedTime};
 use std::alloc::{AllocError, Global};
 
-/// The histogram of these times, each of a packet name.
-fn histogram_of(alloc: Global, times: &[(u16, i64)]) -> Result<Histogram, AllocError> {
+/// The histogram of these times, added one after the other.
+fn histogram_of(alloc: Global, times: &[NamedTime]) -> Result<Histogram, AllocError>
+    ensures times { IfOk result (λ histogram. IsHistogramOf histogram times.now) }
+{
     let mut histogram = Histogram::new(alloc);
-    for (pname, time) in times {
+    for at in times {
         histogram.reserve(1)?;
-        histogram.add(*pname, *time);
+        histogram.add(at.pname, at.time);
     }
     Ok(histogram)
+}
+
+fn at(pname: u16, time: i64) -> NamedTime {
+    NamedTime { pname, time }
 }
 
 const MINUTE: [Span; 2] = [
@@ -38,13 +47,22 @@ fn records(rt: HostRuntime) -> Result<(), AllocError> {
         [120_001, 60_000, 0],
     ];
     for [a, b, c] in orders {
-        let histogram = histogram_of(rt.alloc(), &[(7, a), (8, -5), (7, b), (6, 60_001), (7, c)])?;
+        let histogram = histogram_of(
+            rt.alloc(),
+            &[at(7, a), at(8, -5), at(7, b), at(6, 60_001), at(7, c)],
+        )?;
         let spans = histogram.records(7)?;
         assert_eq!(rt; spans.as_slice(), MINUTE.as_slice());
     }
     let many = histogram_of(
         rt.alloc(),
-        &[(1, -60_000), (1, 0), (1, -60_000), (1, 0), (1, -60_000)],
+        &[
+            at(1, -60_000),
+            at(1, 0),
+            at(1, -60_000),
+            at(1, 0),
+            at(1, -60_000),
+        ],
     )?;
     let spans = many.records(1)?;
     let one = Span {
@@ -60,7 +78,7 @@ fn records(rt: HostRuntime) -> Result<(), AllocError> {
 
 #[test]
 fn between_two_records(rt: HostRuntime) -> Result<(), AllocError> {
-    let times = [(3, 0), (3, 120_000), (3, 300_000), (3, 60_000)];
+    let times = [at(3, 0), at(3, 120_000), at(3, 300_000), at(3, 60_000)];
     let histogram = histogram_of(rt.alloc(), &times)?;
     let spans = histogram.records(3)?;
     let joined = [
@@ -81,7 +99,7 @@ fn between_two_records(rt: HostRuntime) -> Result<(), AllocError> {
 
 #[test]
 fn least_and_greatest_times(rt: HostRuntime) -> Result<(), AllocError> {
-    let times = [(3, i64::MAX), (3, i64::MIN), (3, i64::MIN + 60_000)];
+    let times = [at(3, i64::MAX), at(3, i64::MIN), at(3, i64::MIN + 60_000)];
     let histogram = histogram_of(rt.alloc(), &times)?;
     let spans = histogram.records(3)?;
     let apart = [
