@@ -6,7 +6,7 @@ use arch_types::cell::Eng;
 use arch_types::steps::Steps;
 use container_extract::chain::Chain;
 use container_extract::values::{ParameterValue, Values};
-use container_extract::{Extracted, bits, extract, packet_name};
+use container_extract::{Extracted, Extractor, bits, extract, packet_name};
 use mdb_model::{Coding, Items, Mdb, MdbFault, RawMdb, Record, Sheet};
 use std::alloc::{AllocError, Global};
 use std::marker::Brand;
@@ -219,6 +219,33 @@ const TABLES: [Worked; 5] = [FLIGHT, WIDE, CALIBRATED, COMPARED, FLAGGED];
 fn worked_packets(rt: HostRuntime) -> Result<(), Fail> {
     for worked in TABLES {
         assert_eq!(rt; other(rt.alloc(), worked)?, None);
+    }
+    Ok(())
+}
+
+/// The packet name and the number of values of a packet, by an extractor that had others before.
+fn named_by(
+    alloc: Global,
+    extractor: &mut Extractor,
+    mdb: &Mdb,
+    digits: &str,
+) -> Result<(u16, usize), AllocError> {
+    let packet = octets_of(alloc, digits)?;
+    let name = extractor.packet_name(mdb, packet.as_slice())?;
+    let found = extractor.extract_uncounted(mdb, packet.as_slice())?;
+    Ok((name, found.values.len()))
+}
+
+#[test]
+fn packets_one_after_the_other(rt: HostRuntime) -> Result<(), Fail> {
+    let mdb = database(rt.alloc(), FLIGHT)?;
+    let mut extractor = Extractor::new(rt.alloc());
+    for (digits, want) in [
+        ("0864c00000070000000180002afe", (1, 3)),
+        ("0866c000000600000001800007", (0, 1)),
+        ("0865c000000600000001800007", (2, 2)),
+    ] {
+        assert_eq!(rt; named_by(rt.alloc(), &mut extractor, &mdb, digits)?, want);
     }
     Ok(())
 }
