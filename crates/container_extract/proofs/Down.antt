@@ -1,17 +1,30 @@
 -- The walk as the code takes it.
-use Rattle.std.proofs.Common.{◌≡◌, ◌∙◌, ◌-◌, ◌<◌, ℕ, List, [], ◌∷◌, ◌++◌, length, Some, None, ap, sym, arith, subst}
+use Rattle.std.proofs.Common.{◌≡◌, ◌∙◌, ◌-◌, ◌<◌, ℕ, List, [], ◌∷◌, ◌++◌, length, map, Some, None, ap, sym, arith, subst}
+use Rattle.std.specs.Prelude.{flat_map}
+use Rattle.std.proofs.lemmas.List.{map-append}
+use Rattle.mdb_items.specs.declared.container.Entry.{Entry}
 use Rattle.mdb_items.specs.Database.{Database, IsDatabase}
+use Rattle.mdb_model.specs.PlacedConditions.{path_parameters}
 use Rattle.mdb_model.proofs.Structure.{structured}
 use Rattle.container_extract.specs.declared.values.RawValue.{RawValue}
-use Rattle.container_extract.specs.Chain.{IsChain, chain_of}
+use Rattle.container_extract.specs.Chain.{IsChain, chain_of, entries_at}
 use Rattle.container_extract.specs.Extraction.{raw_extraction, raw_values_along}
-use Rattle.container_extract.specs.Step.{IsStep}
+use Rattle.container_extract.specs.Step.{AreAbove, IsStep, parameters_of_values}
 use Rattle.container_extract.proofs.Chains.{is_chain_of}
+use Rattle.container_extract.proofs.Placed.{parameters_of_raw}
 use Rattle.container_extract.proofs.Walk.{IsWalk, walk_begins, walk_ends, walk_goes_on}
 
 pub begins : (db : Database) (packet chain : List ℕ) (values : List RawValue) → IsDatabase db → chain ≡ [] → values ≡ [] → IsWalk db packet chain values 0
 begins db packet chain values is none empty =
     subst (λ (vs : List RawValue). IsWalk db packet chain vs 0) (sym empty) (subst (λ (ns : List ℕ). IsWalk db packet ns [] 0) (sym none) (walk_begins db packet is))
+
+-- the values so far are of the entries above
+pub values_above : (db : Database) (packet chain : List ℕ) (values : List RawValue) (n : ℕ) → IsWalk db packet chain values n → AreAbove db n values
+values_above db packet chain values n w =
+    let above = flat_map (entries_at db) chain in
+    let so_far : parameters_of_values values ≡ map (λ (e : Entry). e.parameter) above = ap parameters_of_values w.taken ∙ parameters_of_raw db packet above in
+    ap (λ (ps : List ℕ). ps ++ map (λ (e : Entry). e.parameter) (entries_at db n)) so_far
+    ∙ sym (map-append (λ (e : Entry). e.parameter) above (entries_at db n)) ∙ ap path_parameters (sym w.path.1)
 
 -- the numbers of containers have sixteen bits
 pub number_small : (db : Database) (packet chain : List ℕ) (values : List RawValue) (n : ℕ) → IsDatabase db → IsWalk db packet chain values n → n < 65536

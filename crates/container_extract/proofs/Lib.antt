@@ -5,6 +5,7 @@ pub mod Paths
 pub mod Extracting
 pub mod Admitting
 pub mod Walk
+pub mod Placed
 pub mod Taking
 pub mod Down
 pub mod Names

@@ -23,11 +23,11 @@ parents_earlier db is n p within e =
     subst (IsBelowParent n) parent ((structured db is).containers n here.0 here.1).parent
 
 -- the path of the container with a number
-abbrev path_to : Database → ℕ → ContainerPath
+abbrev pub path_to : Database → ℕ → ContainerPath
 path_to db n = path_at (paths_of db.containers) (Some n)
 
 -- so many containers have these entries on their path
-abbrev a_path : ℕ → List Entry → ContainerPath
+abbrev pub a_path : ℕ → List Entry → ContainerPath
 a_path containers entries = record { containers = containers; entries = entries }
 
 -- the last of a chain, whose path has as many containers and the chain's entries
@@ -37,7 +37,7 @@ record IsAlong (db : Database) (containers : ℕ) (entries : List Entry) : Type 
   path : path_to db last ≡ a_path containers entries
 
 -- the path of a child
-child_path : (db : Database) (n m : ℕ) (c : Container) (k : ℕ) (entries : List Entry) → IsDatabase db → slice_get db.containers m ≡ Some c → c.parent ≡ Some n → path_to db n ≡ a_path k entries
+pub child_path : (db : Database) (n m : ℕ) (c : Container) (k : ℕ) (entries : List Entry) → IsDatabase db → slice_get db.containers m ≡ Some c → c.parent ≡ Some n → path_to db n ≡ a_path k entries
     → path_to db m ≡ a_path (suc k) (entries ++ entries_at db m)
 child_path db n m c k entries is at parent up =
     let below : path_to db m ≡ path_below (path_at (paths_of db.containers) c.parent) c = path_here db.containers m c (parents_earlier db is) at in
@@ -74,12 +74,17 @@ root_path db c None is at parent first =
     path_here db.containers 0 c (parents_earlier db is) at ∙ ap (λ (o : Option ℕ). path_below (path_at (paths_of db.containers) o) c) parent ∙ ap (a_path 1) (ap container_entries (sym at))
 root_path db c (Some p) is at parent first = absurd (omega (arith, first))
 
+pub root_along : (db : Database) → IsDatabase db → path_to db 0 ≡ a_path 1 (entries_at db 0)
+root_along db is =
+    let s = structured db is in
+    let root = item_at db.containers 0 s.root in
+    root_path db root.0 root.0.parent is root.1 refl (s.containers 0 root.0 root.1).parent
+
 chain_along : (db : Database) (packet chain : List ℕ) → IsDatabase db → IsChain db packet chain → IsAlong db (length chain) (flat_map (entries_at db) chain)
 chain_along db packet [] is goes = absurd goes
 chain_along db packet (n ∷ chain) is goes =
     let s = structured db is in
-    let root = item_at db.containers 0 s.root in
-    let start = root_path db root.0 root.0.parent is root.1 refl (s.containers 0 root.0 root.1).parent in
+    let start = root_along db is in
     let here = subst (λ (k : ℕ). path_to db k ≡ a_path 1 (entries_at db k)) (sym goes.0) start in
     let within = subst (λ (k : ℕ). k < length db.containers) (sym goes.0) s.root in
     let count : 0 + length (n ∷ chain) ≡ length (n ∷ chain) = omega arith in

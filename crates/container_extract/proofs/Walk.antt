@@ -1,5 +1,5 @@
 -- The walk from the root down.
-use Rattle.std.proofs.Common.{◌≡◌, ◌∙◌, ◌<◌, ℕ, List, [], ◌∷◌, ◌++◌, length, map, Option, Some, None, Bool, true, false, cond, inl, inr, refl, ap, sym, subst, append_assoc}
+use Rattle.std.proofs.Common.{◌≡◌, ◌∙◌, ◌<◌, ℕ, suc, List, [], ◌∷◌, ◌++◌, length, map, Option, Some, None, Bool, true, false, cond, inl, inr, refl, ap, sym, subst, append_assoc}
 use Rattle.std.specs.Prelude.{◌&&◌, flat_map, if◌then◌else◌}
 use Rattle.std.specs.List.{list_all, take_while}
 use Rattle.std.proofs.lemmas.Bool.{cases_Bool}
@@ -15,7 +15,8 @@ use Rattle.container_extract.specs.Chain.{IsChainFrom, IsChain, entries_at, firs
 use Rattle.container_extract.specs.Extraction.{raw_values_along}
 use Rattle.container_extract.specs.Step.{IsStep}
 use Rattle.container_extract.specs.Values.{fits, raw_value_of}
-use Rattle.container_extract.proofs.Chains.{next_below}
+use Rattle.container_extract.proofs.Chains.{child_of, next_below}
+use Rattle.container_extract.proofs.Paths.{a_path, child_path, path_to, root_along}
 
 take_while_front : {X : Type 0} (p : X → Bool) (xs ys : List X) → list_all p xs ≡ true → take_while p (xs ++ ys) ≡ xs ++ take_while p ys
 take_while_front p [] ys all = refl
@@ -33,15 +34,17 @@ take_while_all p xs all = ap (take_while p) (sym (append-nil xs)) ∙ take_while
 entries_more : (db : Database) (chain : List ℕ) (n : ℕ) → flat_map (entries_at db) (chain ++ n ∷ []) ≡ flat_map (entries_at db) chain ++ entries_at db n
 entries_more db chain n = flat_map-append (entries_at db) chain (n ∷ []) ∙ ap (λ (es : List Entry). flat_map (entries_at db) chain ++ es) (append-nil (entries_at db n))
 
--- whatever goes on from a container makes a chain with the ones above it, whose entries are all taken
+-- whatever goes on from a container makes a chain with the ones above it, whose entries are all taken, and stand on its path before
+-- its own
 pub record IsWalk (db : Database) (packet : List ℕ) (chain : List ℕ) (values : List RawValue) (n : ℕ) : Type 0 where
   pub goes : (rest : List ℕ) → IsChainFrom db packet (flat_map (entries_at db) chain) (n ∷ rest) → IsChain db packet (chain ++ n ∷ rest)
   pub fit : list_all (fits db packet) (flat_map (entries_at db) chain) ≡ true
   pub taken : values ≡ map (raw_value_of db packet) (flat_map (entries_at db) chain)
   pub known : n < length db.containers
+  pub path : (k : ℕ) × (path_to db n ≡ a_path k (flat_map (entries_at db) chain ++ entries_at db n))
 
 pub walk_begins : (db : Database) (packet : List ℕ) → IsDatabase db → IsWalk db packet [] [] 0
-walk_begins db packet is = record { goes = λ rest h. (refl, h); fit = refl; taken = refl; known = (structured db is).root }
+walk_begins db packet is = record { goes = λ rest h. (refl, h); fit = refl; taken = refl; known = (structured db is).root; path = (1, root_along db is) }
 
 -- where all of its entries are taken, its values follow
 values_more : (db : Database) (packet : List ℕ) (chain : List ℕ) (values more : List RawValue) (n : ℕ) (next : Option ℕ) → IsWalk db packet chain values n → IsStep db packet values n more next
@@ -84,6 +87,8 @@ walk_goes_on db packet chain values more n m is w s =
     let next : next_of db packet (above ++ entries_at db n) n ≡ Some m = sym (step_is_next db packet chain values more n (Some m) w s) in
     let below = next_below db packet (above ++ entries_at db n) n m is next in
     let es = entries_more db chain n in
+    let child = child_of db packet (above ++ entries_at db n) n m next in
+    let under = child_path db n m child.0 w.path.0 (above ++ entries_at db n) is child.1 child.3 w.path.1 in
     let goes : (rest : List ℕ) → IsChainFrom db packet (flat_map (entries_at db) (chain ++ n ∷ [])) (m ∷ rest) → IsChain db packet ((chain ++ n ∷ []) ++ m ∷ rest) =
     λ rest h. subst (IsChain db packet) (sym (append_assoc chain (n ∷ []) (m ∷ rest))) (w.goes (m ∷ rest) (next, subst (λ (xs : List Entry). IsChainFrom db packet xs (m ∷ rest)) es h)) in (
       record {
@@ -91,6 +96,7 @@ walk_goes_on db packet chain values more n m is w s =
         fit = ap (list_all (fits db packet)) es ∙ list_all-append (fits db packet) above (entries_at db n) ∙ ap (λ b. b && list_all (fits db packet) (entries_at db n)) w.fit ∙ all;
         taken = values_more db packet chain values more n (Some m) w s all ∙ ap (map (raw_value_of db packet)) (sym es);
         known = below.1;
+        path = (suc w.path.0, under ∙ ap (λ (xs : List Entry). a_path (suc w.path.0) (xs ++ entries_at db m)) (sym es));
       },
       below.0,
     )

@@ -1,7 +1,8 @@
 //! Conditions on raw values.
 
 ghost use Rattle.std.specs.Prelude.{◌≡◌, option_copied};
-ghost use Rattle.container_extract.specs.Values.{compares, holds, is_met, raw_among};
+ghost use Rattle.container_extract.specs.Step.{holds_by_places, is_met_at};
+ghost use Rattle.container_extract.specs.Values.{compares, is_met};
 
 use crate::values::RawValue;
 use mdb_model::{Comparison, Operator};
@@ -20,30 +21,28 @@ fn compares(operator: Operator, raw: i128, number: i128) -> bool
     }
 }
 
-/// The raw value of a parameter, where it has one. A path has at most 256 entries, and what a condition compares mostly stands near the root.
-fn raw_among(values: &[RawValue], parameter: usize) -> Option<&RawValue>
-    ensures { option_copied result ≡ raw_among parameter values.now }
-{
-    values
-        .iter()
-        .find(|value| value.parameter as usize == parameter)
-}
-
 /// A comparison with a parameter that has no value isn't met.
-fn is_met(comparison: Comparison, values: &[RawValue]) -> bool
-    ensures { result ≡ is_met comparison (raw_among comparison.parameter values.now) }
+fn is_met(comparison: Comparison, value: Option<&RawValue>) -> bool
+    ensures { result ≡ is_met comparison (option_copied value.entry) }
 {
-    match raw_among(values, comparison.parameter) {
+    match value {
         None => false,
         Some(value) => compares(comparison.operator, value.raw, comparison.number),
     }
 }
 
-/// Each comparison is met.
-pub(crate) fn holds(values: &[RawValue], condition: &[Comparison]) -> bool
-    ensures { result ≡ holds values.now condition.now }
+/// The value at a comparison's place meets it.
+fn is_met_at(values: &[RawValue], comparison: Comparison, place: usize) -> bool
+    ensures { result ≡ is_met_at values.now (comparison, place) }
+{
+    is_met(comparison, values.get(place))
+}
+
+/// Each comparison is met by the value at its place.
+pub(crate) fn holds_by_places(values: &[RawValue], condition: &[(Comparison, usize)]) -> bool
+    ensures { result ≡ holds_by_places values.now condition.now }
 {
     condition
         .iter()
-        .all(|comparison| is_met(*comparison, values))
+        .all(|placed| is_met_at(values, placed.0, placed.1))
 }

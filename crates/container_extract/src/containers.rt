@@ -4,43 +4,41 @@ ghost use Rattle.std.specs.Prelude.{◌≡◌, ◌<◌, length, slice_get, optio
 ghost use Rattle.std.specs.List.{find};
 ghost use Rattle.mdb_items.specs.Database.{IsDatabase};
 ghost use Rattle.container_extract.specs.Chain.{first_child, has_archive, name_along};
-ghost use Rattle.container_extract.specs.Step.{IsStep, holds_at};
+ghost use Rattle.container_extract.specs.Step.{AreAbove, AreOfPath, IsStep, holds_at};
 
-use crate::conditions::holds;
+use crate::conditions::holds_by_places;
 use crate::entries::take_entries;
 use crate::values::RawValue;
 use mdb_model::{Container, Mdb};
 use std::alloc::AllocError;
 
-/// The condition of the container with a number holds of raw values.
-fn holds_at(containers: &[Container], number: u16, values: &[RawValue]) -> bool
-    ensures { result ≡ holds_at containers.now values.now number }
+/// The condition of the container with a number holds of the values at its places.
+fn holds_at(mdb: &Mdb, number: u16, values: &[RawValue]) -> bool
+    ensures { result ≡ holds_at mdb.now.containers values.now number }
 {
-    match containers.get(number as usize) {
-        None => false,
-        Some(container) => holds(values, container.condition.as_slice()),
+    if number < mdb.containers() {
+        holds_by_places(values, mdb.placed_condition(number))
+    } else {
+        false
     }
 }
 
-/// The first of some containers whose condition holds of raw values.
-fn first_of<'a>(
-    containers: &[Container],
-    numbers: &'a [u16],
-    values: &[RawValue],
-) -> Option<&'a u16>
-    ensures { option_copied result ≡ find (holds_at containers.now values.now) numbers.now }
+/// The first of some containers whose condition holds of the values at its places.
+fn first_of<'a>(mdb: &Mdb, numbers: &'a [u16], values: &[RawValue]) -> Option<&'a u16>
+    ensures { option_copied result ≡ find (holds_at mdb.now.containers values.now) numbers.now }
 {
     numbers
         .iter()
-        .find(|number| holds_at(containers, **number, values))
+        .find(|number| holds_at(mdb, **number, values))
 }
 
 /// The first child in sheet order whose condition holds of raw values.
 fn first_child(mdb: &Mdb, number: u16, values: &[RawValue]) -> Option<u16>
-    requires { number < length mdb.now.containers }
+    requires known { number < length mdb.now.containers }
+    requires path { AreOfPath mdb.now number values.now }
     ensures { result ≡ first_child mdb.now.containers number values.now }
 {
-    first_of(mdb.container_list(), mdb.children(number), values).copied()
+    first_of(mdb, mdb.children(number), values).copied()
 }
 
 /// Takes the raw values of a container's entries, and gives what comes after it.
@@ -52,6 +50,7 @@ pub(crate) fn next_of(
 ) -> Result<Option<u16>, AllocError>
     requires known { number < length mdb.now.containers }
     requires sound { IsDatabase mdb.now }
+    requires above { AreAbove mdb.now number values.old.items }
     ensures { IfOk result (λ next. IsStep mdb.now packet.now values.old.items number values.new.items next) }
 {
     let entries = mdb.container(number).entries.as_slice();

@@ -7,6 +7,8 @@
 // asked for. The archive names each arrival and reads packets by an `Extractor`; `extract` and `packet_name` are for one packet alone.
 //
 // The idea of the proof: whatever goes on from the containers so far makes a chain (proofs/Walk.antt), so that the walk ends with one.
+// The values so far are those of the path's entries in their order, so that a condition finds each value at the place that the database keeps
+// beside the comparison (proofs/Placed.antt).
 // A container's children all stand after it in the sheet, so the walk ends: that and what else is used of a database is mdb_model's law (`IsStructured`).
 #![tactic(auto)]
 

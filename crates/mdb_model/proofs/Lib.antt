@@ -22,3 +22,4 @@ pub mod ItemEquality
 pub mod SortedKeys
 pub mod LabelsInOrder
 pub mod LabelOrders
+pub mod PathPlaces

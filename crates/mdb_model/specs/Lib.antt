@@ -7,3 +7,4 @@ pub mod NameOrder
 pub mod Lookups
 pub mod SortedKeys
 pub mod LabelOrder
+pub mod PlacedConditions

@@ -4,8 +4,9 @@
 // A database's type keeps what `IsDatabase` of mdb_items says: its own rows spell it, they break no rule, and
 // it passes no limit. Copies share the items. Beside them stand the numbers in the order of the names, which find a
 // name by halving (specs/NameOrder.antt), the raw numbers of labels in their order, which find a label likewise
-// (specs/LabelOrder.antt), and for each container the numbers of those directly below it. `laws` says what callers
-// need of any database. The rules stand in mdb_items, each as a numbered test of one row below the items above it; mdb_rules
+// (specs/LabelOrder.antt), and for each container the numbers of those directly below it, and its condition, each
+// comparison with its parameter's place on the path above (specs/PlacedConditions.antt). `laws` says what callers need
+// of any database. The rules stand in mdb_items, each as a numbered test of one row below the items above it; mdb_rules
 // asks them, and mdb_octets has the octets.
 // The one idea of the proof: reading, checking and decoding all take rows in one after the other, below what those
 // before them spell, so one law of a row's tests serves each. Decoded lists go through the same tests, and are accepted
@@ -21,6 +22,7 @@ mod label_order;
 pub mod laws;
 mod mdb;
 mod name_order;
+mod placed_conditions;
 mod rechecking;
 mod sheet_rows;
 mod sheets;

@@ -6,6 +6,7 @@ ghost use Rattle.mdb_model.specs.Children.{children_of};
 ghost use Rattle.mdb_items.specs.Database.{IsDatabase, limit_passed};
 ghost use Rattle.mdb_model.specs.LabelOrder.{label_row_by};
 ghost use Rattle.mdb_model.specs.Lookups.{calibration_numbered, calibration_of};
+ghost use Rattle.mdb_model.specs.PlacedConditions.{placed_condition};
 ghost use Rattle.mdb_model.specs.SheetResults.{AreSpelledLists, IsCalibrationSheetResult, IsContainerSheetResult, IsParameterSheetResult, IsLimitsResult, database_of_lists};
 ghost use Rattle.mdb_model.specs.Rechecking.{ListsRechecked, refusal};
 ghost use Rattle.mdb_model.specs.Sheets.{IsCheckResult};
@@ -17,6 +18,7 @@ use crate::children::children_of;
 use crate::equality::are_same;
 use crate::label_order::{label_orders, label_row_by};
 use crate::name_order::{name_order, number_of};
+use crate::placed_conditions::placed_conditions;
 use crate::rechecking::{
     have_rows, rechecked_calibrations, rechecked_containers, rechecked_parameters,
 };
@@ -24,7 +26,7 @@ use crate::sheet_rows::{is_calibration_header, is_container_header, is_parameter
 use crate::sheets::{calibrations_of, containers_of, parameters_of};
 use item_list::items::Items;
 use mdb_items::calibration::Calibration;
-use mdb_items::container::Container;
+use mdb_items::container::{Comparison, Container};
 use mdb_items::fault::{MdbFault, MdbLimit, MdbSheet};
 use mdb_items::not_mdb::NotMdb;
 use mdb_items::parameter::Parameter;
@@ -52,6 +54,8 @@ struct Inner {
     containers: Vec<Container>,
     /// For each container the numbers of those directly below it.
     children: Vec<Items<u16>>,
+    /// For each container its condition, each comparison with its place on the path of the parent.
+    placed_conditions: Vec<Items<(Comparison, usize)>>,
     /// For each calibration the raw numbers of its labels with their rows, sorted.
     label_orders: Vec<Items<(i128, usize)>>,
 }
@@ -182,6 +186,7 @@ pub(crate) fn within_limits(
     let parameter_order = name_order(alloc, parameters.items.as_slice())?;
     let container_order = name_order(alloc, containers.items.as_slice())?;
     let children = children_of(alloc, containers.items.as_slice())?;
+    let placed_conditions = placed_conditions(alloc, containers.items.as_slice())?;
     let label_orders = label_orders(alloc, calibrations.items.as_slice())?;
     let mdb = shared(
         alloc,
@@ -192,6 +197,7 @@ pub(crate) fn within_limits(
             calibrations: calibrations.items,
             containers: containers.items,
             children,
+            placed_conditions,
             label_orders,
         },
     )?;
@@ -336,6 +342,16 @@ impl Mdb {
         ensures { result.now ≡ children_of self.now.containers n }
     {
         self.inner.children[n as usize].as_slice()
+    }
+
+    /// The condition of the container with a number, each comparison with the place at which its parameter stands among the
+    /// entries of the path of the parent, counted from 0, the root's first. On that path a compared parameter stands; the
+    /// place of one that didn't would be behind the last entry.
+    pub fn placed_condition(&self, n: u16) -> &[(Comparison, usize)]
+        requires { n < length self.now.containers }
+        ensures { result.now ≡ placed_condition self.now.containers n }
+    {
+        self.inner.placed_conditions[n as usize].as_slice()
     }
 
     /// The database keeps the rules and the limits. This does nothing but tell a proof so.

@@ -5,6 +5,7 @@ use Rattle.mdb_model.specs.Children.{AreChildren}
 use Rattle.mdb_items.specs.Database.{Database, IsDatabase, database_of, limit_passed}
 use Rattle.mdb_model.specs.LabelOrder.{AreLabelOrders}
 use Rattle.mdb_model.specs.NameOrder.{IsNameOrder}
+use Rattle.mdb_model.specs.PlacedConditions.{ArePlacedConditions}
 use Rattle.mdb_items.specs.declared.parameter.Parameter.{Parameter}
 use Rattle.mdb_rules.specs.Totals.{AreEarlier}
 use Rattle.mdb_model.proofs.Respelling.{is_database}
@@ -22,11 +23,13 @@ invariant_of-shared c =
     let Q : List Container → Type 0 = λ cs. AreChildren cs c.in_ok-children.children.items in
     let R : List Parameter → Type 0 = λ ps. IsNameOrder (map (λ p. p.name) ps) c.in_ok-parameter_order.parameter_order.items in
     let S : List Container → Type 0 = λ cs. IsNameOrder (map (λ k. k.name) cs) c.in_ok-container_order.container_order.items in
+    let U : List Container → Type 0 = λ cs. ArePlacedConditions cs c.in_ok-placed_conditions.placed_conditions.items in
     let T : List Calibration → Type 0 = λ cs. AreLabelOrders cs c.in_ok-label_orders.label_orders.items in
     record {
       kept = subst P c.requires.spelled (is_database c.requires.rows c.requires.sound small);
       parameter_order = subst R c.as_slice.ensures.value c.in_ok-parameter_order.ensures;
       container_order = subst S c.as_slice-2.ensures.value c.in_ok-container_order.ensures;
       children = subst Q c.as_slice-3.ensures.value c.in_ok-children.ensures;
-      label_orders = subst T c.as_slice-4.ensures.value c.in_ok-label_orders.ensures;
+      placed_conditions = subst U c.as_slice-4.ensures.value c.in_ok-placed_conditions.ensures;
+      label_orders = subst T c.as_slice-5.ensures.value c.in_ok-label_orders.ensures;
     }

@@ -2,8 +2,14 @@
 use Rattle.std.proofs.Common.{length, Option, subst}
 use Rattle.std.specs.Prelude.{ℕ}
 use Rattle.container_extract.specs.Step.{IsStep}
-use Rattle.container_extract.proofs.Down.{goes_on, is_extraction, is_one, smaller}
+use Rattle.container_extract.proofs.Down.{begins, goes_on, is_extraction, is_one, smaller, values_above}
 use Rattle.container_extract.proofs.raw_extraction.RawExtracted.walk.Goals as goal
+
+pub down-init : goal.down-init
+down-init c = begins c.args.mdb.now c.args.packet.now c.restart.new.self.chain.items c.restart.new.self.values.items c.is_sound.ensures c.in_ok-restart.ensures.chain c.in_ok-restart.ensures.values
+
+pub next_of-requires-clause-above : goal.next_of-requires-clause-above
+next_of-requires-clause-above c = values_above c.args.mdb.now c.args.packet.now c.down.self.chain.items c.down.self.values.items c.down.number c.down.invariant
 
 pub returns-in-None-clause-chain : goal.returns-in-None-clause-chain
 returns-in-None-clause-chain c =
