@@ -1,6 +1,6 @@
 -- The records of a journal as a function of what its file reads as, and what the words on its calls say of any records that it has.
-use Rattle.std.proofs.Common.{◌≡◌, ◌≢◌, ◌⊎◌, inl, inr, ⊎_elim, ℕ, ◌+◌, ◌-◌, ◌^◌, ◌<◌, ◌≤◌, List, [], ◌∷◌, ◌++◌, length, map, take, drop, get_or, None, refl, sym, ◌∙◌, ap, subst, arith, append_assoc, length-append}
-use Rattle.std.specs.Prelude.{IsTrue, Result, Ok, Err, IfErr, IsErrAnd}
+use Rattle.std.proofs.Common.{◌≡◌, ◌≢◌, ◌⊎◌, inl, inr, ⊎_elim, ℕ, ◌+◌, ◌-◌, ◌^◌, ◌<◌, ◌≤◌, List, [], ◌∷◌, ◌++◌, length, map, take, drop, None, refl, sym, ◌∙◌, ap, subst, arith, append_assoc, length-append, Some}
+use Rattle.std.specs.Prelude.{◌↔◌, IsTrue, Result, Ok, Err, IfOk, IfErr, IsErrAnd}
 use Rattle.std.specs.Int.{w32, from_be_bytes}
 use Rattle.std.proofs.lemmas.List.{append-nil, take_at, drop_at, drop-drop}
 use Rattle.arch_disk.specs.Image.{Image}
@@ -8,7 +8,7 @@ use Rattle.arch_disk.specs.Disk.{Device, LeavesOnly, raised}
 use Rattle.arch_disk.proofs.Moments.{weakens, at_end}
 use Rattle.disk_journal.specs.Format.{framed, written, HasRecords, HasStaged, HoldsNone, IsBeforeOrAfter}
 use Rattle.disk_journal.specs.State.{HasOnDisk, IsOnDisk, HasRoom, StateIs, extents_from, faults_of, file_of, count_of, unhealed_fault}
-use Rattle.disk_journal.specs.Calls.{body_of, records_of, body_behind, next_body_of, if_gate_written, unhealed_records_of, CrashLeavesRecords, LeavesOthers, IsAppended, IsAppendFailed, IsAppendRefusal, IsHealed, IsHealFailed, IsHealRefusal, IsJournalCreateRefusal}
+use Rattle.disk_journal.specs.Calls.{BeginsOpen, body_of, records_of, body_behind, next_body_of, if_gate_written, unhealed_records_of, CrashLeavesRecords, LeavesOthers, IsAppended, IsAppendFailed, IsAppendRefusal, IsHealed, IsHealFailed, IsHealRefusal, IsJournalCreateRefusal}
 use Rattle.disk_journal.specs.declared.journal.Extent.{Extent}
 use Rattle.disk_journal.specs.declared.journal.Journal.{Journal}
 use Rattle.disk_journal.specs.declared.journal.PendingFault.{PendingFault}
@@ -118,6 +118,30 @@ module _ {D : Type 0} (device : Device D) where
   refusal_failed old new before after body DiskFault none below refusal = (refl, refusal)
   refusal_failed old new before after body OutOfMemory none below refusal = absurd refusal
 
+  -- each answer of an append comes exactly where its cause is: a failure that isn't healed,
+  pub needs_reopen_exactly : (old new : Journal) (before after : D) (body : List ℕ) (result : Result ℕ JournalFault) → IfOk result (IsAppended device old new before after body) → IfErr result (IsAppendRefusal device old new before after body)
+      → (faults : ℕ) → (result ≡ Err (NeedsReopen faults)) ↔ (unhealed_fault old ≡ Some faults)
+  needs_reopen_exactly old new before after body (Ok place) ok err faults = (λ is. absurd (cc is), λ is. absurd (cc (is, ok.healed)))
+  needs_reopen_exactly old new before after body (Err Exists) ok err faults = absurd err
+  needs_reopen_exactly old new before after body (Err NoArchive) ok err faults = absurd err
+  needs_reopen_exactly old new before after body (Err (Damaged at)) ok err faults = absurd err
+  needs_reopen_exactly old new before after body (Err (NeedsReopen count)) ok err faults = (λ is. let same : count ≡ faults = cc (is) in err.0 ∙ ap Some same, λ is. let same : count ≡ faults = cc (is, err.0) in ap (λ (n : ℕ). Err (NeedsReopen n)) same)
+  needs_reopen_exactly old new before after body (Err Limit) ok err faults = (λ is. absurd (cc is), λ is. absurd (cc (is, err.0)))
+  needs_reopen_exactly old new before after body (Err DiskFault) ok err faults = (λ is. absurd (cc is), λ is. absurd (cc (is, err.healed)))
+  needs_reopen_exactly old new before after body (Err OutOfMemory) ok err faults = absurd err
+
+  -- or as many records as there may be
+  pub limit_exactly : (old new : Journal) (before after : D) (body : List ℕ) (result : Result ℕ JournalFault) → IfOk result (IsAppended device old new before after body) → IfErr result (IsAppendRefusal device old new before after body)
+      → (result ≡ Err Limit) ↔ ((unhealed_fault old ≡ None) × (2 ^ 32 - 1 ≤ count_of old))
+  limit_exactly old new before after body (Ok place) ok err = (λ is. absurd (cc is), λ full. absurd (omega (arith, full.1, ok.below)))
+  limit_exactly old new before after body (Err Exists) ok err = absurd err
+  limit_exactly old new before after body (Err NoArchive) ok err = absurd err
+  limit_exactly old new before after body (Err (Damaged at)) ok err = absurd err
+  limit_exactly old new before after body (Err (NeedsReopen faults)) ok err = (λ is. absurd (cc is), λ full. absurd (cc (full.0, err.0)))
+  limit_exactly old new before after body (Err Limit) ok err = (λ is. (err.0, err.1), λ full. refl)
+  limit_exactly old new before after body (Err DiskFault) ok err = (λ is. absurd (cc is), λ full. absurd (omega (arith, full.1, err.below)))
+  limit_exactly old new before after body (Err OutOfMemory) ok err = absurd err
+
   -- a refused append leaves the number of records
   pub refused_count : (old new : Journal) (before after : D) (body : List ℕ) (fault : JournalFault) → IsAppendRefusal device old new before after body fault → count_of new ≡ count_of old
   refused_count old new before after body Exists refusal = absurd refusal
@@ -150,7 +174,7 @@ module _ {D : Type 0} (device : Device D) where
 
   -- no journal is made in a file that couldn't be made ready
   pub not_prepared : (file : ℕ) (before after : D) (fault : JournalFault) → (fault ≡ Exists) ⊎ (fault ≡ DiskFault)
-      → (IsTrue device.is_transparent → fault ≡ Exists → (2 ≤ length (device.reads before file)) × (get_or (device.reads before file) 0 0 ≡ 1) × (device.reads after ≡ device.reads before))
+      → (IsTrue device.is_transparent → fault ≡ Exists → BeginsOpen (device.reads before file) × (device.reads after ≡ device.reads before))
       → (fault ≡ DiskFault → raised (device.fault_count before) ≤ device.fault_count after)
       → (device.failed_writes after ≡ device.failed_writes before) ⊎ ((fault ≡ DiskFault) × (device.failed_writes after ≡ raised (device.failed_writes before)))
       → (IsTrue device.is_transparent → HoldsNone (device.reads before file) → LeavesOnly device before after (λ c. device.images before c ⊎ HoldsNone (c file)))
@@ -159,7 +183,7 @@ module _ {D : Type 0} (device : Device D) where
       ⊎_elim (λ is. subst (IsJournalCreateRefusal device file before after) (sym is) (where_exists is)) (λ is. subst (IsJournalCreateRefusal device file before after) (sym is) (where_failed is)) only
     where
       where_exists : fault ≡ Exists → IsJournalCreateRefusal device file before after Exists
-      where_exists is = (λ transparent. let e = exists transparent is in ((e.0, e.1), e.2), ⊎_elim (λ same. same) (λ failed. absurd (cc (failed.0, is))) writes)
+      where_exists is = (λ transparent. exists transparent is, ⊎_elim (λ same. same) (λ failed. absurd (cc (failed.0, is))) writes)
 
       where_failed : fault ≡ DiskFault → IsJournalCreateRefusal device file before after DiskFault
       where_failed is = record {

@@ -3,7 +3,7 @@ ghost use Rattle.std.specs.Prelude.{◌≡◌, ◌≢◌, ◌+◌, ◌<◌, ◌�
 ghost use Rattle.arch_disk.specs.Image.{Image};
 ghost use Rattle.arch_disk.specs.Disk.{IsDurable, LeavesOnly, OnlyReads, HasCause, raised};
 ghost use Rattle.disk_journal.specs.Format.{HasRecords, IsDamagedAt, HoldsNone, IsBeforeOrAfter};
-ghost use Rattle.disk_journal.specs.Calls.{LeavesOthers};
+ghost use Rattle.disk_journal.specs.Calls.{BeginsOpen, LeavesOthers};
 ghost use Rattle.disk_journal.specs.State.{IsUntouched};
 
 use crate::steps::{flush, len_of, octet_at, octets_at, put};
@@ -66,14 +66,13 @@ fn prepare<D: Disk>(disk: &mut D, file: u32) -> Result<(), JournalFault>
         IsDurable D.device file (D.device.reads disk.new file) disk.new) }
     ensures none { IsTrue D.device.is_transparent → OnOk result (HoldsNone (D.device.reads disk.old file)) }
     ensures exists { IsTrue D.device.is_transparent → result ≡ Err JournalFault.Exists →
-        (2 ≤ length (D.device.reads disk.old file)) × (get_or (D.device.reads disk.old file) 0 0 ≡ 1) ×
-        (D.device.reads disk.new ≡ D.device.reads disk.old) }
+        BeginsOpen (D.device.reads disk.old file) × (D.device.reads disk.new ≡ D.device.reads disk.old) }
     ensures moments { IsTrue D.device.is_transparent → HoldsNone (D.device.reads disk.old file) →
         LeavesOnly D.device disk.old disk.new (λ c. D.device.images disk.old c ⊎ HoldsNone (c file)) }
     ensures others { LeavesOthers D.device file disk.old disk.new }
     ensures only { IfErr result (λ e. (e ≡ JournalFault.Exists) ⊎ (e ≡ JournalFault.DiskFault)) }
-    ensures kept { IsTrue D.device.is_transparent → 2 ≤ length (D.device.reads disk.old file) →
-        get_or (D.device.reads disk.old file) 0 0 ≡ 1 → IsUntouched D.device disk.old disk.new }
+    ensures kept { IsTrue D.device.is_transparent → BeginsOpen (D.device.reads disk.old file) →
+        IsUntouched D.device disk.old disk.new }
     ensures cause { result ≡ Err JournalFault.DiskFault →
         raised (D.device.fault_count disk.old) ≤ D.device.fault_count disk.new }
     ensures later { D.device.fault_count disk.old ≤ D.device.fault_count disk.new }
@@ -94,7 +93,7 @@ fn prepare<D: Disk>(disk: &mut D, file: u32) -> Result<(), JournalFault>
 
 impl Journal {
     ghost use Rattle.disk_journal.specs.State.{HasOnDisk, IsOnDisk, HasRoom, count_of, file_of, unhealed_fault, IsSame};
-    ghost use Rattle.disk_journal.specs.Calls.{BeginsOpen, CountsNeverFall, CrashLeavesFirst, IsDecidedByFile, IsJournalCreated, IsJournalCreateRefusal, IsJournalOpened, IsJournalOpenRefusal, records_of};
+    ghost use Rattle.disk_journal.specs.Calls.{CountsNeverFall, CrashLeavesFirst, IsDecidedByFile, IsJournalCreated, IsJournalCreateRefusal, IsJournalOpened, IsJournalOpenRefusal, records_of};
 
     /// Makes a journal with one record in a file that holds none. It begins with a sync. Where the record can't be
     /// written it closes the gate again, as far as the disk lets it.
