@@ -26,12 +26,12 @@ const HEAD: &[u8] =
     b"\x01\x01\x16\x02\x02tm\x02hk\x00\x02\x04apid\x00\x0B\x00\x00\x01v\x00\x08\x00\x00\x00\x00\x00\x01\x03HDR\x00\x00\x00\x00\x00\x02\x00\x00\x00\x00\x00\x05\x00\x01\x00\x00\x00\x60";
 
 /// The octets of the entry. A function, so that they stand in no goal of its callers.
-pub fn head_octets() -> &'static [u8] {
+pub(crate) fn head_octets() -> &'static [u8] {
     HEAD
 }
 
 /// Those of them that spell the mission database.
-pub fn mdb_octets() -> &'static [u8] {
+pub(crate) fn mdb_octets() -> &'static [u8] {
     &HEAD[10..]
 }
 
@@ -45,12 +45,12 @@ const TIMED: [&[u8]; 5] = [
 ];
 
 /// The octets of the first of them. A function, as above.
-pub fn first_octets() -> &'static [u8] {
+pub(crate) fn first_octets() -> &'static [u8] {
     TIMED[0]
 }
 
 /// A packet without a time of its own, so that the time of reception is its time, with its application process and count.
-pub fn untimed(number: u64) -> [u8; 7] {
+pub(crate) fn untimed(number: u64) -> [u8; 7] {
     let octets = number.to_be_bytes();
     let process = octets[5] << 2 | octets[6] >> 6;
     let flags = 0xC0 | octets[6] & 0x3F;
@@ -58,7 +58,7 @@ pub fn untimed(number: u64) -> [u8; 7] {
 }
 
 /// The packet of a number: those up to 4 have a time of their own.
-pub fn octets_of(alloc: Global, number: u64) -> Result<Octets, Fail> {
+pub(crate) fn octets_of(alloc: Global, number: u64) -> Result<Octets, Fail> {
     if number < 5 {
         Ok(Octets::from_slice(alloc, TIMED[number as usize])?)
     } else {
@@ -67,7 +67,7 @@ pub fn octets_of(alloc: Global, number: u64) -> Result<Octets, Fail> {
 }
 
 /// The head that an entry spells.
-pub fn head_of(alloc: Global, octets: &[u8]) -> Result<Head, Fail>
+pub(crate) fn head_of(alloc: Global, octets: &[u8]) -> Result<Head, Fail>
     ensures { IfOk result (λ head. IsArchiveEntry (entries.Head head.tables head.mdb)) }
 {
     match read_entry(alloc, octets) {
@@ -77,7 +77,7 @@ pub fn head_of(alloc: Global, octets: &[u8]) -> Result<Head, Fail>
 }
 
 /// The head of these tests.
-pub fn head(alloc: Global) -> Result<Head, Fail>
+pub(crate) fn head(alloc: Global) -> Result<Head, Fail>
     ensures { IfOk result (λ head. IsArchiveEntry (entries.Head head.tables head.mdb)) }
 {
     head_of(alloc, head_octets())
@@ -148,7 +148,7 @@ fn arrivals(alloc: Global, head: &Head, numbers: &[u64], tables: &[u8]) -> Resul
 }
 
 /// The batch of at most 64 packets.
-pub fn batch(alloc: Global, head: &Head, incoming: &Incoming) -> Result<Batch, Fail>
+pub(crate) fn batch(alloc: Global, head: &Head, incoming: &Incoming) -> Result<Batch, Fail>
     ensures { IfOk result (IsBatch head.now) }
 {
     let (rectime, numbers, tables) = *incoming;
@@ -162,7 +162,7 @@ pub fn batch(alloc: Global, head: &Head, incoming: &Incoming) -> Result<Batch, F
 }
 
 /// The values of a parameter over a range.
-pub fn request(alloc: Global, name: &[u8], from: i64, to: i64) -> Result<Request, Fail> {
+pub(crate) fn request(alloc: Global, name: &[u8], from: i64, to: i64) -> Result<Request, Fail> {
     let Some(parameter) = Name::of(Octets::from_slice(alloc, name)?) else {
         return Err(Fail::from("a name"));
     };
@@ -176,7 +176,7 @@ pub fn request(alloc: Global, name: &[u8], from: i64, to: i64) -> Result<Request
 }
 
 /// The refusals that these tests meet.
-pub fn text_of(refusal: &Refusal) -> &'static str {
+pub(crate) fn text_of(refusal: &Refusal) -> &'static str {
     match refusal {
         Refusal::NoArchive => "no archive",
         Refusal::Exists => "exists",
@@ -200,7 +200,7 @@ pub fn text_of(refusal: &Refusal) -> &'static str {
 }
 
 /// An archive without packets, or the disk and the refusal.
-pub fn created<D: Disk + Drop>(
+pub(crate) fn created<D: Disk + Drop>(
     alloc: Global,
     disk: D,
     head: Head,
@@ -215,7 +215,7 @@ pub fn created<D: Disk + Drop>(
 }
 
 /// The archive of a disk, or the refusal.
-pub fn opened<D: Disk + Drop>(alloc: Global, disk: D) -> Result<Store<D>, &'static str> {
+pub(crate) fn opened<D: Disk + Drop>(alloc: Global, disk: D) -> Result<Store<D>, &'static str> {
     match Store::open(alloc, disk) {
         Ok(store) => Ok(store),
         Err((_disk, refusal)) => Err(text_of(&refusal)),
@@ -223,7 +223,7 @@ pub fn opened<D: Disk + Drop>(alloc: Global, disk: D) -> Result<Store<D>, &'stat
 }
 
 /// What the opening of a disk answers.
-pub fn opening<D: Disk + Drop>(alloc: Global, disk: D) -> &'static str {
+pub(crate) fn opening<D: Disk + Drop>(alloc: Global, disk: D) -> &'static str {
     match opened(alloc, disk) {
         Ok(_store) => "an archive",
         Err(refusal) => refusal,
@@ -231,7 +231,7 @@ pub fn opening<D: Disk + Drop>(alloc: Global, disk: D) -> &'static str {
 }
 
 /// A disk whose file 0 holds octets.
-pub fn holding(alloc: Global, octets: &[u8]) -> Result<MemDisk, Fail> {
+pub(crate) fn holding(alloc: Global, octets: &[u8]) -> Result<MemDisk, Fail> {
     let mut disk = MemDisk::new(alloc);
     disk.write_at(0, 0, octets)?;
     Ok(disk)

@@ -46,7 +46,7 @@ fn becomes<D: Disk>(
 }
 
 /// What an ingest answers.
-pub fn ingest_answer<D: Disk>(
+pub(crate) fn ingest_answer<D: Disk>(
     alloc: Global,
     store: &mut Store<D>,
     incoming: &Incoming,
@@ -74,7 +74,7 @@ fn plan_answer<D: Disk>(
 }
 
 /// Whether a reopen succeeds.
-pub fn is_reopened<D: Disk>(store: &mut Store<D>) -> bool {
+pub(crate) fn is_reopened<D: Disk>(store: &mut Store<D>) -> bool {
     store.reopen().is_ok()
 }
 
@@ -128,7 +128,7 @@ fn are_parts(alloc: Global, parts: &[Part], expected: &[IntervalPackets]) -> Res
 }
 
 /// Whether a store has the head of the tests and a plan shows this.
-pub fn shows<D: Disk>(
+pub(crate) fn shows<D: Disk>(
     alloc: Global,
     store: &mut Store<D>,
     from: i64,
@@ -162,7 +162,7 @@ fn is_answered<D: Disk>(alloc: Global, store: &mut Store<D>, step: &Step) -> Res
 }
 
 /// The place of the first of these calls that is answered otherwise.
-pub fn other_answer<D: Disk>(
+pub(crate) fn other_answer<D: Disk>(
     alloc: Global,
     store: &mut Store<D>,
     steps: &[Step],
@@ -189,7 +189,7 @@ fn of_store<D: Disk + Drop>(
 }
 
 /// The same of a new archive.
-pub fn of_new<D: Disk + Drop>(
+pub(crate) fn of_new<D: Disk + Drop>(
     alloc: Global,
     disk: D,
     steps: &[Step],
@@ -201,7 +201,7 @@ pub fn of_new<D: Disk + Drop>(
 }
 
 /// The same of the archive of a disk.
-pub fn of_opened<D: Disk + Drop>(
+pub(crate) fn of_opened<D: Disk + Drop>(
     alloc: Global,
     disk: D,
     steps: &[Step],
