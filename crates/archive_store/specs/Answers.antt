@@ -13,14 +13,6 @@ abbrev pub store_asks_reopen : {T : Type 0} → Result T Refusal → Option ℕ
 store_asks_reopen (Err (NeedsReopen faults)) = Some faults
 store_asks_reopen _ = None
 
--- the refusals of an ingest
-abbrev pub IsIngestRefusal : Refusal → Type 0
-IsIngestRefusal (NeedsReopen faults) = Unit {0}
-IsIngestRefusal (Limit which number) = Unit {0}
-IsIngestRefusal OutOfMemory = Unit {0}
-IsIngestRefusal DiskFault = Unit {0}
-IsIngestRefusal _ = ⊥
-
 -- the refusals that an opening may answer at all
 abbrev pub IsOpenAnswer : Refusal → Type 0
 IsOpenAnswer NoArchive = Unit {0}

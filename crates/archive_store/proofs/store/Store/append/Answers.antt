@@ -9,7 +9,7 @@ use Rattle.archive_core.specs.Items.{Item}
 use Rattle.disk_journal.specs.Format.{IsBeforeOrAfter}
 use Rattle.disk_journal.specs.State.{HasOnDisk as JournalHasOnDisk}
 use Rattle.disk_journal.specs.State.{unhealed_fault, faults_of, file_of, count_of}
-use Rattle.disk_journal.proofs.Calls.{appended_on, append_failed_on, append_crash_on, refusal_failed, refused_count}
+use Rattle.disk_journal.proofs.Calls.{appended_on, append_failed_on, append_crash_on, refusal_failed}
 use Rattle.field_codec.specs.declared.entry.Entry.TheVariants as entries
 use Rattle.field_codec.specs.Spelling.{entry_octets}
 use Rattle.std.specs.List.{AllByRecursion}
@@ -34,7 +34,7 @@ invariant_of-self-in-Ok-append g c =
     let fresh : List Row = c.args.fresh in
     let mid = c.prepare-prepared.new.journal in
     let body : List ℕ = entry_octets (entries.Rows fresh) in
-    let no_failed_write : pending_fault_of s.fills.items ≡ None = subst (λ (x : StoreView g.row.D.Denot). pending_fault_of x.fills ≡ None) (sym c.self.view_is) c.requires.no_failed_write in
+    let no_failed_write : pending_fault_of s.fills.items ≡ None = subst (λ (x : StoreView g.row.D.Denot). pending_fault_of x.fills ≡ None) (sym c.self.view_is) c.requires.healed in
     let ok : AreAdmitted (archive s.head s.history.items) fresh = subst (λ (x : StoreView g.row.D.Denot). AreAdmitted (archive x.head x.history) fresh) (sym c.self.view_is) c.requires.admitted in
     let frame : c.in-Ok.frame ≡ body = c.in-Ok.ensures.frame.0 in
     let run = λ (transparent : IsTrue device.is_transparent) (bodies : List (List ℕ)) (pending : List ℕ) (keeps : JournalHasOnDisk device mid bodies pending s.disk) (no_pending_fault : unhealed_fault mid ≡ None).
@@ -56,15 +56,15 @@ invariant_of-self-in-Ok-append g c =
       c.self.invariant.2,
     )
 
-pub returns-in-Ok-append-clause-any_moment : goal.returns-in-Ok-append-clause-any_moment
-returns-in-Ok-append-clause-any_moment g c =
+pub returns-in-Ok-append-clause-crash : goal.returns-in-Ok-append-clause-crash
+returns-in-Ok-append-clause-crash g c =
     let device = g.D.Disk.device in
     let s = c.self.inside in
     let k = c.self.invariant.0 in
     let fresh : List Row = c.args.fresh in
     let mid = c.prepare-prepared.new.journal in
     let body : List ℕ = entry_octets (entries.Rows fresh) in
-    let no_failed_write : pending_fault_of s.fills.items ≡ None = subst (λ (x : StoreView g.row.D.Denot). pending_fault_of x.fills ≡ None) (sym c.self.view_is) c.requires.no_failed_write in
+    let no_failed_write : pending_fault_of s.fills.items ≡ None = subst (λ (x : StoreView g.row.D.Denot). pending_fault_of x.fills ≡ None) (sym c.self.view_is) c.requires.healed in
     let ok : AreAdmitted (archive s.head s.history.items) fresh = subst (λ (x : StoreView g.row.D.Denot). AreAdmitted (archive x.head x.history) fresh) (sym c.self.view_is) c.requires.admitted in
     let frame : c.in-Ok.frame ≡ body = c.in-Ok.ensures.frame.0 in
     let run = λ (transparent : IsTrue device.is_transparent) (bodies : List (List ℕ)) (pending : List ℕ) (keeps : JournalHasOnDisk device mid bodies pending s.disk) (no_pending_fault : unhealed_fault mid ≡ None).
@@ -80,7 +80,7 @@ invariant_of-self-in-Err g c =
     let fresh : List Row = c.args.fresh in
     let mid = c.prepare-prepared.new.journal in
     let body : List ℕ = entry_octets (entries.Rows fresh) in
-    let no_failed_write : pending_fault_of s.fills.items ≡ None = subst (λ (x : StoreView g.row.D.Denot). pending_fault_of x.fills ≡ None) (sym c.self.view_is) c.requires.no_failed_write in
+    let no_failed_write : pending_fault_of s.fills.items ≡ None = subst (λ (x : StoreView g.row.D.Denot). pending_fault_of x.fills ≡ None) (sym c.self.view_is) c.requires.healed in
     let ok : AreAdmitted (archive s.head s.history.items) fresh = subst (λ (x : StoreView g.row.D.Denot). AreAdmitted (archive x.head x.history) fresh) (sym c.self.view_is) c.requires.admitted in
     let frame : c.in-Ok.frame ≡ body = c.in-Ok.ensures.frame.0 in
     let run = λ (transparent : IsTrue device.is_transparent) (bodies : List (List ℕ)) (pending : List ℕ) (keeps : JournalHasOnDisk device mid bodies pending s.disk) (no_pending_fault : unhealed_fault mid ≡ None).
@@ -102,15 +102,15 @@ invariant_of-self-in-Err g c =
       c.self.invariant.2,
     )
 
-pub returns-clause-any_moment : goal.returns-clause-any_moment
-returns-clause-any_moment g c =
+pub returns-clause-crash : goal.returns-clause-crash
+returns-clause-crash g c =
     let device = g.D.Disk.device in
     let s = c.self.inside in
     let k = c.self.invariant.0 in
     let fresh : List Row = c.args.fresh in
     let mid = c.prepare-prepared.new.journal in
     let body : List ℕ = entry_octets (entries.Rows fresh) in
-    let no_failed_write : pending_fault_of s.fills.items ≡ None = subst (λ (x : StoreView g.row.D.Denot). pending_fault_of x.fills ≡ None) (sym c.self.view_is) c.requires.no_failed_write in
+    let no_failed_write : pending_fault_of s.fills.items ≡ None = subst (λ (x : StoreView g.row.D.Denot). pending_fault_of x.fills ≡ None) (sym c.self.view_is) c.requires.healed in
     let ok : AreAdmitted (archive s.head s.history.items) fresh = subst (λ (x : StoreView g.row.D.Denot). AreAdmitted (archive x.head x.history) fresh) (sym c.self.view_is) c.requires.admitted in
     let frame : c.in-Ok.frame ≡ body = c.in-Ok.ensures.frame.0 in
     let run = λ (transparent : IsTrue device.is_transparent) (bodies : List (List ℕ)) (pending : List ℕ) (keeps : JournalHasOnDisk device mid bodies pending s.disk) (no_pending_fault : unhealed_fault mid ≡ None).
@@ -118,11 +118,11 @@ returns-clause-any_moment g c =
     let moments = moments_of device s.disk c.append.new.disk s.opened.value s.journal mid s.head s.history.items fresh s.fills.items s.pending_fault k ok no_failed_write c.prepare-prepared.ensures.journal run in
     subst (λ (x : StoreView g.row.D.Denot). IsTrue device.is_transparent → LeavesOnly device x.disk c.append.new.disk (λ c'. StandsFor c' (archive x.head x.history) ⊎ StandsFor c' (archive x.head (x.history ++ fresh)))) c.self.view_is moments
 
-pub returns-in_default-clause-any_moment : goal.returns-in_default-clause-any_moment
-returns-in_default-clause-any_moment g c transparent =
+pub returns-in_default-clause-crash : goal.returns-in_default-clause-crash
+returns-in_default-clause-crash g c transparent =
     let device = g.D.Disk.device in
     let s = c.self.inside in
-    let no_failed_write : pending_fault_of s.fills.items ≡ None = subst (λ (x : StoreView g.row.D.Denot). pending_fault_of x.fills ≡ None) (sym c.self.view_is) c.requires.no_failed_write in
+    let no_failed_write : pending_fault_of s.fills.items ≡ None = subst (λ (x : StoreView g.row.D.Denot). pending_fault_of x.fills ≡ None) (sym c.self.view_is) c.requires.healed in
     subst (λ (x : StoreView g.row.D.Denot). LeavesOnly device x.disk s.disk (λ c'. StandsFor c' (archive x.head x.history) ⊎ StandsFor c' (archive x.head (x.history ++ c.args.fresh)))) c.self.view_is
     (stands_now device (view_of s.disk s.opened.value s.journal s.head s.history.items s.fills.items) _ (c.self.invariant.0.images transparent) no_failed_write (λ c' stands. inl stands))
 
@@ -133,7 +133,3 @@ add_all-requires-clause-tables g c =
     let ok : AreAdmitted (archive s.head s.history.items) c.args.fresh = subst (λ (x : StoreView g.row.D.Denot). AreAdmitted (archive x.head x.history) c.args.fresh) (sym c.self.view_is) c.requires.admitted in
     let placed = subst (λ (l : List Row). AllByRecursion (IsPlaced s.head) l) (sym same) ok.placed in
     placed_tables s.head c.in-Ok.fresh c.prepare-prepared.new.history.tables (c.prepare-prepared.ensures.history.1 ∙ c.self.invariant.1) placed
-
-pub returns-clause-no_record : goal.returns-clause-no_record
-returns-clause-no_record g c =
-    refused_count g.D.Disk.device c.prepare-prepared.new.journal c.append.new.self c.self.inside.disk c.append.new.disk c.in-Ok.frame c.in-Err.field-0 c.in-Err.ensures.refused ∙ ap length c.prepare-prepared.ensures.journal.extents ∙ ap (λ (x : StoreView g.row.D.Denot). x.records) c.self.view_is
