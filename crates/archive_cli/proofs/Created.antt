@@ -20,7 +20,8 @@ use Rattle.mdb_model.specs.Sheets.{IsCheckResult, sheets_database, sheets_fault}
 use Rattle.mdb_sheets.specs.Sheets.{AreSheets, IsSheetRefusal, ReadsCounted}
 use Rattle.outer_traits.specs.Outside.{Files}
 use Rattle.archive_store.specs.declared.head.Head.{Head}
-use Rattle.archive_store.specs.Answers.{IsCreateAnswer, IsCreateRefusal, IsCreateImage}
+use Rattle.archive_store.specs.Answers.{IsCreateRefusal, IsCreateImage}
+use Rattle.archive_store.specs.Calls.{IsStoreCreateRefusal}
 use Rattle.archive_store.specs.Entries.{archive}
 use Rattle.archive_store.specs.StoreView.{StoreView, IsNow, CrashInvariant, unacknowledged_rows}
 use Rattle.archive_store.specs.Stands.{StandsFor}
@@ -213,15 +214,15 @@ made_store {D = D} device disk s head none history fills is opened images keeps 
       images = images;
     }
 
--- the refusals of a making are of no input and of no sink
-pub create_reads : (refusal : Refusal) → IsCreateAnswer refusal → (faults : ℕ) → ReadsCounted (Some refusal) faults faults
-create_reads Exists h faults = refl
-create_reads DiskFault h faults = refl
-create_reads OutOfMemory h faults = refl
-create_reads other h faults = absurd h
+-- the refusals of a creation are of no input and of no sink
+pub create_reads : {D : Type 0} (device : Device D) (old new : D) (refusal : Refusal) → IsStoreCreateRefusal device old new refusal → (faults : ℕ) → ReadsCounted (Some refusal) faults faults
+create_reads device old new Exists h faults = refl
+create_reads device old new DiskFault h faults = refl
+create_reads device old new OutOfMemory h faults = refl
+create_reads device old new other h faults = absurd h
 
-pub create_writes : (refusal : Refusal) → IsCreateAnswer refusal → (faults : ℕ) → WritesCounted (Some refusal) faults faults
-create_writes Exists h faults = refl
-create_writes DiskFault h faults = refl
-create_writes OutOfMemory h faults = refl
-create_writes other h faults = absurd h
+pub create_writes : {D : Type 0} (device : Device D) (old new : D) (refusal : Refusal) → IsStoreCreateRefusal device old new refusal → (faults : ℕ) → WritesCounted (Some refusal) faults faults
+create_writes device old new Exists h faults = refl
+create_writes device old new DiskFault h faults = refl
+create_writes device old new OutOfMemory h faults = refl
+create_writes device old new other h faults = absurd h

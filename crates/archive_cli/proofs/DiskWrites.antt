@@ -82,8 +82,8 @@ unmade_writes refusal report before now is least most fault =
 -- ---- the batches of a dump
 
 -- a batch was refused
-pub refused_writes : {D T : Type 0} (device : Device D) (old new : StoreView D) (rows : List Row) (refusal : Refusal) (before : ℕ) → device.failed_writes old.disk ≡ before
-    → (◌≡◌ {A = Result T Refusal} (Err refusal) (Err DiskFault) → AddsFault device old new rows) → (◌≡◌ {A = Result T Refusal} (Err refusal) (Err DiskFault)) ⊎ (new ≡ old)
+pub refused_writes : {D : Type 0} (device : Device D) (old new : StoreView D) (rows : List Row) (refusal : Refusal) (before : ℕ) → device.failed_writes old.disk ≡ before
+    → (refusal ≡ DiskFault → AddsFault device old new rows) → (refusal ≡ DiskFault) ⊎ (new ≡ old)
     → ExactlyOne (Some refusal) before (device.failed_writes new.disk)
 refused_writes device old new rows DiskFault before same fault untouched = (fault refl).wrote ∙ ap raised same
 refused_writes device old new rows other before same fault (inl is) = absurd (cc (is))

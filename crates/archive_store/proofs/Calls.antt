@@ -1,6 +1,6 @@
 -- What the words on a store's calls say, one fact at a time.
-use Rattle.std.proofs.Common.{◌≡◌, ◌≢◌, ◌⊎◌, inl, inr, ⊎_elim, ◌≤◌, ℕ, ◌+◌, List, [], length, get_or, None, Some, Option, refl, sym, ◌∙◌, ap, subst, arith}
-use Rattle.std.specs.Prelude.{IsTrue, Result, Ok, Err, OnOk, OnErr, IfOk, IfErr, IsErrAnd, MatchResult}
+use Rattle.std.proofs.Common.{◌≡◌, ◌≢◌, ◌⊎◌, inl, inr, ⊎_elim, ◌≤◌, ℕ, List, [], None, refl, sym, ap, subst, arith}
+use Rattle.std.specs.Prelude.{IsTrue, Result, Ok, Err, OnOk, IfErr, IsErrAnd, MatchResult}
 use Rattle.arch_disk.specs.Image.{Image}
 use Rattle.arch_disk.specs.Disk.{Device, HasCause, CountsFailure, raised}
 use Rattle.arch_types.specs.declared.refusal.Refusal.{Refusal}
@@ -9,19 +9,16 @@ use Rattle.arch_types.specs.declared.refusal.Which.{Which}
 use Rattle.arch_types.specs.declared.row.Row.{Row}
 use Rattle.arch_types.specs.History.{ingested}
 use Rattle.arch_types.specs.Limits.{limit_of}
-use Rattle.archive_core.specs.Fills.{pending_fault_of, reopened}
-use Rattle.archive_core.specs.Outcomes.{outcomes_of, fresh_of}
+use Rattle.archive_core.specs.Fills.{pending_fault_of}
+use Rattle.archive_core.specs.Outcomes.{fresh_of}
 use Rattle.archive_history.specs.Limits.{IsLimit, IsBelowLimits}
-use Rattle.disk_journal.specs.Calls.{IsJournalCreateFailed, IsJournalOpenFailed, CountsNeverFall}
-use Rattle.disk_journal.specs.Format.{HoldsNone}
-use Rattle.archive_store.specs.declared.batch.Ingested.{Ingested}
+use Rattle.disk_journal.specs.Calls.{IsJournalCreateFailed, CountsNeverFall}
 use Rattle.archive_store.specs.Answers.{IsOpenAnswer, IsOpenRefusal, IsCreateAnswer, IsCreateRefusal, store_asks_reopen}
-use Rattle.archive_store.specs.Calls.{AreIngested, IsIngestRefusal, IsRowsRefusal, IsStoreReopened, IsStoreReopenRefusal, IsStoreOpened, IsStoreOpenRefusal, IsStoreCreateRefusal, IsDecidedByImage, disk_of, opened_disk_of}
-use Rattle.archive_store.specs.Entries.{archive}
-use Rattle.archive_store.specs.Stands.{StandsFor, IsArchiveDamagedAt}
+use Rattle.archive_store.specs.Calls.{IsIngestRefusal, IsRowsRefusal, IsStoreReopened, IsStoreReopenRefusal, IsStoreOpenRefusal, IsStoreCreateRefusal, IsDecidedByImage}
+use Rattle.archive_store.specs.Stands.{StandsFor}
 use Rattle.archive_store.specs.StoreView.{StoreView, AddsFault, archive_of}
 use Rattle.archive_store.proofs.Exact.{stands_once, stands_not_damaged, none_not_stands}
-use Rattle.archive_store.proofs.Refusals.{opening_cases, damaged_refused, archive_refused, none_refused}
+use Rattle.archive_store.proofs.Refusals.{damaged_refused, archive_refused, none_refused}
 
 -- what holds of the refusal that a `?` hands on
 pub passed_on : {T E : Type 0} (r : Result T E) (refusal : E) (P : E → Type 0) → IsErrAnd r (λ e. e ≡ refusal) → P refusal → IfErr r P
@@ -101,15 +98,15 @@ module _ {D : Type 0} (device : Device D) where
   ingest_no_call old new rows e is none = ingest_cases old new rows (λ _. new ≡ old) e is (λ faults r. r.1) (λ which number r. r.1) (λ r. absurd (r.some_new none)) (λ r. r.1)
 
   -- a reopen is asked for exactly where a failed write is pending
-  pub ingest_asks : {T : Type 0} (old new : StoreView D) (rows : List Row) (e : Refusal) → IsIngestRefusal device old new rows e → store_asks_reopen {T = T} (Err e) ≡ pending_fault_of old.fills
-  ingest_asks {T = T} old new rows e is =
+  pub ingest_asks : (T : Type 0) (old new : StoreView D) (rows : List Row) (e : Refusal) → IsIngestRefusal device old new rows e → store_asks_reopen {T = T} (Err e) ≡ pending_fault_of old.fills
+  ingest_asks T old new rows e is =
       ingest_cases old new rows (λ r. store_asks_reopen {T = T} (Err r) ≡ pending_fault_of old.fills) e is (λ faults r. sym r.0) (λ which number r. sym r.0.healed) (λ r. sym r.healed) (λ r. sym r.0)
 
   -- each answer comes exactly where its cause is: a failed write that is pending,
   pub needs_reopen_exactly : {T : Type 0} (old new : StoreView D) (rows : List Row) (result : Result T Refusal) → OnOk result (pending_fault_of old.fills ≡ None) → IfErr result (IsIngestRefusal device old new rows)
       → store_asks_reopen result ≡ pending_fault_of old.fills
   needs_reopen_exactly old new rows (Ok x) ok err = sym ok
-  needs_reopen_exactly old new rows (Err e) ok err = ingest_asks old new rows e err
+  needs_reopen_exactly {T = T} old new rows (Err e) ok err = ingest_asks T old new rows e err
 
   -- or a limit that is passed: else none is, or memory was wanting before it was looked for
   pub limit_exactly : {T : Type 0} (old new : StoreView D) (rows : List Row) (result : Result T Refusal) → OnOk result (IsBelowLimits old.records old.history rows) → IfErr result (IsIngestRefusal device old new rows)
@@ -187,9 +184,9 @@ module _ {D : Type 0} (device : Device D) where
   open_answers before after e is = open_cases before after IsOpenAnswer e is (λ r. tt) (λ file at r. tt) (λ r. tt) (λ r. tt)
 
   -- a write failed only at a fault of the disk
-  pub open_writes : (before after : D) (e : Refusal) → IsStoreOpenRefusal device before after e
+  pub open_counted : (before after : D) (e : Refusal) → IsStoreOpenRefusal device before after e
       → (device.failed_writes after ≡ device.failed_writes before) ⊎ ((e ≡ DiskFault) × (device.failed_writes after ≡ raised (device.failed_writes before)))
-  open_writes before after e is =
+  open_counted before after e is =
       open_cases before after (λ r. (device.failed_writes after ≡ device.failed_writes before) ⊎ ((r ≡ DiskFault) × (device.failed_writes after ≡ raised (device.failed_writes before)))) e is
       (λ r. inl r.1) (λ file at r. inl r.1) (λ r. ⊎_elim (λ same. inl same) (λ rose. inr (refl, rose)) r.wrote_most) (λ r. inl r)
 

@@ -2,7 +2,7 @@
 use Rattle.std.specs.Prelude.{◌≡◌, ◌⊎◌, ℕ, ◌≤◌, get_or, Result, Err, [], length, Option, Some, None}
 use Rattle.arch_disk.specs.Image.{Image}
 use Rattle.arch_types.specs.declared.refusal.Refusal.{Refusal}
-use Rattle.arch_types.specs.declared.refusal.Refusal.TheVariants.{NoArchive, Exists, Damaged, DiskFault, NeedsReopen, Limit, OutOfMemory}
+use Rattle.arch_types.specs.declared.refusal.Refusal.TheVariants.{NoArchive, Exists, Damaged, DiskFault, NeedsReopen, OutOfMemory}
 use Rattle.disk_journal.specs.Format.{HoldsNone}
 use Rattle.archive_store.specs.declared.head.Head.{Head}
 use Rattle.archive_store.specs.Entries.{archive}

@@ -5,6 +5,7 @@ use Rattle.arch_disk.specs.Disk.{LeavesOnly}
 use Rattle.disk_journal.specs.Format.{HoldsNone}
 use Rattle.archive_store.specs.declared.head.Head.{Head}
 use Rattle.archive_store.specs.Answers.{IsCreateImage}
+use Rattle.archive_store.proofs.Calls.{create_answers, create_failed, create_memory, create_refused, store_create_counted, store_create_most}
 use Rattle.archive_cli.specs.CreateEnding.{IsCreateEnding, IsMade, create_line}
 use Rattle.dump_lines.specs.Output.{IsFinished}
 use Rattle.archive_cli.proofs.ReadOnly.{untouched}
@@ -32,11 +33,13 @@ returns-in-Err-clause-ended g c = λ known given files moment reads reads' words
     let written = g.K.Sink.written c.args.sink.now in
     let faults = g.K.Sink.faults c.args.sink.now in
     let call = call_of given files moment reads reads' written written faults faults in
-    let images = subst (λ (h : Head). HoldsNone (device.reads old 0) → LeavesOnly device old new (IsCreateImage (device.images old) h)) is (c.in-Err.ensures.any_moment known) in
+    let images = subst (λ (h : Head). HoldsNone (device.reads old 0) → LeavesOnly device old new (IsCreateImage (device.images old) h)) is (c.in-Err.ensures.crash known) in
+    let refused = c.in-Err.ensures.refused in
     rw c.unopened-in-Err.ensures.disk
-    (create_unmade device call words old new raw c.in-Err.refusal c.unopened-in-Err.result.report c.unopened-in-Err.ensures.report good refl (c.in-Err.ensures.refused known)
-    c.in-Err.ensures.cause c.in-Err.ensures.memory (λ one. left_alone device old new (c.in-Err.ensures.kept known one.0 one.1)) images
-    (λ fault none one. c.in-Err.ensures.closed known none fault (fewer_than_two device old new one)))
+    (create_unmade device call words old new raw c.in-Err.refusal c.unopened-in-Err.result.report c.unopened-in-Err.ensures.report good refl (create_refused device old new c.in-Err.refusal known refused)
+    (λ fault. (create_failed device old new c.in-Err.refusal refused fault).rose) (create_memory device old new c.in-Err.refusal refused)
+    (λ one. left_alone device old new (c.in-Err.ensures.kept known (one.0, one.1))) images
+    (λ fault none one. (create_failed device old new c.in-Err.refusal refused fault).closed (fewer_than_two device old new one) known none))
 
 pub returns-clause-ended : goal.returns-clause-ended
 returns-clause-ended g c = λ known given files moment reads reads' words raw good is.
@@ -47,9 +50,9 @@ returns-clause-ended g c = λ known given files moment reads reads' words raw go
     let old = g.K.Sink.written c.args.sink.now in
     let new = g.K.Sink.written c.finish-refusal.new.sink in
     let call = call_of given files moment reads reads' old new (g.K.Sink.faults c.args.sink.now) (g.K.Sink.faults c.finish-refusal.new.sink) in
-    let m = c.in-Ok-create.ensures.made in
-    let none = c.in-Ok-create.ensures.none known in
-    let stored = made_store device c.args.disk s c.args.head none m.0 m.1 m.2 m.3 (c.in-Ok-create.ensures.any_moment known none) (c.into_disk.ensures.images known) in
+    let m = c.in-Ok-create.ensures.created in
+    let none = m.none known in
+    let stored = made_store device c.args.disk s c.args.head none m.history m.fills m.head_is m.opened (c.in-Ok-create.ensures.crash known none) (c.into_disk.ensures.images known) in
     let made = subst (IsMade device c.args.disk s.disk) is stored in
     let line : c.put_line.new.line_buffer ≡ create_line (sheets_database raw) = c.put_line.ensures ∙ ap (λ (h : Head). create_line h.mdb) is in
     let printed = subst (IsFinished refusal old new) line c.finish-refusal.ensures.finished in
@@ -62,7 +65,8 @@ returns-in_default-clause-caused g c = λ call words raw good.
 
 pub returns-in-Err-clause-caused : goal.returns-in-Err-clause-caused
 returns-in-Err-clause-caused g c = λ call words raw good.
-    create_unmade_cause call words c.in-Err.refusal c.unopened-in-Err.result.report c.unopened-in-Err.ensures.report c.in-Err.ensures.only (raw, good)
+    create_unmade_cause call words c.in-Err.refusal c.unopened-in-Err.result.report c.unopened-in-Err.ensures.report
+    (create_answers g.D.Disk.device c.args.disk c.in-Err.disk c.in-Err.refusal c.in-Err.ensures.refused) (raw, good)
 
 pub returns-clause-caused : goal.returns-clause-caused
 returns-clause-caused g c = λ call words raw good.
@@ -74,8 +78,9 @@ returns-in_default-clause-handed_back g c = create_same c.args.disk c.unopened.r
 
 pub returns-in-Err-clause-handed_back : goal.returns-in-Err-clause-handed_back
 returns-in-Err-clause-handed_back g c =
-    unmade_back c.args.disk c.unopened-in-Err.result.disk c.in-Err.refusal c.unopened-in-Err.result.report c.unopened-in-Err.ensures.report c.in-Err.ensures.only
-    (λ e. c.unopened-in-Err.ensures.disk ∙ c.in-Err.ensures.memory e)
+    unmade_back c.args.disk c.unopened-in-Err.result.disk c.in-Err.refusal c.unopened-in-Err.result.report c.unopened-in-Err.ensures.report
+    (create_answers g.D.Disk.device c.args.disk c.in-Err.disk c.in-Err.refusal c.in-Err.ensures.refused)
+    (λ e. c.unopened-in-Err.ensures.disk ∙ create_memory g.D.Disk.device c.args.disk c.in-Err.disk c.in-Err.refusal c.in-Err.ensures.refused e)
 
 pub returns-clause-handed_back : goal.returns-clause-handed_back
 returns-clause-handed_back g c =
@@ -90,8 +95,9 @@ returns-in_default-clause-disk_writes g c = none_of_two _ _ _ (ap (λ (d : g.row
 pub returns-in-Err-clause-disk_writes : goal.returns-in-Err-clause-disk_writes
 returns-in-Err-clause-disk_writes g c =
     rw c.unopened-in-Err.ensures.disk
-    (unmade_writes c.in-Err.refusal c.unopened-in-Err.result.report _ _ c.unopened-in-Err.ensures.report c.in-Err.ensures.later.writes c.in-Err.ensures.writes_most c.in-Err.ensures.writes)
+    (unmade_writes c.in-Err.refusal c.unopened-in-Err.result.report _ _ c.unopened-in-Err.ensures.report c.in-Err.ensures.counts.writes
+    (store_create_most g.D.Disk.device c.args.disk c.in-Err.disk c.in-Err.refusal c.in-Err.ensures.refused) (store_create_counted g.D.Disk.device c.args.disk c.in-Err.disk c.in-Err.refusal c.in-Err.ensures.refused))
 
 pub returns-clause-disk_writes : goal.returns-clause-disk_writes
 returns-clause-disk_writes g c =
-    none_of_two _ _ _ (ap (λ (d : g.row.D.Denot). g.D.Disk.device.failed_writes d) (c.of.ensures.disk ∙ c.into_disk.ensures.disk) ∙ c.in-Ok-create.ensures.writes)
+    none_of_two _ _ _ (ap (λ (d : g.row.D.Denot). g.D.Disk.device.failed_writes d) (c.of.ensures.disk ∙ c.into_disk.ensures.disk) ∙ c.in-Ok-create.ensures.created.no_failed_write)

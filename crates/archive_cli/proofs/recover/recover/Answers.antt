@@ -1,5 +1,6 @@
 use Rattle.std.proofs.Common.{◌≡◌, ◌∙◌, length, sym, ap, subst}
 use Rattle.arch_types.specs.declared.refusal.Refusal.TheVariants.{OutOfMemory}
+use Rattle.archive_store.proofs.Calls.{open_answers, open_counted}
 use Rattle.archive_store.specs.StoreView.{archive_of}
 use Rattle.dump_lines.specs.Output.{IsFinished}
 use Rattle.archive_cli.specs.RecoverEnding.{IsRecoverEnding, recover_line}
@@ -20,8 +21,8 @@ returns-clause-ended g c = λ known words files moment reads.
     let old = g.K.Sink.written c.args.sink.now in
     let new = g.K.Sink.written c.finish-refusal.new.sink in
     let call = call_of words files moment reads reads old new (g.K.Sink.faults c.args.sink.now) (g.K.Sink.faults c.finish-refusal.new.sink) in
-    let opened = c.in-Ok-open.ensures.opened known in
-    let disk = read_only_store device c.args.disk s opened.0 opened.1 c.in-Ok-open.ensures.opening c.in-Ok-open.ensures.fills c.in-Ok-open.ensures.handed_in (c.into_disk.ensures.images known) in
+    let opened = c.in-Ok-open.ensures.opened in
+    let disk = read_only_store device c.args.disk s (opened.stands known) c.in-Ok-open.ensures.reads opened.opening opened.fills c.in-Ok-open.ensures.crash (c.into_disk.ensures.images known) in
     let is : report ≡ read_only refusal (length s.history) = c.of.ensures.report ∙ c.read_only.ensures ∙ ap (read_only refusal) c.front-rows.ensures.front in
     let line : c.put_line.new.line_buffer ≡ recover_line (length s.history) = c.put_line.ensures ∙ ap recover_line c.front-rows.ensures.front in
     let printed = subst (IsFinished refusal old new) line c.finish-refusal.ensures.finished in
@@ -32,7 +33,7 @@ pub returns-in_default-clause-caused : goal.returns-in_default-clause-caused
 returns-in_default-clause-caused g c = not_recovered_cause OutOfMemory c.unopened.result.report c.unopened.ensures.report tt
 
 pub returns-in-Err-clause-caused : goal.returns-in-Err-clause-caused
-returns-in-Err-clause-caused g c = not_recovered_cause c.in-Err.refusal c.unopened-in-Err.result.report c.unopened-in-Err.ensures.report c.in-Err.ensures.only
+returns-in-Err-clause-caused g c = not_recovered_cause c.in-Err.refusal c.unopened-in-Err.result.report c.unopened-in-Err.ensures.report (open_answers g.D.Disk.device c.args.disk c.in-Err.disk c.in-Err.refusal c.in-Err.ensures.refused)
 
 pub returns-clause-caused : goal.returns-clause-caused
 returns-clause-caused g c =
@@ -46,8 +47,8 @@ returns-in_default-clause-disk_writes g c = none_of_one _ _ _ (ap (λ (d : g.row
 
 pub returns-in-Err-clause-disk_writes : goal.returns-in-Err-clause-disk_writes
 returns-in-Err-clause-disk_writes g c =
-    rw c.unopened-in-Err.ensures.disk (unopened_writes c.in-Err.refusal c.unopened-in-Err.result.report _ _ c.unopened-in-Err.ensures.report c.in-Err.ensures.writes)
+    rw c.unopened-in-Err.ensures.disk (unopened_writes c.in-Err.refusal c.unopened-in-Err.result.report _ _ c.unopened-in-Err.ensures.report (open_counted g.D.Disk.device c.args.disk c.in-Err.disk c.in-Err.refusal c.in-Err.ensures.refused))
 
 pub returns-clause-disk_writes : goal.returns-clause-disk_writes
 returns-clause-disk_writes g c =
-    none_of_one _ _ _ (ap (λ (d : g.row.D.Denot). g.D.Disk.device.failed_writes d) (c.of.ensures.disk ∙ c.into_disk.ensures.disk) ∙ c.in-Ok-open.ensures.writes)
+    none_of_one _ _ _ (ap (λ (d : g.row.D.Denot). g.D.Disk.device.failed_writes d) (c.of.ensures.disk ∙ c.into_disk.ensures.disk) ∙ c.in-Ok-open.ensures.opened.no_failed_write)
