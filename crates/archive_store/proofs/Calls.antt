@@ -103,16 +103,16 @@ module _ {D : Type 0} (device : Device D) where
       ingest_cases old new rows (λ r. store_asks_reopen {T = T} (Err r) ≡ pending_fault_of old.fills) e is (λ faults r. sym r.0) (λ which number r. sym r.0.healed) (λ r. sym r.healed) (λ r. sym r.0)
 
   -- each answer comes exactly where its cause is: a failed write that is pending,
-  pub needs_reopen_exactly : {T : Type 0} (old new : StoreView D) (rows : List Row) (result : Result T Refusal) → OnOk result (pending_fault_of old.fills ≡ None) → IfErr result (IsIngestRefusal device old new rows)
+  pub ingest_asks_exactly : {T : Type 0} (old new : StoreView D) (rows : List Row) (result : Result T Refusal) → OnOk result (pending_fault_of old.fills ≡ None) → IfErr result (IsIngestRefusal device old new rows)
       → store_asks_reopen result ≡ pending_fault_of old.fills
-  needs_reopen_exactly old new rows (Ok x) ok err = sym ok
-  needs_reopen_exactly {T = T} old new rows (Err e) ok err = ingest_asks T old new rows e err
+  ingest_asks_exactly old new rows (Ok x) ok err = sym ok
+  ingest_asks_exactly {T = T} old new rows (Err e) ok err = ingest_asks T old new rows e err
 
   -- or a limit that is passed: else none is, or memory was wanting before it was looked for
-  pub limit_exactly : {T : Type 0} (old new : StoreView D) (rows : List Row) (result : Result T Refusal) → OnOk result (IsBelowLimits old.records old.history rows) → IfErr result (IsIngestRefusal device old new rows)
+  pub ingest_below_exactly : {T : Type 0} (old new : StoreView D) (rows : List Row) (result : Result T Refusal) → OnOk result (IsBelowLimits old.records old.history rows) → IfErr result (IsIngestRefusal device old new rows)
       → MatchResult result (λ _. IsBelowLimits old.records old.history rows) (λ e. e ≡ DiskFault → IsBelowLimits old.records old.history rows)
-  limit_exactly old new rows (Ok x) ok err = ok
-  limit_exactly old new rows (Err e) ok err = λ fault. ingest_below old new rows e err fault
+  ingest_below_exactly old new rows (Ok x) ok err = ok
+  ingest_below_exactly old new rows (Err e) ok err = λ fault. ingest_below old new rows e err fault
 
   -- ---- reopens
 
@@ -238,8 +238,8 @@ module _ {D : Type 0} (device : Device D) where
   create_answers before after e is = create_cases before after IsCreateAnswer e is (λ r. tt) (λ r. tt) (λ r. tt)
 
   -- by what the disk read as and reads as now, where that is known
-  pub create_refused : (before after : D) (e : Refusal) → IsTrue device.is_transparent → IsStoreCreateRefusal device before after e → IsCreateRefusal (device.reads before) (device.reads after) e
-  create_refused before after e transparent is =
+  pub store_create_refused : (before after : D) (e : Refusal) → IsTrue device.is_transparent → IsStoreCreateRefusal device before after e → IsCreateRefusal (device.reads before) (device.reads after) e
+  store_create_refused before after e transparent is =
       create_cases before after (IsCreateRefusal (device.reads before) (device.reads after)) e is (λ r. let held = r.0 transparent in (held.0.0, held.0.1, held.1)) (λ r. tt) (λ r. tt)
 
   -- want of memory leaves the very disk

@@ -129,7 +129,7 @@ impl<D: Disk> Store<D> {
     pub fn ingest(&mut self, alloc: Global, batch: &Batch) -> Result<Ingested, Refusal>
         requires { IsBatch self.old.head batch.now }
 
-        // Ok: the rows whose key their table lacked stand behind the history, in one record, or in none where none is new.
+        // Ok: the rows whose key their table lacked stand behind the history, in one record, if any is new.
         ensures ingested { IfOk result (λ ingest.
             AreIngested D.device self.old self.new (batch_rows batch.now) ingest.outcomes) }
 

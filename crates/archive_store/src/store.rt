@@ -124,8 +124,8 @@ impl<D: Disk> Store<D> {
         // Ok: the disk held no archive, and holds one of this head without rows.
         ensures created { IfOk result (IsStoreCreated D.device disk head) }
 
-        // Exists comes exactly where file 0 begins with an open gate, and then the disk reads as before. After one fault
-        // alone a crash leaves no archive, or what it could have left before. Want of memory comes before any call.
+        // Exists comes exactly where file 0 begins with an open gate, and the disk then reads as before. After one
+        // fault alone a crash leaves no archive, or what it could have left before. Memory is taken before any call.
         ensures refused { IfErr result (λ e. IsStoreCreateRefusal D.device disk e.0 e.1) }
 
         // A disk that holds an archive is left as it is, whatever the call answers.

@@ -5,7 +5,7 @@ use Rattle.arch_disk.specs.Disk.{LeavesOnly}
 use Rattle.disk_journal.specs.Format.{HoldsNone}
 use Rattle.archive_store.specs.declared.head.Head.{Head}
 use Rattle.archive_store.specs.Answers.{IsCreateImage}
-use Rattle.archive_store.proofs.Calls.{create_answers, create_failed, create_memory, create_refused, store_create_counted, store_create_most}
+use Rattle.archive_store.proofs.Calls.{create_answers, create_failed, create_memory, store_create_refused, store_create_counted, store_create_most}
 use Rattle.archive_cli.specs.CreateEnding.{IsCreateEnding, IsMade, create_line}
 use Rattle.dump_lines.specs.Output.{IsFinished}
 use Rattle.archive_cli.proofs.ReadOnly.{untouched}
@@ -36,7 +36,7 @@ returns-in-Err-clause-ended g c = λ known given files moment reads reads' words
     let images = subst (λ (h : Head). HoldsNone (device.reads old 0) → LeavesOnly device old new (IsCreateImage (device.images old) h)) is (c.in-Err.ensures.crash known) in
     let refused = c.in-Err.ensures.refused in
     rw c.unopened-in-Err.ensures.disk
-    (create_unmade device call words old new raw c.in-Err.refusal c.unopened-in-Err.result.report c.unopened-in-Err.ensures.report good refl (create_refused device old new c.in-Err.refusal known refused)
+    (create_unmade device call words old new raw c.in-Err.refusal c.unopened-in-Err.result.report c.unopened-in-Err.ensures.report good refl (store_create_refused device old new c.in-Err.refusal known refused)
     (λ fault. (create_failed device old new c.in-Err.refusal refused fault).rose) (create_memory device old new c.in-Err.refusal refused)
     (λ one. left_alone device old new (c.in-Err.ensures.kept known (one.0, one.1))) images
     (λ fault none one. (create_failed device old new c.in-Err.refusal refused fault).closed (fewer_than_two device old new one) known none))

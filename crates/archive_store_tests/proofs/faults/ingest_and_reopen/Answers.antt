@@ -31,7 +31,7 @@ returns-in-Ok g c transparent few image left =
     let no_failed_write = ap pending_fault_of c.in-Ok.ensures.ingested.fills ∙ c.requires.no_failed_write in
     subst (λ (o : Option (List Item)). IsNow store.head store.history o image) (none_unacknowledged store.fills no_failed_write) ((c.front.ensures.images transparent).now image left)
 
-pub returns-in-Err : goal.returns-in-Err
-returns-in-Err g c transparent few image left =
+pub returns : goal.returns
+returns g c transparent few image left =
     healed_or_two g.D.Disk.device c.args.store.now c.ingest.new.self c.reopen.new.self (batch_rows c.args.batch.now) c.in-Err.field-0 c.reopen.result c.requires.no_failed_write c.in-Err.ensures.refused
     c.reopen.ensures.reopened c.reopen.ensures.refused transparent few image left
