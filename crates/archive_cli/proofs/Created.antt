@@ -1,6 +1,6 @@
 -- How `create` ends.
 use Rattle.std.proofs.Common.{◌≡◌, ◌⊎◌, ◌≤◌, inl, inr, ℕ, List, [], ◌∷◌, ◌++◌, Option, Some, None, refl, sym, ◌∙◌, ap, subst, ◌<◌, ◌+◌, ◌^◌, arith}
-use Rattle.std.specs.Prelude.{option_map, Ok, Err}
+use Rattle.std.specs.Prelude.{option_map, IsTrue, Ok, Err}
 use mathlib.Core.List.{IsPrefix}
 use Rattle.arch_disk.specs.Image.{Image}
 use Rattle.arch_disk.specs.Disk.{Device, LeavesOnly, raised}
@@ -20,8 +20,7 @@ use Rattle.mdb_model.specs.Sheets.{IsCheckResult, sheets_database, sheets_fault}
 use Rattle.mdb_sheets.specs.Sheets.{AreSheets, IsSheetRefusal, ReadsCounted}
 use Rattle.outer_traits.specs.Outside.{Files}
 use Rattle.archive_store.specs.declared.head.Head.{Head}
-use Rattle.archive_store.specs.Answers.{IsCreateRefusal, IsCreateImage}
-use Rattle.archive_store.specs.Calls.{IsStoreCreateRefusal}
+use Rattle.archive_store.specs.Calls.{IsCreateImage, IsStoreCreateRefusal}
 use Rattle.archive_store.specs.Entries.{archive}
 use Rattle.archive_store.specs.StoreView.{StoreView, IsNow, CrashInvariant, unacknowledged_rows}
 use Rattle.archive_store.specs.Stands.{StandsFor}
@@ -148,26 +147,40 @@ fewer_than_two device old new one = few (device.fault_count old) (device.fault_c
     few before now most below = omega (arith, most, below)
 
 unmade_cases : {D : Type 0} (device : Device D) (call : Call) (words : SheetWords) (old new : D) (raw : RawMdb) (refusal : Refusal) → AreGood call.files words raw → WritesNothing call →
-    IsCreateRefusal (device.reads old) (device.reads new) refusal → (refusal ≡ DiskFault → raised (device.fault_count old) ≤ device.fault_count new) → (refusal ≡ OutOfMemory → new ≡ old) →
-    (HoldsOne (device.reads old) → IsReadAsBefore device old new) → (HoldsNone (device.reads old 0) → LeavesOnly device old new (IsCreateImage (device.images old) (new_head raw))) →
-    (refusal ≡ DiskFault → HoldsNone (device.reads old 0) → FailedAtMostOnce device old new → IsStillNone device old new) →
-    IsCreateEnding device call words old new (Some refusal) (unopened (Some refusal))
-unmade_cases device call words old new raw Exists good silent h cause memory kept images closed =
-    record { raw = raw; good = good; there = (h.0, h.1); disk = kept (h.0, h.1); silent = silent; report_is = refl }
-unmade_cases device call words old new raw DiskFault good silent h cause memory kept images closed =
-    (cause refl, record { raw = raw; good = good; silent = silent; kept = kept; images = images; closed = closed refl; report_is = refl })
-unmade_cases device call words old new raw OutOfMemory good silent h cause memory kept images closed =
-    record { silent = silent; disk = same_untouched device old new (memory refl); report_is = refl }
-unmade_cases device call words old new raw other good silent h cause memory kept images closed = absurd h
+    IsTrue device.is_transparent → IsStoreCreateRefusal device old new refusal → (HoldsOne (device.reads old) → IsReadAsBefore device old new) →
+    (HoldsNone (device.reads old 0) → LeavesOnly device old new (IsCreateImage (device.images old) (new_head raw))) → IsCreateEnding device call words old new (Some refusal) (unopened (Some refusal))
+unmade_cases device call words old new raw Exists good silent known refused kept images =
+    let held = (refused.0 known).0 in record { raw = raw; good = good; there = held; disk = kept held; silent = silent; report_is = refl }
+unmade_cases device call words old new raw DiskFault good silent known refused kept images = (
+    refused.rose,
+    record {
+      raw = raw;
+      good = good;
+      silent = silent;
+      kept = kept;
+      images = images;
+      closed = λ none one. refused.closed (fewer_than_two device old new one) known none;
+      report_is = refl;
+    },
+  )
+unmade_cases device call words old new raw OutOfMemory good silent known refused kept images =
+    record { silent = silent; disk = same_untouched device old new refused; report_is = refl }
+unmade_cases device call words old new raw other good silent known refused kept images = absurd refused
 
 -- no archive was made
 pub create_unmade : {D : Type 0} (device : Device D) (call : Call) (words : SheetWords) (old new : D) (raw : RawMdb) (refusal : Refusal) (report : Report) → report ≡ unopened (Some refusal) →
-    AreGood call.files words raw → WritesNothing call → IsCreateRefusal (device.reads old) (device.reads new) refusal →
-    (refusal ≡ DiskFault → raised (device.fault_count old) ≤ device.fault_count new) → (refusal ≡ OutOfMemory → new ≡ old) → (HoldsOne (device.reads old) → IsReadAsBefore device old new) →
-    (HoldsNone (device.reads old 0) → LeavesOnly device old new (IsCreateImage (device.images old) (new_head raw))) →
-    (refusal ≡ DiskFault → HoldsNone (device.reads old 0) → FailedAtMostOnce device old new → IsStillNone device old new) → IsCreateEnding device call words old new report.refusal report
-create_unmade device call words old new raw refusal report is good silent h cause memory kept images closed =
-    subst (λ (r : Report). IsCreateEnding device call words old new r.refusal r) (sym is) (unmade_cases device call words old new raw refusal good silent h cause memory kept images closed)
+    AreGood call.files words raw → WritesNothing call → IsTrue device.is_transparent → IsStoreCreateRefusal device old new refusal → (HoldsOne (device.reads old) → IsReadAsBefore device old new) →
+    (HoldsNone (device.reads old 0) → LeavesOnly device old new (IsCreateImage (device.images old) (new_head raw))) → IsCreateEnding device call words old new report.refusal report
+create_unmade device call words old new raw refusal report is good silent known refused kept images =
+    subst (λ (r : Report). IsCreateEnding device call words old new r.refusal r) (sym is) (unmade_cases device call words old new raw refusal good silent known refused kept images)
+
+-- a fault of the disk was counted
+pub unmade_fault : {D : Type 0} (device : Device D) (old new : D) (refusal : Refusal) (report : Report) → report ≡ unopened (Some refusal) → IsStoreCreateRefusal device old new refusal →
+    report.refusal ≡ Some DiskFault → raised (device.fault_count old) ≤ device.fault_count new
+unmade_fault device old new refusal report is refused fault =
+    let same : Some refusal ≡ Some DiskFault = sym (ap (λ (r : Report). r.refusal) is) ∙ fault in
+    let which : refusal ≡ DiskFault = cc (same) in
+    (subst (IsStoreCreateRefusal device old new) which refused).rose
 
 created_cases : {D : Type 0} (device : Device D) (call : Call) (words : SheetWords) (old new : D) (raw : RawMdb) (refusal : Option Refusal) → AreGood call.files words raw →
     IsMade device old new (new_head raw) → IsFinished refusal call.written call.written' (create_line (sheets_database raw)) →

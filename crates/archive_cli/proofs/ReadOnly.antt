@@ -18,7 +18,9 @@ use Rattle.archive_store.specs.Stands.{StandsFor}
 use Rattle.archive_store.proofs.Exact.{stands_once}
 use Rattle.mdb_sheets.specs.Sheets.{ReadsCounted}
 use Rattle.dump_lines.specs.Output.{WritesCounted}
+use Rattle.archive_cli.specs.declared.report.Report.{Report}
 use Rattle.archive_cli.specs.ReadOnly.{IsReadOnly, IsOpeningRefusal, IsReadAsBefore}
+use Rattle.archive_cli.specs.Report.{unopened}
 
 nothing_more : {A : Type 0} (xs ys t : List A) → xs ++ t ≡ ys → (u : List A) → ys ++ u ≡ xs → ys ≡ xs
 nothing_more xs ys [] e u f = sym e ∙ append-nil xs
@@ -83,3 +85,11 @@ open_writes device old new (Damaged file at) h faults = refl
 open_writes device old new DiskFault h faults = refl
 open_writes device old new OutOfMemory h faults = refl
 open_writes device old new other h faults = absurd h
+
+-- a fault of the disk was counted
+pub unopened_fault : {D : Type 0} (device : Device D) (old new : D) (refusal : Refusal) (report : Report) → report ≡ unopened (Some refusal) → IsStoreOpenRefusal device old new refusal →
+    report.refusal ≡ Some DiskFault → raised (device.fault_count old) ≤ device.fault_count new
+unopened_fault device old new refusal report is refused fault =
+    let same : Some refusal ≡ Some DiskFault = sym (ap (λ (r : Report). r.refusal) is) ∙ fault in
+    let which : refusal ≡ DiskFault = cc (same) in
+    (subst (IsStoreOpenRefusal device old new) which refused).rose

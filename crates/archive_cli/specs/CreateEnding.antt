@@ -11,7 +11,7 @@ use Rattle.mdb_sheets.specs.Sheets.{AreSheets}
 use Rattle.outer_traits.specs.Outside.{Files}
 use Rattle.disk_journal.specs.Format.{HoldsNone}
 use Rattle.archive_store.specs.declared.head.Head.{Head}
-use Rattle.archive_store.specs.Answers.{IsCreateImage}
+use Rattle.archive_store.specs.Calls.{IsCreateImage}
 use Rattle.archive_store.specs.Entries.{archive}
 use Rattle.archive_store.specs.Stands.{StandsFor}
 use Rattle.archive_cli.specs.declared.report.Report.{Report}

@@ -4,13 +4,13 @@ use Rattle.mdb_model.specs.Sheets.{sheets_database}
 use Rattle.arch_disk.specs.Disk.{LeavesOnly}
 use Rattle.disk_journal.specs.Format.{HoldsNone}
 use Rattle.archive_store.specs.declared.head.Head.{Head}
-use Rattle.archive_store.specs.Answers.{IsCreateImage}
-use Rattle.archive_store.proofs.Calls.{create_answers, create_failed, create_memory, store_create_refused, store_create_counted, store_create_most}
+use Rattle.archive_store.specs.Calls.{IsCreateImage}
+use Rattle.archive_store.proofs.Calls.{store_create_counted, store_create_most}
 use Rattle.archive_cli.specs.CreateEnding.{IsCreateEnding, IsMade, create_line}
 use Rattle.dump_lines.specs.Output.{IsFinished}
 use Rattle.archive_cli.proofs.ReadOnly.{untouched}
 use Rattle.archive_cli.proofs.Caused.{create_made_cause, create_unmade_cause}
-use Rattle.archive_cli.proofs.Created.{create_unbegun, create_unmade, created, fewer_than_two, left_alone, made_store}
+use Rattle.archive_cli.proofs.Created.{create_unbegun, create_unmade, created, left_alone, made_store, unmade_fault}
 use Rattle.archive_cli.proofs.DiskWrites.{none_of_two, unmade_writes}
 use Rattle.archive_cli.proofs.HandedBack.{create_same, made_back, unmade_back}
 use Rattle.archive_cli.proofs.Scanned.{call_of}
@@ -34,12 +34,9 @@ returns-in-Err-clause-ended g c = λ known given files moment reads reads' words
     let faults = g.K.Sink.faults c.args.sink.now in
     let call = call_of given files moment reads reads' written written faults faults in
     let images = subst (λ (h : Head). HoldsNone (device.reads old 0) → LeavesOnly device old new (IsCreateImage (device.images old) h)) is (c.in-Err.ensures.crash known) in
-    let refused = c.in-Err.ensures.refused in
     rw c.unopened-in-Err.ensures.disk
-    (create_unmade device call words old new raw c.in-Err.refusal c.unopened-in-Err.result.report c.unopened-in-Err.ensures.report good refl (store_create_refused device old new c.in-Err.refusal known refused)
-    (λ fault. (create_failed device old new c.in-Err.refusal refused fault).rose) (create_memory device old new c.in-Err.refusal refused)
-    (λ one. left_alone device old new (c.in-Err.ensures.kept known (one.0, one.1))) images
-    (λ fault none one. (create_failed device old new c.in-Err.refusal refused fault).closed (fewer_than_two device old new one) known none))
+    (create_unmade device call words old new raw c.in-Err.refusal c.unopened-in-Err.result.report c.unopened-in-Err.ensures.report good refl known c.in-Err.ensures.refused
+    (λ one. left_alone device old new (c.in-Err.ensures.kept known one)) images)
 
 pub returns-clause-ended : goal.returns-clause-ended
 returns-clause-ended g c = λ known given files moment reads reads' words raw good is.
@@ -61,12 +58,11 @@ returns-clause-ended g c = λ known given files moment reads reads' words raw go
 
 pub returns-in_default-clause-caused : goal.returns-in_default-clause-caused
 returns-in_default-clause-caused g c = λ call words raw good.
-    create_unmade_cause call words OutOfMemory c.unopened.result.report c.unopened.ensures.report tt (raw, good)
+    create_unmade_cause g.D.Disk.device c.args.disk c.args.disk call words OutOfMemory c.unopened.result.report c.unopened.ensures.report refl (raw, good)
 
 pub returns-in-Err-clause-caused : goal.returns-in-Err-clause-caused
 returns-in-Err-clause-caused g c = λ call words raw good.
-    create_unmade_cause call words c.in-Err.refusal c.unopened-in-Err.result.report c.unopened-in-Err.ensures.report
-    (create_answers g.D.Disk.device c.args.disk c.in-Err.disk c.in-Err.refusal c.in-Err.ensures.refused) (raw, good)
+    create_unmade_cause g.D.Disk.device c.args.disk c.in-Err.disk call words c.in-Err.refusal c.unopened-in-Err.result.report c.unopened-in-Err.ensures.report c.in-Err.ensures.refused (raw, good)
 
 pub returns-clause-caused : goal.returns-clause-caused
 returns-clause-caused g c = λ call words raw good.
@@ -78,9 +74,8 @@ returns-in_default-clause-handed_back g c = create_same c.args.disk c.unopened.r
 
 pub returns-in-Err-clause-handed_back : goal.returns-in-Err-clause-handed_back
 returns-in-Err-clause-handed_back g c =
-    unmade_back c.args.disk c.unopened-in-Err.result.disk c.in-Err.refusal c.unopened-in-Err.result.report c.unopened-in-Err.ensures.report
-    (create_answers g.D.Disk.device c.args.disk c.in-Err.disk c.in-Err.refusal c.in-Err.ensures.refused)
-    (λ e. c.unopened-in-Err.ensures.disk ∙ create_memory g.D.Disk.device c.args.disk c.in-Err.disk c.in-Err.refusal c.in-Err.ensures.refused e)
+    rw c.unopened-in-Err.ensures.disk
+    (unmade_back g.D.Disk.device c.args.disk c.in-Err.disk c.in-Err.refusal c.unopened-in-Err.result.report c.unopened-in-Err.ensures.report c.in-Err.ensures.refused)
 
 pub returns-clause-handed_back : goal.returns-clause-handed_back
 returns-clause-handed_back g c =
@@ -101,3 +96,10 @@ returns-in-Err-clause-disk_writes g c =
 pub returns-clause-disk_writes : goal.returns-clause-disk_writes
 returns-clause-disk_writes g c =
     none_of_two _ _ _ (ap (λ (d : g.row.D.Denot). g.D.Disk.device.failed_writes d) (c.of.ensures.disk ∙ c.into_disk.ensures.disk) ∙ c.in-Ok-create.ensures.created.no_failed_write)
+
+-- that a fault of the disk was counted
+
+pub returns-in-Err-clause-disk_fault : goal.returns-in-Err-clause-disk_fault
+returns-in-Err-clause-disk_fault g c = λ fault.
+    rw c.unopened-in-Err.ensures.disk
+    (unmade_fault g.D.Disk.device c.args.disk c.in-Err.disk c.in-Err.refusal c.unopened-in-Err.result.report c.unopened-in-Err.ensures.report c.in-Err.ensures.refused fault)

@@ -6,7 +6,7 @@ use Rattle.archive_store.specs.StoreView.{archive_of}
 use Rattle.command_words.specs.JobView.{load_words_of}
 use Rattle.archive_cli.specs.Loading.{IsLoadRun}
 use Rattle.archive_cli.specs.LoadEnding.{IsLoadEnding}
-use Rattle.archive_cli.proofs.ReadOnly.{read_only_store}
+use Rattle.archive_cli.proofs.ReadOnly.{read_only_store, unopened_fault}
 use Rattle.archive_cli.proofs.Counted.{reads_closed}
 use Rattle.archive_cli.proofs.During.{opened_store}
 use Rattle.archive_cli.proofs.DiskWrites.{load_unopened_writes, unread_writes}
@@ -178,3 +178,10 @@ returns-in-Err-received-clause-disk_writes g c =
 
 pub returns-in-Ok-received-clause-disk_writes : goal.returns-in-Ok-received-clause-disk_writes
 returns-in-Ok-received-clause-disk_writes g c = rw c.in-Ok-open-2.ensures.opened.no_failed_write at c.load_dump.ensures.disk_writes
+
+-- that a fault of the disk was counted
+
+pub returns-in-Err-open-clause-disk_fault : goal.returns-in-Err-open-clause-disk_fault
+returns-in-Err-open-clause-disk_fault g c = λ fault.
+    rw c.unopened-in-Err-open.ensures.disk
+    (unopened_fault g.D.Disk.device c.args.disk c.in-Err-open.disk c.in-Err-open.refusal c.unopened-in-Err-open.result.report c.unopened-in-Err-open.ensures.report c.in-Err-open.ensures.refused fault)

@@ -1,12 +1,12 @@
-use Rattle.std.proofs.Common.{◌≡◌, ◌∙◌, length, sym, ap, subst}
+use Rattle.std.proofs.Common.{◌≡◌, ◌∙◌, length, refl, sym, ap, subst}
 use Rattle.arch_types.specs.declared.refusal.Refusal.TheVariants.{OutOfMemory}
-use Rattle.archive_store.proofs.Calls.{open_answers, open_counted}
+use Rattle.archive_store.proofs.Calls.{open_counted}
 use Rattle.archive_store.specs.StoreView.{StoreView, CrashInvariant, archive_of}
 use Rattle.archive_cli.specs.QueryEnding.{IsQueryEnding}
 use Rattle.archive_cli.specs.Report.{read_only}
 use Rattle.archive_cli.proofs.Caused.{query_replied_cause, query_unopened_cause}
 use Rattle.archive_cli.proofs.DiskWrites.{none_of_one, unopened_writes}
-use Rattle.archive_cli.proofs.ReadOnly.{read_only_store}
+use Rattle.archive_cli.proofs.ReadOnly.{read_only_store, unopened_fault}
 use Rattle.archive_cli.proofs.HandedBack.{ask_unopened_back, query_same, replied_back}
 use Rattle.archive_cli.proofs.Queried.{query_replied}
 use Rattle.archive_cli.proofs.Scanned.{call_of}
@@ -32,11 +32,11 @@ returns-clause-ended g c = λ known given files moment reads reads' name is.
 
 pub returns-in_default-clause-caused : goal.returns-in_default-clause-caused
 returns-in_default-clause-caused g c = λ call name asked.
-    query_unopened_cause call name c.args.sheet OutOfMemory c.unopened.result.report c.unopened.ensures.report tt asked
+    query_unopened_cause g.D.Disk.device c.args.disk c.args.disk call name c.args.sheet OutOfMemory c.unopened.result.report c.unopened.ensures.report refl asked
 
 pub returns-in-Err-clause-caused : goal.returns-in-Err-clause-caused
 returns-in-Err-clause-caused g c = λ call name asked.
-    query_unopened_cause call name c.args.sheet c.in-Err.refusal c.unopened-in-Err.result.report c.unopened-in-Err.ensures.report (open_answers g.D.Disk.device c.args.disk c.in-Err.disk c.in-Err.refusal c.in-Err.ensures.refused) asked
+    query_unopened_cause g.D.Disk.device c.args.disk c.in-Err.disk call name c.args.sheet c.in-Err.refusal c.unopened-in-Err.result.report c.unopened-in-Err.ensures.report c.in-Err.ensures.refused asked
 
 pub returns-clause-caused : goal.returns-clause-caused
 returns-clause-caused g c = λ call name asked.
@@ -50,7 +50,8 @@ returns-in_default-clause-handed_back g c = query_same c.args.disk c.unopened.re
 
 pub returns-in-Err-clause-handed_back : goal.returns-in-Err-clause-handed_back
 returns-in-Err-clause-handed_back g c =
-    ask_unopened_back c.args.disk c.unopened-in-Err.result.disk c.in-Err.refusal c.unopened-in-Err.result.report c.unopened-in-Err.ensures.report (open_answers g.D.Disk.device c.args.disk c.in-Err.disk c.in-Err.refusal c.in-Err.ensures.refused)
+    rw c.unopened-in-Err.ensures.disk
+    (ask_unopened_back g.D.Disk.device c.args.disk c.in-Err.disk c.in-Err.refusal c.unopened-in-Err.result.report c.unopened-in-Err.ensures.report c.in-Err.ensures.refused)
 
 pub returns-clause-handed_back : goal.returns-clause-handed_back
 returns-clause-handed_back g c =
@@ -72,3 +73,10 @@ pub returns-clause-disk_writes : goal.returns-clause-disk_writes
 returns-clause-disk_writes g c =
     let back = c.of.ensures.disk ∙ c.into_disk.ensures.disk ∙ ap (λ (x : StoreView g.row.D.Denot). x.disk) c.answer_sheet-refusal.ensures.same in
     none_of_one _ _ _ (ap (λ (d : g.row.D.Denot). g.D.Disk.device.failed_writes d) back ∙ c.in-Ok-open.ensures.opened.no_failed_write)
+
+-- that a fault of the disk was counted
+
+pub returns-in-Err-clause-disk_fault : goal.returns-in-Err-clause-disk_fault
+returns-in-Err-clause-disk_fault g c = λ fault.
+    rw c.unopened-in-Err.ensures.disk
+    (unopened_fault g.D.Disk.device c.args.disk c.in-Err.disk c.in-Err.refusal c.unopened-in-Err.result.report c.unopened-in-Err.ensures.report c.in-Err.ensures.refused fault)

@@ -1,13 +1,13 @@
-use Rattle.std.proofs.Common.{◌≡◌, ◌∙◌, length, sym, ap, subst}
+use Rattle.std.proofs.Common.{◌≡◌, ◌∙◌, length, refl, sym, ap, subst}
 use Rattle.arch_types.specs.declared.refusal.Refusal.TheVariants.{OutOfMemory}
-use Rattle.archive_store.proofs.Calls.{open_answers, open_counted}
+use Rattle.archive_store.proofs.Calls.{open_counted}
 use Rattle.archive_store.specs.StoreView.{archive_of}
 use Rattle.dump_lines.specs.Output.{IsFinished}
 use Rattle.archive_cli.specs.RecoverEnding.{IsRecoverEnding, recover_line}
 use Rattle.archive_cli.specs.Report.{read_only}
 use Rattle.archive_cli.proofs.Caused.{not_recovered_cause, recovered_cause}
 use Rattle.archive_cli.proofs.DiskWrites.{none_of_one, unopened_writes}
-use Rattle.archive_cli.proofs.ReadOnly.{read_only_store}
+use Rattle.archive_cli.proofs.ReadOnly.{read_only_store, unopened_fault}
 use Rattle.archive_cli.proofs.Recovered.{recovered}
 use Rattle.archive_cli.proofs.Scanned.{call_of}
 use Rattle.archive_cli.proofs.recover.recover.Goals as goal
@@ -30,10 +30,11 @@ returns-clause-ended g c = λ known words files moment reads.
     (recovered device call c.args.disk s.disk refusal (archive_of s) report is disk printed c.finish-refusal.ensures.counted)
 
 pub returns-in_default-clause-caused : goal.returns-in_default-clause-caused
-returns-in_default-clause-caused g c = not_recovered_cause OutOfMemory c.unopened.result.report c.unopened.ensures.report tt
+returns-in_default-clause-caused g c = not_recovered_cause g.D.Disk.device c.args.disk c.args.disk OutOfMemory c.unopened.result.report c.unopened.ensures.report refl
 
 pub returns-in-Err-clause-caused : goal.returns-in-Err-clause-caused
-returns-in-Err-clause-caused g c = not_recovered_cause c.in-Err.refusal c.unopened-in-Err.result.report c.unopened-in-Err.ensures.report (open_answers g.D.Disk.device c.args.disk c.in-Err.disk c.in-Err.refusal c.in-Err.ensures.refused)
+returns-in-Err-clause-caused g c =
+    not_recovered_cause g.D.Disk.device c.args.disk c.in-Err.disk c.in-Err.refusal c.unopened-in-Err.result.report c.unopened-in-Err.ensures.report c.in-Err.ensures.refused
 
 pub returns-clause-caused : goal.returns-clause-caused
 returns-clause-caused g c =
@@ -52,3 +53,10 @@ returns-in-Err-clause-disk_writes g c =
 pub returns-clause-disk_writes : goal.returns-clause-disk_writes
 returns-clause-disk_writes g c =
     none_of_one _ _ _ (ap (λ (d : g.row.D.Denot). g.D.Disk.device.failed_writes d) (c.of.ensures.disk ∙ c.into_disk.ensures.disk) ∙ c.in-Ok-open.ensures.opened.no_failed_write)
+
+-- that a fault of the disk was counted
+
+pub returns-in-Err-clause-disk_fault : goal.returns-in-Err-clause-disk_fault
+returns-in-Err-clause-disk_fault g c = λ fault.
+    rw c.unopened-in-Err.ensures.disk
+    (unopened_fault g.D.Disk.device c.args.disk c.in-Err.disk c.in-Err.refusal c.unopened-in-Err.result.report c.unopened-in-Err.ensures.report c.in-Err.ensures.refused fault)
