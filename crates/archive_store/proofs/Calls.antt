@@ -1,5 +1,5 @@
 -- What the words on a store's calls say, one fact at a time.
-use Rattle.std.proofs.Common.{◌≡◌, ◌≢◌, ◌⊎◌, inl, inr, ⊎_elim, ◌≤◌, ℕ, List, [], None, refl, sym, ap, subst, arith}
+use Rattle.std.proofs.Common.{◌≡◌, ◌≢◌, ◌⊎◌, inl, inr, ⊎_elim, ◌≤◌, ℕ, List, [], Option, Some, None, refl, sym, ◌∙◌, ap, subst, arith}
 use Rattle.std.specs.Prelude.{IsTrue, Result, Ok, Err, OnOk, IfErr, IsErrAnd, MatchResult}
 use Rattle.arch_disk.specs.Image.{Image}
 use Rattle.arch_disk.specs.Disk.{Device, HasCause, CountsFailure, raised}
@@ -13,17 +13,20 @@ use Rattle.archive_core.specs.Fills.{pending_fault_of}
 use Rattle.archive_core.specs.Outcomes.{fresh_of}
 use Rattle.archive_history.specs.Limits.{IsLimit, IsBelowLimits}
 use Rattle.disk_journal.specs.Calls.{IsJournalCreateFailed, CountsNeverFall}
-use Rattle.archive_store.specs.Answers.{IsOpenAnswer, IsOpenRefusal, IsCreateAnswer, IsCreateRefusal, store_asks_reopen}
-use Rattle.archive_store.specs.Calls.{IsIngestRefusal, IsRowsRefusal, IsStoreReopened, IsStoreReopenRefusal, IsStoreOpenRefusal, IsStoreCreateRefusal, IsDecidedByImage}
+use Rattle.archive_store.specs.Calls.{IsFailure, IsIngestRefusal, IsRowsRefusal, IsStoreReopened, IsStoreReopenRefusal, IsStoreOpenRefusal, IsStoreCreateRefusal, IsDecidedByImage}
 use Rattle.archive_store.specs.Stands.{StandsFor}
 use Rattle.archive_store.specs.StoreView.{StoreView, AddsFault, archive_of}
-use Rattle.archive_store.proofs.Exact.{stands_once, stands_not_damaged, none_not_stands}
-use Rattle.archive_store.proofs.Refusals.{damaged_refused, archive_refused, none_refused}
+use Rattle.archive_store.proofs.Exact.{stands_once, stands_not_damaged, damaged_once, none_not_damaged, none_not_stands}
 
 -- what holds of the refusal that a `?` hands on
 pub passed_on : {T E : Type 0} (r : Result T E) (refusal : E) (P : E → Type 0) → IsErrAnd r (λ e. e ≡ refusal) → P refusal → IfErr r P
 passed_on (Ok x) refusal P is p = absurd is
 passed_on (Err e) refusal P is p = subst P (sym is) p
+
+-- the count in a NeedsReopen
+abbrev pub store_asks_reopen : {T : Type 0} → Result T Refusal → Option ℕ
+store_asks_reopen (Err (NeedsReopen faults)) = Some faults
+store_asks_reopen _ = None
 
 module _ {D : Type 0} (device : Device D) where
   -- ---- ingests
@@ -176,13 +179,6 @@ module _ {D : Type 0} (device : Device D) where
   open_cases before after P (Late interval) is none damaged fault memory = absurd is
   open_cases before after P OutOfMemory is none damaged fault memory = memory is
 
-  -- by what the disk read as, where that is known
-  pub open_refused : (before after : D) (e : Refusal) → IsTrue device.is_transparent → IsStoreOpenRefusal device before after e → IsOpenRefusal (device.reads before) e
-  open_refused before after e transparent is = open_cases before after (IsOpenRefusal (device.reads before)) e is (λ r. r.0 transparent) (λ file at r. r.0 transparent) (λ r. tt) (λ r. tt)
-
-  pub open_answers : (before after : D) (e : Refusal) → IsStoreOpenRefusal device before after e → IsOpenAnswer e
-  open_answers before after e is = open_cases before after IsOpenAnswer e is (λ r. tt) (λ file at r. tt) (λ r. tt) (λ r. tt)
-
   -- a write failed only at a fault of the disk
   pub open_counted : (before after : D) (e : Refusal) → IsStoreOpenRefusal device before after e
       → (device.failed_writes after ≡ device.failed_writes before) ⊎ ((e ≡ DiskFault) × (device.failed_writes after ≡ raised (device.failed_writes before)))
@@ -196,10 +192,12 @@ module _ {D : Type 0} (device : Device D) where
 
   -- the disk decides
   pub decided_refused : (before after : D) (e : Refusal) → IsTrue device.is_transparent → IsStoreOpenRefusal device before after e → IsDecidedByImage (device.reads before) (Err (after, e))
-  decided_refused before after e transparent is = let r = open_refused before after e transparent is in record {
-    none = λ none. none_refused (device.reads before) e r none;
-    damaged = λ at there. damaged_refused (device.reads before) at e r there;
-    stands = λ x there. archive_refused (device.reads before) x e r there;
+  decided_refused before after e transparent is = let reads = device.reads before in record {
+    none = λ none. open_cases before after (λ r. (r ≡ NoArchive) ⊎ IsFailure r) e is (λ r. inl refl) (λ file at r. absurd (none_not_damaged reads at none (r.0 transparent).1)) (λ r. inr (inl refl)) (λ r. inr (inr refl));
+    damaged = λ at there. open_cases before after (λ r. (r ≡ Damaged 0 at) ⊎ IsFailure r) e is (λ r. absurd (none_not_damaged reads at (r.0 transparent) there))
+        (λ file other r. inl (ap (λ (f : ℕ). Damaged f other) (r.0 transparent).0 ∙ ap (λ (n : ℕ). Damaged 0 n) (damaged_once reads other at (r.0 transparent).1 there))) (λ r. inr (inl refl)) (λ r. inr (inr refl));
+    stands = λ x there. open_cases before after IsFailure e is (λ r. absurd (none_not_stands reads x (r.0 transparent) there)) (λ file other r. absurd (stands_not_damaged reads x other there (r.0 transparent).1))
+        (λ r. inl refl) (λ r. inr refl);
   }
 
   pub decided_opened : (image : Image) (store : StoreView D) → StandsFor image (archive_of store) → IsDecidedByImage image (Ok store)
@@ -233,14 +231,6 @@ module _ {D : Type 0} (device : Device D) where
   create_cases before after P (Mismatch interval parameter key stored replayed) is exists fault memory = absurd is
   create_cases before after P (Late interval) is exists fault memory = absurd is
   create_cases before after P OutOfMemory is exists fault memory = memory is
-
-  pub create_answers : (before after : D) (e : Refusal) → IsStoreCreateRefusal device before after e → IsCreateAnswer e
-  create_answers before after e is = create_cases before after IsCreateAnswer e is (λ r. tt) (λ r. tt) (λ r. tt)
-
-  -- by what the disk read as and reads as now, where that is known
-  pub store_create_refused : (before after : D) (e : Refusal) → IsTrue device.is_transparent → IsStoreCreateRefusal device before after e → IsCreateRefusal (device.reads before) (device.reads after) e
-  store_create_refused before after e transparent is =
-      create_cases before after (IsCreateRefusal (device.reads before) (device.reads after)) e is (λ r. let held = r.0 transparent in (held.0.0, held.0.1, held.1)) (λ r. tt) (λ r. tt)
 
   -- want of memory leaves the very disk
   pub create_memory : (before after : D) (e : Refusal) → IsStoreCreateRefusal device before after e → e ≡ OutOfMemory → after ≡ before

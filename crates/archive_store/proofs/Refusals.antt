@@ -1,7 +1,6 @@
 -- Which refusals are which.
 use Rattle.std.proofs.Common.{◌≡◌, ◌⊎◌, inl, inr, ⊎_elim, ◌≤◌, ℕ, refl}
 use Rattle.std.specs.Prelude.{IsTrue}
-use Rattle.arch_disk.specs.Image.{Image}
 use Rattle.arch_disk.specs.Disk.{Device, raised}
 use Rattle.arch_types.specs.declared.refusal.Refusal.{Refusal}
 use Rattle.arch_types.specs.declared.refusal.Refusal.TheVariants as refused
@@ -9,44 +8,9 @@ use Rattle.disk_journal.specs.Calls.{IsJournalCreateRefusal}
 use Rattle.disk_journal.specs.Format.{HoldsNone}
 use Rattle.disk_journal.specs.declared.fault.JournalFault.{JournalFault}
 use Rattle.disk_journal.specs.declared.fault.JournalFault.TheVariants.{Exists, NoArchive, Damaged, NeedsReopen, Limit, DiskFault, OutOfMemory}
-use Rattle.archive_store.specs.Entries.{Archive}
-use Rattle.archive_store.specs.Stands.{StandsFor, IsArchiveDamagedAt}
-use Rattle.archive_store.specs.Answers.{IsOpenRefusal, IsDamagedArchiveOrFault, IsNoArchiveOrFault, IsFaultOrMemory}
+use Rattle.archive_store.specs.Stands.{IsArchiveDamagedAt}
 use Rattle.archive_store.specs.Calls.{IsStoreCreateRefusal, IsStoreOpenRefusal}
 use Rattle.archive_store.specs.PartialArchive.{read_refusal, refusal_of_create, IsReadRefusal}
-use Rattle.archive_store.proofs.Exact.{stands_not_damaged, damaged_once, none_not_damaged, none_not_stands}
-
--- an opening is refused by one of four
-pub opening_cases : (c : Image) (P : Refusal → Type 0) (e : Refusal) → IsOpenRefusal c e → (HoldsNone (c 0) → P refused.NoArchive) → ((file at : ℕ) → file ≡ 0 → IsArchiveDamagedAt c at → P (refused.Damaged file at)) → P refused.DiskFault → P refused.OutOfMemory → P e
-opening_cases c P refused.Usage is none damaged fault memory = absurd is
-opening_cases c P (refused.Missing name) is none damaged fault memory = absurd is
-opening_cases c P refused.ReadFault is none damaged fault memory = absurd is
-opening_cases c P refused.WriteFault is none damaged fault memory = absurd is
-opening_cases c P (refused.BadPacket at kind) is none damaged fault memory = absurd is
-opening_cases c P (refused.BadSheet sheet row rule) is none damaged fault memory = absurd is
-opening_cases c P (refused.BadSql at rule) is none damaged fault memory = absurd is
-opening_cases c P refused.NoArchive is none damaged fault memory = none is
-opening_cases c P refused.Exists is none damaged fault memory = absurd is
-opening_cases c P (refused.Damaged file at) is none damaged fault memory = damaged file at is.0 is.1
-opening_cases c P refused.DiskFault is none damaged fault memory = fault
-opening_cases c P (refused.NeedsReopen faults) is none damaged fault memory = absurd is
-opening_cases c P refused.UnknownParameter is none damaged fault memory = absurd is
-opening_cases c P (refused.BadRange from to) is none damaged fault memory = absurd is
-opening_cases c P (refused.UnknownTable name) is none damaged fault memory = absurd is
-opening_cases c P (refused.Limit which number) is none damaged fault memory = absurd is
-opening_cases c P (refused.Mismatch interval parameter key stored replayed) is none damaged fault memory = absurd is
-opening_cases c P (refused.Late interval) is none damaged fault memory = absurd is
-opening_cases c P refused.OutOfMemory is none damaged fault memory = memory
-
--- what may be answered over an image, by what it stands for
-pub damaged_refused : (c : Image) (at : ℕ) (e : Refusal) → IsOpenRefusal c e → IsArchiveDamagedAt c at → IsDamagedArchiveOrFault at e
-damaged_refused c at e is d = opening_cases c (IsDamagedArchiveOrFault at) e is (λ none. absurd (none_not_damaged c at none d)) (λ file other zero there. (zero, damaged_once c other at there d)) tt tt
-
-pub archive_refused : (c : Image) (x : Archive) (e : Refusal) → IsOpenRefusal c e → StandsFor c x → IsFaultOrMemory e
-archive_refused c x e is s = opening_cases c IsFaultOrMemory e is (λ none. absurd (none_not_stands c x none s)) (λ file other zero there. absurd (stands_not_damaged c x other s there)) tt tt
-
-pub none_refused : (c : Image) (e : Refusal) → IsOpenRefusal c e → HoldsNone (c 0) → IsNoArchiveOrFault e
-none_refused c e is none = opening_cases c IsNoArchiveOrFault e is (λ there. tt) (λ file other zero there. absurd (none_not_damaged c other none there)) tt tt
 
 -- which fault a damage comes from
 pub read_damaged : (fault : JournalFault) (file at : ℕ) → read_refusal fault ≡ refused.Damaged file at → (file ≡ 0) × (fault ≡ Damaged at)

@@ -16,7 +16,6 @@ use Rattle.archive_history.specs.Limits.{IsLimit, IsBelowLimits}
 use Rattle.disk_journal.specs.Calls.{BeginsOpen, IsJournalCreateFailed, IsJournalOpenFailed}
 use Rattle.disk_journal.specs.Format.{HasRecords, HoldsNone}
 use Rattle.archive_store.specs.declared.head.Head.{Head}
-use Rattle.archive_store.specs.Answers.{IsCreateImage, IsDamagedArchiveOrFault, IsFaultOrMemory, IsNoArchiveOrFault}
 use Rattle.archive_store.specs.Entries.{Archive, archive}
 use Rattle.archive_store.specs.Stands.{StandsFor, IsArchiveDamagedAt}
 use Rattle.archive_store.specs.StoreView.{StoreView, AddsFault, IsNow, archive_of, unacknowledged_rows}
@@ -34,6 +33,10 @@ CrashLeavesEither device before after old new = IsTrue device.is_transparent →
 -- Where the disk is transparent, power lost at any moment of a call leaves the store's archive, or after a failed write also the one with the unacknowledged rows.
 abbrev pub CrashLeavesNow : {D : Type 0} → Device D → StoreView D → D → Type 0
 CrashLeavesNow device store after = IsTrue device.is_transparent → LeavesOnly device store.disk after (IsNow store.head store.history (unacknowledged_rows store.fills))
+
+-- an image of before, or one that holds no archive, or one of the head alone
+abbrev pub IsCreateImage : (Image → Type 0) → Head → Image → Type 0
+IsCreateImage before head image = before image ⊎ (HoldsNone (image 0) ⊎ StandsFor image (archive head []))
 
 -- Where a disk held no archive, power lost at any moment leaves it without one or with the head alone, or what it could have left before.
 abbrev pub CrashLeavesHead : {D : Type 0} → Device D → D → D → Head → Type 0
@@ -138,11 +141,15 @@ IsStoreOpenRefusal device before after DiskFault = IsJournalOpenFailed device be
 IsStoreOpenRefusal device before after OutOfMemory = device.failed_writes after ≡ device.failed_writes before
 IsStoreOpenRefusal device before after _ = ⊥
 
+-- a refusal that may come whatever the disk holds
+abbrev pub IsFailure : Refusal → Type 0
+IsFailure refusal = (refusal ≡ DiskFault) ⊎ (refusal ≡ OutOfMemory)
+
 -- What the disk reads as decides the answer of an opening, but for a fault of the disk and want of memory.
 pub record IsDecidedByImage {D : Type 0} (image : Image) (result : Result (StoreView D) (D × Refusal)) : Type 0 where
-  pub none : HoldsNone (image 0) → IsErrAnd result (λ e. IsNoArchiveOrFault e.1)
-  pub damaged : (at : ℕ) → IsArchiveDamagedAt image at → IsErrAnd result (λ e. IsDamagedArchiveOrFault at e.1)
-  pub stands : (archive : Archive) → StandsFor image archive → MatchResult result (λ s. archive_of s ≡ archive) (λ e. IsFaultOrMemory e.1)
+  pub none : HoldsNone (image 0) → IsErrAnd result (λ e. (e.1 ≡ NoArchive) ⊎ IsFailure e.1)
+  pub damaged : (at : ℕ) → IsArchiveDamagedAt image at → IsErrAnd result (λ e. (e.1 ≡ Damaged 0 at) ⊎ IsFailure e.1)
+  pub stands : (archive : Archive) → StandsFor image archive → MatchResult result (λ s. archive_of s ≡ archive) (λ e. IsFailure e.1)
 
 -- the disk held no archive, and holds one of this head without rows
 pub record IsStoreCreated {D : Type 0} (device : Device D) (disk : D) (head : Head) (store : StoreView D) : Type 0 where

@@ -1,4 +1,3 @@
-pub mod Answers
 pub mod Batches
 pub mod Calls
 pub mod Entries
