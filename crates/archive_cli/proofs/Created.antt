@@ -152,17 +152,17 @@ unmade_cases : {D : Type 0} (device : Device D) (call : Call) (words : SheetWord
 unmade_cases device call words old new raw Exists good silent known refused kept images =
     let held = (refused.0 known).0 in record { raw = raw; good = good; there = held; disk = kept held; silent = silent; report_is = refl }
 unmade_cases device call words old new raw DiskFault good silent known refused kept images = (
-    refused.rose,
-    record {
-      raw = raw;
-      good = good;
-      silent = silent;
-      kept = kept;
-      images = images;
-      closed = λ none one. refused.closed (fewer_than_two device old new one) known none;
-      report_is = refl;
-    },
-  )
+  refused.rose,
+  record {
+    raw = raw;
+    good = good;
+    silent = silent;
+    kept = kept;
+    images = images;
+    closed = λ none one. refused.closed (fewer_than_two device old new one) known none;
+    report_is = refl;
+  },
+)
 unmade_cases device call words old new raw OutOfMemory good silent known refused kept images =
     record { silent = silent; disk = same_untouched device old new refused; report_is = refl }
 unmade_cases device call words old new raw other good silent known refused kept images = absurd refused
