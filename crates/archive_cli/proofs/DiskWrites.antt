@@ -97,7 +97,8 @@ refused_writes {D = D} device old new rows other before same fault (inr is) = ap
 pub reopening_writes : {D : Type 0} (device : Device D) (old new : StoreView D) (result : Result Unit Refusal) → OnOk result (IsStoreReopened device old new)
     → IfErr result (IsStoreReopenRefusal device old new) → OneAtMost (Some DiskFault) (device.failed_writes old.disk) (device.failed_writes new.disk)
 reopening_writes device old new (Ok x) ok err = inl ok.no_failed_write
-reopening_writes device old new (Err refusal) ok err = inr (subst (IsStoreReopenRefusal device old new) (reopen_failed device old new refusal err) err).wrote
+reopening_writes device old new (Err refusal) ok err =
+    let failed = subst (IsStoreReopenRefusal device old new) (reopen_failed device old new refusal err) err in inr failed.wrote
 
 -- one behind that of a batch
 pub taken_back : (refusal : Refusal) (before between now : ℕ) → ExactlyOne (Some refusal) before between → OneAtMost (Some refusal) between now → OneOrTwo (Some refusal) before now
