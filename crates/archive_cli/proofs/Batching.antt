@@ -221,7 +221,7 @@ module _ {D : Type 0} (old : StoreView D) (dump : List ℕ) (link : ℕ) (moment
 -- why a store refused a batch
 pub refused_for : {D : Type 0} (device : Device D) (mid new : StoreView D) (rows : List Row) (refusal : Refusal) → mid.fills ≡ [] → IsIngestRefusal device mid new rows refusal → IsRefusedFor new rows refusal
 refused_for {D = D} device mid new rows (Limit which number) none refused =
-    subst (λ (s : StoreView D). (s.fills ≡ []) × (number ≡ limit_of which) × IsLimit which s.records (ingested s.history rows)) (sym refused.1) (none, refused.0.number_is, refused.0.first)
+    subst (λ (s : StoreView D). (s.fills ≡ []) × (number ≡ limit_of which) × IsLimit 22 which s.records (ingested s.history rows)) (sym refused.1) (none, refused.0.number_is, refused.0.first)
 refused_for device mid new rows DiskFault none refused =
     let f = refused.fault in (
       f.count,

@@ -47,7 +47,7 @@ CrashLeavesHead device before after head = IsTrue device.is_transparent → Hold
 -- those of the rows whose key their table lacked stand behind the history, in one record more; without such rows nothing changed
 pub record AreIngested {D : Type 0} (device : Device D) (old new : StoreView D) (rows : List Row) (outcomes : List Inserted) : Type 0 where
   pub healed : pending_fault_of old.fills ≡ None
-  pub below : IsBelowLimits old.records old.history rows
+  pub below : IsBelowLimits 22 old.records old.history rows
   pub outcomes_are : outcomes ≡ outcomes_of old.history rows
   pub history : new.history ≡ ingested old.history rows
   pub fills : new.fills ≡ old.fills
@@ -60,13 +60,13 @@ pub record PassesLimit {D : Type 0} (old : StoreView D) (rows : List Row) (which
   pub healed : pending_fault_of old.fills ≡ None
   pub some_new : fresh_of old.history rows ≢ []
   pub number_is : number ≡ limit_of which
-  pub first : IsLimit which old.records (ingested old.history rows)
+  pub first : IsLimit 22 which old.records (ingested old.history rows)
 
 -- the disk failed at the record of the new rows: one fault more holds these, and all else but the disk is as before
 pub record IsIngestFailed {D : Type 0} (device : Device D) (old new : StoreView D) (rows : List Row) : Type 0 where
   pub healed : pending_fault_of old.fills ≡ None
   pub some_new : fresh_of old.history rows ≢ []
-  pub below : IsBelowLimits old.records old.history rows
+  pub below : IsBelowLimits 22 old.records old.history rows
   pub fault : AddsFault device old new (fresh_of old.history rows)
 
 -- why a batch is refused, in the order in which it looks, and what that leaves

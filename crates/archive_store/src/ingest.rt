@@ -71,10 +71,10 @@ impl<D: Disk> Store<D> {
 
     /// The first limit that is passed with these rows and their record.
     fn limit_passed(&self, fresh: &[Row]) -> Option<Which>
-        ensures none { IfNone result (IsWithin (self.now.history ++ items_of fresh.now) ×
+        ensures none { IfNone result (IsWithin 22 (self.now.history ++ items_of fresh.now) ×
             (self.now.records < limit_of limits.Records)) }
         ensures first { IfSome result (λ which.
-            IsLimit which self.now.records (self.now.history ++ items_of fresh.now)) }
+            IsLimit 22 which self.now.records (self.now.history ++ items_of fresh.now)) }
     {
         if let Some(which) = self.history.limit_passed(fresh) {
             return Some(which);

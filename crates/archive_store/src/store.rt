@@ -229,7 +229,7 @@ impl<D: Disk> Store<D> {
     /// The length of the history.
     pub fn front(&self) -> u64
         ensures front { result ≡ length self.now.history }
-        ensures history { IsHistory self.now.history × IsWithin self.now.history }
+        ensures history { IsHistory self.now.history × IsWithin 22 self.now.history }
         ensures images { IsTrue D.device.is_transparent → CrashInvariant D.device self.now }
         ensures faults { FaultInvariant D.device self.now }
     {

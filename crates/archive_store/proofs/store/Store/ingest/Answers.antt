@@ -29,9 +29,9 @@ append-requires-clause-admitted g c =
     let classified = c.in-Ok.classified in
     let fits = subst (λ (x : StoreView g.row.D.Denot). IsBatch x.head c.args.batch.now) (sym c.self.view_is) c.requires in
     let some : 1 ≤ length (fresh_of s.history.items rows) = omega (arith, ap length c.in-Ok.ensures.fresh, c.len.ensures, c.if-len-eq0.false) in
-    let within_now : IsWithin (now.history ++ classified.fresh) = subst (λ (l : List Row). IsWithin (now.history ++ l)) c.as_slice.ensures c.in_default-limit_passed.ensures.none.0 in
-    let within : IsWithin (s.history.items ++ fresh_of s.history.items rows) =
-    subst (λ (l : List Row). IsWithin (s.history.items ++ l)) c.in-Ok.ensures.fresh (subst (λ (x : StoreView g.row.D.Denot). IsWithin (x.history ++ classified.fresh)) (sym c.self.view_is) within_now) in
+    let within_now : IsWithin 22 (now.history ++ classified.fresh) = subst (λ (l : List Row). IsWithin 22 (now.history ++ l)) c.as_slice.ensures c.in_default-limit_passed.ensures.none.0 in
+    let within : IsWithin 22 (s.history.items ++ fresh_of s.history.items rows) =
+    subst (λ (l : List Row). IsWithin 22 (s.history.items ++ l)) c.in-Ok.ensures.fresh (subst (λ (x : StoreView g.row.D.Denot). IsWithin 22 (x.history ++ classified.fresh)) (sym c.self.view_is) within_now) in
     let done = admitted s.head s.history.items c.args.batch.now c.self.invariant.0.head_is (omega (arith, c.containers-names.ensures, c.containers-names.type_inv)) fits some within in
     subst (λ (x : StoreView g.row.D.Denot). AreAdmitted (archive x.head x.history) classified.fresh) c.self.view_is
     (subst (AreAdmitted (archive s.head s.history.items)) (sym c.in-Ok.ensures.fresh) done)
@@ -96,7 +96,7 @@ returns-in-Some-limit_passed-clause-refused g c =
         healed = healed;
         some_new = some_new;
         number_is = c.limit.ensures;
-        first = subst (IsLimit which now.records) (added now.history rows c.as_slice.result.now (c.as_slice.ensures ∙ fresh)) c.in-Some-limit_passed.ensures.first;
+        first = subst (IsLimit 22 which now.records) (added now.history rows c.as_slice.result.now (c.as_slice.ensures ∙ fresh)) c.in-Some-limit_passed.ensures.first;
       },
       refl,
     )
