@@ -1,14 +1,8 @@
-//! The text that `scan` prints, the words, faults of the outside, and the texts of refusals.
+//! The text that `scan` prints, the words, and faults of the outside.
 
+use crate::calls::{fault_of, file_of, words_of};
 use arch_disk::MemDisk;
-use arch_types::interval::Interval;
-use arch_types::key::Key;
-use arch_types::name::Name;
-use arch_types::octets::Octets;
-use arch_types::refusal::{BadKind, Refusal, Sheet, Which};
-use archive_cli::Ended;
 use archive_cli::run::run;
-use dump_lines::text::FaultText;
 use outer_traits::clock::FixedClock;
 use outer_traits::mem_inputs::{FailingCall, File, MemInputs};
 use outer_traits::mem_sink::MemSink;
@@ -25,37 +19,11 @@ const LONGEST: [u8; 6] = [8, 0x64, 0xC0, 0, 0xFF, 0xFF];
 /// An idle packet, and one without a secondary header.
 const UNTIMED: [u8; 14] = [7, 0xFF, 0xC0, 0, 0, 0, 0, 0, 0x65, 0xC0, 1, 0, 0, 7];
 
-/// The words of a line, between its blanks; an empty line has none.
-pub(crate) fn words_of(alloc: Global, line: &str) -> Result<Vec<String>, AllocError> {
-    let mut words = Vec::new(alloc);
-    if line.is_empty() {
-        return Ok(words);
-    }
-    for word in line.split(' ') {
-        words.push(String::from_str(alloc, word)?)?;
-    }
-    Ok(words)
-}
-
-pub(crate) fn file_of(alloc: Global, name: &str, octets: &[u8]) -> Result<File, AllocError> {
-    let name = String::from_str(alloc, name)?;
-    let octets = Vec::from_slice(alloc, octets)?;
-    Ok(File { name, octets })
-}
-
 /// One file `dump`.
 fn files_of(alloc: Global, dump: &[u8]) -> Result<Vec<File>, AllocError> {
     let mut files = Vec::new(alloc);
     files.push(file_of(alloc, "dump", dump)?)?;
     Ok(files)
-}
-
-/// The text of an ending's refusal.
-pub(crate) fn fault_of(alloc: Global, ended: &Ended<MemDisk>) -> Result<String, AllocError> {
-    match &ended.report.refusal {
-        None => String::from_str(alloc, ""),
-        Some(refusal) => format!(in alloc; "{}", FaultText(refusal)),
-    }
 }
 
 /// A call of the program with one file `dump`, at 9 s. It has to end with this status and fault, and to have printed this text.
@@ -217,116 +185,4 @@ fn fails_with_the_outside(rt: HostRuntime) -> Result<(), Fail> {
     let (status, all) = scan_failing(alloc, dump.as_slice(), &[], &[])?;
     assert_eq!(rt; (status, all), (0, 190_050));
     Ok(())
-}
-
-/// The text of a refusal has to be this one.
-fn expect_text(rt: &(impl Abort + AllocGlobal), refusal: Refusal, want: &str) -> Result<(), Fail> {
-    let text = format!(in rt.alloc(); "{}", FaultText(&refusal))?;
-    assert_eq!(rt; text.as_str(), want);
-    Ok(())
-}
-
-/// A refusal that tells nothing more, by its place in a list.
-fn plain_refusal(place: usize) -> Refusal {
-    match place {
-        0 => Refusal::Usage,
-        1 => Refusal::ReadFault,
-        2 => Refusal::WriteFault,
-        3 => Refusal::NoArchive,
-        4 => Refusal::Exists,
-        5 => Refusal::DiskFault,
-        6 => Refusal::UnknownParameter,
-        _ => Refusal::OutOfMemory,
-    }
-}
-
-#[test]
-fn names_plain_refusals(rt: HostRuntime) -> Result<(), Fail> {
-    let texts = [
-        "usage",
-        "read fault",
-        "write fault",
-        "no archive",
-        "archive exists",
-        "disk fault",
-        "unknown parameter",
-        "out of memory",
-    ];
-    for (place, want) in texts.iter().enumerate() {
-        expect_text(&rt, plain_refusal(place), want)?;
-    }
-    Ok(())
-}
-
-/// A refusal that tells numbers, by its place in a list.
-fn numbered_refusal(place: usize) -> Refusal {
-    match place {
-        0 => Refusal::BadPacket {
-            at: 7,
-            kind: BadKind::Version,
-        },
-        1 => Refusal::BadSheet {
-            sheet: Sheet::Asks,
-            row: 2,
-            rule: 34,
-        },
-        2 => Refusal::BadSql { at: 7, rule: 2 },
-        3 => Refusal::Damaged { file: 3, at: 9 },
-        4 => Refusal::NeedsReopen { faults: 1 },
-        5 => Refusal::BadRange { from: 5, to: -4 },
-        6 => Refusal::Late {
-            interval: Interval(-2),
-        },
-        7 => limit(Which::DumpOctets),
-        _ => limit(Which::SheetOctets),
-    }
-}
-
-/// The refusal of what passes a limit.
-fn limit(which: Which) -> Refusal {
-    Refusal::Limit {
-        which,
-        number: which.limit(),
-    }
-}
-
-#[test]
-fn names_numbered_refusals(rt: HostRuntime) -> Result<(), Fail> {
-    let texts = [
-        "bad packet at 7: version",
-        "bad sheet asks row 2 rule 34",
-        "bad sql at 7 rule 2",
-        "damaged file 3 at 9",
-        "reopen after 1 faults",
-        "bad range 5 -4",
-        "late interval -2",
-        "limit DumpOctets 268435456",
-        "limit SheetOctets 4194304",
-    ];
-    for (place, want) in texts.iter().enumerate() {
-        expect_text(&rt, numbered_refusal(place), want)?;
-    }
-    Ok(())
-}
-
-#[test]
-fn names_refusals_with_names(rt: HostRuntime) -> Result<(), Fail> {
-    let alloc = rt.alloc();
-    let name = Octets::from_slice(alloc, "d\u{e9}p\u{f4}t".as_bytes())?;
-    expect_text(&rt, Refusal::Missing { name }, "no input d\u{e9}p\u{f4}t")?;
-    let Some(name) = Name::of(Octets::from_slice(alloc, b"nothing")?) else {
-        return Ok(());
-    };
-    expect_text(&rt, Refusal::UnknownTable { name }, "unknown table nothing")?;
-    let Some(parameter) = Name::of(Octets::from_slice(alloc, b"v")?) else {
-        return Ok(());
-    };
-    let mismatch = Refusal::Mismatch {
-        interval: Interval(-2),
-        parameter,
-        key: Key { time: 0, seq: 0 },
-        stored: Some(43),
-        replayed: None,
-    };
-    expect_text(&rt, mismatch, "mismatch in interval -2")
 }

@@ -1,8 +1,8 @@
 //! The commands on an archive in memory: a day of them, what each refuses and in which order, and a load over a disk that fails.
 
-use crate::tests::{fault_of, file_of, words_of};
 use arch_disk::{Crash, Disk, MemDisk};
 use archive_cli::run::run;
+use archive_cli_tests::calls::{fault_of, file_of, words_of};
 use outer_traits::clock::FixedClock;
 use outer_traits::mem_inputs::{FailingCall, File, MemInputs};
 use outer_traits::mem_sink::MemSink;
