@@ -8,6 +8,7 @@ use Rattle.std.proofs.lemmas.Option.{slice_get_past, slice_get_within}
 use Rattle.mdb_items.specs.declared.container.Container.{Container}
 use Rattle.mdb_items.specs.declared.container.Entry.{Entry}
 use Rattle.mdb_items.specs.Paths.{ContainerPath, path_at, path_below, paths_of, no_path, stands_on, AreEarlier, parent_of}
+use Rattle.mdb_items.proofs.ContainerPaths.{length-paths_of, path_here}
 use Rattle.mdb_items.proofs.Ends.{item_at}
 
 or_true : (b : Bool) → (b || true) ≡ true
