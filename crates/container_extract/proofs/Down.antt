@@ -4,7 +4,7 @@ use Rattle.std.specs.Prelude.{flat_map}
 use Rattle.std.proofs.lemmas.List.{map-append}
 use Rattle.mdb_items.specs.declared.container.Entry.{Entry}
 use Rattle.mdb_items.specs.Database.{Database, IsDatabase}
-use Rattle.mdb_model.specs.PlacedConditions.{path_parameters}
+use Rattle.mdb_lookups.specs.PlacedConditions.{path_parameters}
 use Rattle.mdb_model.proofs.Structure.{structured}
 use Rattle.container_extract.specs.declared.values.RawValue.{RawValue}
 use Rattle.container_extract.specs.Chain.{IsChain, chain_of, entries_at}

@@ -3,7 +3,7 @@ use Rattle.std.specs.Prelude.{◌≡◌, ◌<◌, ◌≤◌, ℕ, List, Some, le
 use Rattle.std.specs.List.{AllByRecursion, IsDistinct}
 use Rattle.mdb_items.specs.declared.parameter.Parameter.{Parameter}
 use Rattle.mdb_items.specs.Database.{Database, IsDatabase}
-use Rattle.mdb_model.specs.Lookups.{calibration_of}
+use Rattle.mdb_lookups.specs.Lookups.{calibration_of}
 use Rattle.calibration.specs.Admitted.{IsInWidth}
 use Rattle.calibration.specs.Calibrated.{calibrated}
 use Rattle.container_extract.specs.declared.values.ParameterValue.{ParameterValue}

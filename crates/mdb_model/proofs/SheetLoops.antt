@@ -17,7 +17,8 @@ use Rattle.mdb_items.specs.Database.{broken_below, containers_fault}
 use Rattle.mdb_items.specs.ParameterRows.{parameter_fault, parameter_fault_at, parameter_of, parameters_of}
 use Rattle.mdb_model.specs.Sheets.{read_calibration, read_container, read_containers, read_parameter}
 use Rattle.mdb_items.specs.Texts.{Text}
-use Rattle.mdb_rules.proofs.Passing.{first_none, first_some, take-next}
+use Rattle.mdb_rules.proofs.Passing.{first_none, first_some}
+use Rattle.mdb_items.proofs.Ends.{take-next}
 
 -- the rows before a place are sound
 abbrev pub SoundBelow : (ℕ → Option ℕ) → ℕ → Type 0

@@ -1,12 +1,12 @@
 //! The checked mission database.
 
-ghost use Rattle.std.specs.Prelude.{◌≡◌, ◌<◌, ◌↔◌, IfOk, Some, is_some, length, map, option_copied, slice_get, true};
+ghost use Rattle.std.specs.Prelude.{◌≡◌, ◌<◌, ◌↔◌, IfOk, IfSome, Some, is_some, length, map, option_copied, slice_get, true};
 ghost use Rattle.mdb_items.specs.declared.not_mdb.NotMdb.TheVariants.{OutOfMemory};
-ghost use Rattle.mdb_model.specs.Children.{children_of};
+ghost use Rattle.mdb_lookups.specs.Children.{children_of};
 ghost use Rattle.mdb_items.specs.Database.{IsDatabase, limit_passed};
-ghost use Rattle.mdb_model.specs.LabelOrder.{label_row_by};
-ghost use Rattle.mdb_model.specs.Lookups.{calibration_numbered, calibration_of};
-ghost use Rattle.mdb_model.specs.PlacedConditions.{placed_condition};
+ghost use Rattle.mdb_lookups.specs.LabelOrder.{label_row_by};
+ghost use Rattle.mdb_lookups.specs.Lookups.{calibration_numbered, calibration_of};
+ghost use Rattle.mdb_lookups.specs.PlacedConditions.{placed_condition};
 ghost use Rattle.mdb_model.specs.SheetResults.{AreSpelledLists, IsCalibrationSheetResult, IsContainerSheetResult, IsParameterSheetResult, IsLimitsResult, database_of_lists};
 ghost use Rattle.mdb_model.specs.Rechecking.{ListsRechecked, refusal};
 ghost use Rattle.mdb_model.specs.Sheets.{IsCheckResult};
@@ -14,11 +14,6 @@ ghost use Rattle.mdb_octets.specs.Spelling.{database_octets};
 ghost use Rattle.mdb_items.specs.Texts.{place_of};
 ghost use Rattle.octet_fields.specs.Answers.{ReadsEach, ReadsOnly};
 
-use crate::children::children_of;
-use crate::equality::are_same;
-use crate::label_order::{label_orders, label_row_by};
-use crate::name_order::{name_order, number_of};
-use crate::placed_conditions::placed_conditions;
 use crate::rechecking::{
     have_rows, rechecked_calibrations, rechecked_containers, rechecked_parameters,
 };
@@ -31,6 +26,11 @@ use mdb_items::fault::{MdbFault, MdbLimit, MdbSheet};
 use mdb_items::not_mdb::NotMdb;
 use mdb_items::parameter::Parameter;
 use mdb_items::sheet::{RawMdb, Record};
+use mdb_lookups::children::children_of;
+use mdb_lookups::equality::are_same;
+use mdb_lookups::label_order::{label_orders, label_row_by};
+use mdb_lookups::name_order::{name_order, number_of};
+use mdb_lookups::placed_conditions::placed_conditions;
 use mdb_octets::reading::{ItemLists, item_lists};
 use mdb_octets::spelling::spelling;
 use mdb_rules::calibration_rows::Calibrations;
@@ -240,7 +240,8 @@ impl Mdb {
 
     /// The number of the parameter that has a name.
     pub fn parameter_number(&self, name: &str) -> Option<u16>
-        ensures { result ≡ place_of name.now (map (λ p. p.name) self.now.parameters) }
+        ensures value { result ≡ place_of name.now (map (λ p. p.name) self.now.parameters) }
+        ensures within { IfSome result (λ n. n < length self.now.parameters) }
     {
         let inner = &*self.inner;
         number_of(
@@ -252,7 +253,8 @@ impl Mdb {
 
     /// The number of the container that has a name.
     pub fn container_number(&self, name: &str) -> Option<u16>
-        ensures { result ≡ place_of name.now (map (λ c. c.name) self.now.containers) }
+        ensures value { result ≡ place_of name.now (map (λ c. c.name) self.now.containers) }
+        ensures within { IfSome result (λ n. n < length self.now.containers) }
     {
         let inner = &*self.inner;
         number_of(

@@ -3,7 +3,7 @@
 ghost use Rattle.std.specs.Prelude.{◌≡◌, IfOk, option_copied, ◌<◌, length};
 ghost use Rattle.container_extract.specs.Extraction.{cell_of};
 ghost use Rattle.container_extract.specs.Values.{raw_among};
-ghost use Rattle.mdb_model.specs.Lookups.{calibration_of};
+ghost use Rattle.mdb_lookups.specs.Lookups.{calibration_of};
 ghost use Rattle.retrieval.specs.CellText.{HasShortLabels};
 
 use arch_types::cell::Cell;

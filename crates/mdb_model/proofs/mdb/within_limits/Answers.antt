@@ -1,13 +1,13 @@
 use Rattle.std.proofs.Common.{◌≡◌, ◌∙◌, List, map, None, ap, sym, subst}
 use Rattle.mdb_items.specs.declared.calibration.Calibration.{Calibration}
 use Rattle.mdb_items.specs.declared.container.Container.{Container}
-use Rattle.mdb_model.specs.Children.{AreChildren}
+use Rattle.mdb_lookups.specs.Children.{AreChildren}
 use Rattle.mdb_items.specs.Database.{Database, IsDatabase, database_of, limit_passed}
-use Rattle.mdb_model.specs.LabelOrder.{AreLabelOrders}
-use Rattle.mdb_model.specs.NameOrder.{IsNameOrder}
-use Rattle.mdb_model.specs.PlacedConditions.{ArePlacedConditions}
+use Rattle.mdb_lookups.specs.LabelOrder.{AreLabelOrders}
+use Rattle.mdb_lookups.specs.NameOrder.{IsNameOrder}
+use Rattle.mdb_lookups.specs.PlacedConditions.{ArePlacedConditions}
 use Rattle.mdb_items.specs.declared.parameter.Parameter.{Parameter}
-use Rattle.mdb_rules.specs.Totals.{AreEarlier}
+use Rattle.mdb_items.specs.Paths.{AreEarlier}
 use Rattle.mdb_model.proofs.Respelling.{is_database}
 use Rattle.mdb_model.proofs.mdb.within_limits.Goals as goal
 

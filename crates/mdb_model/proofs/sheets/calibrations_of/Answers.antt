@@ -6,7 +6,7 @@ use Rattle.mdb_items.specs.declared.fault.MdbSheet.TheVariants as sheet
 use Rattle.mdb_items.specs.CalibrationRows.{calibration_fault, calibration_fault_at, calibrations_of}
 use Rattle.mdb_model.specs.Sheets.{read_calibration}
 use Rattle.mdb_items.specs.Texts.{Text}
-use Rattle.mdb_rules.proofs.Ends.{length-mapped}
+use Rattle.mdb_items.proofs.Ends.{length-mapped}
 use Rattle.mdb_model.proofs.SheetLoops.{calibration_here, calibration_more, found, sound_all, sound_more}
 use Rattle.mdb_model.proofs.sheets.calibrations_of.Goals as goal
 

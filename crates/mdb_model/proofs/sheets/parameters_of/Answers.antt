@@ -5,7 +5,7 @@ use Rattle.mdb_items.specs.declared.fault.MdbSheet.TheVariants as sheet
 use Rattle.mdb_items.specs.ParameterRows.{parameter_fault_at, parameters_of}
 use Rattle.mdb_model.specs.Sheets.{read_parameter}
 use Rattle.mdb_items.specs.Texts.{Text}
-use Rattle.mdb_rules.proofs.Ends.{length-mapped}
+use Rattle.mdb_items.proofs.Ends.{length-mapped}
 use Rattle.mdb_model.proofs.SheetLoops.{found, parameter_here, parameter_more, sound_all, sound_more}
 use Rattle.mdb_model.proofs.sheets.parameters_of.Goals as goal
 
