@@ -25,8 +25,11 @@ fn adopt(
     }
 }
 
-/// For each container the numbers of those directly below it, in the order of the sheet. The one refusal is want of memory.
-pub fn children_of(alloc: Global, containers: &[Container]) -> Result<Vec<Items<u16>>, AllocError>
+/// For each container the numbers of those directly below it, in the order of the sheet.
+pub(crate) fn children_of(
+    alloc: Global,
+    containers: &[Container],
+) -> Result<Vec<Items<u16>>, AllocError>
     requires few { length containers.now ≤ 4096 }
     requires earlier { AreEarlier containers.now }
     ensures { IfOk result (λ lists. AreChildren containers.now lists.items) }

@@ -33,8 +33,8 @@ fn sorted_labels(alloc: Global, labels: &[EnumRow]) -> Result<Vec<(i128, usize)>
 }
 
 /// For each calibration the raw numbers of its labels, each with its row, counted from 0, sorted by both; none for a
-/// polynomial and for points. The one refusal is want of memory.
-pub fn label_orders(
+/// polynomial and for points.
+pub(crate) fn label_orders(
     alloc: Global,
     calibrations: &[Calibration],
 ) -> Result<Vec<Items<(i128, usize)>>, AllocError>
@@ -58,7 +58,7 @@ fn label_row(order: &[(i128, usize)], raw: i128) -> Option<usize>
 }
 
 /// The row of the label that the calibration with a number gives a raw number, counted from 0, where there is such a
-/// calibration and it gives one. The orders are those of `label_orders`; the label is found by halving.
+/// calibration and it gives one. The orders are those of `Lookups`; the label is found by halving.
 pub fn label_row_by(
     orders: &[Items<(i128, usize)>],
     calibration: Option<usize>,

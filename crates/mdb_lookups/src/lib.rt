@@ -3,16 +3,17 @@
 //! Stands for: the numbers of items in the order of their names (`specs/NameOrder.antt`), which find a name by halving;
 //! the raw numbers of labels in their order (`specs/LabelOrder.antt`), which find a label likewise; for each container
 //! the numbers of those directly below it (`specs/Children.antt`), and its condition, each comparison with its
-//! parameter's place on the path above (`specs/PlacedConditions.antt`); the calibration of a parameter
-//! (`specs/Lookups.antt`); and whether two items are equal. The database calls it, and keeps what is made here.
+//! parameter's place on the path above (`specs/PlacedConditions.antt`); all of these together, and the calibration of a
+//! parameter (`specs/Lookups.antt`); and whether two items are equal. The database calls it, and keeps what is made here.
 //!
 //! The one idea of the proof: items sorted by a key and then by their number (`specs/SortedKeys.antt`), so that halving
 //! finds the one with the least number of a key (`proofs/FirstOfKey.antt`), which is the first in the sheet. Names and
 //! raw numbers are two kinds of keys. A new field of an item goes into `equality` too.
 #![tactic(auto)]
 
-pub mod children;
+mod children;
 pub mod equality;
 pub mod label_order;
+pub mod lookups;
 pub mod name_order;
-pub mod placed_conditions;
+mod placed_conditions;

@@ -58,9 +58,8 @@ fn sorted_names<T: Named>(alloc: Global, items: &[T]) -> Result<Vec<(&[u8], u16)
     Ok(named)
 }
 
-/// The numbers of items in the order of their names, octet by octet; items of one name stand by their numbers. The one
-/// refusal is want of memory.
-pub fn name_order<T: Named>(alloc: Global, items: &[T]) -> Result<Vec<u16>, AllocError>
+/// The numbers of items in the order of their names, octet by octet; items of one name stand by their numbers.
+pub(crate) fn name_order<T: Named>(alloc: Global, items: &[T]) -> Result<Vec<u16>, AllocError>
     requires { length items.now ≤ 4096 }
     ensures { IfOk result (λ order. IsNameOrder (map T.name_of items.now) order.items) }
 {
@@ -96,7 +95,8 @@ fn count_below<T: Named>(items: &[T], order: &[u16], name: &[u8]) -> usize
     low
 }
 
-/// The number of the first item that has a name, where there is one, found by halving in the order of `name_order`.
+/// The number of the first item that has a name, where there is one, found by halving in the order of the names
+/// that `Lookups` has.
 pub fn number_of<T: Named>(items: &[T], order: &[u16], name: &[u8]) -> Option<u16>
     requires { IsNameOrder (map T.name_of items.now) order.now }
     ensures value { result ≡ place_of name.now (map T.name_of items.now) }

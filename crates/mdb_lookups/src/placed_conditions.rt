@@ -94,9 +94,8 @@ fn placed_condition(
 }
 
 /// For each container its condition, each comparison with the place at which its parameter stands among the entries of the
-/// path of the parent, counted from 0, the root's first; one that isn't there has the place behind the last. The one
-/// refusal is want of memory.
-pub fn placed_conditions(
+/// path of the parent, counted from 0, the root's first; one that isn't there has the place behind the last.
+pub(crate) fn placed_conditions(
     alloc: Global,
     containers: &[Container],
 ) -> Result<Vec<Items<(Comparison, usize)>>, AllocError>

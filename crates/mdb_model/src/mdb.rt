@@ -26,11 +26,10 @@ use mdb_items::fault::{MdbFault, MdbLimit, MdbSheet};
 use mdb_items::not_mdb::NotMdb;
 use mdb_items::parameter::Parameter;
 use mdb_items::sheet::{RawMdb, Record};
-use mdb_lookups::children::children_of;
 use mdb_lookups::equality::are_same;
-use mdb_lookups::label_order::{label_orders, label_row_by};
-use mdb_lookups::name_order::{name_order, number_of};
-use mdb_lookups::placed_conditions::placed_conditions;
+use mdb_lookups::label_order::label_row_by;
+use mdb_lookups::lookups::Lookups;
+use mdb_lookups::name_order::number_of;
 use mdb_octets::reading::{ItemLists, item_lists};
 use mdb_octets::spelling::spelling;
 use mdb_rules::calibration_rows::Calibrations;
@@ -183,22 +182,23 @@ pub(crate) fn within_limits(
     if let Some((which, number)) = limit_of(&calibrations, &parameters, &containers) {
         return Err(MdbFault::Limit { which, number });
     }
-    let parameter_order = name_order(alloc, parameters.items.as_slice())?;
-    let container_order = name_order(alloc, containers.items.as_slice())?;
-    let children = children_of(alloc, containers.items.as_slice())?;
-    let placed_conditions = placed_conditions(alloc, containers.items.as_slice())?;
-    let label_orders = label_orders(alloc, calibrations.items.as_slice())?;
+    let lookups = Lookups::for_items(
+        alloc,
+        parameters.items.as_slice(),
+        calibrations.items.as_slice(),
+        containers.items.as_slice(),
+    )?;
     let mdb = shared(
         alloc,
         Inner {
-            parameter_order,
-            container_order,
+            parameter_order: lookups.parameter_order,
+            container_order: lookups.container_order,
             parameters: parameters.items,
             calibrations: calibrations.items,
             containers: containers.items,
-            children,
-            placed_conditions,
-            label_orders,
+            children: lookups.children,
+            placed_conditions: lookups.placed_conditions,
+            label_orders: lookups.label_orders,
         },
     )?;
     Ok(mdb)
