@@ -1,6 +1,6 @@
 -- The rows of a sheet, one by one.
-use Rattle.std.proofs.Common.{◌≡◌, ◌∙◌, ◌+◌, ◌-◌, ◌<◌, ◌≤◌, ℕ, zero, suc, List, [], ◌∷◌, ◌++◌, length, map, drop, take, Option, Some, None, inl, inr, false, refl, ap, sym, arith}
-use Rattle.std.specs.Prelude.{slice_get, option_map, fold, ◌==◌}
+use Rattle.std.proofs.Common.{◌≡◌, ◌∙◌, ◌+◌, ◌-◌, ◌<◌, ◌≤◌, ℕ, zero, suc, List, [], ◌∷◌, ◌++◌, length, map, drop, take, Option, Some, None, inl, inr, refl, ap, sym, arith}
+use Rattle.std.specs.Prelude.{slice_get, option_map, fold}
 use Rattle.std.proofs.lemmas.Bool.{cases_lt}
 use Rattle.std.proofs.lemmas.List.{map-append, take-map}
 use Rattle.std.proofs.lemmas.List.Sums.{fold-append}

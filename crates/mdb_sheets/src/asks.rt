@@ -65,7 +65,10 @@ fn asks_below(alloc: Global, sheet: &Sheet) -> Result<Asks, Refusal>
 pub(crate) fn asks_of(alloc: Global, sheet: &Sheet) -> Result<Asks, Refusal>
     ensures { IsAsksResult sheet.now result }
 {
-    if sheet.len() == 0 || !is_ask_header(&sheet.record(0)) {
+    if sheet.len() == 0 {
+        return Err(broken(1, 1));
+    }
+    if !is_ask_header(&sheet.record(0)) {
         return Err(broken(1, 1));
     }
     let asks = asks_below(alloc, sheet)?;

@@ -1,4 +1,4 @@
-use Rattle.std.proofs.Common.{◌≡◌, ◌∙◌, ◌+◌, ◌-◌, ◌<◌, ◌≤◌, ℕ, [], Option, Some, None, Ok, length, drop, take, refl, ap, sym, arith}
+use Rattle.std.proofs.Common.{◌≡◌, ◌∙◌, ◌+◌, ◌-◌, ◌<◌, ◌≤◌, ℕ, [], Option, Some, None, Ok, length, drop, take, ap, sym, arith}
 use Rattle.std.proofs.lemmas.List.{length-drop, take_all}
 use Rattle.mdb_items.specs.declared.fault.MdbSheet.TheVariants as sheet
 use Rattle.mdb_items.specs.ContainerRows.{container_fault_at, containers_of}
