@@ -7,7 +7,7 @@ use arch_types::steps::Steps;
 use container_extract::chain::Chain;
 use container_extract::values::{ParameterValue, Values};
 use container_extract::{Extracted, Extractor, bits, extract, packet_name};
-use mdb_model::{Coding, Items, Mdb, MdbFault, RawMdb, Record, Sheet};
+use mdb_model::{Coding, Mdb, MdbFault, RawMdb, Record, Sheet};
 use std::alloc::{AllocError, Global};
 use std::marker::Brand;
 use std::sync::ledger::{Blank, Ledger};
@@ -84,9 +84,9 @@ fn record(alloc: Global, line: &str) -> Result<Record, AllocError> {
 }
 
 fn sheet(alloc: Global, text: &str) -> Result<Sheet, AllocError> {
-    let mut records = Items::new(alloc);
+    let mut records = Sheet::new(alloc);
     for line in text.split('|') {
-        records.push(record(alloc, line)?)?;
+        records.push(&record(alloc, line)?)?;
     }
     Ok(records)
 }

@@ -23,5 +23,6 @@ pub use item_list::Items;
 pub use mdb::Mdb;
 pub use mdb_items::{
     Calibration, Coding, Comparison, Container, Entry, EnumRow, MdbFault, MdbLimit, MdbName,
-    MdbSheet, NotMdb, Operator, Parameter, PointsRow, PolyRow, RawMdb, Record, Sheet, Table,
+    MdbSheet, NotMdb, Operator, Parameter, PointsRow, PolyRow, RawMdb, Record, Sheet, SheetRecord,
+    Table,
 };

@@ -18,14 +18,14 @@ use crate::rechecking::{
     have_rows, rechecked_calibrations, rechecked_containers, rechecked_parameters,
 };
 use crate::sheet_rows::{is_calibration_header, is_container_header, is_parameter_header};
-use crate::sheets::{calibrations_of, containers_of, parameters_of};
+use crate::sheets::{calibrations_of, containers_of, parameters_of, record_at};
 use item_list::items::Items;
 use mdb_items::calibration::Calibration;
 use mdb_items::container::{Comparison, Container};
 use mdb_items::fault::{MdbFault, MdbLimit, MdbSheet};
 use mdb_items::not_mdb::NotMdb;
 use mdb_items::parameter::Parameter;
-use mdb_items::sheet::{RawMdb, Record};
+use mdb_items::sheet::{RawMdb, Sheet};
 use mdb_lookups::equality::are_same;
 use mdb_lookups::label_order::label_row_by;
 use mdb_lookups::lookups::Lookups;
@@ -98,51 +98,51 @@ fn no_header(sheet: MdbSheet) -> MdbFault
 }
 
 /// The calibrations of a sheet.
-fn checked_calibrations(alloc: Global, records: &[Record]) -> Result<Calibrations, MdbFault>
-    ensures { IsCalibrationSheetResult records.now result }
+fn checked_calibrations(alloc: Global, sheet: &Sheet) -> Result<Calibrations, MdbFault>
+    ensures { IsCalibrationSheetResult sheet.now result }
 {
-    let [header, rows @ ..] = records else {
+    let Some(header) = record_at(sheet, 0) else {
         return Err(no_header(MdbSheet::Calibrations));
     };
-    if !is_calibration_header(header) {
+    if !is_calibration_header(&header) {
         return Err(no_header(MdbSheet::Calibrations));
     }
-    calibrations_of(alloc, rows)
+    calibrations_of(alloc, sheet)
 }
 
 /// The parameters of a sheet.
 fn checked_parameters(
     alloc: Global,
     calibrations: &Calibrations,
-    records: &[Record],
+    sheet: &Sheet,
 ) -> Result<Parameters, MdbFault>
-    ensures { IsParameterSheetResult calibrations.now.items.items calibrations.now.names records.now result }
+    ensures { IsParameterSheetResult calibrations.now.items.items calibrations.now.names sheet.now result }
 {
-    let [header, rows @ ..] = records else {
+    let Some(header) = record_at(sheet, 0) else {
         return Err(no_header(MdbSheet::Parameters));
     };
-    if !is_parameter_header(header) {
+    if !is_parameter_header(&header) {
         return Err(no_header(MdbSheet::Parameters));
     }
-    parameters_of(alloc, calibrations, rows)
+    parameters_of(alloc, calibrations, sheet)
 }
 
 /// The containers of a sheet.
 fn checked_containers(
     alloc: Global,
     parameters: &Parameters,
-    records: &[Record],
+    sheet: &Sheet,
 ) -> Result<Containers, MdbFault>
     requires { parameters.now.names ≡ map (λ p. p.name) parameters.now.items.items }
-    ensures { IsContainerSheetResult parameters.now.items.items records.now result }
+    ensures { IsContainerSheetResult parameters.now.items.items sheet.now result }
 {
-    let [header, rows @ ..] = records else {
+    let Some(header) = record_at(sheet, 0) else {
         return Err(no_header(MdbSheet::Containers));
     };
-    if !is_container_header(header) {
+    if !is_container_header(&header) {
         return Err(no_header(MdbSheet::Containers));
     }
-    containers_of(alloc, parameters, rows)
+    containers_of(alloc, parameters, sheet)
 }
 
 /// The first limit that the rows pass.
@@ -209,9 +209,9 @@ impl Mdb {
     pub fn check(alloc: Global, raw: &RawMdb) -> Result<Mdb, MdbFault>
         ensures { IsCheckResult raw.now result }
     {
-        let calibrations = checked_calibrations(alloc, raw.calibrations.as_slice())?;
-        let parameters = checked_parameters(alloc, &calibrations, raw.parameters.as_slice())?;
-        let containers = checked_containers(alloc, &parameters, raw.containers.as_slice())?;
+        let calibrations = checked_calibrations(alloc, &raw.calibrations)?;
+        let parameters = checked_parameters(alloc, &calibrations, &raw.parameters)?;
+        let containers = checked_containers(alloc, &parameters, &raw.containers)?;
         within_limits(alloc, calibrations, parameters, containers)
     }
 }

@@ -1,12 +1,12 @@
 use Rattle.std.proofs.Common.{◌∙◌, refl, ap, Bor}
 use Rattle.csv.specs.Records.{Row}
 use Rattle.mdb_sheets.proofs.Fields.{field_end, field_more}
-use Rattle.mdb_sheets.proofs.records.record_of.Goals as goal
+use Rattle.mdb_sheets.proofs.records.refill.Goals as goal
 
 pub loop-octets-init : goal.loop-octets-init
 loop-octets-init c =
     let start = c.into_iter-octets-iterator.ensures.into_iter_gives in
-    rw (start.1, c.reserve.ensures, c.new-copy.ensures) (start.0, refl)
+    rw (start.1, c.clear.ensures) (start.0, refl)
 
 pub loop-octets-preserved : goal.loop-octets-preserved
 loop-octets-preserved c =
