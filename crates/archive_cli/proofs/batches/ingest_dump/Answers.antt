@@ -6,13 +6,19 @@ use Rattle.archive_store.proofs.Calls.{ingest_fault, ingest_history, ingest_reco
 use Rattle.space_packet.specs.Rest.{why_of}
 use Rattle.archive_cli.proofs.Arrived.{few_arrived}
 use Rattle.archive_cli.proofs.DiskWrites.{refused_writes}
-use Rattle.archive_cli.proofs.Batching.{so_far_more, so_far_end, so_far_memory, so_far_refused, refused_for, IsSoFar}
+use Rattle.archive_cli.proofs.Batching.{so_far_more, so_far_end, so_far_memory, so_far_none, so_far_refused, refused_for, IsSoFar}
 use Rattle.archive_cli.proofs.batches.ingest_dump.Goals as goal
+
+pub returns-in_err-extractor-clause-stopped : goal.returns-in_err-extractor-clause-stopped
+returns-in_err-extractor-clause-stopped g c =
+    let moment = to_z-of_z w64 c.args.moment c.ranges.moment in
+    let p = err_from_is_err_and c.from_residual.result c.from_residual.ensures.1 in
+    rw (p.1, p.2) (so_far_memory c.args.store.now c.args.dump.now c.args.link c.args.moment c.args.store.now 0 0 0 (so_far_none c.args.store.now c.args.dump.now c.args.link c.args.moment c.requires.no_failed_write))
 
 pub returns-in_err-taken-clause-stopped : goal.returns-in_err-taken-clause-stopped
 returns-in_err-taken-clause-stopped g c =
     let moment = to_z-of_z w64 c.args.moment c.ranges.moment in
-    let p = err_from_is_err_and c.from_residual.result c.from_residual.ensures.1 in
+    let p = err_from_is_err_and c.from_residual-in_err-taken.result c.from_residual-in_err-taken.ensures.1 in
     rw (p.1, p.2) (so_far_memory c.args.store.now c.args.dump.now c.args.link c.args.moment c.batches.store c.batches.places.at c.batches.packets c.batches.idle (rw moment at c.batches.invariant.so_far))
 
 pub returns-then-taken-eq0-clause-whole : goal.returns-then-taken-eq0-clause-whole
@@ -66,7 +72,7 @@ batches-preserved g c =
 
 pub returns-in_err-taken-clause-disk_writes : goal.returns-in_err-taken-clause-disk_writes
 returns-in_err-taken-clause-disk_writes g c =
-    let p = err_from_is_err_and c.from_residual.result c.from_residual.ensures.1 in
+    let p = err_from_is_err_and c.from_residual-in_err-taken.result c.from_residual-in_err-taken.ensures.1 in
     rw (p.1, p.2) c.batches.invariant.writes
 
 pub returns-in_err-ingest-clause-disk_writes : goal.returns-in_err-ingest-clause-disk_writes
