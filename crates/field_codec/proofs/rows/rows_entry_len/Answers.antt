@@ -1,4 +1,4 @@
-use Rattle.std.proofs.Common.{◌≡◌, ◌+◌, arith}
+use Rattle.std.proofs.Common.{arith}
 use Rattle.field_codec.proofs.Sizes.{rows_size}
 use Rattle.field_codec.proofs.rows.rows_entry_len.Goals as goal
 
