@@ -110,7 +110,7 @@ fn some_rows_at<'a>(
     requires { IsEndOf octets.now block.now }
     ensures { Gives (λ x. (x.0, x.1.now)) result (times_at row_at count octets.now) }
 {
-    let mut rows = Rows::new(alloc);
+    let mut rows = Rows::from_vec(Vec::with_capacity(alloc, count as usize)?);
     let mut rest = octets;
     for _ in 0..count {
         let (row, after) = row_at(block, rest)?;
