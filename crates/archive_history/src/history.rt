@@ -145,6 +145,11 @@ impl History {
             limit_of limits.IntervalRows }
     {
         let limit_counts = &self.limit_counts;
+        let limit = Which::IntervalRows.limit();
+        let added = rows.len() as u64;
+        if added <= limit && limit_counts.most_rows() <= limit - added {
+            return false;
+        }
         for row in rows {
             if row.table == TM {
                 let interval = interval_of_row(row);

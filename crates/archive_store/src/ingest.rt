@@ -22,24 +22,17 @@ use arch_types::row::{Row, Rows};
 use archive_core::fills::{Fill, clear_failed_writes};
 use archive_history::history::History;
 use disk_journal::{Frame, Journal};
-use field_codec::{Entry, write_entry};
+use field_codec::{put_rows, rows_entry_len};
 use std::alloc::{AllocError, Global};
 
-/// A record with these rows, and the rows.
-fn rows_frame(alloc: Global, rows: Rows) -> Result<(Frame, Rows), AllocError>
-    requires { IsArchiveEntry (entries.Rows rows) }
-    ensures { IfOk result (λ r. (r.0 ≡ entry_octets (entries.Rows rows)) × (r.1 ≡ rows)) }
+/// A record with these rows.
+fn rows_frame(alloc: Global, rows: &[Row]) -> Result<Frame, AllocError>
+    requires { IsArchiveEntry (entries.Rows rows.now) }
+    ensures { IfOk result (λ frame. frame ≡ entry_octets (entries.Rows rows.now)) }
 {
-    let entry = Entry::Rows(rows);
-    let octets = write_entry(alloc, &entry)?;
-    let frame = Frame::of(alloc, octets.as_slice())?;
-    match entry {
-        Entry::Rows(rows) => Ok((frame, rows)),
-        Entry::Head {
-            tables: _tables,
-            mdb: _mdb,
-        } => unreachable!(),
-    }
+    let mut octets = Frame::begin(alloc, rows_entry_len(rows))?;
+    put_rows(&mut octets, rows)?;
+    Frame::finish(octets)
 }
 
 /// Takes all memory that an ingest of these rows needs.
@@ -48,11 +41,11 @@ fn prepare(
     journal: &mut Journal,
     history: &mut History,
     fills: &mut Vec<Fill>,
-    fresh: Rows,
-) -> Result<(Frame, Rows), AllocError>
-    requires { IsArchiveEntry (entries.Rows fresh) }
-    ensures frame { IfOk result (λ r. (r.0 ≡ entry_octets (entries.Rows fresh)) × (r.1 ≡ fresh)) }
-    ensures room { OnOk result (HasRoom journal.new × (length fresh ≤ history.new.room) ×
+    fresh: &[Row],
+) -> Result<Frame, AllocError>
+    requires { IsArchiveEntry (entries.Rows fresh.now) }
+    ensures frame { IfOk result (λ frame. frame ≡ entry_octets (entries.Rows fresh.now)) }
+    ensures room { OnOk result (HasRoom journal.new × (length fresh.now ≤ history.new.room) ×
         (vec_len fills.new < vec_capacity fills.new)) }
     ensures journal { IsSame journal.old journal.new }
     ensures history { (history.new.items ≡ history.old.items) × (history.new.tables ≡ history.old.tables) }
@@ -102,9 +95,9 @@ impl<D: Disk> Store<D> {
             &mut self.journal,
             &mut self.history,
             &mut self.fills,
-            fresh,
+            fresh.as_slice(),
         );
-        let Ok((frame, fresh)) = prepared else {
+        let Ok(frame) = prepared else {
             return Err(Refusal::OutOfMemory);
         };
         match self.journal.append(&mut self.disk, &frame) {

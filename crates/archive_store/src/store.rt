@@ -18,7 +18,7 @@ use arch_types::refusal::Refusal;
 use archive_core::fills::Fill;
 use archive_history::history::History;
 use disk_journal::{Frame, Journal, JournalFault, Opening};
-use field_codec::{Entry, write_entry};
+use field_codec::write_head;
 use mdb_model::Mdb;
 use std::alloc::{AllocError, Global};
 use std::marker::Model;
@@ -54,19 +54,13 @@ impl<D: Disk> Model for Store<D> {
         × (s.history.tables ≡ length s.head.tables) × (arc_value s.mdb ≡ s.head.mdb) };
 }
 
-/// A record with this head, and the head.
-fn head_frame(alloc: Global, head: Head) -> Result<(Frame, Head), AllocError>
-    requires { IsArchiveEntry (entries.Head head.tables head.mdb) }
-    ensures { IfOk result (λ r. (r.0 ≡ entry_octets (entries.Head head.tables head.mdb)) × (r.1 ≡ head)) }
+/// A record with this head.
+fn head_frame(alloc: Global, head: &Head) -> Result<Frame, AllocError>
+    requires { IsArchiveEntry (entries.Head head.now.tables head.now.mdb) }
+    ensures { IfOk result (λ frame. frame ≡ entry_octets (entries.Head head.now.tables head.now.mdb)) }
 {
-    let Head { tables, mdb } = head;
-    let entry = Entry::Head { tables, mdb };
-    let octets = write_entry(alloc, &entry)?;
-    let frame = Frame::of(alloc, octets.as_slice())?;
-    match entry {
-        Entry::Head { tables, mdb } => Ok((frame, Head { tables, mdb })),
-        Entry::Rows(_rows) => unreachable!(),
-    }
+    let octets = write_head(alloc, head.tables.as_slice(), &head.mdb)?;
+    Frame::of(alloc, &octets)
 }
 
 /// The refusal for a fault of a journal that is made.
@@ -100,7 +94,7 @@ fn prepare_new(alloc: Global, head: Head) -> Result<NewArchive, AllocError>
         (arc_value f.mdb ≡ head.mdb)
         × (f.history.items ≡ []) × (f.history.tables ≡ length head.tables)) }
 {
-    let (frame, head) = head_frame(alloc, head)?;
+    let frame = head_frame(alloc, &head)?;
     let mdb = shared(alloc, &head.mdb)?;
     let history = History::new(alloc, head.tables.as_slice().len())?;
     Ok(NewArchive {

@@ -6,7 +6,8 @@ use Rattle.archive_history.specs.Limits.{interval_rows, IsWithin}
 use Rattle.archive_history.specs.TableSet.{HistoryView}
 use Rattle.archive_history.proofs.Counting.{together}
 use Rattle.archive_history.proofs.Intervals.{IsCounted, intervals_within}
-use Rattle.archive_history.proofs.Steps.{all_take_more}
+use Rattle.archive_core.specs.Items.{is_row_of_interval}
+use Rattle.archive_history.proofs.Steps.{all_take_more, few_filter}
 use Rattle.archive_history.proofs.Sums.{interval_rows-append}
 use Rattle.archive_history.proofs.history.History.passes_interval.Goals as goal
 use Rattle.archive_history.proofs.history.History.passes_interval.Goals.{then-row-eq-TM+else-are_too_many, else-row-eq-TM}
@@ -36,6 +37,12 @@ returns-then-are_too_many-clause-some c is =
     let items = c.args.self.now.items in
     let rows = c.args.rows.now in
     (i, omega (arith, interval_rows-append i items rows, c.self.invariant.rows i, c.if-are_too_many.ensures.some refl, ap (λ (s : HistoryView). interval_rows 22 i s.items) c.self.view_is))
+
+pub returns-then-most_rows-limit-clause-none : goal.returns-then-most_rows-limit-clause-none
+returns-then-most_rows-limit-clause-none c is i =
+    let items = c.args.self.now.items in
+    let rows = c.args.rows.now in
+    omega (arith, interval_rows-append i items rows, few_filter (is_row_of_interval i) rows, c.self.invariant.rows i, c.most_rows.ensures i, c.limit-limit.ensures, c.if-added-limit.true, c.if-most_rows-limit.true, ap (λ (s : HistoryView). interval_rows i s.items) c.self.view_is)
 
 pub returns-clause-none : goal.returns-clause-none
 returns-clause-none c is i =
