@@ -1,6 +1,6 @@
 -- The batches of a dump, one after the other.
 use Rattle.std.proofs.Common.{◌≡◌, ◌⊎◌, inl, inr, ℕ, ℤ, ◌+◌, ◌-◌, ◌<◌, ◌≤◌, true, false, Bool, List, [], ◌∷◌, ◌++◌, length, take, drop, refl, sym, ap, subst, ◌∙◌, arith, append-nil, append_assoc, length-append, ltb}
-use Rattle.std.specs.Prelude.{◌≢◌, slice_range, Result, Err}
+use Rattle.std.specs.Prelude.{◌≢◌, slice_range}
 use Rattle.std.proofs.Math.Seq.{take-append_seam, drop-append_seam}
 use Rattle.std.proofs.lemmas.Bool.{ltb-true, ltb-false}
 use Rattle.std.proofs.lemmas.List.{take_all}
@@ -8,7 +8,6 @@ use Rattle.std.proofs.lemmas.List.Elements.{All-nil}
 use Rattle.arch_disk.specs.Disk.{Device}
 use Rattle.arch_types.specs.declared.refusal.Refusal.{Refusal}
 use Rattle.arch_types.specs.declared.refusal.Refusal.TheVariants.{DiskFault, Limit, OutOfMemory, NeedsReopen}
-use Rattle.arch_types.specs.declared.refusal.Which.{Which}
 use Rattle.arch_types.specs.declared.row.Row.{Row}
 use Rattle.arch_types.specs.Dump.{IsDump, BeginsWithNoPacket}
 use Rattle.arch_types.specs.History.{ingested}

@@ -28,7 +28,7 @@ use Rattle.archive_cli.specs.declared.report.Report.{Report}
 use Rattle.archive_cli.specs.Call.{Call, WritesNothing}
 use Rattle.dump_lines.specs.Output.{WritesCounted, IsFinished}
 use Rattle.archive_cli.specs.ReadOnly.{IsReadAsBefore}
-use Rattle.archive_cli.specs.CreateEnding.{AreGood, AreRefused, create_line, HoldsOne, IsCreateEnding, IsMade, IsStillNone, new_head}
+use Rattle.archive_cli.specs.CreateEnding.{AreGood, AreRefused, create_line, HoldsOne, IsCreateEnding, IsMade, new_head}
 use Rattle.command_words.specs.Job.{SheetWords}
 use Rattle.retrieval.specs.Parameter.{broken_rule, passed_limit, refusal_of_sheets, sheets_refusal}
 use Rattle.archive_cli.specs.Durable.{FailedAtMostOnce}

@@ -1,4 +1,4 @@
-use Rattle.std.proofs.Common.{[], arith, inl, refl}
+use Rattle.std.proofs.Common.{[], inl, refl}
 use Rattle.std.proofs.lemmas.Result.{err_from_is_err_and}
 use Rattle.command_words.specs.JobView.{sheet_words_of}
 use Rattle.archive_cli.proofs.Created.{refused_sheets, sheets_good}
