@@ -61,7 +61,7 @@ impl LimitCounts {
     }
 
     /// How many rows an interval has at most, so that none need be looked up where that many more pass no limit.
-    pub fn most_rows(&self) -> u64
+    pub(crate) fn most_rows(&self) -> u64
         ensures { HasAtMost result self.now.rows }
     {
         self.most

@@ -42,7 +42,7 @@ pub returns-then-most_rows-limit-clause-none : goal.returns-then-most_rows-limit
 returns-then-most_rows-limit-clause-none c is i =
     let items = c.args.self.now.items in
     let rows = c.args.rows.now in
-    omega (arith, interval_rows-append i items rows, few_filter (is_row_of_interval 22 i) rows, c.self.invariant.rows i, c.most_rows.ensures i, c.limit-limit.ensures, c.if-added-limit.true, c.if-most_rows-limit.true, ap (λ (s : HistoryView). interval_rows i s.items) c.self.view_is)
+    omega (arith, interval_rows-append i items rows, few_filter (is_row_of_interval 22 i) rows, c.self.invariant.rows i, c.most_rows.ensures i, c.limit-limit.ensures, c.if-added-limit.true, c.if-most_rows-limit.true, ap (λ (s : HistoryView). interval_rows 22 i s.items) c.self.view_is)
 
 pub returns-clause-none : goal.returns-clause-none
 returns-clause-none c is i =
