@@ -1,6 +1,6 @@
 //! Raw extractions in buffers that are used again.
 
-ghost use Rattle.std.specs.Prelude.{◌≡◌, ◌+◌, option_copied, IfOk};
+ghost use Rattle.std.specs.Prelude.{◌≡◌, ◌+◌, [], option_copied, IfOk};
 ghost use Rattle.container_extract.specs.Chain.{chain_of, packet_name_of};
 ghost use Rattle.container_extract.specs.Extraction.{raw_extraction};
 ghost use Rattle.container_extract.specs.Laws.{AreRawValues};
@@ -66,6 +66,17 @@ impl RawExtracted {
             .find(|value| value.parameter == parameter)
     }
 
+    /// Forgets what was extracted.
+    fn restart(&mut self)
+        requires { HasPacketRoom self.old }
+        ensures room { HasPacketRoom self.new }
+        ensures values { self.new.values.items ≡ [] }
+        ensures chain { self.new.chain.items ≡ [] }
+    {
+        self.values.clear();
+        self.chain.clear();
+    }
+
     /// Goes down from the root, in place of what was extracted before. The octets need not be a whole packet.
     pub(crate) fn walk(&mut self, mdb: &Mdb, packet: &[u8])
         requires { HasPacketRoom self.old }
@@ -73,8 +84,7 @@ impl RawExtracted {
         ensures chain { self.new.chain.items ≡ chain_of mdb.now packet.now }
         ensures values { self.new.values.items ≡ raw_extraction mdb.now packet.now }
     {
-        self.values.clear();
-        self.chain.clear();
+        self.restart();
         let mut number = 0;
         mdb.is_sound();
         'down: loop {

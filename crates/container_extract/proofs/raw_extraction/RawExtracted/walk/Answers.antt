@@ -7,8 +7,8 @@ use Rattle.container_extract.proofs.raw_extraction.RawExtracted.walk.Goals as go
 
 pub down-init : goal.down-init
 down-init c = record {
-  goes = begins c.args.mdb.now c.args.packet.now c.clear-2.new.self.items c.clear.new.self.items c.is_sound.ensures c.clear-2.ensures.items c.clear.ensures.items;
-  room = record { values = omega (arith, c.clear.ensures.capacity, c.requires.values); containers = omega (arith, c.clear-2.ensures.capacity, c.requires.containers) };
+  goes = begins c.args.mdb.now c.args.packet.now c.restart.new.self.chain.items c.restart.new.self.values.items c.is_sound.ensures c.restart.ensures.chain c.restart.ensures.values;
+  room = c.restart.ensures.room;
 }
 
 pub push_reserved-requires : goal.push_reserved-requires
