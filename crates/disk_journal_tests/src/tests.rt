@@ -309,7 +309,10 @@ fn an_opening_reads_in_pieces(rt: HostRuntime) -> Result<(), Fail> {
     let mut disk = OpaqueDisk::new(disk);
     let mut opening = Opening::begin(rt.alloc(), &mut disk, FILE)?;
     let first = opening.next(rt.alloc(), &mut disk)?;
-    assert_eq!(rt; first.as_ref().map(|body| body.as_slice()), Some(body_at(0)));
+    assert_eq!(rt;
+        first.as_ref().map(|body| body.as_slice()),
+        Some(body_at(0))
+    );
     for i in 0..6u8 {
         let body = opening.next(rt.alloc(), &mut disk)?;
         let wanted = vec![in rt.alloc(); i; 100_000]?;
