@@ -9,6 +9,8 @@ pub mod Valued
 pub mod ValuesAnswers
 pub mod ReadOnly
 pub mod Recovered
+pub mod Commands
+pub mod RecoverPlan
 pub mod Created
 pub mod CreateAnswers
 pub mod Requests

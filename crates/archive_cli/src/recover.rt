@@ -4,8 +4,12 @@ ghost use Rattle.std.specs.Prelude.{◌≡◌, ◌≤◌, ℕ, [], IsTrue, Some}
 ghost use Rattle.arch_disk.specs.Disk.{raised};
 ghost use Rattle.mdb_sheets.specs.Sheets.{ReadsCounted};
 ghost use Rattle.dump_lines.specs.Output.{WritesCounted};
+ghost use Rattle.outer_ledgers.specs.Ledger.{output_state};
+ghost use Rattle.command_plans.specs.Plan.{IsDue};
 ghost use Rattle.archive_cli.specs.Caused.{IsRecoverCaused};
+ghost use Rattle.archive_cli.specs.Command.{Ran, effects_of};
 ghost use Rattle.archive_cli.specs.DiskWrites.{OneAtMost};
+ghost use Rattle.archive_cli.specs.Recover.{recover_plan};
 ghost use Rattle.archive_cli.specs.RecoverEnding.{IsRecoverEnding, recover_line};
 ghost use Rattle.archive_cli.specs.Report.{status_at, IsReadOnlyReport};
 
@@ -21,6 +25,14 @@ use std::alloc::Global;
 ///
 /// Refuses, in this order: by `DiskFault`, `NoArchive` or `Damaged`; by `WriteFault`. `OutOfMemory` may come anywhere before the line.
 pub fn recover<D: Disk, K: Sink>(alloc: Global, disk: D, sink: &mut K) -> Ended<D>
+    // It went as its plan may go, and did what the plan says where it ended.
+    ensures ran { Ran D.device (recover_plan D.device disk) (effects_of disk result.disk
+        (output_state (K.written sink.old) (K.faults sink.old)) (output_state (K.written sink.new) (K.faults sink.new))
+        result.report) }
+    // Where the disk is transparent the answer that is due comes, or that of a fault at its place.
+    ensures due { IsTrue D.device.is_transparent → IsDue (recover_plan D.device disk) result.report.refusal }
+
+    // What was said of it by cases follows.
     ensures ended { IsTrue D.device.is_transparent → (words : _) (files : _) (moment : _) (read_faults : _) →
         IsRecoverEnding D.device (record {
           words = words;
