@@ -1,12 +1,13 @@
 -- How the parts of plans go.
 use Rattle.std.proofs.Common.{◌≡◌, ◌⊎◌, inl, inr, ℕ, ◌≤◌, true, false, List, [], Option, Some, None, refl, sym, ap, append-nil, arith}
 use Rattle.std.specs.Prelude.{IsTrue}
-use Rattle.arch_disk.specs.Disk.{Device, LeavesOnly, raised}
+use Rattle.arch_disk.specs.Disk.{Device, LeavesOnly}
 use Rattle.arch_types.specs.declared.refusal.Refusal.{Refusal}
 use Rattle.arch_types.specs.declared.refusal.Refusal.TheVariants.{NoArchive, Damaged, DiskFault, OutOfMemory, WriteFault}
-use Rattle.archive_store.specs.Answers.{IsOpenAnswer, IsOpenRefusal}
+use Rattle.archive_store.specs.Calls.{IsStoreOpenRefusal}
 use Rattle.archive_store.specs.Entries.{Archive}
 use Rattle.archive_store.specs.Stands.{StandsFor}
+use Rattle.disk_journal.specs.Calls.{CountsNeverFall, IsJournalOpenFailed}
 use Rattle.command_plans.specs.Plan.{Fault, OfMemory, OfDisk, OfOutput, Plan, May, Way, Gave, Ended, Cut, Allows, IsDetermined, IsDue, refusal_at, and_then}
 use Rattle.command_plans.proofs.Plans.{required, gave}
 use Rattle.dump_lines.specs.Output.{Appends, IsFinished, WritesCounted}
@@ -63,72 +64,64 @@ module _ {D : Type 0} (device : Device D) (e : Effects D) where
 
 -- ---- an opening
 
--- the counts of a disk at an opening that was refused
-abbrev pub OpenCounts : {D : Type 0} → Device D → D → D → Refusal → Type 0
-OpenCounts device old new refusal =
-    (device.fault_count old ≤ device.fault_count new)
-    × (refusal ≡ DiskFault → raised (device.fault_count old) ≤ device.fault_count new)
-    × ((device.failed_writes new ≡ device.failed_writes old) ⊎ ((refusal ≡ DiskFault) × (device.failed_writes new ≡ raised (device.failed_writes old))))
-
 module _ {D : Type 0} (device : Device D) where
-  looked_only : (old new : D) (refusal : Refusal) → (refusal ≡ DiskFault → ⊥) → OpenCounts device old new refusal → UsedDisk device old new false 0 0
-  looked_only old new refusal other counts = elim counts.2 [
-    | inl same ↦ record { faults = counts.0; writes = (0, omega arith, omega arith, same) }
-    | inr one ↦ absurd (other one.0)
-  ]
+  -- an archive was looked for, and no call failed,
+  pub looked_only : (old new : D) → CountsNeverFall device old new → device.failed_writes new ≡ device.failed_writes old → UsedDisk device old new false 0 0
+  looked_only old new counts same = record { faults = counts.faults; writes = (0, omega arith, omega arith, same) }
 
-  look_failed_once : (old new : D) → OpenCounts device old new DiskFault → UsedDisk device old new true 0 1
-  look_failed_once old new counts = elim counts.2 [
-    | inl same ↦ record { faults = counts.1 refl; writes = (0, omega arith, omega arith, same) }
-    | inr one ↦ record { faults = counts.1 refl; writes = (1, omega arith, omega arith, one.1) }
+  -- or one did
+  look_failed_once : (old new : D) → IsJournalOpenFailed device old new → UsedDisk device old new true 0 1
+  look_failed_once old new failed = elim failed.wrote_most [
+    | inl same ↦ record { faults = failed.rose; writes = (0, omega arith, omega arith, same) }
+    | inr one ↦ record { faults = failed.rose; writes = (1, omega arith, omega arith, one) }
   ]
 
 module _ {D : Type 0} (device : Device D) (e : Effects D) (f : Archive → Plan SoFar ⊥) (sources : ℕ) where
   -- an opening was refused
-  pub ran_unopened : (refusal : Refusal) → IsOpenAnswer refusal → (IsTrue device.is_transparent → IsOpenRefusal (device.reads e.disk) refusal) →
-      device.reads e.disk' ≡ device.reads e.disk → LeavesOnly device e.disk e.disk' (device.images e.disk) → OpenCounts device e.disk e.disk' refusal →
-      e.report ≡ unopened (Some refusal) → e.output' ≡ e.output → Ran device (and_then (opens sources device e.disk) f) e
-  ran_unopened NoArchive only h reads images counts report silent = record {
+  pub ran_unopened : (refusal : Refusal) → IsStoreOpenRefusal device e.disk e.disk' refusal → device.reads e.disk' ≡ device.reads e.disk →
+      LeavesOnly device e.disk e.disk' (device.images e.disk) → CountsNeverFall device e.disk e.disk' → e.report ≡ unopened (Some refusal) → e.output' ≡ e.output →
+      Ran device (and_then (opens sources device e.disk) f) e
+  ran_unopened NoArchive refused reads images counts report silent = record {
     way = Ended (looked sources) (Some NoArchive);
-    allows = inr (inr (NoneHeld, h, refl));
+    allows = inr (inr (NoneHeld, refused.0, refl));
     did = record {
       report = report;
       printed = rw silent (no_text e.output.written);
       output = record { counted = rw silent refl };
-      disk = (looked_only device e.disk e.disk' NoArchive (λ is. cc (is)) counts, λ known. record { reads = reads; images = images });
+      disk = (looked_only device e.disk e.disk' counts refused.1, λ known. record { reads = reads; images = images });
     };
   }
-  ran_unopened (Damaged file at) only h reads images counts report silent = record {
+  ran_unopened (Damaged file at) refused reads images counts report silent = record {
     way = Ended (looked sources) (Some (Damaged file at));
-    allows = inr (inr (DamageHeld file at, h, refl));
+    allows = inr (inr (DamageHeld file at, refused.0, refl));
     did = record {
       report = report;
       printed = rw silent (no_text e.output.written);
       output = record { counted = rw silent refl };
-      disk = (looked_only device e.disk e.disk' (Damaged file at) (λ is. cc (is)) counts, λ known. record { reads = reads; images = images });
+      disk = (looked_only device e.disk e.disk' counts refused.1, λ known. record { reads = reads; images = images });
     };
   }
-  ran_unopened DiskFault only h reads images counts report silent = record {
+  ran_unopened DiskFault refused reads images counts report silent = record {
     way = Cut (look_failed sources) OfDisk;
     allows = inr (inl refl);
     did = record {
       report = report;
       printed = rw silent (no_text e.output.written);
       output = record { counted = rw silent refl };
-      disk = (look_failed_once device e.disk e.disk' counts, λ known. record { reads = reads; images = images });
+      disk = (look_failed_once device e.disk e.disk' refused, λ known. record { reads = reads; images = images });
     };
   }
-  ran_unopened OutOfMemory only h reads images counts report silent = record {
+  ran_unopened OutOfMemory refused reads images counts report silent = record {
     way = Cut (looked sources) OfMemory;
     allows = inl refl;
     did = record {
       report = report;
       printed = rw silent (no_text e.output.written);
       output = record { counted = rw silent refl };
-      disk = (looked_only device e.disk e.disk' OutOfMemory (λ is. cc (is)) counts, λ known. record { reads = reads; images = images });
+      disk = (looked_only device e.disk e.disk' counts refused, λ known. record { reads = reads; images = images });
     };
   }
-  ran_unopened other only h reads images counts report silent = absurd only
+  ran_unopened other refused reads images counts report silent = absurd refused
 
   -- an archive was opened, and what followed ran
   pub ran_opened : (archive : Archive) → (IsTrue device.is_transparent → StandsFor (device.reads e.disk) archive) → Ran device (f archive) e → Ran device (and_then (opens sources device e.disk) f) e

@@ -10,6 +10,7 @@ pub mod ValuesAnswers
 pub mod ReadOnly
 pub mod Recovered
 pub mod Commands
+pub mod Ends
 pub mod RecoverPlan
 pub mod Created
 pub mod CreateAnswers

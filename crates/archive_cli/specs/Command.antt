@@ -9,9 +9,11 @@ use Rattle.outer_traits.specs.Outside.{WritesSome}
 use Rattle.outer_ledgers.specs.Ledger.{InputsState, OutputState, UsedDisk, UsedInputs, UsedOutput}
 use Rattle.dump_lines.specs.Output.{Appends}
 use Rattle.command_plans.specs.Plan.{Faults, OfMemory, OfInputs, OfOutput, OfDisk, fault_refusal, no_faults, with_fault, Plan, Return, Stop, May, Ask, Way, Gave, Ended, Cut, Allows}
+use Rattle.archive_store.specs.declared.head.Head.{Head}
 use Rattle.archive_store.specs.Entries.{Archive}
 use Rattle.archive_store.specs.Stands.{StandsFor, IsArchiveDamagedAt}
 use Rattle.archive_cli.specs.declared.report.Report.{Report}
+use Rattle.archive_cli.specs.CreateEnding.{IsMade, IsMakingFailed}
 use Rattle.archive_cli.specs.ReadOnly.{IsReadAsBefore, IsReadOnly}
 use Rattle.archive_cli.specs.Report.{unopened, read_only}
 
@@ -27,6 +29,10 @@ pub data Fate : Type 0 where
   LookFailed : Fate
   -- this archive was opened, and left as it was
   Opened : Archive → Fate
+  -- the making of an archive of this head failed,
+  MakingFailed : Head → Fate
+  -- or one was made
+  Made : Head → Fate
 
 -- the fate of a disk: what it holds by then is known where it is transparent, its counts of faults on any disk
 abbrev pub Became : {D : Type 0} → Device D → D → D → Bool → Fate → Type 0
@@ -34,6 +40,8 @@ Became device old new failed Same = new ≡ old
 Became device old new failed Looked = UsedDisk device old new failed 0 0 × (IsTrue device.is_transparent → IsReadAsBefore device old new)
 Became device old new failed LookFailed = UsedDisk device old new failed 0 1 × (IsTrue device.is_transparent → IsReadAsBefore device old new)
 Became device old new failed (Opened archive) = UsedDisk device old new failed 0 0 × (IsTrue device.is_transparent → IsReadOnly device old new archive)
+Became device old new failed (MakingFailed head) = UsedDisk device old new failed 0 2 × (IsTrue device.is_transparent → IsMakingFailed device old new head)
+Became device old new failed (Made head) = UsedDisk device old new failed 0 0 × (IsTrue device.is_transparent → IsMade device old new head)
 
 -- What a command has done so far: the text that it printed, whole, or that it was printing; the report but for its refusal; the fate of the disk; how
 -- many sources the inputs gave; and which calls of the outside failed before, though it went on.

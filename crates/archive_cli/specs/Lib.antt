@@ -6,6 +6,7 @@ pub mod Loading
 pub mod Call
 pub mod Reading
 pub mod Recover
+pub mod Create
 pub mod ReadDump
 pub mod ValuesPrinting
 pub mod ScanEnding

@@ -1,5 +1,5 @@
 -- How inputs are read.
-use Rattle.std.proofs.Common.{◌≡◌, inl, inr, ℕ, suc, ◌≤◌, ◌<◌, List, length, Bool, true, false, Option, Some, None, refl, sym, ◌∙◌, ap, arith}
+use Rattle.std.proofs.Common.{◌≡◌, inl, inr, ℕ, ◌+◌, ◌≤◌, ◌<◌, List, length, Bool, true, false, Option, Some, None, refl, sym, ◌∙◌, ap, arith}
 use Rattle.std.specs.Prelude.{IfSome, IsNone, IsSome, IsSomeAnd}
 use Rattle.std.specs.FinMap.{get}
 use Rattle.arch_types.specs.declared.refusal.Refusal.TheVariants as refused
@@ -7,27 +7,27 @@ use Rattle.arch_types.specs.declared.refusal.Which.{Which}
 use Rattle.arch_types.specs.Limits.{limit_of}
 use Rattle.outer_traits.specs.Outside.{Files}
 use Rattle.outer_traits.specs.Whole.{IsInput, IsThere}
-use Rattle.command_plans.specs.Plan.{OfMemory, OfInputs, Gave, Allows, IsDetermined, MayEndBy}
+use Rattle.command_plans.specs.Plan.{OfMemory, OfInputs, Gave, Ended, Cut, Allows, IsDetermined}
 use Rattle.input_plans.specs.Inputs.{InputRead, OverLimit, WithinLimit, IsInputAs, IsThereAs, input_read, input_there, reads}
 
 module _ {X : Type 0} (files : Option Files) (which : Which) (of : List ℕ → X) (name : List ℕ) (sources : ℕ) where
   -- no memory, before a source was given or after,
-  pub no_memory : MayEndBy sources (reads files which of name sources) refused.OutOfMemory
-  no_memory = inr (OfMemory, refl, inl refl)
+  pub no_memory : Allows (reads files which of name sources) (Cut sources OfMemory)
+  no_memory = inl refl
 
-  pub no_memory_then : IsThere files name → MayEndBy (suc sources) (reads files which of name sources) refused.OutOfMemory
-  no_memory_then there = inr (OfMemory, refl, inr (true, there, inr (inl refl)))
+  pub no_memory_then : IsThere files name → Allows (reads files which of name sources) (Cut (sources + 1) OfMemory)
+  no_memory_then there = inr (true, there, inr (inl refl))
 
   -- none of the name,
-  pub input_missing : IfSome files (λ all. IsNone (get all name)) → MayEndBy sources (reads files which of name sources) (refused.Missing name)
-  input_missing none = inl (inr (false, none, refl))
+  pub input_missing : IfSome files (λ all. IsNone (get all name)) → Allows (reads files which of name sources) (Ended sources (Some (refused.Missing name)))
+  input_missing none = inr (false, none, refl)
 
   -- a call that failed: that of the opening, or a read,
-  pub opening_failed : IsThere files name → MayEndBy sources (reads files which of name sources) refused.ReadFault
-  opening_failed there = inr (OfInputs, refl, inr (true, there, inl refl))
+  pub opening_failed : IsThere files name → Allows (reads files which of name sources) (Cut sources OfInputs)
+  opening_failed there = inr (true, there, inl refl)
 
-  pub read_failed : IsThere files name → MayEndBy (suc sources) (reads files which of name sources) refused.ReadFault
-  read_failed there = inr (OfInputs, refl, inr (true, there, inr (inr (inl refl))))
+  pub read_failed : IsThere files name → Allows (reads files which of name sources) (Cut (sources + 1) OfInputs)
+  read_failed there = inr (true, there, inr (inr (inl refl)))
 
 some_long : (most : ℕ) (o : Option (List ℕ)) → IsSomeAnd o (λ octets. most < length octets) → IsSome o
 some_long most None h = absurd h
@@ -37,7 +37,7 @@ there_long : (files : Option Files) (name : List ℕ) (most : ℕ) → IfSome fi
 there_long None name most h = tt
 there_long (Some all) name most h = some_long most (get all name) h
 
-there_some : (files : Option Files) (name octets : List ℕ) → IsInput files name octets → IsThere files name
+pub there_some : (files : Option Files) (name octets : List ℕ) → IsInput files name octets → IsThere files name
 there_some None name octets h = tt
 there_some (Some all) name octets h = rw h refl
 
@@ -48,8 +48,8 @@ has_some (Some all) which of name octets h short = rw h (short, refl)
 
 -- one that is too long,
 pub input_long : {X : Type 0} (files : Option Files) (which : Which) (of : List ℕ → X) (name : List ℕ) (sources : ℕ) →
-    IfSome files (λ all. IsSomeAnd (get all name) (λ octets. limit_of which < length octets)) → MayEndBy (suc sources) (reads files which of name sources) (refused.Limit which (limit_of which))
-input_long files which of name sources long = inl (inr (true, there_long files name (limit_of which) long, inr (inr (inr (OverLimit, long, refl)))))
+    IfSome files (λ all. IsSomeAnd (get all name) (λ octets. limit_of which < length octets)) → Allows (reads files which of name sources) (Ended (sources + 1) (Some (refused.Limit which (limit_of which))))
+input_long files which of name sources long = inr (true, there_long files name (limit_of which) long, inr (inr (inr (OverLimit, long, refl))))
 
 -- and one that was read
 pub input_was_read : {X : Type 0} (files : Option Files) (which : Which) (of : List ℕ → X) (name octets : List ℕ) (sources : ℕ) → IsInput files name octets → length octets ≤ limit_of which →
@@ -90,7 +90,7 @@ module _ {X : Type 0} (which : Which) (of : List ℕ → X) where
   each_input sources (WithinLimit x) = tt
 
   each_there : (all : Files) (name : List ℕ) (sources : ℕ) (b : Bool) → IsDetermined (input_there (Some all) which of name sources b)
-  each_there all name sources true = (input_once all name, λ a h. each_input (suc sources) a)
+  each_there all name sources true = (input_once all name, λ a h. each_input (sources + 1) a)
   each_there all name sources false = tt
 
   -- a known input is read in one way

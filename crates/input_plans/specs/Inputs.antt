@@ -1,15 +1,16 @@
 -- The reading of named inputs, as plans.
-use Rattle.std.specs.Prelude.{◌≡◌, ℕ, suc, ◌+◌, ◌<◌, ◌≤◌, List, length, Bool, true, false, Option, Some, IfSome, IsNone, IsSomeAnd, Result}
+use Rattle.std.specs.Prelude.{◌≡◌, ℕ, ◌+◌, ◌<◌, ◌≤◌, List, length, Bool, true, false, Option, Some, IfSome, IsNone, IsSomeAnd, Result, Ok, Err, ◌⊎◌}
 use Rattle.std.specs.FinMap.{get}
-use Rattle.std.specs.Result.{result_err}
 use Rattle.arch_types.specs.declared.refusal.Refusal.{Refusal}
-use Rattle.arch_types.specs.declared.refusal.Refusal.TheVariants.{Missing, ReadFault, Limit}
+use Rattle.arch_types.specs.declared.refusal.Refusal.TheVariants.{Missing, ReadFault, Limit, OutOfMemory}
 use Rattle.arch_types.specs.declared.refusal.Which.{Which}
 use Rattle.arch_types.specs.Limits.{limit_of}
 use Rattle.outer_traits.specs.Outside.{Files}
+use Rattle.outer_traits.specs.declared.whole.ReadFault as fault
+use Rattle.outer_traits.specs.declared.whole.ReadFault.TheVariants as faulted
 use Rattle.outer_traits.specs.Whole.{IsThere}
 use Rattle.outer_ledgers.specs.Ledger.{InputsState, UsedInputs}
-use Rattle.command_plans.specs.Plan.{OfMemory, OfInputs, Plan, Return, Stop, May, Ask, Meets}
+use Rattle.command_plans.specs.Plan.{Fault, OfMemory, OfInputs, Plan, Return, Stop, May, Ask, Gave, Ended, Cut, Allows, fault_refusal}
 
 -- whether there is an input of a name, where that is known
 abbrev pub IsThereAs : Option Files → List ℕ → Bool → Type 0
@@ -34,7 +35,7 @@ input_read which sources (WithinLimit x) = Return x
 -- it isn't opened; or it is, which gives a source, and there is no memory or a read fails; or it is read
 abbrev pub input_there : {X : Type 0} → Option Files → Which → (List ℕ → X) → List ℕ → ℕ → Bool → Plan ℕ X
 input_there files which of name sources true =
-    May OfInputs sources (May OfMemory (suc sources) (May OfInputs (suc sources) (Ask (IsInputAs files which of name) (input_read which (suc sources)))))
+    May OfInputs sources (May OfMemory (sources + 1) (May OfInputs (sources + 1) (Ask (IsInputAs files which of name) (input_read which (sources + 1)))))
 input_there files which of name sources false = Stop sources (Some (Missing name))
 
 -- reads a named input after so many others: Missing; then ReadFault, or the limit of its octets
@@ -46,8 +47,38 @@ abbrev pub is_read_fault : Option Refusal → Bool
 is_read_fault (Some ReadFault) = true
 is_read_fault other = false
 
--- A call that reads inputs went as its plan may go, whatever was read before it: so many sources were given, and the inputs were used so.
-pub record ReadAs {X : Type 0} (plan : ℕ → Plan ℕ X) (result : Result X Refusal) (old new : InputsState) : Type 0 where
+-- the fault that cuts a reading off: a call of the inputs that failed, or want of memory
+abbrev pub reading_fault : Bool → Fault
+reading_fault true = OfInputs
+reading_fault false = OfMemory
+
+-- A call that reads gave this, whatever was read before it, and the inputs gave so many sources for it;
+pub record WasRead {X : Type 0} (plan : ℕ → Plan ℕ X) (x : X) (sources : ℕ) (old new : InputsState) : Type 0 where
+  pub allows : (before : ℕ) → Allows (plan before) (Gave x)
+  pub used : UsedInputs old new sources false
+
+-- or it was refused in its order,
+pub record WasRefused {X : Type 0} (plan : ℕ → Plan ℕ X) (refusal : Refusal) (old new : InputsState) : Type 0 where
   pub sources : ℕ
-  pub meets : (before : ℕ) → Meets (before + sources) (plan before) result
-  pub used : UsedInputs old new sources (is_read_fault (result_err result))
+  pub allows : (before : ℕ) → Allows (plan before) (Ended (before + sources) (Some refusal))
+  pub used : UsedInputs old new sources false
+
+-- or a fault cut it off
+pub record WasCutOff {X : Type 0} (plan : ℕ → Plan ℕ X) (refusal : Refusal) (old new : InputsState) : Type 0 where
+  pub failed : Bool
+  pub sources : ℕ
+  pub refusal_is : refusal ≡ fault_refusal (reading_fault failed)
+  pub allows : (before : ℕ) → Allows (plan before) (Cut (before + sources) (reading_fault failed))
+  pub used : UsedInputs old new sources failed
+
+-- A call that reads so many inputs went as its plan may go, whatever was read before it.
+abbrev pub ReadAs : {X : Type 0} → ℕ → (ℕ → Plan ℕ X) → Result X Refusal → InputsState → InputsState → Type 0
+ReadAs inputs plan (Ok x) old new = WasRead plan x inputs old new
+ReadAs inputs plan (Err refusal) old new = WasRefused plan refusal old new ⊎ WasCutOff plan refusal old new
+
+-- the refusal of a reading's fault; where there's no memory for the name that is missing, it is that
+abbrev pub IsFaultRefusal : List ℕ → Which → fault.ReadFault → Refusal → Type 0
+IsFaultRefusal name which faulted.Missing refusal = (refusal ≡ Missing name) ⊎ (refusal ≡ OutOfMemory)
+IsFaultRefusal name which faulted.Failed refusal = refusal ≡ ReadFault
+IsFaultRefusal name which faulted.TooLong refusal = refusal ≡ Limit which (limit_of which)
+IsFaultRefusal name which faulted.OutOfMemory refusal = refusal ≡ OutOfMemory

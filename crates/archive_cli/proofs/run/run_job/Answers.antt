@@ -1,5 +1,6 @@
-use Rattle.std.proofs.Common.{◌≡◌, ◌∙◌, ◌+◌, ◌≤◌, [], Option, Some, ap, subst, sym}
+use Rattle.std.proofs.Common.{◌≡◌, ◌∙◌, ◌+◌, ◌≤◌, [], Option, Some, ap, refl, subst, sym}
 use Rattle.std.specs.Result.{result_err}
+use Rattle.outer_ledgers.specs.Ledger.{output_state}
 use Rattle.arch_types.specs.declared.refusal.Refusal.{Refusal}
 use Rattle.archive_cli.specs.declared.report.Report.{Report}
 use Rattle.archive_cli.specs.Order.{AreInOrder, IsInOrder, inputs_of, scan_inputs, values_inputs}
@@ -11,6 +12,9 @@ use Rattle.archive_cli.specs.Ending.{IsCaused, IsJobEnding}
 use Rattle.archive_cli.specs.ScanEnding.{IsScanEnding}
 use Rattle.archive_cli.specs.ValuesEnding.{IsValuesEnding}
 use Rattle.archive_cli.proofs.Diskless.{scan_disk, scan_job_ended, values_disk, values_job_ended}
+use Rattle.archive_cli.specs.Command.{effects_of}
+use Rattle.archive_cli.specs.Report.{IsReport}
+use Rattle.archive_cli.proofs.RecoverPlan.{recover_caused, recover_disk_fault, recover_disk_later, recover_disk_writes, recover_ended, recover_reads, recover_report, recover_writes, recover_writes_later}
 use Rattle.archive_cli.proofs.Scanned.{call_of}
 use Rattle.archive_cli.proofs.run.run_job.Goals as goal
 
@@ -189,7 +193,89 @@ returns-in-Query-clause-disk_writes g c =
     let failed = g.D.Disk.device.failed_writes in
     subst (λ (job : Job). DiskWritesCounted (Some (job_view job)) c.query.result.report (failed c.args.disk) (failed c.query.result.disk)) (sym c.in-Query.is) c.query.ensures.disk_writes
 
+-- `recover`: what its plan says
+
+pub returns-in-Recover-clause-ended : goal.returns-in-Recover-clause-ended
+returns-in-Recover-clause-ended g c = λ words.
+    let device = g.D.Disk.device in
+    let r = c.recover.result in
+    let output = output_state (g.K.Sink.written c.args.sink.now) (g.K.Sink.faults c.args.sink.now) in
+    let output' = output_state (g.K.Sink.written c.recover.new.sink) (g.K.Sink.faults c.recover.new.sink) in
+    let went = effects_of c.args.disk r.disk output output' r.report in
+    let call = call_of words (g.I.Inputs.files c.args.inputs.now) (g.C.Clock.next c.args.clock.now) (g.I.Inputs.faults c.args.inputs.now) (g.I.Inputs.faults c.args.inputs.now)
+    (g.K.Sink.written c.args.sink.now) (g.K.Sink.written c.recover.new.sink) (g.K.Sink.faults c.args.sink.now) (g.K.Sink.faults c.recover.new.sink) in
+    subst (λ (job : Job). IsJobEnding device call c.args.disk r.disk (Some (job_view job)) r.report) (sym c.in-Recover.is) (recover_ended device went c.recover.ensures.ran call refl refl refl refl)
+
+pub returns-in-Recover-clause-caused : goal.returns-in-Recover-clause-caused
+returns-in-Recover-clause-caused g c = λ words.
+    let device = g.D.Disk.device in
+    let r = c.recover.result in
+    let output = output_state (g.K.Sink.written c.args.sink.now) (g.K.Sink.faults c.args.sink.now) in
+    let output' = output_state (g.K.Sink.written c.recover.new.sink) (g.K.Sink.faults c.recover.new.sink) in
+    let went = effects_of c.args.disk r.disk output output' r.report in
+    let call = call_of words (g.I.Inputs.files c.args.inputs.now) (g.C.Clock.next c.args.clock.now) (g.I.Inputs.faults c.args.inputs.now) (g.I.Inputs.faults c.args.inputs.now)
+    (g.K.Sink.written c.args.sink.now) (g.K.Sink.written c.recover.new.sink) (g.K.Sink.faults c.args.sink.now) (g.K.Sink.faults c.recover.new.sink) in
+    subst (λ (job : Job). IsCaused call (Some (job_view job)) r.report.refusal) (sym c.in-Recover.is) (recover_caused device went c.recover.ensures.ran)
+
+pub returns-in-Recover-clause-report : goal.returns-in-Recover-clause-report
+returns-in-Recover-clause-report g c =
+    let device = g.D.Disk.device in
+    let r = c.recover.result in
+    let output = output_state (g.K.Sink.written c.args.sink.now) (g.K.Sink.faults c.args.sink.now) in
+    let output' = output_state (g.K.Sink.written c.recover.new.sink) (g.K.Sink.faults c.recover.new.sink) in
+    let went = effects_of c.args.disk r.disk output output' r.report in
+    subst (λ (job : Job). IsReport (Some (job_view job)) r.report) (sym c.in-Recover.is) (recover_report device went c.recover.ensures.ran)
+
+pub returns-in-Recover-clause-reads_counted : goal.returns-in-Recover-clause-reads_counted
+returns-in-Recover-clause-reads_counted g c =
+    let device = g.D.Disk.device in
+    let r = c.recover.result in
+    let output = output_state (g.K.Sink.written c.args.sink.now) (g.K.Sink.faults c.args.sink.now) in
+    let output' = output_state (g.K.Sink.written c.recover.new.sink) (g.K.Sink.faults c.recover.new.sink) in
+    let went = effects_of c.args.disk r.disk output output' r.report in
+    recover_reads device went c.recover.ensures.ran (g.I.Inputs.faults c.args.inputs.now)
+
+pub returns-in-Recover-clause-writes_counted : goal.returns-in-Recover-clause-writes_counted
+returns-in-Recover-clause-writes_counted g c =
+    let device = g.D.Disk.device in
+    let r = c.recover.result in
+    let output = output_state (g.K.Sink.written c.args.sink.now) (g.K.Sink.faults c.args.sink.now) in
+    let output' = output_state (g.K.Sink.written c.recover.new.sink) (g.K.Sink.faults c.recover.new.sink) in
+    let went = effects_of c.args.disk r.disk output output' r.report in
+    recover_writes device went c.recover.ensures.ran
+
+pub returns-in-Recover-clause-writes_later : goal.returns-in-Recover-clause-writes_later
+returns-in-Recover-clause-writes_later g c =
+    let device = g.D.Disk.device in
+    let r = c.recover.result in
+    let output = output_state (g.K.Sink.written c.args.sink.now) (g.K.Sink.faults c.args.sink.now) in
+    let output' = output_state (g.K.Sink.written c.recover.new.sink) (g.K.Sink.faults c.recover.new.sink) in
+    let went = effects_of c.args.disk r.disk output output' r.report in
+    recover_writes_later device went c.recover.ensures.ran
+
+pub returns-in-Recover-clause-disk_later : goal.returns-in-Recover-clause-disk_later
+returns-in-Recover-clause-disk_later g c =
+    let device = g.D.Disk.device in
+    let r = c.recover.result in
+    let output = output_state (g.K.Sink.written c.args.sink.now) (g.K.Sink.faults c.args.sink.now) in
+    let output' = output_state (g.K.Sink.written c.recover.new.sink) (g.K.Sink.faults c.recover.new.sink) in
+    let went = effects_of c.args.disk r.disk output output' r.report in
+    recover_disk_later device went c.recover.ensures.ran
+
+pub returns-in-Recover-clause-disk_fault : goal.returns-in-Recover-clause-disk_fault
+returns-in-Recover-clause-disk_fault g c =
+    let device = g.D.Disk.device in
+    let r = c.recover.result in
+    let output = output_state (g.K.Sink.written c.args.sink.now) (g.K.Sink.faults c.args.sink.now) in
+    let output' = output_state (g.K.Sink.written c.recover.new.sink) (g.K.Sink.faults c.recover.new.sink) in
+    let went = effects_of c.args.disk r.disk output output' r.report in
+    recover_disk_fault device went c.recover.ensures.ran
+
 pub returns-in-Recover-clause-disk_writes : goal.returns-in-Recover-clause-disk_writes
 returns-in-Recover-clause-disk_writes g c =
-    let failed = g.D.Disk.device.failed_writes in
-    subst (λ (job : Job). DiskWritesCounted (Some (job_view job)) c.recover.result.report (failed c.args.disk) (failed c.recover.result.disk)) (sym c.in-Recover.is) c.recover.ensures.disk_writes
+    let device = g.D.Disk.device in
+    let r = c.recover.result in
+    let output = output_state (g.K.Sink.written c.args.sink.now) (g.K.Sink.faults c.args.sink.now) in
+    let output' = output_state (g.K.Sink.written c.recover.new.sink) (g.K.Sink.faults c.recover.new.sink) in
+    let went = effects_of c.args.disk r.disk output output' r.report in
+    subst (λ (job : Job). DiskWritesCounted (Some (job_view job)) r.report (device.failed_writes c.args.disk) (device.failed_writes r.disk)) (sym c.in-Recover.is) (recover_disk_writes device went c.recover.ensures.ran)
