@@ -1,5 +1,7 @@
 use Rattle.std.proofs.Common.{◌≡◌, ◌⊎◌, inl, ◌++◌, ◌<◌, ◌-◌, ◌^◌, [], ◌∷◌, ℕ, List, length, Bool, true, false, Some, None, refl, sym, ◌∙◌, ap, subst, arith}
 use Rattle.std.specs.Prelude.{IsTrue}
+use Rattle.std.proofs.lemmas.List.{append-nil}
+use mathlib.Core.List.{IsPrefix}
 use Rattle.arch_disk.specs.Disk.{LeavesOnly}
 use Rattle.arch_types.specs.declared.row.Row.{Row}
 use Rattle.arch_types.specs.History.{ingested}
@@ -133,3 +135,37 @@ add_all-requires-clause-tables g c =
     let ok : AreAdmitted (archive s.head s.history.items) c.args.fresh = subst (λ (x : StoreView g.row.D.Denot). AreAdmitted (archive x.head x.history) c.args.fresh) (sym c.self.view_is) c.requires.admitted in
     let placed = subst (λ (l : List Row). AllByRecursion (IsPlaced s.head) l) (sym same) ok.placed in
     placed_tables s.head c.in-Ok.fresh c.prepare-prepared.new.history.tables (c.prepare-prepared.ensures.history.1 ∙ c.self.invariant.1) placed
+
+-- both lists begin with the old ones
+
+pub returns-in-Ok-append-clause-grows : goal.returns-in-Ok-append-clause-grows
+returns-in-Ok-append-clause-grows g c =
+    let s = c.self.inside in
+    let fresh : List Row = c.args.fresh in
+    let ok : AreAdmitted (archive s.head s.history.items) fresh = subst (λ (x : StoreView g.row.D.Denot). AreAdmitted (archive x.head x.history) fresh) (sym c.self.view_is) c.requires.admitted in
+    let prepared = c.prepare-prepared.ensures.history in
+    let same : c.in-Ok.fresh ≡ fresh = c.in-Ok.ensures.frame.1 in
+    let new : ingested c.prepare-prepared.new.history.items c.in-Ok.fresh ≡ c.prepare-prepared.new.history.items ++ c.in-Ok.fresh =
+    subst (λ (l : List Item). ingested l c.in-Ok.fresh ≡ l ++ c.in-Ok.fresh) (sym prepared.0) (subst (λ (l : List Row). ingested s.history.items l ≡ s.history.items ++ l) (sym same) ok.fresh) in
+    let grown = all_added c.add_all.result (c.add_all.new.self.items ≡ c.prepare-prepared.new.history.items ++ c.in-Ok.fresh) (λ is. (c.add_all.ensures.all is).1) (λ is. c.add_all.ensures.some is new) in
+    let items : s.history.items ++ fresh ≡ c.add_all.new.self.items = sym {A = List Item} (grown ∙ ap (λ (l : List Item). l ++ c.in-Ok.fresh) prepared.0 ∙ ap (λ (l : List Row). s.history.items ++ l) same) in
+    record {
+      history = subst (λ (x : StoreView g.row.D.Denot). IsPrefix x.history c.add_all.new.self.items) c.self.view_is (fresh, items);
+      fills = subst (λ (x : StoreView g.row.D.Denot). IsPrefix x.fills c.prepare-prepared.new.fills.items) c.self.view_is ([], append-nil s.fills.items ∙ sym c.prepare-prepared.ensures.fills.0);
+      head = ap (λ (x : StoreView g.row.D.Denot). x.head) c.self.view_is;
+      opened = ap (λ (x : StoreView g.row.D.Denot). x.opened) c.self.view_is;
+    }
+
+pub returns-clause-grows : goal.returns-clause-grows
+returns-clause-grows g c =
+    let s = c.self.inside in
+    let fresh : List Row = c.args.fresh in
+    let same : c.in-Ok.fresh ≡ fresh = c.in-Ok.ensures.frame.1 in
+    let fills : c.push_reserved.new.self.items ≡ s.fills.items ++ fault c.faults-count.result fresh ∷ [] =
+    c.push_reserved.ensures.items ∙ ap (λ (l : List Fill). l ++ fault c.faults-count.result c.in-Ok.fresh ∷ []) c.prepare-prepared.ensures.fills.0 ∙ ap (λ (r : List Row). s.fills.items ++ fault c.faults-count.result r ∷ []) same in
+    record {
+      history = subst (λ (x : StoreView g.row.D.Denot). IsPrefix x.history c.prepare-prepared.new.history.items) c.self.view_is ([], append-nil s.history.items ∙ sym c.prepare-prepared.ensures.history.0);
+      fills = subst (λ (x : StoreView g.row.D.Denot). IsPrefix x.fills c.push_reserved.new.self.items) c.self.view_is (fault c.faults-count.result fresh ∷ [], sym {A = List Fill} fills);
+      head = ap (λ (x : StoreView g.row.D.Denot). x.head) c.self.view_is;
+      opened = ap (λ (x : StoreView g.row.D.Denot). x.opened) c.self.view_is;
+    }
