@@ -12,6 +12,8 @@ pub mod Recovered
 pub mod Commands
 pub mod Ends
 pub mod RecoverPlan
+pub mod CreatePlan
+pub mod CreateEnds
 pub mod Created
 pub mod CreateAnswers
 pub mod Requests

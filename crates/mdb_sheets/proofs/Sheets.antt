@@ -9,10 +9,11 @@ use Rattle.mdb_items.specs.declared.sheet.RawMdb.{RawMdb}
 use Rattle.outer_traits.specs.Outside.{Files}
 use Rattle.outer_traits.specs.declared.whole.ReadFault.{ReadFault}
 use Rattle.outer_traits.specs.declared.whole.ReadFault.TheVariants.{Missing, Failed, TooLong, OutOfMemory}
-use Rattle.command_plans.specs.Plan.{Gave}
-use Rattle.command_plans.proofs.Plans.{gave}
+use Rattle.command_plans.specs.Plan.{Gave, IsDetermined}
+use Rattle.command_plans.proofs.Plans.{determined, gave}
 use Rattle.outer_ledgers.specs.Ledger.{InputsState}
 use Rattle.input_plans.specs.Inputs.{IsFaultRefusal, ReadAs, WasRead}
+use Rattle.input_plans.proofs.Inputs.{reads_determined}
 use Rattle.input_plans.proofs.Readings.{first_not_read, then_not_read, then_read}
 use Rattle.mdb_sheets.specs.Plans.{gives_sheets, reads_second, reads_sheet, reads_third, sheets_plan}
 use Rattle.mdb_sheets.specs.Refusal.{IsRefusalOf}
@@ -72,3 +73,12 @@ pub refused_after : (files files' : Option Files) (name : List ℕ) (faults faul
 refused_after files files' name faults faults' now given given' after refusal same still gave h =
     subst (λ (f : Option Files). IsSheetRefused f name faults now given after refusal) same
     (subst (λ (n : ℕ). IsSheetRefused files' name n now given after refusal) still (subst (λ (n : ℕ). IsSheetRefused files' name faults' now n after refusal) gave h))
+
+-- three known sheets are read in one way
+pub sheets_determined : (all : Files) (parameters calibrations containers : List ℕ) (sources : ℕ) → IsDetermined (sheets_plan (Some all) parameters calibrations containers sources)
+sheets_determined all parameters calibrations containers sources =
+    determined (reads_sheet (Some all) parameters sources) (reads_second (Some all) calibrations containers (sources + 1)) (reads_determined SheetOctets (λ octets. sheet_of octets) all parameters sources)
+    (λ first. determined (reads_sheet (Some all) calibrations (sources + 1)) (reads_third (Some all) containers first (sources + 1 + 1))
+    (reads_determined SheetOctets (λ octets. sheet_of octets) all calibrations (sources + 1))
+    (λ second. determined (reads_sheet (Some all) containers (sources + 1 + 1)) (gives_sheets first second)
+    (reads_determined SheetOctets (λ octets. sheet_of octets) all containers (sources + 1 + 1)) (λ third. tt)))

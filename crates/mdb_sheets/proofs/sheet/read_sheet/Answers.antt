@@ -1,4 +1,4 @@
-use Rattle.std.proofs.Common.{◌≡◌, ◌≤◌, ℕ, List, length, ap, arith, subst, sym}
+use Rattle.std.proofs.Common.{◌≡◌, ◌∙◌, ◌≤◌, ℕ, List, length, ap, arith, subst, sym}
 use Rattle.arch_types.specs.declared.refusal.Which.TheVariants.{SheetOctets}
 use Rattle.arch_types.specs.Limits.{limit_of}
 use Rattle.outer_traits.specs.Whole.{IsInputFault}
@@ -21,7 +21,7 @@ returns-in-Ok-records-clause-read g c =
     let len = c.as_slice.ensures.len in
     let items = ap (λ (octets : List ℕ). length octets) c.as_slice.ensures.value in
     let short : length c.in-Ok.octets.items ≤ limit_of SheetOctets = omega (arith, e.short, len, items, c.limit.ensures) in
-    subst (λ (sheet : List Fields). WasRead (reads_sheet files name) sheet 1 old new) (sym c.in-Ok-records.ensures)
+    subst (λ (sheet : List Fields). WasRead (reads_sheet files name) sheet 1 old new) (sym (c.in-Ok-records.ensures ∙ ap (λ (octets : List ℕ). sheet_of octets) c.as_slice.ensures.value))
     (was_read files SheetOctets (λ octets. sheet_of octets) name old new e.same e.closed e.reliable c.in-Ok.octets.items e.whole short e.gave e.counted)
 
 pub returns-in-Ok-clause-read : goal.returns-in-Ok-clause-read
