@@ -11,10 +11,10 @@ use Rattle.disk_journal.specs.Calls.{CountsNeverFall, IsJournalOpenFailed}
 use Rattle.command_plans.specs.Plan.{Fault, OfMemory, OfDisk, OfOutput, Plan, May, Way, Gave, Ended, Cut, Allows, IsDetermined, IsDue, refusal_at, and_then}
 use Rattle.command_plans.proofs.Plans.{required, gave}
 use Rattle.dump_lines.specs.Output.{Appends, IsFinished, WritesCounted}
-use Rattle.outer_ledgers.specs.Ledger.{UsedDisk}
+use Rattle.outer_ledgers.specs.Ledger.{InputsState, UsedDisk}
 use Rattle.outer_ledgers.proofs.Ledgers.{risen_counted}
 use Rattle.archive_cli.specs.declared.report.Report.{Report}
-use Rattle.archive_cli.specs.Command.{SoFar, Did, looked, look_failed, Effects, Ran, Became, NoneHeld, DamageHeld, ArchiveHeld, opens, prints}
+use Rattle.archive_cli.specs.Command.{SoFar, Did, looked, look_failed, Effects, Ran, RanOver, Became, NoneHeld, DamageHeld, ArchiveHeld, opens, prints}
 use Rattle.archive_cli.specs.Report.{unopened}
 
 -- no text was printed
@@ -61,6 +61,10 @@ module _ {D : Type 0} (device : Device D) (e : Effects D) where
   -- and is the one that is due
   pub is_due : (plan : Plan SoFar ⊥) → IsDetermined plan → Ran device plan e → IsDue plan e.report.refusal
   is_due plan d ran = (ran.way, required plan ran.way d ran.allows, ended_is ran.way ran.did)
+
+  -- over inputs too
+  pub is_due_over : (plan : Plan SoFar ⊥) (old new : InputsState) → IsDetermined plan → RanOver device plan e old new → IsDue plan e.report.refusal
+  is_due_over plan old new d ran = is_due plan d (record { way = ran.way; allows = ran.allows; did = ran.did })
 
 -- ---- an opening
 

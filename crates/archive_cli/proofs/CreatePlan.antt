@@ -19,6 +19,8 @@ use Rattle.command_plans.specs.Plan.{OfMemory, OfInputs, OfDisk, Plan, Way, Gave
 use Rattle.command_plans.proofs.Plans.{allows_map_done, cut, determined, determined_map_done, end_of, ended, gave}
 use Rattle.command_words.specs.Job.{SheetWords}
 use Rattle.input_plans.specs.Inputs.{ReadAs, WasRead, reading_fault}
+use Rattle.input_plans.proofs.Readings.{first_not_read, then_not_read, then_read}
+use Rattle.outer_ledgers.proofs.Ledgers.{inputs_unused}
 use Rattle.outer_ledgers.specs.Ledger.{InputsState, UsedInputs, raised_by}
 use Rattle.retrieval.specs.Parameter.{sheets_refusal}
 use Rattle.archive_cli.specs.declared.report.Report.{Report}
@@ -29,6 +31,43 @@ use Rattle.archive_cli.specs.Report.{unopened}
 use Rattle.archive_cli.proofs.Commands.{looked_only, no_text}
 use Rattle.archive_cli.proofs.CreateAnswers.{one-not-none}
 use Rattle.archive_cli.proofs.Created.{fewer_than_two, left_alone}
+
+-- ---- the head
+
+none_behind : (before : ℕ) → before ≡ before + 0
+none_behind before = omega arith
+
+module _ (files : Option Files) (words : SheetWords) (a b : InputsState) where
+  abbrev sheets : ℕ → Plan ℕ RawMdb
+  sheets = sheets_plan files words.parameters words.calibrations words.containers
+
+  -- the sheets weren't read
+  pub head_unread : (refusal : Refusal) → ReadAs {X = RawMdb} 3 sheets (Err refusal) a b → ReadAs {X = Head} 3 (head_plan files words) (Err refusal) a b
+  head_unread refusal read = first_not_read sheets (λ before. checks_head (before + 3)) refusal 3 3 a b read
+
+  module _ (raw : RawMdb) (read : WasRead sheets raw 3 a b) where
+    -- there was no memory for the head,
+    pub head_unmade : ReadAs {X = Head} 3 (head_plan files words) (Err OutOfMemory) a b
+    head_unmade = then_not_read sheets checks_head 3 raw a b b read OutOfMemory 0 (inr (record {
+      failed = false;
+      sources = 0;
+      refusal_is = refl;
+      allows = λ before. subst (λ (s : ℕ). Allows (checks_head before raw) (Cut s OfMemory)) (none_behind before) (inl refl);
+      used = inputs_unused b;
+    }))
+
+    -- the sheets are refused,
+    pub head_bad : (refusal : Refusal) → (sheets_refusal raw ≡ Some refusal) ⊎ (refusal ≡ OutOfMemory) → ReadAs {X = Head} 3 (head_plan files words) (Err refusal) a b
+    head_bad refusal (inl is) = then_not_read sheets checks_head 3 raw a b b read refusal 0 (inl (record {
+      sources = 0;
+      allows = λ before. subst (λ (s : ℕ). Allows (checks_head before raw) (Ended s (Some refusal))) (none_behind before) (inr (Some refusal, sym is, refl));
+      used = inputs_unused b;
+    }))
+    head_bad refusal (inr is) = subst (λ (r : Refusal). ReadAs {X = Head} 3 (head_plan files words) (Err r) a b) (sym is) head_unmade
+
+    -- or they give a head
+    pub head_was_read : (head : Head) → sheets_refusal raw ≡ None → head ≡ new_head raw → WasRead (head_plan files words) head 3 a b
+    head_was_read head good is = then_read sheets checks_head 3 raw a b b read head 0 (record { allows = λ before. inr (None, sym good, ap (λ (h : Head). Gave h) is); used = inputs_unused b })
 
 -- ---- an archive is made
 
