@@ -63,6 +63,13 @@ pub record IsMade {D : Type 0} (device : Device D) (old new : D) (head : Head) :
 abbrev pub IsStillNone : {D : Type 0} → Device D → D → D → Type 0
 IsStillNone device old new = (c : Image) → device.images new c → device.images old c ⊎ HoldsNone (c 0)
 
+-- The making of an archive of this head failed: a disk that holds one is left as it was, and on one that holds none a crash leaves what a making leaves.
+-- Where it failed once a crash now leaves no archive, or what it could have left before.
+pub record IsMakingFailed {D : Type 0} (device : Device D) (old new : D) (head : Head) : Type 0 where
+  pub kept : HoldsOne (device.reads old) → IsReadAsBefore device old new
+  pub images : HoldsNone (device.reads old 0) → LeavesOnly device old new (IsCreateImage (device.images old) head)
+  pub closed : HoldsNone (device.reads old 0) → FailedAtMostOnce device old new → IsStillNone device old new
+
 -- nothing was written to the disk, for a cause that the words and the inputs give, or for want of memory
 pub record IsCreateNotBegun {D : Type 0} (device : Device D) (call : Call) (old new : D) (report : Report) : Type 0 where
   pub silent : WritesNothing call
