@@ -17,14 +17,14 @@ use Rattle.mdb_items.specs.Checks.{or_else}
 use Rattle.mdb_items.specs.Database.{Broken, limit_passed}
 use Rattle.mdb_model.specs.Sheets.{sheets_database, sheets_fault}
 use Rattle.mdb_sheets.proofs.Sheets.{has_sheet}
-use Rattle.mdb_sheets.specs.Plans.{gives_sheets, reads_second, reads_third, sheets_plan}
+use Rattle.mdb_sheets.specs.Plans.{gives_sheets, reads_second, reads_sheet, reads_third, sheets_plan}
 use Rattle.mdb_sheets.specs.Sheets.{AreSheets, Fields, HasSheet, IsRefusal, IsSheet, IsSheetRefused, ReadsCounted, sheet_of}
 use Rattle.outer_traits.specs.Outside.{Files, HasRisen, IsOneMoreAtMost, one_more}
 use Rattle.outer_traits.specs.Whole.{IsThere}
 use Rattle.archive_store.specs.declared.head.Head.{Head}
 use Rattle.archive_store.specs.Calls.{IsCreateImage, IsStoreCreateRefusal}
 use Rattle.archive_store.proofs.Calls.{store_create_counted, store_create_most}
-use Rattle.command_plans.specs.Plan.{OfMemory, OfInputs, OfDisk, Plan, Way, Ended, Cut, Allows, and_then, fault_refusal, map_done}
+use Rattle.command_plans.specs.Plan.{OfMemory, OfInputs, OfDisk, Plan, Return, Stop, May, Ask, Choose, Way, Ended, Cut, Allows, and_then, fault_refusal, map_done}
 use Rattle.command_plans.proofs.Plans.{end_of}
 use Rattle.command_words.specs.Job.{SheetWords}
 use Rattle.dump_lines.specs.Output.{WritesCounted}
@@ -66,6 +66,25 @@ IsUnread files which name s (Limit passed number) n failed =
     (passed ≡ which) × (number ≡ limit_of which) × IfSome files (λ all. IsSomeAnd (get all name) (λ octets. limit_of which < length octets)) × (n ≡ s + 1) × (failed ≡ false)
 IsUnread files which name s OutOfMemory n failed = ((n ≡ s) ⊎ (n ≡ s + 1)) × (failed ≡ false)
 IsUnread files which name s other n failed = ⊥
+
+-- the sheets gave no head
+abbrev IsHeadless : Option Files → SheetWords → Refusal → ℕ → Bool → Type 0
+IsHeadless files words refusal n failed =
+    IsUnread files SheetOctets words.parameters 0 refusal n failed
+    ⊎ ((HasSheet files words.parameters × IsUnread files SheetOctets words.calibrations 1 refusal n failed)
+    ⊎ ((HasSheet files words.parameters × HasSheet files words.calibrations × IsUnread files SheetOctets words.containers 2 refusal n failed)
+    ⊎ ((raw : RawMdb) × AreSheets files words.parameters words.calibrations words.containers raw
+    × ((sheets_refusal raw ≡ Some refusal) ⊎ (refusal ≡ OutOfMemory)) × (n ≡ 3) × (failed ≡ false))))
+
+-- three plans, one behind the other
+behind : {X Y Z : Type 0} (p : Plan ℕ X) (f : X → Plan ℕ Y) (g : Y → Plan ℕ Z) (k : Z → Plan SoFar ⊥) (way : Way SoFar ⊥) →
+    Allows (and_then (map_done nothing_done (and_then (and_then p f) g)) k) way → Allows (and_then (map_done nothing_done (and_then p (λ x. and_then (f x) g))) k) way
+behind (Return x) f g k way goes = goes
+behind (Stop s refusal) f g k way goes = goes
+behind (May fault s p) f g k way (inl goes) = inl goes
+behind (May fault s p) f g k way (inr goes) = inr (behind p f g k way goes)
+behind (Ask is next) f g k way goes = (goes.0, goes.1, behind (next goes.0) f g k way goes.2)
+behind (Choose is next) f g k way goes = (goes.0, goes.1, behind (next goes.0) f g k way goes.2)
 
 -- nothing was asked of the disk
 pub record NotBegun {D : Type 0} (device : Device D) (e : Effects D) (a b : InputsState) (refusal : Refusal) (sources : ℕ) (failed : Bool) : Type 0 where
@@ -133,15 +152,6 @@ module _ {D : Type 0} (device : Device D) (e : Effects D) (a b : InputsState) wh
     reads_end (inl goes) = inl (OutOfMemory, s, false, (inl refl, refl), cut_before way s false goes did)
     reads_end (inr h) = there_end h.0 h.1 h.2
 
-  -- the sheets gave no head
-  abbrev IsHeadless : Option Files → SheetWords → Refusal → ℕ → Bool → Type 0
-  IsHeadless files words refusal n failed =
-      IsUnread files SheetOctets words.parameters 0 refusal n failed
-      ⊎ ((HasSheet files words.parameters × IsUnread files SheetOctets words.calibrations 1 refusal n failed)
-      ⊎ ((HasSheet files words.parameters × HasSheet files words.calibrations × IsUnread files SheetOctets words.containers 2 refusal n failed)
-      ⊎ ((raw : RawMdb) × AreSheets files words.parameters words.calibrations words.containers raw
-      × ((sheets_refusal raw ≡ Some refusal) ⊎ (refusal ≡ OutOfMemory)) × (n ≡ 3) × (failed ≡ false))))
-
   module _ (files : Option Files) (words : SheetWords) (way : Way SoFar ⊥) (did : DidOver way) where
     -- the sheets gave no head, or one with which it went on
     abbrev HeadsOn : Type 0
@@ -160,7 +170,8 @@ module _ {D : Type 0} (device : Device D) (e : Effects D) (a b : InputsState) wh
     third_end : (ps cs : List Fields) → IsSheet files words.parameters ps → IsSheet files words.calibrations cs →
         Allows (and_then (map_done nothing_done (and_then (reads_third files words.containers ps 2 cs) (checks_head 3))) (makes device e.disk)) way → HeadsOn
     third_end ps cs p c goes =
-        elim (reads_end files SheetOctets (λ octets. sheet_of octets) words.containers 2 (λ ks. and_then (gives_sheets ps cs ks) (checks_head 3)) (makes device e.disk) way did goes) [
+        elim (reads_end files SheetOctets (λ octets. sheet_of octets) words.containers 2 (λ ks. and_then (gives_sheets ps cs ks) (checks_head 3)) (makes device e.disk) way did
+        (behind (reads_sheet files words.containers 2) (gives_sheets ps cs) (checks_head 3) (makes device e.disk) way goes)) [
           | inl n ↦ inl (n.0, n.1, n.2, inr (inr (inl (has_sheet files words.parameters ps p, has_sheet files words.calibrations cs c, n.3))), n.4)
           | inr h ↦ checks_end (record { parameters = ps; calibrations = cs; containers = h.0 }) (record { parameters_sheet = p; calibrations_sheet = c; containers_sheet = h.1 }) h.2
         ]
@@ -168,14 +179,16 @@ module _ {D : Type 0} (device : Device D) (e : Effects D) (a b : InputsState) wh
     second_end : (ps : List Fields) → IsSheet files words.parameters ps →
         Allows (and_then (map_done nothing_done (and_then (reads_second files words.calibrations words.containers 1 ps) (checks_head 3))) (makes device e.disk)) way → HeadsOn
     second_end ps p goes =
-        elim (reads_end files SheetOctets (λ octets. sheet_of octets) words.calibrations 1 (λ cs. and_then (reads_third files words.containers ps 2 cs) (checks_head 3)) (makes device e.disk) way did goes) [
+        elim (reads_end files SheetOctets (λ octets. sheet_of octets) words.calibrations 1 (λ cs. and_then (reads_third files words.containers ps 2 cs) (checks_head 3)) (makes device e.disk) way did
+        (behind (reads_sheet files words.calibrations 1) (reads_third files words.containers ps 2) (checks_head 3) (makes device e.disk) way goes)) [
           | inl n ↦ inl (n.0, n.1, n.2, inr (inl (has_sheet files words.parameters ps p, n.3)), n.4)
           | inr h ↦ third_end ps h.0 p h.1 h.2
         ]
 
     pub heads_end : Allows (create_plan device e.disk files words) way → HeadsOn
     heads_end goes =
-        elim (reads_end files SheetOctets (λ octets. sheet_of octets) words.parameters 0 (λ ps. and_then (reads_second files words.calibrations words.containers 1 ps) (checks_head 3)) (makes device e.disk) way did goes) [
+        elim (reads_end files SheetOctets (λ octets. sheet_of octets) words.parameters 0 (λ ps. and_then (reads_second files words.calibrations words.containers 1 ps) (checks_head 3)) (makes device e.disk) way did
+        (behind (reads_sheet files words.parameters 0) (reads_second files words.calibrations words.containers 1) (checks_head 3) (makes device e.disk) way goes)) [
           | inl n ↦ inl (n.0, n.1, n.2, inl n.3, n.4)
           | inr h ↦ second_end h.0 h.1 h.2
         ]
