@@ -401,13 +401,13 @@ module _ {D : Type 0} (device : Device D) (e : Effects D) (files : Option Files)
   at_end : WasHeadless device e files words a b ⊎ WasHeaded device e files words a b
   at_end = elim (heads_end device e a b files words ran.way (ran.did, ran.inputs) ran.allows) [
     | inl h ↦ inl (record {
-        refusal = h.0;
-        head = headless files words a b h.0 h.1 h.2 h.4.inputs h.3;
-        report = h.4.report;
-        silent = h.4.silent;
-        faults = h.4.faults;
-        disk = h.4.disk;
-      })
+      refusal = h.0;
+      head = headless files words a b h.0 h.1 h.2 h.4.inputs h.3;
+      report = h.4.report;
+      silent = h.4.silent;
+      faults = h.4.faults;
+      disk = h.4.disk;
+    })
     | inr h ↦
         let each = end_of ReadThree (makes device e.disk (new_head h.0)) ran.way (makes_after device e.disk (new_head h.0)) h.2 in
         inr (record { raw = h.0; good = h.1; inputs = rw (each.0, each.1) at ran.inputs; came = makes_end device e (new_head h.0) ran.way ran.did h.2 })

@@ -55,15 +55,6 @@ sheets_bad raw (faulted.Bad sheet row rule) h = inl (ap (by_broken raw) h)
 sheets_bad raw (faulted.Limit which number) h = inl (ap (by_broken raw) h.0 ∙ ap by_passed h.1)
 sheets_bad raw faulted.OutOfMemory h = inr refl
 
-no_memory : (files : Option Files) (words : SheetWords) (faults faults' : ℕ) (refusal : Refusal) → refusal ≡ OutOfMemory → AreRefused files words faults faults' refusal
-no_memory files words faults faults' refusal is = subst (λ (r : Refusal). AreRefused files words faults faults' r) (sym is) (inl (inl tt))
-
--- sheets that were read and give no database are refused
-pub refused_sheets : (files : Option Files) (words : SheetWords) (faults faults' : ℕ) (raw : RawMdb) (fault : MdbFault) →
-    AreSheets files words.parameters words.calibrations words.containers raw → IsCheckResult raw (Err fault) → AreRefused files words faults faults' (refusal_of_sheets fault)
-refused_sheets files words faults faults' raw fault sheets h =
-    elim (sheets_bad raw fault h) [ inl is ↦ inr (raw, sheets, is) | inr is ↦ no_memory files words faults faults' (refusal_of_sheets fault) is ]
-
 -- ---- the refusals of sheets are no others
 
 abbrev pub IsSheetAnswer : Refusal → Type 0
@@ -129,12 +120,6 @@ pub create_refused : {D : Type 0} (device : Device D) (call : Call) (words : She
 create_refused device call words old new refusal report is refused silent disk =
     subst (λ (r : Report). IsCreateEnding device call words old new r.refusal r) (sym is)
     (refused_cases device call words old new refusal (refused_kind call.files words call.read_faults call.read_faults' refusal refused) refused silent disk)
-
--- there was no memory for the line
-pub create_unbegun : {D : Type 0} (device : Device D) (call : Call) (words : SheetWords) (old new : D) (report : Report) → report ≡ unopened (Some OutOfMemory) →
-    WritesNothing call → IsReadAsBefore device old new → IsCreateEnding device call words old new report.refusal report
-create_unbegun device call words old new report is silent disk =
-    subst (λ (r : Report). IsCreateEnding device call words old new r.refusal r) (sym is) (record { silent = silent; disk = disk; report_is = refl })
 
 same_untouched : {D : Type 0} (device : Device D) (old new : D) → new ≡ old → IsReadAsBefore device old new
 same_untouched device old new same = subst (λ d. IsReadAsBefore device old d) (sym same) (untouched device old)

@@ -37,10 +37,6 @@ pub record AreGood (files : Option Files) (words : SheetWords) (raw : RawMdb) : 
   pub sheets : AreSheets files words.parameters words.calibrations words.containers raw
   pub admitted : sheets_refusal raw ≡ None
 
--- the head that the three sheets give
-abbrev pub IsHeadOfSheets : Option Files → SheetWords → Head → Type 0
-IsHeadOfSheets files words head = (raw : RawMdb) × AreGood files words raw × (head ≡ new_head raw)
-
 -- a sheet wasn't read, or they were and are refused
 abbrev pub AreRefused : Option Files → SheetWords → ℕ → ℕ → Refusal → Type 0
 AreRefused files words faults faults' refusal =
