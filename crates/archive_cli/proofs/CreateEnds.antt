@@ -17,7 +17,7 @@ use Rattle.mdb_items.specs.Checks.{or_else}
 use Rattle.mdb_items.specs.Database.{Broken, limit_passed}
 use Rattle.mdb_model.specs.Sheets.{sheets_database, sheets_fault}
 use Rattle.mdb_sheets.proofs.Sheets.{has_sheet}
-use Rattle.mdb_sheets.specs.Plans.{gives_sheets, reads_second, reads_sheet, reads_third, sheets_plan}
+use Rattle.mdb_sheets.specs.Plans.{gives_sheets, reads_second, reads_sheet, reads_third}
 use Rattle.mdb_sheets.specs.Sheets.{AreSheets, Fields, HasSheet, IsRefusal, IsSheet, IsSheetRefused, ReadsCounted, sheet_of}
 use Rattle.outer_traits.specs.Outside.{Files, HasRisen, IsOneMoreAtMost, one_more}
 use Rattle.outer_traits.specs.Whole.{IsThere}

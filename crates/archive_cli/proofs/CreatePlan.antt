@@ -15,7 +15,7 @@ use Rattle.mdb_sheets.specs.Plans.{sheets_plan}
 use Rattle.outer_traits.specs.Outside.{Files}
 use Rattle.archive_store.specs.declared.head.Head.{Head}
 use Rattle.archive_store.specs.Calls.{CrashLeavesHead, IsStoreCreateRefusal}
-use Rattle.command_plans.specs.Plan.{OfMemory, OfInputs, OfDisk, Plan, Way, Gave, Ended, Cut, Allows, EachEnd, IsDetermined, and_then, fault_refusal, map_done}
+use Rattle.command_plans.specs.Plan.{OfMemory, OfInputs, OfDisk, Plan, Way, Gave, Ended, Cut, Allows, EachEnd, IsDetermined, fault_refusal, map_done}
 use Rattle.command_plans.proofs.Plans.{allows_map_done, cut, determined, determined_map_done, end_of, ended, gave}
 use Rattle.command_words.specs.Job.{SheetWords}
 use Rattle.input_plans.specs.Inputs.{ReadAs, WasRead, reading_fault}
@@ -23,7 +23,6 @@ use Rattle.input_plans.proofs.Readings.{first_not_read, then_not_read, then_read
 use Rattle.outer_ledgers.proofs.Ledgers.{inputs_unused}
 use Rattle.outer_ledgers.specs.Ledger.{InputsState, UsedInputs, raised_by}
 use Rattle.retrieval.specs.Parameter.{sheets_refusal}
-use Rattle.archive_cli.specs.declared.report.Report.{Report}
 use Rattle.archive_cli.specs.Command.{SoFar, Effects, Ran, RanOver, failed_at, looked, nothing_done, prints, sources_at}
 use Rattle.archive_cli.specs.Create.{HoldsAs, checks_head, create_plan, head_checked, head_plan, made, made_where, makes, making_failed}
 use Rattle.archive_cli.specs.CreateEnding.{create_line, new_head}

@@ -17,7 +17,7 @@ use Rattle.mdb_items.specs.declared.sheet.RawMdb.{RawMdb}
 use Rattle.mdb_items.specs.Checks.{or_else}
 use Rattle.mdb_items.specs.Database.{Broken, Database, limit_passed}
 use Rattle.mdb_model.specs.Sheets.{IsCheckResult, sheets_database, sheets_fault}
-use Rattle.mdb_sheets.specs.Sheets.{AreSheets, IsSheetRefusal, ReadsCounted}
+use Rattle.mdb_sheets.specs.Sheets.{IsSheetRefusal, ReadsCounted}
 use Rattle.outer_traits.specs.Outside.{Files}
 use Rattle.archive_store.specs.declared.head.Head.{Head}
 use Rattle.archive_store.specs.Calls.{IsCreateImage, IsStoreCreateRefusal}

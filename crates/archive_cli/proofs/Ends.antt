@@ -1,5 +1,5 @@
 -- Where the parts of plans end.
-use Rattle.std.proofs.Common.{◌≡◌, ◌⊎◌, ◌≤◌, inl, inr, ℕ, Bool, true, false, List, [], Option, Some, None, refl, sym, subst, arith, append-nil}
+use Rattle.std.proofs.Common.{◌≡◌, ◌⊎◌, ◌≤◌, inl, inr, ℕ, Bool, true, false, List, [], Option, Some, None, subst, append-nil}
 use Rattle.std.specs.Prelude.{IsTrue}
 use Rattle.arch_disk.specs.Disk.{Device}
 use Rattle.arch_types.specs.declared.refusal.Refusal.{Refusal}
@@ -12,7 +12,6 @@ use Rattle.command_plans.specs.Plan.{OfMemory, OfDisk, OfOutput, Plan, Way, Ende
 use Rattle.dump_lines.specs.Output.{Appends, IsFinished, WritesCounted}
 use Rattle.outer_ledgers.specs.Ledger.{Counted, UsedDisk}
 use Rattle.outer_ledgers.proofs.Ledgers.{counted_risen, counted_later, no_failed_write, one_write, rose_later}
-use Rattle.archive_cli.specs.declared.report.Report.{Report}
 use Rattle.archive_cli.specs.Command.{SoFar, Became, looked, look_failed, Effects, Did, Held, NoneHeld, DamageHeld, ArchiveHeld, IsHeld, opens, opens_held, prints}
 use Rattle.archive_cli.specs.ReadOnly.{IsReadAsBefore}
 use Rattle.archive_cli.specs.Report.{unopened}

@@ -1,10 +1,7 @@
-use Rattle.std.proofs.Common.{◌≡◌, ◌+◌, ℕ, None, Some, arith, inl, inr, refl, sym, subst}
-use Rattle.std.specs.Prelude.{Err}
+use Rattle.std.proofs.Common.{refl}
 use Rattle.std.proofs.lemmas.Result.{err_from_is_err_and}
-use Rattle.archive_store.specs.declared.head.Head.{Head}
 use Rattle.command_words.specs.JobView.{sheet_words_of}
 use Rattle.outer_ledgers.specs.Ledger.{inputs_state}
-use Rattle.archive_cli.specs.CreateEnding.{new_head}
 use Rattle.archive_cli.proofs.CreatePlan.{head_bad, head_unread, head_unmade, head_was_read}
 use Rattle.archive_cli.proofs.Created.{sheets_bad, sheets_good}
 use Rattle.archive_cli.proofs.create.read_head.Goals as goal
