@@ -10,7 +10,7 @@ pub struct Interval(pub i64);
 impl Interval {
     /// The interval of a time in milliseconds.
     pub fn of(time: i64) -> Interval
-        ensures { result.0 ≡ interval_of time }
+        ensures { result.0 ≡ interval_of 22 time }
     {
         Interval(time.div_euclid(1 << 22))
     }

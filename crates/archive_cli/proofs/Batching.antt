@@ -1,6 +1,6 @@
 -- The batches of a dump, one after the other.
 use Rattle.std.proofs.Common.{◌≡◌, ◌⊎◌, inl, inr, ℕ, ℤ, ◌+◌, ◌-◌, ◌<◌, ◌≤◌, true, false, Bool, List, [], ◌∷◌, ◌++◌, length, take, drop, refl, sym, ap, subst, ◌∙◌, arith, append-nil, append_assoc, length-append, ltb}
-use Rattle.std.specs.Prelude.{◌≢◌, slice_range, Result, Err}
+use Rattle.std.specs.Prelude.{◌≢◌, slice_range}
 use Rattle.std.proofs.Math.Seq.{take-append_seam, drop-append_seam}
 use Rattle.std.proofs.lemmas.Bool.{ltb-true, ltb-false}
 use Rattle.std.proofs.lemmas.List.{take_all}
@@ -8,7 +8,6 @@ use Rattle.std.proofs.lemmas.List.Elements.{All-nil}
 use Rattle.arch_disk.specs.Disk.{Device}
 use Rattle.arch_types.specs.declared.refusal.Refusal.{Refusal}
 use Rattle.arch_types.specs.declared.refusal.Refusal.TheVariants.{DiskFault, Limit, OutOfMemory, NeedsReopen}
-use Rattle.arch_types.specs.declared.refusal.Which.{Which}
 use Rattle.arch_types.specs.declared.row.Row.{Row}
 use Rattle.arch_types.specs.Dump.{IsDump, BeginsWithNoPacket}
 use Rattle.arch_types.specs.History.{ingested}
@@ -27,10 +26,10 @@ use Rattle.space_packet.specs.Cut.{IsCut, IsPart}
 use Rattle.space_packet.specs.Rest.{why_of}
 use Rattle.space_packet.proofs.Cuts.{cut_whole}
 use Rattle.archive_store.specs.declared.head.Head.{Head}
-use Rattle.archive_store.specs.Answers.{store_asks_reopen, IsIngestRefusal}
+use Rattle.archive_store.specs.Calls.{IsIngestRefusal}
 use Rattle.archive_store.specs.Batches.{batch_rows}
 use Rattle.archive_history.specs.Limits.{IsLimit}
-use Rattle.archive_store.specs.StoreView.{StoreView, AddsFault}
+use Rattle.archive_store.specs.StoreView.{StoreView}
 use Rattle.archive_cli.specs.declared.batches.NextBatch.{NextBatch}
 use Rattle.archive_cli.specs.Batches.{arrivals_with, arrived, batch_at, rows_of_link, IsNextBatch, HasIngested, IsIngested, IsStoppedAt, IsRefusedFor}
 use Rattle.archive_cli.proofs.Arrived.{batch_none, batch_more, rows-append, arrived-append, few_arrived}
@@ -219,36 +218,14 @@ module _ {D : Type 0} (old : StoreView D) (dump : List ℕ) (link : ℕ) (moment
           stopped_at mid new start end packets idle taken refusal all.0 all.1 s t all.2 (inl (omega (arith, least, count, few))) history head opened still cause
 
 -- why a store refused a batch
-module _ {D T : Type 0} (device : Device D) (mid new : StoreView D) (rows : List Row) where
-  no_failed_write_still : (refusal : Refusal) → mid.fills ≡ [] → (refusal ≡ DiskFault → ⊥) → (◌≡◌ {A = Result T Refusal} (Err refusal) (Err DiskFault)) ⊎ (new ≡ mid) → new.fills ≡ []
-  no_failed_write_still refusal no_failed_write other (inl e) = absurd (other (cc (e)))
-  no_failed_write_still refusal no_failed_write other (inr e) = ap (λ (x : StoreView D). x.fills) e ∙ no_failed_write
-
-  -- and that it has no record more, where no fault is held
-  pub records_still : (refusal : Refusal) → (◌≡◌ {A = Result T Refusal} (Err refusal) (Err DiskFault) → AddsFault device mid new (fresh_of mid.history rows))
-      → (◌≡◌ {A = Result T Refusal} (Err refusal) (Err DiskFault)) ⊎ (new ≡ mid) → new.fills ≡ [] → new.records ≡ mid.records
-  records_still refusal fault (inl e) none =
-      let f = fault e in
-      absurd (omega (arith, ap length none, ap length f.fills, length-append mid.fills (Fault f.count true (fresh_of mid.history rows) ∷ [])))
-  records_still refusal fault (inr e) none = ap (λ (x : StoreView D). x.records) e
-
-  pub refused_for : (refusal : Refusal) → mid.fills ≡ [] → new.history ≡ mid.history → (◌≡◌ {A = Result T Refusal} (Err refusal) (Err DiskFault) → AddsFault device mid new (fresh_of mid.history rows))
-      → (◌≡◌ {A = Result T Refusal} (Err refusal) (Err DiskFault)) ⊎ (new ≡ mid)
-      → ((which : Which) (number : ℕ) → ◌≡◌ {A = Result T Refusal} (Err refusal) (Err (Limit which number)) → (number ≡ limit_of which) × IsLimit which mid.records (ingested mid.history rows))
-      → store_asks_reopen {T = T} (Err refusal) ≡ pending_fault_of mid.fills → IsIngestRefusal refusal → IsRefusedFor new rows refusal
-  refused_for (Limit which number) no_failed_write same fault untouched limit reopens only =
-      let l = limit which number refl in
-      let still = no_failed_write_still (Limit which number) no_failed_write (λ e. cc) untouched in (
-        still,
-        l.0,
-        subst (λ (n : ℕ). IsLimit which n (ingested new.history rows)) (sym (records_still (Limit which number) fault untouched still))
-            (subst (λ (h : List Item). IsLimit which mid.records (ingested h rows)) (sym same) l.1),
-      )
-  refused_for DiskFault no_failed_write same fault untouched limit reopens only =
-      let f = fault refl in (
-        f.count,
-        f.fills ∙ ap (λ (l : List Fill). l ++ Fault f.count true (fresh_of mid.history rows) ∷ []) no_failed_write ∙ ap (λ (h : List Item). Fault f.count true (fresh_of h rows) ∷ []) (sym same),
-      )
-  refused_for OutOfMemory no_failed_write same fault untouched limit reopens only = no_failed_write_still OutOfMemory no_failed_write (λ e. cc) untouched
-  refused_for (NeedsReopen faults) no_failed_write same fault untouched limit reopens only = absurd (let none = ap pending_fault_of no_failed_write in cc)
-  refused_for other no_failed_write same fault untouched limit reopens only = absurd only
+pub refused_for : {D : Type 0} (device : Device D) (mid new : StoreView D) (rows : List Row) (refusal : Refusal) → mid.fills ≡ [] → IsIngestRefusal device mid new rows refusal → IsRefusedFor new rows refusal
+refused_for {D = D} device mid new rows (Limit which number) none refused =
+    subst (λ (s : StoreView D). (s.fills ≡ []) × (number ≡ limit_of which) × IsLimit 22 which s.records (ingested s.history rows)) (sym refused.1) (none, refused.0.number_is, refused.0.first)
+refused_for device mid new rows DiskFault none refused =
+    let f = refused.fault in (
+      f.count,
+      f.fills ∙ ap (λ (l : List Fill). l ++ Fault f.count true (fresh_of mid.history rows) ∷ []) none ∙ ap (λ (h : List Item). Fault f.count true (fresh_of h rows) ∷ []) (sym f.history),
+    )
+refused_for {D = D} device mid new rows OutOfMemory none refused = ap (λ (s : StoreView D). s.fills) refused.1 ∙ none
+refused_for device mid new rows (NeedsReopen faults) none refused = absurd (let calm = ap pending_fault_of none in cc (refused.0, calm))
+refused_for device mid new rows other none refused = absurd refused

@@ -1,5 +1,6 @@
 -- Why a command on an archive ended as it did, from what its steps say of their answers.
 use Rattle.std.proofs.Common.{◌≡◌, ℕ, List, Option, Some, None, sym, subst}
+use Rattle.arch_disk.specs.Disk.{Device}
 use Rattle.arch_types.specs.declared.ask.Ask.{Ask}
 use Rattle.arch_types.specs.declared.refusal.Refusal.{Refusal}
 use Rattle.arch_types.specs.declared.refusal.Refusal.TheVariants.{Missing, ReadFault, WriteFault, BadSheet, Limit, NoArchive, Exists, Damaged, DiskFault, UnknownParameter, BadRange, OutOfMemory}
@@ -7,7 +8,7 @@ use Rattle.arch_types.specs.declared.refusal.Which.TheVariants.{SheetOctets, Ask
 use Rattle.archive_core.specs.Items.{Item}
 use Rattle.mdb_items.specs.Database.{Database}
 use Rattle.mdb_sheets.specs.Sheets.{HasSheet}
-use Rattle.archive_store.specs.Answers.{IsCreateAnswer, IsOpenAnswer}
+use Rattle.archive_store.specs.Calls.{IsStoreCreateRefusal, IsStoreOpenRefusal}
 use Rattle.archive_cli.specs.declared.ask_sheet.AskSheet.{AskSheet}
 use Rattle.archive_cli.specs.declared.ask_sheet.AskSheet.TheVariants.{Read, Refused}
 use Rattle.archive_cli.specs.declared.report.Report.{Report}
@@ -40,16 +41,18 @@ create_refused_cause call words refusal report is h =
     subst (λ (r : Report). IsCreateCaused call words r.refusal) (sym is)
     (refused_sheets_cause call words refusal (refused_kind call.files words call.read_faults call.read_faults' refusal h) h)
 
-unmade_cause : (call : Call) (words : SheetWords) (refusal : Refusal) → IsCreateAnswer refusal → HasGoodSheets call words → IsCreateCaused call words (Some refusal)
-unmade_cause call words Exists h good = good
-unmade_cause call words DiskFault h good = good
-unmade_cause call words OutOfMemory h good = tt
-unmade_cause call words other h good = absurd h
+unmade_cause : {D : Type 0} (device : Device D) (old new : D) (call : Call) (words : SheetWords) (refusal : Refusal) → IsStoreCreateRefusal device old new refusal → HasGoodSheets call words → IsCreateCaused call words (Some refusal)
+unmade_cause device old new call words Exists h good = good
+unmade_cause device old new call words DiskFault h good = good
+unmade_cause device old new call words OutOfMemory h good = tt
+unmade_cause device old new call words other h good = absurd h
 
 -- no archive was made
-pub create_unmade_cause : (call : Call) (words : SheetWords) (refusal : Refusal) (report : Report) → report ≡ unopened (Some refusal) → IsCreateAnswer refusal →
+pub create_unmade_cause : {D : Type 0} (device : Device D) (old new : D) (call : Call) (words : SheetWords) (refusal : Refusal) (report : Report) → report ≡ unopened (Some refusal) →
+    IsStoreCreateRefusal device old new refusal →
     HasGoodSheets call words → IsCreateCaused call words report.refusal
-create_unmade_cause call words refusal report is h good = subst (λ (r : Report). IsCreateCaused call words r.refusal) (sym is) (unmade_cause call words refusal h good)
+create_unmade_cause device old new call words refusal report is h good =
+    subst (λ (r : Report). IsCreateCaused call words r.refusal) (sym is) (unmade_cause device old new call words refusal h good)
 
 made_cause : (call : Call) (words : SheetWords) (refusal : Option Refusal) (before now : Option (List ℕ)) (text : List ℕ) → IsFinished refusal before now text →
     HasGoodSheets call words → IsCreateCaused call words refusal
@@ -79,18 +82,19 @@ pub query_unread_cause : (call : Call) (name : List ℕ) (refusal : Refusal) (re
     IsInputRefusal call.files name SheetOctets call.read_faults call.read_faults' refusal → IsQueryCaused call name report.refusal
 query_unread_cause call name refusal report is h = subst (λ (r : Report). IsQueryCaused call name r.refusal) (sym is) (unread_cause call name refusal h)
 
-unopened_cause : (call : Call) (name : List ℕ) (refusal : Refusal) → IsOpenAnswer refusal → HasSheet call.files name → IsQueryCaused call name (Some refusal)
-unopened_cause call name NoArchive h there = there
-unopened_cause call name (Damaged file at) h there = there
-unopened_cause call name DiskFault h there = there
-unopened_cause call name OutOfMemory h there = tt
-unopened_cause call name other h there = absurd h
+unopened_cause : {D : Type 0} (device : Device D) (old new : D) (call : Call) (name : List ℕ) (refusal : Refusal) → IsStoreOpenRefusal device old new refusal → HasSheet call.files name → IsQueryCaused call name (Some refusal)
+unopened_cause device old new call name NoArchive h there = there
+unopened_cause device old new call name (Damaged file at) h there = there
+unopened_cause device old new call name DiskFault h there = there
+unopened_cause device old new call name OutOfMemory h there = tt
+unopened_cause device old new call name other h there = absurd h
 
 -- no archive was opened
-pub query_unopened_cause : (call : Call) (name : List ℕ) (sheet : AskSheet) (refusal : Refusal) (report : Report) → report ≡ unopened (Some refusal) → IsOpenAnswer refusal →
+pub query_unopened_cause : {D : Type 0} (device : Device D) (old new : D) (call : Call) (name : List ℕ) (sheet : AskSheet) (refusal : Refusal) (report : Report) →
+    report ≡ unopened (Some refusal) → IsStoreOpenRefusal device old new refusal →
     IsAskSheet call.files name sheet → IsQueryCaused call name report.refusal
-query_unopened_cause call name sheet refusal report is h asked =
-    subst (λ (r : Report). IsQueryCaused call name r.refusal) (sym is) (unopened_cause call name refusal h (sheet_there call.files name sheet asked))
+query_unopened_cause device old new call name sheet refusal report is h asked =
+    subst (λ (r : Report). IsQueryCaused call name r.refusal) (sym is) (unopened_cause device old new call name refusal h (sheet_there call.files name sheet asked))
 
 reply_cause : (call : Call) (name : List ℕ) (db : Database) (history : List Item) (asks : List Ask) (refusal : Option Refusal) (before now : Option (List ℕ)) (faults faults' : ℕ) →
     AreAsksOf call.files name asks → IsReply db history asks refusal before now faults faults' → IsQueryCaused call name refusal
@@ -120,16 +124,17 @@ query_replied_cause call name db history sheet refusal report rows before now fa
 
 -- ---- recover
 
-not_recovered_cases : (refusal : Refusal) → IsOpenAnswer refusal → IsRecoverCaused (Some refusal)
-not_recovered_cases NoArchive h = tt
-not_recovered_cases (Damaged file at) h = tt
-not_recovered_cases DiskFault h = tt
-not_recovered_cases OutOfMemory h = tt
-not_recovered_cases other h = absurd h
+not_recovered_cases : {D : Type 0} (device : Device D) (old new : D) (refusal : Refusal) → IsStoreOpenRefusal device old new refusal → IsRecoverCaused (Some refusal)
+not_recovered_cases device old new NoArchive h = tt
+not_recovered_cases device old new (Damaged file at) h = tt
+not_recovered_cases device old new DiskFault h = tt
+not_recovered_cases device old new OutOfMemory h = tt
+not_recovered_cases device old new other h = absurd h
 
 -- no archive was opened
-pub not_recovered_cause : (refusal : Refusal) (report : Report) → report ≡ unopened (Some refusal) → IsOpenAnswer refusal → IsRecoverCaused report.refusal
-not_recovered_cause refusal report is h = subst (λ (r : Report). IsRecoverCaused r.refusal) (sym is) (not_recovered_cases refusal h)
+pub not_recovered_cause : {D : Type 0} (device : Device D) (old new : D) (refusal : Refusal) (report : Report) → report ≡ unopened (Some refusal) → IsStoreOpenRefusal device old new refusal →
+    IsRecoverCaused report.refusal
+not_recovered_cause device old new refusal report is h = subst (λ (r : Report). IsRecoverCaused r.refusal) (sym is) (not_recovered_cases device old new refusal h)
 
 recovered_cases : (refusal : Option Refusal) (before now : Option (List ℕ)) (text : List ℕ) → IsFinished refusal before now text → IsRecoverCaused refusal
 recovered_cases None before now text h = tt

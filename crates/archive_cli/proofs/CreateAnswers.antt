@@ -81,7 +81,7 @@ missing-cases files all words faults faults' refusal e n (inl (inr (inr h))) = a
 missing-cases files all words faults faults' refusal e n (inr h) = absurd (lacks files all words.parameters h.0.parameters e n h.1.parameters_sheet)
 
 -- no disk holds one and none
-one-not-none : (file : List ℕ) → 2 ≤ length file → get_or file 0 0 ≡ 1 → HoldsNone file → ⊥
+pub one-not-none : (file : List ℕ) → 2 ≤ length file → get_or file 0 0 ≡ 1 → HoldsNone file → ⊥
 one-not-none [] long first none = absurd (omega (arith, long))
 one-not-none (gate ∷ []) long first none = absurd (omega (arith, long))
 one-not-none (gate ∷ next ∷ rest) long first none = none first

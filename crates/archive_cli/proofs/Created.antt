@@ -1,6 +1,6 @@
 -- How `create` ends.
 use Rattle.std.proofs.Common.{◌≡◌, ◌⊎◌, ◌≤◌, inl, inr, ℕ, List, [], ◌∷◌, ◌++◌, Option, Some, None, refl, sym, ◌∙◌, ap, subst, ◌<◌, ◌+◌, ◌^◌, arith}
-use Rattle.std.specs.Prelude.{option_map, Ok, Err}
+use Rattle.std.specs.Prelude.{option_map, IsTrue, Ok, Err}
 use mathlib.Core.List.{IsPrefix}
 use Rattle.arch_disk.specs.Image.{Image}
 use Rattle.arch_disk.specs.Disk.{Device, LeavesOnly, raised}
@@ -17,10 +17,10 @@ use Rattle.mdb_items.specs.declared.sheet.RawMdb.{RawMdb}
 use Rattle.mdb_items.specs.Checks.{or_else}
 use Rattle.mdb_items.specs.Database.{Broken, Database, limit_passed}
 use Rattle.mdb_model.specs.Sheets.{IsCheckResult, sheets_database, sheets_fault}
-use Rattle.mdb_sheets.specs.Sheets.{AreSheets, IsSheetRefusal, ReadsCounted}
+use Rattle.mdb_sheets.specs.Sheets.{IsSheetRefusal, ReadsCounted}
 use Rattle.outer_traits.specs.Outside.{Files}
 use Rattle.archive_store.specs.declared.head.Head.{Head}
-use Rattle.archive_store.specs.Answers.{IsCreateAnswer, IsCreateRefusal, IsCreateImage}
+use Rattle.archive_store.specs.Calls.{IsCreateImage, IsStoreCreateRefusal}
 use Rattle.archive_store.specs.Entries.{archive}
 use Rattle.archive_store.specs.StoreView.{StoreView, IsNow, CrashInvariant, unacknowledged_rows}
 use Rattle.archive_store.specs.Stands.{StandsFor}
@@ -28,7 +28,7 @@ use Rattle.archive_cli.specs.declared.report.Report.{Report}
 use Rattle.archive_cli.specs.Call.{Call, WritesNothing}
 use Rattle.dump_lines.specs.Output.{WritesCounted, IsFinished}
 use Rattle.archive_cli.specs.ReadOnly.{IsReadAsBefore}
-use Rattle.archive_cli.specs.CreateEnding.{AreGood, AreRefused, create_line, HoldsOne, IsCreateEnding, IsMade, IsStillNone, new_head}
+use Rattle.archive_cli.specs.CreateEnding.{AreGood, AreRefused, create_line, HoldsOne, IsCreateEnding, IsMade, new_head}
 use Rattle.command_words.specs.Job.{SheetWords}
 use Rattle.retrieval.specs.Parameter.{broken_rule, passed_limit, refusal_of_sheets, sheets_refusal}
 use Rattle.archive_cli.specs.Durable.{FailedAtMostOnce}
@@ -54,15 +54,6 @@ unfolding sheets_refusal
 sheets_bad raw (faulted.Bad sheet row rule) h = inl (ap (by_broken raw) h)
 sheets_bad raw (faulted.Limit which number) h = inl (ap (by_broken raw) h.0 ∙ ap by_passed h.1)
 sheets_bad raw faulted.OutOfMemory h = inr refl
-
-no_memory : (files : Option Files) (words : SheetWords) (faults faults' : ℕ) (refusal : Refusal) → refusal ≡ OutOfMemory → AreRefused files words faults faults' refusal
-no_memory files words faults faults' refusal is = subst (λ (r : Refusal). AreRefused files words faults faults' r) (sym is) (inl (inl tt))
-
--- sheets that were read and give no database are refused
-pub refused_sheets : (files : Option Files) (words : SheetWords) (faults faults' : ℕ) (raw : RawMdb) (fault : MdbFault) →
-    AreSheets files words.parameters words.calibrations words.containers raw → IsCheckResult raw (Err fault) → AreRefused files words faults faults' (refusal_of_sheets fault)
-refused_sheets files words faults faults' raw fault sheets h =
-    elim (sheets_bad raw fault h) [ inl is ↦ inr (raw, sheets, is) | inr is ↦ no_memory files words faults faults' (refusal_of_sheets fault) is ]
 
 -- ---- the refusals of sheets are no others
 
@@ -130,12 +121,6 @@ create_refused device call words old new refusal report is refused silent disk =
     subst (λ (r : Report). IsCreateEnding device call words old new r.refusal r) (sym is)
     (refused_cases device call words old new refusal (refused_kind call.files words call.read_faults call.read_faults' refusal refused) refused silent disk)
 
--- there was no memory for the line
-pub create_unbegun : {D : Type 0} (device : Device D) (call : Call) (words : SheetWords) (old new : D) (report : Report) → report ≡ unopened (Some OutOfMemory) →
-    WritesNothing call → IsReadAsBefore device old new → IsCreateEnding device call words old new report.refusal report
-create_unbegun device call words old new report is silent disk =
-    subst (λ (r : Report). IsCreateEnding device call words old new r.refusal r) (sym is) (record { silent = silent; disk = disk; report_is = refl })
-
 same_untouched : {D : Type 0} (device : Device D) (old new : D) → new ≡ old → IsReadAsBefore device old new
 same_untouched device old new same = subst (λ d. IsReadAsBefore device old d) (sym same) (untouched device old)
 
@@ -147,26 +132,40 @@ fewer_than_two device old new one = few (device.fault_count old) (device.fault_c
     few before now most below = omega (arith, most, below)
 
 unmade_cases : {D : Type 0} (device : Device D) (call : Call) (words : SheetWords) (old new : D) (raw : RawMdb) (refusal : Refusal) → AreGood call.files words raw → WritesNothing call →
-    IsCreateRefusal (device.reads old) (device.reads new) refusal → (refusal ≡ DiskFault → raised (device.fault_count old) ≤ device.fault_count new) → (refusal ≡ OutOfMemory → new ≡ old) →
-    (HoldsOne (device.reads old) → IsReadAsBefore device old new) → (HoldsNone (device.reads old 0) → LeavesOnly device old new (IsCreateImage (device.images old) (new_head raw))) →
-    (refusal ≡ DiskFault → HoldsNone (device.reads old 0) → FailedAtMostOnce device old new → IsStillNone device old new) →
-    IsCreateEnding device call words old new (Some refusal) (unopened (Some refusal))
-unmade_cases device call words old new raw Exists good silent h cause memory kept images closed =
-    record { raw = raw; good = good; there = (h.0, h.1); disk = kept (h.0, h.1); silent = silent; report_is = refl }
-unmade_cases device call words old new raw DiskFault good silent h cause memory kept images closed =
-    (cause refl, record { raw = raw; good = good; silent = silent; kept = kept; images = images; closed = closed refl; report_is = refl })
-unmade_cases device call words old new raw OutOfMemory good silent h cause memory kept images closed =
-    record { silent = silent; disk = same_untouched device old new (memory refl); report_is = refl }
-unmade_cases device call words old new raw other good silent h cause memory kept images closed = absurd h
+    IsTrue device.is_transparent → IsStoreCreateRefusal device old new refusal → (HoldsOne (device.reads old) → IsReadAsBefore device old new) →
+    (HoldsNone (device.reads old 0) → LeavesOnly device old new (IsCreateImage (device.images old) (new_head raw))) → IsCreateEnding device call words old new (Some refusal) (unopened (Some refusal))
+unmade_cases device call words old new raw Exists good silent known refused kept images =
+    let held = (refused.0 known).0 in record { raw = raw; good = good; there = held; disk = kept held; silent = silent; report_is = refl }
+unmade_cases device call words old new raw DiskFault good silent known refused kept images = (
+  refused.rose,
+  record {
+    raw = raw;
+    good = good;
+    silent = silent;
+    kept = kept;
+    images = images;
+    closed = λ none one. refused.closed (fewer_than_two device old new one) known none;
+    report_is = refl;
+  },
+)
+unmade_cases device call words old new raw OutOfMemory good silent known refused kept images =
+    record { silent = silent; disk = same_untouched device old new refused; report_is = refl }
+unmade_cases device call words old new raw other good silent known refused kept images = absurd refused
 
 -- no archive was made
 pub create_unmade : {D : Type 0} (device : Device D) (call : Call) (words : SheetWords) (old new : D) (raw : RawMdb) (refusal : Refusal) (report : Report) → report ≡ unopened (Some refusal) →
-    AreGood call.files words raw → WritesNothing call → IsCreateRefusal (device.reads old) (device.reads new) refusal →
-    (refusal ≡ DiskFault → raised (device.fault_count old) ≤ device.fault_count new) → (refusal ≡ OutOfMemory → new ≡ old) → (HoldsOne (device.reads old) → IsReadAsBefore device old new) →
-    (HoldsNone (device.reads old 0) → LeavesOnly device old new (IsCreateImage (device.images old) (new_head raw))) →
-    (refusal ≡ DiskFault → HoldsNone (device.reads old 0) → FailedAtMostOnce device old new → IsStillNone device old new) → IsCreateEnding device call words old new report.refusal report
-create_unmade device call words old new raw refusal report is good silent h cause memory kept images closed =
-    subst (λ (r : Report). IsCreateEnding device call words old new r.refusal r) (sym is) (unmade_cases device call words old new raw refusal good silent h cause memory kept images closed)
+    AreGood call.files words raw → WritesNothing call → IsTrue device.is_transparent → IsStoreCreateRefusal device old new refusal → (HoldsOne (device.reads old) → IsReadAsBefore device old new) →
+    (HoldsNone (device.reads old 0) → LeavesOnly device old new (IsCreateImage (device.images old) (new_head raw))) → IsCreateEnding device call words old new report.refusal report
+create_unmade device call words old new raw refusal report is good silent known refused kept images =
+    subst (λ (r : Report). IsCreateEnding device call words old new r.refusal r) (sym is) (unmade_cases device call words old new raw refusal good silent known refused kept images)
+
+-- a fault of the disk was counted
+pub unmade_fault : {D : Type 0} (device : Device D) (old new : D) (refusal : Refusal) (report : Report) → report ≡ unopened (Some refusal) → IsStoreCreateRefusal device old new refusal →
+    report.refusal ≡ Some DiskFault → raised (device.fault_count old) ≤ device.fault_count new
+unmade_fault device old new refusal report is refused fault =
+    let same : Some refusal ≡ Some DiskFault = sym (ap (λ (r : Report). r.refusal) is) ∙ fault in
+    let which : refusal ≡ DiskFault = cc (same) in
+    (subst (IsStoreCreateRefusal device old new) which refused).rose
 
 created_cases : {D : Type 0} (device : Device D) (call : Call) (words : SheetWords) (old new : D) (raw : RawMdb) (refusal : Option Refusal) → AreGood call.files words raw →
     IsMade device old new (new_head raw) → IsFinished refusal call.written call.written' (create_line (sheets_database raw)) →
@@ -213,15 +212,15 @@ made_store {D = D} device disk s head none history fills is opened images keeps 
       images = images;
     }
 
--- the refusals of a making are of no input and of no sink
-pub create_reads : (refusal : Refusal) → IsCreateAnswer refusal → (faults : ℕ) → ReadsCounted (Some refusal) faults faults
-create_reads Exists h faults = refl
-create_reads DiskFault h faults = refl
-create_reads OutOfMemory h faults = refl
-create_reads other h faults = absurd h
+-- the refusals of a creation are of no input and of no sink
+pub create_reads : {D : Type 0} (device : Device D) (old new : D) (refusal : Refusal) → IsStoreCreateRefusal device old new refusal → (faults : ℕ) → ReadsCounted (Some refusal) faults faults
+create_reads device old new Exists h faults = refl
+create_reads device old new DiskFault h faults = refl
+create_reads device old new OutOfMemory h faults = refl
+create_reads device old new other h faults = absurd h
 
-pub create_writes : (refusal : Refusal) → IsCreateAnswer refusal → (faults : ℕ) → WritesCounted (Some refusal) faults faults
-create_writes Exists h faults = refl
-create_writes DiskFault h faults = refl
-create_writes OutOfMemory h faults = refl
-create_writes other h faults = absurd h
+pub create_writes : {D : Type 0} (device : Device D) (old new : D) (refusal : Refusal) → IsStoreCreateRefusal device old new refusal → (faults : ℕ) → WritesCounted (Some refusal) faults faults
+create_writes device old new Exists h faults = refl
+create_writes device old new DiskFault h faults = refl
+create_writes device old new OutOfMemory h faults = refl
+create_writes device old new other h faults = absurd h

@@ -1,12 +1,14 @@
 -- How many writes of the disk failed.
-use Rattle.std.proofs.Common.{◌≡◌, ◌⊎◌, ◌≤◌, ◌∙◌, ℕ, Bool, true, false, List, Option, Some, None, inl, inr, arith, refl, sym, ap, subst}
-use Rattle.std.specs.Prelude.{◌≢◌, Err, Result, is_ok, if◌then◌else◌}
+use Rattle.std.proofs.Common.{◌≡◌, ◌⊎◌, ◌≤◌, ◌∙◌, ℕ, List, Option, Some, None, inl, inr, arith, refl, sym, ap, subst}
+use Rattle.std.specs.Prelude.{◌≢◌, Err, IfErr, Ok, OnOk, Result}
 use Rattle.std.proofs.lemmas.Bool.{cases_eq}
-use Rattle.arch_disk.specs.Disk.{CountsFailure, Device, raised}
+use Rattle.arch_disk.specs.Disk.{Device, raised}
 use Rattle.arch_types.specs.declared.refusal.Refusal.{Refusal}
-use Rattle.arch_types.specs.declared.refusal.Refusal.TheVariants.{DiskFault, OutOfMemory, WriteFault}
+use Rattle.arch_types.specs.declared.refusal.Refusal.TheVariants.{DiskFault, WriteFault}
 use Rattle.arch_types.specs.declared.row.Row.{Row}
+use Rattle.archive_store.specs.Calls.{IsStoreReopened, IsStoreReopenRefusal}
 use Rattle.archive_store.specs.StoreView.{AddsFault, StoreView}
+use Rattle.archive_store.proofs.Calls.{reopen_failed}
 use Rattle.archive_cli.specs.declared.report.Report.{Report}
 use Rattle.archive_cli.specs.DiskWrites.{DiskWritesCounted, ExactlyOne, IsLoadWrites, NoneFailed, OneAtMost, OneFailed, OneOrTwo, TwoAtMost}
 use Rattle.command_words.specs.Job.{Job, Scan, Values, Create, Load, Query, Recover}
@@ -82,8 +84,8 @@ unmade_writes refusal report before now is least most fault =
 -- ---- the batches of a dump
 
 -- a batch was refused
-pub refused_writes : {D T : Type 0} (device : Device D) (old new : StoreView D) (rows : List Row) (refusal : Refusal) (before : ℕ) → device.failed_writes old.disk ≡ before
-    → (◌≡◌ {A = Result T Refusal} (Err refusal) (Err DiskFault) → AddsFault device old new rows) → (◌≡◌ {A = Result T Refusal} (Err refusal) (Err DiskFault)) ⊎ (new ≡ old)
+pub refused_writes : {D : Type 0} (device : Device D) (old new : StoreView D) (rows : List Row) (refusal : Refusal) (before : ℕ) → device.failed_writes old.disk ≡ before
+    → (refusal ≡ DiskFault → AddsFault device old new rows) → (refusal ≡ DiskFault) ⊎ (new ≡ old)
     → ExactlyOne (Some refusal) before (device.failed_writes new.disk)
 refused_writes device old new rows DiskFault before same fault untouched = (fault refl).wrote ∙ ap raised same
 refused_writes device old new rows other before same fault (inl is) = absurd (cc (is))
@@ -91,14 +93,12 @@ refused_writes {D = D} device old new rows other before same fault (inr is) = ap
 
 -- ---- the taking back of a failed write
 
--- by the call's count
-reopening_cases : (ok : Bool) (before now : ℕ) → now ≡ (if ok then before else raised before) → OneAtMost (Some DiskFault) before now
-reopening_cases true before now is = inl is
-reopening_cases false before now is = inr is
-
-pub reopening_writes : {D T E : Type 0} (device : Device D) (old new : D) (result : Result T E) → CountsFailure device old new result
-    → OneAtMost (Some DiskFault) (device.failed_writes old) (device.failed_writes new)
-reopening_writes device old new result counted = reopening_cases (is_ok result) (device.failed_writes old) (device.failed_writes new) counted
+-- by what the call answered
+pub reopening_writes : {D : Type 0} (device : Device D) (old new : StoreView D) (result : Result Unit Refusal) → OnOk result (IsStoreReopened device old new)
+    → IfErr result (IsStoreReopenRefusal device old new) → OneAtMost (Some DiskFault) (device.failed_writes old.disk) (device.failed_writes new.disk)
+reopening_writes device old new (Ok x) ok err = inl ok.no_failed_write
+reopening_writes device old new (Err refusal) ok err =
+    let failed = subst (IsStoreReopenRefusal device old new) (reopen_failed device old new refusal err) err in inr failed.wrote
 
 -- one behind that of a batch
 pub taken_back : (refusal : Refusal) (before between now : ℕ) → ExactlyOne (Some refusal) before between → OneAtMost (Some refusal) between now → OneOrTwo (Some refusal) before now

@@ -1,5 +1,5 @@
 -- Disks that are handed back unasked.
-use Rattle.std.proofs.Common.{◌≡◌, ◌≤◌, ℕ, ℤ, arith, List, Bool, true, false, Option, Some, None, refl, sym, subst}
+use Rattle.std.proofs.Common.{◌≡◌, ◌≤◌, ℕ, ℤ, arith, List, Bool, true, Option, Some, None, sym, subst}
 use Rattle.std.proofs.lemmas.Bool.{false≢true}
 use Rattle.arch_disk.specs.Disk.{Device}
 use Rattle.arch_types.specs.declared.refusal.Refusal.{Refusal}
@@ -8,7 +8,7 @@ use Rattle.arch_types.specs.declared.refusal.Which.TheVariants.{SheetOctets}
 use Rattle.archive_core.specs.Items.{Item}
 use Rattle.mdb_items.specs.Database.{Database}
 use Rattle.mdb_sheets.specs.Sheets.{more}
-use Rattle.archive_store.specs.Answers.{IsCreateAnswer, IsOpenAnswer}
+use Rattle.archive_store.specs.Calls.{IsStoreCreateRefusal, IsStoreOpenRefusal}
 use Rattle.archive_store.specs.StoreView.{StoreView}
 use Rattle.archive_cli.specs.declared.ask_sheet.AskSheet.{AskSheet}
 use Rattle.archive_cli.specs.declared.ask_sheet.AskSheet.TheVariants.{Read, Refused}
@@ -52,16 +52,16 @@ same_back (Some Recover) old new report same = tt
 
 -- ---- create
 
-unmade_cases : {D : Type 0} (old new : D) (refusal : Refusal) → IsCreateAnswer refusal → (refusal ≡ OutOfMemory → new ≡ old) → IsCreateBack old new (Some refusal)
-unmade_cases old new Exists answer memory = tt
-unmade_cases old new DiskFault answer memory = tt
-unmade_cases old new OutOfMemory answer memory = memory refl
-unmade_cases old new other answer memory = absurd answer
+unmade_cases : {D : Type 0} (device : Device D) (old new : D) (refusal : Refusal) → IsStoreCreateRefusal device old new refusal → IsCreateBack old new (Some refusal)
+unmade_cases device old new Exists refused = tt
+unmade_cases device old new DiskFault refused = tt
+unmade_cases device old new OutOfMemory refused = refused
+unmade_cases device old new other refused = absurd refused
 
 -- no archive was made
-pub unmade_back : {D : Type 0} (old new : D) (refusal : Refusal) (report : Report) → report ≡ unopened (Some refusal) → IsCreateAnswer refusal → (refusal ≡ OutOfMemory → new ≡ old)
+pub unmade_back : {D : Type 0} (device : Device D) (old new : D) (refusal : Refusal) (report : Report) → report ≡ unopened (Some refusal) → IsStoreCreateRefusal device old new refusal
     → IsCreateBack old new report.refusal
-unmade_back old new refusal report is answer memory = subst (λ (r : Report). IsCreateBack old new r.refusal) (sym is) (unmade_cases old new refusal answer memory)
+unmade_back device old new refusal report is refused = subst (λ (r : Report). IsCreateBack old new r.refusal) (sym is) (unmade_cases device old new refusal refused)
 
 made_cases : {D : Type 0} (old new : D) (refusal : Option Refusal) (before now : Option (List ℕ)) (text : List ℕ) → IsFinished refusal before now text → IsCreateBack old new refusal
 made_cases old new None before now text finished = tt
@@ -102,17 +102,18 @@ session_back device first old dump link moment written written' disk report s =
 
 -- ---- query
 
-ask_unopened_cases : {D : Type 0} (old new : D) (refusal : Refusal) → IsOpenAnswer refusal → IsQueryBack old new (Some refusal)
-ask_unopened_cases old new NoArchive answer = tt
-ask_unopened_cases old new (Damaged file at) answer = tt
-ask_unopened_cases old new DiskFault answer = tt
-ask_unopened_cases old new OutOfMemory answer = tt
-ask_unopened_cases old new other answer = absurd answer
+ask_unopened_cases : {D : Type 0} (device : Device D) (old new : D) (refusal : Refusal) → IsStoreOpenRefusal device old new refusal → IsQueryBack old new (Some refusal)
+ask_unopened_cases device old new NoArchive refused = tt
+ask_unopened_cases device old new (Damaged file at) refused = tt
+ask_unopened_cases device old new DiskFault refused = tt
+ask_unopened_cases device old new OutOfMemory refused = tt
+ask_unopened_cases device old new other refused = absurd refused
 
 -- no archive was opened
-pub ask_unopened_back : {D : Type 0} (old new : D) (refusal : Refusal) (report : Report) → report ≡ unopened (Some refusal) → IsOpenAnswer refusal → IsQueryBack old new report.refusal
-ask_unopened_back old new refusal report is answer =
-    subst (λ (r : Report). IsQueryBack old new r.refusal) (sym is) (ask_unopened_cases old new refusal answer)
+pub ask_unopened_back : {D : Type 0} (device : Device D) (old new : D) (refusal : Refusal) (report : Report) → report ≡ unopened (Some refusal) → IsStoreOpenRefusal device old new refusal
+    → IsQueryBack old new report.refusal
+ask_unopened_back device old new refusal report is refused =
+    subst (λ (r : Report). IsQueryBack old new r.refusal) (sym is) (ask_unopened_cases device old new refusal refused)
 
 reply_cases : {D : Type 0} (first last : D) (db : Database) (history : List Item) (sheet : AskSheet) (refusal : Option Refusal) (before now : Option (List ℕ)) (faults faults' : ℕ)
     → IsDeferred sheet → IsSheetReply db history sheet refusal before now faults faults' → IsQueryBack first last refusal

@@ -9,6 +9,11 @@ pub mod Valued
 pub mod ValuesAnswers
 pub mod ReadOnly
 pub mod Recovered
+pub mod Commands
+pub mod Ends
+pub mod RecoverPlan
+pub mod CreatePlan
+pub mod CreateEnds
 pub mod Created
 pub mod CreateAnswers
 pub mod Requests

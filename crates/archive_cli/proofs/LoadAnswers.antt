@@ -77,8 +77,8 @@ grown : (history : List Item) (rows : List Row) → length history ≤ length (i
 grown history rows = omega (arith, ap (λ (l : List Item). length l) (fresh_added history rows), length-append history (fresh_of history rows))
 
 -- a history within all limits has so few rows that as many records and one more are within theirs
-not_limited : (which : Which) (records : ℕ) (reached : List Item) (rows : List Row) → records ≤ 1 + length reached → IsWithin (ingested reached rows) →
-    IsLimit which records (ingested reached rows) → ⊥
+not_limited : (which : Which) (records : ℕ) (reached : List Item) (rows : List Row) → records ≤ 1 + length reached → IsWithin 22 (ingested reached rows) →
+    IsLimit 22 which records (ingested reached rows) → ⊥
 not_limited Records records reached rows few w passed = omega (arith, few, w.rows, passed.1, grown reached rows)
 not_limited which records reached rows few w passed = passed_not_within which (ingested reached rows) passed w
 
@@ -225,16 +225,16 @@ module _ {D : Type 0} (device : Device D) (call : Call) (all : Files) (words : L
 
           -- a batch passes no limit where all packets pass none
           room_left : HasRoomFor archive call words packets → (run : IsLoad device call words nothing_left old new) →
-              IsWithin (ingested run.reached (link_rows run.before.head.mdb words.link run.received.moment (batch_at run.place run.received.packets)))
+              IsWithin 22 (ingested run.reached (link_rows run.before.head.mdb words.link run.received.moment (batch_at run.place run.received.packets)))
           room_left room run =
               let moment = run.received.moment in
               let rows : List Row = link_rows run.before.head.mdb words.link moment (batch_at run.place run.received.packets) in
               let same : archive ≡ run.before = stands_once (device.reads old) archive run.before stands run.stands in
-              let all_of : IsWithin (history_with run.before words.link moment run.received.packets) =
-              subst (λ (a : Archive). IsWithin (history_with a words.link moment run.received.packets)) same
-              (subst (λ (l : List (List ℕ)). IsWithin (history_with archive words.link moment l)) (sym (same_packets run.received)) (room moment run.received.clock)) in
-              subst (λ (h : List Item). IsWithin (ingested h rows)) (sym run.reached_is)
-              (within_less _ _ (subst IsWithin (begins_whole run.before words.link moment run.received.packets run.place) all_of))
+              let all_of : IsWithin 22 (history_with run.before words.link moment run.received.packets) =
+              subst (λ (a : Archive). IsWithin 22 (history_with a words.link moment run.received.packets)) same
+              (subst (λ (l : List (List ℕ)). IsWithin 22 (history_with archive words.link moment l)) (sym (same_packets run.received)) (room moment run.received.clock)) in
+              subst (λ (h : List Item). IsWithin 22 (ingested h rows)) (sym run.reached_is)
+              (within_less _ _ (subst (IsWithin 22) (begins_whole run.before words.link moment run.received.packets run.place) all_of))
 
           pub limit_not : (which : Which) (number : ℕ) (report : Report) → HasRoomFor archive call words packets → IsLimited device call words old new which number report → ⊥
           limit_not which number report room h =

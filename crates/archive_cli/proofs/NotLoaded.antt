@@ -14,7 +14,7 @@ use Rattle.outer_traits.specs.Whole.{IsInput, IsThere}
 use Rattle.archive_store.specs.Entries.{Archive}
 use Rattle.archive_cli.specs.declared.report.Report.{Report}
 use Rattle.archive_cli.specs.Call.{Call, WritesNothing}
-use Rattle.archive_cli.specs.ReadOnly.{IsReadOnly}
+use Rattle.archive_cli.specs.ReadOnly.{IsOpeningRefusal, IsReadAsBefore, IsReadOnly}
 use Rattle.command_words.specs.Job.{LoadWords}
 use Rattle.archive_cli.specs.LoadEnding.{IsLoadEnding, IsLoadNotBegun, IsNothingLoaded}
 use Rattle.archive_cli.specs.Loading.{IsOpeningFault, IsDumpRefusal}
@@ -101,6 +101,19 @@ module _ {D : Type 0} (device : Device D) (call : Call) (words : LoadWords) (sil
       → OnlyMissing X call.files words.dump fault → OpeningCounted {X = X} (Err fault) call.read_faults call.read_faults' → IsLoadEnding device call words disk disk report.refusal report
   not_there X disk fault refusal report same is missing counted =
       reported disk disk (Some refusal) report (unopened (Some refusal)) same refl (not_there_cases X disk fault refusal is missing counted)
+
+  not_opened_cases : (old new : D) (refusal : Refusal) → IsThere call.files words.dump → IsOpeningRefusal device old new refusal → IsReadAsBefore device old new
+      → IsLoadEnding device call words old new (Some refusal) (unopened (Some refusal))
+  not_opened_cases old new refused.NoArchive there cause disk = record { input = there; cause = cause; silent = silent; disk = disk; report_is = refl }
+  not_opened_cases old new (refused.Damaged file at) there cause disk = record { input = there; cause = cause; silent = silent; disk = disk; report_is = refl }
+  not_opened_cases old new refused.DiskFault there cause disk = (cause, inl (record { input = there; cause = cause; silent = silent; disk = disk; report_is = refl }))
+  not_opened_cases old new refused.OutOfMemory there cause disk = inl (record { silent = silent; disk = disk; report_is = refl })
+  not_opened_cases old new other there cause disk = absurd cause
+
+  -- the dump was opened, and no archive was
+  pub load_unopened : (old new : D) (refusal : Refusal) (report : Report) → report ≡ unopened (Some refusal) → IsThere call.files words.dump → IsOpeningRefusal device old new refusal
+      → IsReadAsBefore device old new → IsLoadEnding device call words old new report.refusal report
+  load_unopened old new refusal report same there cause disk = reported old new (Some refusal) report (unopened (Some refusal)) same refl (not_opened_cases old new refusal there cause disk)
 
   abbrev unread_report : Archive → Refusal → Option ℕ → Report
   unread_report archive refusal link = record (read_only (Some refusal) (length archive.history)) { link = link }

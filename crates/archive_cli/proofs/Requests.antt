@@ -63,14 +63,14 @@ pub plan_number : (head : Head) (request : Request) (db : Database) → request_
 plan_number head request db known same none = named head request known (ap (λ (d : Database). number_named d request.parameter) (sym same) ∙ none)
 
 -- the cells over a plan's rows are the answer over the history
-plan_cells : (head : Head) (history : List Item) (request : Request) (plan : Plan) (number : ℕ) (cells : List Cell) → IsPlan head history request.from request.to plan →
+plan_cells : (head : Head) (history : List Item) (request : Request) (plan : Plan) (number : ℕ) (cells : List Cell) → IsPlan 22 head history request.from request.to plan →
     cells ≡ truncated request.limit (in_asked_order request.descending (filter_map (cell_of (arc_value plan.mdb) number) (rows_of_parts plan.parts))) →
     cells ≡ answered head.mdb number request (rows_in history)
 plan_cells head history request plan number cells p e =
     e ∙ ap (λ (d : Database). truncated request.limit (in_asked_order request.descending (filter_map (cell_of d number) (rows_of_parts plan.parts)))) p.mdb
     ∙ ap (λ (rows : List Row). truncated request.limit (in_asked_order request.descending (filter_map (cell_of head.mdb number) rows))) p.rows
 
-pub plan_found : (head : Head) (history : List Item) (request : Request) (plan : Plan) (number : ℕ) (found : ParameterAnswer) → IsPlan head history request.from request.to plan →
+pub plan_found : (head : Head) (history : List Item) (request : Request) (plan : Plan) (number : ℕ) (found : ParameterAnswer) → IsPlan 22 head history request.from request.to plan →
     found.mdb ≡ plan.mdb → found.number ≡ number → found.answer.front ≡ plan.front → number_named (arc_value plan.mdb) request.parameter ≡ Some number →
     found.answer.cells ≡ truncated request.limit (in_asked_order request.descending (filter_map (cell_of (arc_value plan.mdb) number) (rows_of_parts plan.parts))) →
     IsParameterAnswer head.mdb history request found

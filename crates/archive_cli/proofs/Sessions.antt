@@ -154,7 +154,7 @@ module _ {D : Type 0} (device : Device D) (is_transparent : IsTrue device.is_tra
     records = new.records;
     few = few_now (w.0.done.records w.0.cause.0);
     number_is = w.0.cause.1;
-    passed = subst (λ (l : List Row). IsLimit which new.records (ingested new.history l)) (rows_same (batch_at w.0.place w.0.packets)) w.0.cause.2;
+    passed = subst (λ (l : List Row). IsLimit 22 which new.records (ingested new.history l)) (rows_same (batch_at w.0.place w.0.packets)) w.0.cause.2;
   }
   session_cases (Some DiskFault) report no_failed_write w writes = absurd (no_failed_write refl)
   session_cases (Some OutOfMemory) report no_failed_write w writes = inr (inr (refused_no_failed_write OutOfMemory report w.0 w.0.cause w.1 w.2))

@@ -33,7 +33,7 @@ use Rattle.retrieval.specs.Parameter.{IsNoParameter, IsNamedParameter, first_ref
 use Rattle.archive_cli.specs.ReadDump.{dump_limit, IsDumpRead, ending_of}
 use Rattle.archive_cli.specs.ValuesEnding.{AreSheetsOf, ParameterOverDump, HasDump, IsInputRefused, IsParameterRefused, IsValuesEnding, text_of_asked}
 use Rattle.archive_cli.specs.ValuesPrinting.{cells_of_stored, end_of_cells, line_if, line_of, lines_of_cells, refusal_of_print, text_of_cells}
-use Rattle.mdb_model.specs.Lookups.{calibration_of}
+use Rattle.mdb_lookups.specs.Lookups.{calibration_of}
 use Rattle.retrieval.specs.ValuesText.{cell_lines, cells_of, values_line, values_text}
 use Rattle.archive_cli.proofs.PacketNames.{cells_are}
 use Rattle.archive_cli.proofs.Scanned.{bad_rest, rest_is_none, received_of, end_is}

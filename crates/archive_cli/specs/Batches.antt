@@ -91,7 +91,7 @@ pub record IsIngested {D : Type 0} (old new : StoreView D) (dump : List ℕ) (li
 
 -- why the rows of a batch were refused: they pass a limit, the disk failed, which then holds the new ones in a fault, or there was no memory
 abbrev pub IsRefusedFor : {D : Type 0} → StoreView D → List Row → Refusal → Type 0
-IsRefusedFor store rows (Limit which number) = (store.fills ≡ []) × (number ≡ limit_of which) × IsLimit which store.records (ingested store.history rows)
+IsRefusedFor store rows (Limit which number) = (store.fills ≡ []) × (number ≡ limit_of which) × IsLimit 22 which store.records (ingested store.history rows)
 IsRefusedFor store rows DiskFault = (count : ℕ) × (store.fills ≡ Fault count true (fresh_of store.history rows) ∷ [])
 IsRefusedFor store rows OutOfMemory = store.fills ≡ []
 IsRefusedFor store rows other = ⊥

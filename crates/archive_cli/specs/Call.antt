@@ -1,5 +1,5 @@
 -- All that the contract of `run` speaks of.
-use Rattle.std.specs.Prelude.{◌≡◌, ℕ, ℤ, List, ◌++◌, Option, Some, None}
+use Rattle.std.specs.Prelude.{◌≡◌, ℕ, ℤ, List, Option, Some, None}
 use Rattle.outer_traits.specs.Outside.{Files, HasRisen, WritesSome}
 use Rattle.text_forms.specs.ClockTime.{IsClockTime}
 use Rattle.dump_lines.specs.Output.{Appends}

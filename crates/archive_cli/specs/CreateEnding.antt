@@ -11,7 +11,7 @@ use Rattle.mdb_sheets.specs.Sheets.{AreSheets}
 use Rattle.outer_traits.specs.Outside.{Files}
 use Rattle.disk_journal.specs.Format.{HoldsNone}
 use Rattle.archive_store.specs.declared.head.Head.{Head}
-use Rattle.archive_store.specs.Answers.{IsCreateImage}
+use Rattle.archive_store.specs.Calls.{IsCreateImage}
 use Rattle.archive_store.specs.Entries.{archive}
 use Rattle.archive_store.specs.Stands.{StandsFor}
 use Rattle.archive_cli.specs.declared.report.Report.{Report}
@@ -37,10 +37,6 @@ pub record AreGood (files : Option Files) (words : SheetWords) (raw : RawMdb) : 
   pub sheets : AreSheets files words.parameters words.calibrations words.containers raw
   pub admitted : sheets_refusal raw ≡ None
 
--- the head that the three sheets give
-abbrev pub IsHeadOfSheets : Option Files → SheetWords → Head → Type 0
-IsHeadOfSheets files words head = (raw : RawMdb) × AreGood files words raw × (head ≡ new_head raw)
-
 -- a sheet wasn't read, or they were and are refused
 abbrev pub AreRefused : Option Files → SheetWords → ℕ → ℕ → Refusal → Type 0
 AreRefused files words faults faults' refusal =
@@ -62,6 +58,13 @@ pub record IsMade {D : Type 0} (device : Device D) (old new : D) (head : Head) :
 -- each image that a crash now leaves holds no archive, or could have been left before
 abbrev pub IsStillNone : {D : Type 0} → Device D → D → D → Type 0
 IsStillNone device old new = (c : Image) → device.images new c → device.images old c ⊎ HoldsNone (c 0)
+
+-- The making of an archive of this head failed: a disk that holds one is left as it was, and on one that holds none a crash leaves what a making leaves.
+-- Where it failed once a crash now leaves no archive, or what it could have left before.
+pub record IsMakingFailed {D : Type 0} (device : Device D) (old new : D) (head : Head) : Type 0 where
+  pub kept : HoldsOne (device.reads old) → IsReadAsBefore device old new
+  pub images : HoldsNone (device.reads old 0) → LeavesOnly device old new (IsCreateImage (device.images old) head)
+  pub closed : HoldsNone (device.reads old 0) → FailedAtMostOnce device old new → IsStillNone device old new
 
 -- nothing was written to the disk, for a cause that the words and the inputs give, or for want of memory
 pub record IsCreateNotBegun {D : Type 0} (device : Device D) (call : Call) (old new : D) (report : Report) : Type 0 where

@@ -5,6 +5,8 @@ pub mod LoadCaused
 pub mod Loading
 pub mod Call
 pub mod Reading
+pub mod Recover
+pub mod Create
 pub mod ReadDump
 pub mod ValuesPrinting
 pub mod ScanEnding
@@ -14,6 +16,7 @@ pub mod RecoverEnding
 pub mod CreateEnding
 pub mod QueryEnding
 pub mod Caused
+pub mod Command
 pub mod Ending
 pub mod Expecting
 pub mod ScanExpected

@@ -148,7 +148,7 @@ pub record IsLimited {D : Type 0} (device : Device D) (call : Call) (words : Loa
   pub records : ℕ
   pub few : records ≤ 1 + length refused.stopped.run.reached
   pub number_is : number ≡ limit_of which
-  pub passed : IsLimit which records
+  pub passed : IsLimit 22 which records
       (ingested refused.stopped.run.reached (batch_rows_from refused.stopped.run.before words.link refused.stopped.run.received.moment refused.stopped.run.received.packets refused.stopped.run.place))
 
 -- nothing was asked of an archive

@@ -21,7 +21,7 @@ use Rattle.archive_cli.specs.ReadDump.{dump_limit}
 
 -- whenever the dump's packets are received, the history with them passes no limit
 abbrev pub HasRoomFor : Archive → Call → LoadWords → List (List ℕ) → Type 0
-HasRoomFor archive call words packets = (moment : ℤ) → IsMomentOf call.moment moment → IsWithin (history_with archive words.link moment packets)
+HasRoomFor archive call words packets = (moment : ℤ) → IsMomentOf call.moment moment → IsWithin 22 (history_with archive words.link moment packets)
 
 -- `load` of a known dump: Missing where there's none of the name. Where no call of the disk failed, and but for an opening of the dump that failed: NoArchive
 -- where it holds none, Damaged where it is damaged, and where it stands for an archive Limit where there's no link of the number. Where no read failed

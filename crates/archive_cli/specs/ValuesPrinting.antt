@@ -18,7 +18,7 @@ use Rattle.yarch_table.specs.Stored.{rows_of}
 use Rattle.dump_lines.specs.declared.print_fault.PrintFault.{PrintFault}
 use Rattle.dump_lines.specs.declared.print_fault.PrintFault.TheVariants.{Write, OutOfMemory}
 use Rattle.retrieval.specs.CellText.{cell_line}
-use Rattle.mdb_model.specs.Lookups.{calibration_of}
+use Rattle.mdb_lookups.specs.Lookups.{calibration_of}
 use Rattle.retrieval.specs.ValuesText.{values_line}
 
 -- the line of a cell, where there is one

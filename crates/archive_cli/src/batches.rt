@@ -59,7 +59,7 @@ pub fn ingest_dump<D: Disk>(
         (D.device.failed_writes store.new.disk) }
 {
     let mut places = DumpPackets::new(dump.as_slice());
-    let mut extractor = Extractor::new(alloc);
+    let mut extractor = Extractor::new(alloc)?;
     let mut packets = 0;
     let mut idle = 0;
     'batches: loop {
@@ -160,7 +160,7 @@ fn arrival_of(
 {
     Ok(Arrival {
         link,
-        pname: extractor.packet_name(&head.mdb, packet.as_slice())?,
+        pname: extractor.packet_name(&head.mdb, packet.as_slice()),
         packet,
         tables: first_table(alloc, head)?,
     })

@@ -1,24 +1,16 @@
 //! The command `create`: a new archive.
 
-ghost use Rattle.std.specs.Prelude.{◌≡◌, ◌≤◌, ◌<◌, ◌+◌, ◌^◌, ℕ, [], ◌∷◌, IsTrue, Some, IfOk, IfErr, OnOk, codes, length};
-ghost use Rattle.std.specs.Result.{result_err};
-ghost use Rattle.arch_disk.specs.Disk.{raised};
-ghost use Rattle.arch_types.specs.declared.refusal.Refusal.TheVariants.{DiskFault};
+ghost use Rattle.std.specs.Prelude.{◌≡◌, [], ◌∷◌, IsSome, IsTrue, IfOk, codes};
+ghost use Rattle.outer_ledgers.specs.Ledger.{inputs_state, output_state};
+ghost use Rattle.command_plans.specs.Plan.{IsDue};
+ghost use Rattle.input_plans.specs.Inputs.{ReadAs};
 ghost use Rattle.field_codec.specs.declared.entry.Entry.TheVariants as entries;
 ghost use Rattle.field_codec.specs.Entries.{IsArchiveEntry};
-ghost use Rattle.mdb_items.specs.declared.sheet.RawMdb.{RawMdb};
-ghost use Rattle.mdb_sheets.specs.Sheets.{ReadsCounted, more};
-ghost use Rattle.outer_traits.specs.Outside.{Stays};
 ghost use Rattle.command_words.specs.JobView.{sheet_words_of};
-ghost use Rattle.archive_cli.specs.Call.{Call};
-ghost use Rattle.dump_lines.specs.Output.{WritesCounted};
-ghost use Rattle.archive_cli.specs.Caused.{IsCreateCaused};
-ghost use Rattle.archive_cli.specs.CreateEnding.{AreGood, AreRefused, IsCreateEnding, IsHeadOfSheets, create_line, new_head};
-ghost use Rattle.archive_cli.specs.DiskWrites.{TwoAtMost};
-ghost use Rattle.archive_cli.specs.HandedBack.{IsCreateBack, SameWithoutSource};
-ghost use Rattle.command_words.specs.Job.{SheetWords as GivenWords};
-ghost use Rattle.archive_cli.specs.Order.{AreInOrder, create_inputs};
-ghost use Rattle.archive_cli.specs.Report.{status_at, IsReadOnlyReport};
+ghost use Rattle.archive_cli.specs.Command.{Ran, RanOver, effects_of};
+ghost use Rattle.archive_cli.specs.Create.{create_plan, head_plan, makes};
+ghost use Rattle.archive_cli.specs.CreateEnding.{create_line};
+ghost use Rattle.archive_cli.specs.Report.{status_at};
 
 use crate::report::{Ended, Report};
 use arch_disk::Disk;
@@ -46,51 +38,21 @@ pub fn create<D: Disk, I: Inputs, K: Sink>(
     inputs: &mut I,
     sink: &mut K,
 ) -> Ended<D>
-    ensures ended { IsTrue D.device.is_transparent → (given : _) (moment : _) → IsCreateEnding D.device (record {
-      words = given;
-      files = I.files inputs.old;
-      moment = moment;
-      read_faults = I.faults inputs.old;
-      read_faults' = I.faults inputs.new;
-      written = K.written sink.old;
-      written' = K.written sink.new;
-      write_faults = K.faults sink.old;
-      write_faults' = K.faults sink.new;
-    }) (sheet_words_of words.entry) disk result.disk result.report.refusal result.report }
-    ensures caused { (given : _) (moment : _) → IsCreateCaused (record {
-      words = given;
-      files = I.files inputs.old;
-      moment = moment;
-      read_faults = I.faults inputs.old;
-      read_faults' = I.faults inputs.new;
-      written = K.written sink.old;
-      written' = K.written sink.new;
-      write_faults = K.faults sink.old;
-      write_faults' = K.faults sink.new;
-    }) (sheet_words_of words.entry) result.report.refusal }
+    // It went as its plan may go, did what the plan says where it ended, and the inputs gave as many sources as it says.
+    ensures ran { RanOver D.device (create_plan D.device disk (I.files inputs.old) (sheet_words_of words.entry))
+        (effects_of disk result.disk (output_state (K.written sink.old) (K.faults sink.old))
+        (output_state (K.written sink.new) (K.faults sink.new)) result.report)
+        (inputs_state (I.files inputs.old) (I.open_sources inputs.old) (I.given inputs.old)
+        (I.faults inputs.old) (I.never_fails inputs.old))
+        (inputs_state (I.files inputs.new) (I.open_sources inputs.new) (I.given inputs.new)
+        (I.faults inputs.new) (I.never_fails inputs.new)) }
+
+    // Where disk and inputs are known the answer that is due comes, or that of a fault at its place.
+    ensures due { IsTrue D.device.is_transparent → IsSome (I.files inputs.old) →
+        IsDue (create_plan D.device disk (I.files inputs.old) (sheet_words_of words.entry)) result.report.refusal }
+
+    // The number of the refusal, and 0 exactly where there's none.
     ensures status { result.status ≡ status_at result.report.refusal }
-    ensures report { IsReadOnlyReport result.report.refusal result.report }
-    ensures same { I.files inputs.new ≡ I.files inputs.old }
-    ensures closed { I.open_sources inputs.old + 1 < 2 ^ 64 → I.open_sources inputs.new ≡ I.open_sources inputs.old }
-    ensures order { AreInOrder (I.files inputs.old) (create_inputs (sheet_words_of words.entry))
-        (I.given inputs.old) (I.given inputs.new) result.report.refusal }
-    ensures later { I.faults inputs.old ≤ I.faults inputs.new }
-    ensures writes_later { K.faults sink.old ≤ K.faults sink.new }
-    ensures reads_counted { ReadsCounted result.report.refusal (I.faults inputs.old) (I.faults inputs.new) }
-    ensures writes_counted { WritesCounted result.report.refusal (K.faults sink.old) (K.faults sink.new) }
-    ensures reliable { I.never_fails inputs.old → Stays (I.faults inputs.old) (I.faults inputs.new) }
-    ensures disk_later { D.device.fault_count disk ≤ D.device.fault_count result.disk }
-    ensures disk_fault { result.report.refusal ≡ Some DiskFault →
-        raised (D.device.fault_count disk) ≤ D.device.fault_count result.disk }
-    ensures disk_writes { TwoAtMost result.report.refusal (D.device.failed_writes disk)
-        (D.device.failed_writes result.disk) }
-
-    // Refused before the disk was asked, it hands the very disk back.
-    ensures handed_back { IsCreateBack disk result.disk result.report.refusal }
-
-    // It asks nothing of the disk before a source was given, and opens each sheet once at most.
-    ensures unasked { SameWithoutSource (I.given inputs.old) (I.given inputs.new) disk result.disk }
-    ensures gave { I.given inputs.new ≤ I.given inputs.old + 3 }
 {
     match read_head(alloc, words, inputs) {
         Ok(head) => make(alloc, disk, head, sink),
@@ -104,20 +66,13 @@ fn read_head<I: Inputs>(
     words: SheetWords<'_>,
     inputs: &mut I,
 ) -> Result<Head, Refusal>
-    ensures head { IfOk result (IsHeadOfSheets (I.files inputs.old) (sheet_words_of words.entry)) }
+    // It went as its plan may go.
+    ensures read { ReadAs 3 (head_plan (I.files inputs.old) (sheet_words_of words.entry)) result
+        (inputs_state (I.files inputs.old) (I.open_sources inputs.old) (I.given inputs.old)
+        (I.faults inputs.old) (I.never_fails inputs.old))
+        (inputs_state (I.files inputs.new) (I.open_sources inputs.new) (I.given inputs.new)
+        (I.faults inputs.new) (I.never_fails inputs.new)) }
     ensures entry { IfOk result (λ head. IsArchiveEntry (entries.Head head.tables head.mdb)) }
-    ensures refused { IfErr result (AreRefused (I.files inputs.old) (sheet_words_of words.entry) (I.faults inputs.old)
-        (I.faults inputs.new)) }
-    ensures same { I.files inputs.new ≡ I.files inputs.old }
-    ensures closed { I.open_sources inputs.old + 1 < 2 ^ 64 → I.open_sources inputs.new ≡ I.open_sources inputs.old }
-    ensures order { IfErr result (λ refusal.
-        AreInOrder (I.files inputs.old) (create_inputs (sheet_words_of words.entry))
-        (I.given inputs.old) (I.given inputs.new) (Some refusal)) }
-    ensures gave { OnOk result (I.given inputs.new ≡ more 3 (I.given inputs.old)) }
-    ensures gave_most { I.given inputs.new ≤ I.given inputs.old + 3 }
-    ensures later { I.faults inputs.old ≤ I.faults inputs.new }
-    ensures counted { ReadsCounted (result_err result) (I.faults inputs.old) (I.faults inputs.new) }
-    ensures reliable { I.never_fails inputs.old → Stays (I.faults inputs.old) (I.faults inputs.new) }
 {
     let sheets = read_mdb(
         alloc,
@@ -156,34 +111,11 @@ fn tables(alloc: Global) -> Result<Names, AllocError>
 /// Makes the archive, and prints what it has. Room for the line is taken before, so that no archive is made for which there's none.
 fn make<D: Disk, K: Sink>(alloc: Global, disk: D, head: Head, sink: &mut K) -> Ended<D>
     requires { IsArchiveEntry (entries.Head head.tables head.mdb) }
-    ensures ended { IsTrue D.device.is_transparent → (given : _) (files : _) (moment : _) (read_faults : _)
-        (read_faults' : _) (words : GivenWords) (raw : RawMdb) →
-        AreGood files words raw → head ≡ new_head raw → IsCreateEnding D.device (record {
-          words = given;
-          files = files;
-          moment = moment;
-          read_faults = read_faults;
-          read_faults' = read_faults';
-          written = K.written sink.old;
-          written' = K.written sink.new;
-          write_faults = K.faults sink.old;
-          write_faults' = K.faults sink.new;
-        }) words disk result.disk result.report.refusal result.report }
-    ensures caused { (call : Call) (words : GivenWords) (raw : RawMdb) → AreGood call.files words raw →
-        IsCreateCaused call words result.report.refusal }
+    // It went as its plan may go, and did what the plan says where it ended.
+    ensures ran { Ran D.device (makes D.device disk head) (effects_of disk result.disk
+        (output_state (K.written sink.old) (K.faults sink.old)) (output_state (K.written sink.new) (K.faults sink.new))
+        result.report) }
     ensures status { result.status ≡ status_at result.report.refusal }
-    ensures report { IsReadOnlyReport result.report.refusal result.report }
-    ensures reads_counted { (faults : ℕ) → ReadsCounted result.report.refusal faults faults }
-    ensures writes_counted { WritesCounted result.report.refusal (K.faults sink.old) (K.faults sink.new) }
-    ensures writes_later { K.faults sink.old ≤ K.faults sink.new }
-    ensures disk_later { D.device.fault_count disk ≤ D.device.fault_count result.disk }
-    ensures disk_fault { result.report.refusal ≡ Some DiskFault →
-        raised (D.device.fault_count disk) ≤ D.device.fault_count result.disk }
-    ensures disk_writes { TwoAtMost result.report.refusal (D.device.failed_writes disk)
-        (D.device.failed_writes result.disk) }
-
-    // Refused before the disk was asked, it hands the very disk back.
-    ensures handed_back { IsCreateBack disk result.disk result.report.refusal }
 {
     let Ok(mut line_buffer) = LineBuffer::new(alloc) else {
         return Ended::unopened(disk, Some(Refusal::OutOfMemory));

@@ -6,7 +6,7 @@ ghost use Rattle.arch_disk.specs.Disk.{raised};
 ghost use Rattle.arch_types.specs.declared.refusal.Refusal.TheVariants.{DiskFault};
 ghost use Rattle.mdb_sheets.specs.Sheets.{ReadsCounted};
 ghost use Rattle.outer_traits.specs.Outside.{Stays, WritesSome};
-ghost use Rattle.retrieval.specs.AnswerText.{ask_refusal, ask_text, asks_refusal, asks_text, range_refusal, request_refusal};
+ghost use Rattle.retrieval.specs.AnswerText.{IsParameterAnswer, ask_refusal, ask_text, asks_refusal, asks_text, range_refusal, request_refusal};
 ghost use Rattle.archive_cli.specs.Call.{Call};
 ghost use Rattle.dump_lines.specs.Output.{WritesCounted, IsBuffered};
 ghost use Rattle.archive_cli.specs.Caused.{IsQueryCaused};
@@ -23,15 +23,18 @@ use crate::report::{Ended, Report};
 use arch_disk::Disk;
 use arch_types::ask::{Ask, Request};
 use arch_types::refusal::Refusal;
+use arch_types::steps::Steps;
 use archive_store::Store;
 use dump_lines::line_buffer::LineBuffer;
 use dump_lines::print_fault::PrintFault;
 use mdb_model::Mdb;
 use outer_traits::inputs::Inputs;
 use outer_traits::sink::Sink;
-use retrieval::answer::{answer_request, number_of};
+use retrieval::answer::{ParameterAnswer, answer_request, number_of};
 use retrieval::answer_text::print_found;
-use std::alloc::Global;
+use std::alloc::{AllocError, Global};
+use std::marker::Brand;
+use std::sync::ledger::{Blank, Ledger};
 
 /// Answers the asks of a sheet over the whole history of a disk's archive.
 ///
@@ -306,7 +309,23 @@ fn print_values<D: Disk, K: Sink>(
     ensures counted { PrintCounted (result_err result) (K.faults sink.old) (K.faults sink.new) }
     ensures same { store.new ≡ store.old }
 {
-    let found = answer_request(alloc, store, request)?;
+    let found = answer_of::<D, Brand>(alloc, Blank::new(1), store, request)?;
     print_found(k, &found, line_buffer, sink)?;
     Ok(())
+}
+
+/// The answer to a request, whose steps nobody counts.
+fn answer_of<D: Disk, L: Ledger>(
+    alloc: Global,
+    blank: Blank,
+    store: &mut Store<D>,
+    request: &Request,
+) -> Result<ParameterAnswer, AllocError>
+    requires known { request_refusal (number_named store.old.head.mdb request.now.parameter) request.now ≡ None }
+    requires blank { (blank.name ≡ L.name) × (blank.parts ≡ L.parts) × (0 < blank.parts) }
+    ensures found { IfOk result (IsParameterAnswer store.old.head.mdb store.old.history request.now) }
+    ensures same { store.new ≡ store.old }
+{
+    let (book, share) = blank.open::<L>();
+    answer_request(alloc, store, request, &mut Steps::new(book, share))
 }

@@ -1,13 +1,12 @@
 //! The command `recover`: what an archive holds.
 
-ghost use Rattle.std.specs.Prelude.{◌≡◌, ◌≤◌, ℕ, [], IsTrue, Some};
-ghost use Rattle.arch_disk.specs.Disk.{raised};
-ghost use Rattle.mdb_sheets.specs.Sheets.{ReadsCounted};
-ghost use Rattle.dump_lines.specs.Output.{WritesCounted};
-ghost use Rattle.archive_cli.specs.Caused.{IsRecoverCaused};
-ghost use Rattle.archive_cli.specs.DiskWrites.{OneAtMost};
-ghost use Rattle.archive_cli.specs.RecoverEnding.{IsRecoverEnding, recover_line};
-ghost use Rattle.archive_cli.specs.Report.{status_at, IsReadOnlyReport};
+ghost use Rattle.std.specs.Prelude.{◌≡◌, [], IsTrue};
+ghost use Rattle.outer_ledgers.specs.Ledger.{output_state};
+ghost use Rattle.command_plans.specs.Plan.{IsDue};
+ghost use Rattle.archive_cli.specs.Command.{Ran, effects_of};
+ghost use Rattle.archive_cli.specs.Recover.{recover_plan};
+ghost use Rattle.archive_cli.specs.RecoverEnding.{recover_line};
+ghost use Rattle.archive_cli.specs.Report.{status_at};
 
 use crate::report::{Ended, Report};
 use arch_disk::Disk;
@@ -21,29 +20,16 @@ use std::alloc::Global;
 ///
 /// Refuses, in this order: by `DiskFault`, `NoArchive` or `Damaged`; by `WriteFault`. `OutOfMemory` may come anywhere before the line.
 pub fn recover<D: Disk, K: Sink>(alloc: Global, disk: D, sink: &mut K) -> Ended<D>
-    ensures ended { IsTrue D.device.is_transparent → (words : _) (files : _) (moment : _) (read_faults : _) →
-        IsRecoverEnding D.device (record {
-          words = words;
-          files = files;
-          moment = moment;
-          read_faults = read_faults;
-          read_faults' = read_faults;
-          written = K.written sink.old;
-          written' = K.written sink.new;
-          write_faults = K.faults sink.old;
-          write_faults' = K.faults sink.new;
-        }) disk result.disk result.report.refusal result.report }
-    ensures caused { IsRecoverCaused result.report.refusal }
+    // It went as its plan may go, and did what the plan says where it ended.
+    ensures ran { Ran D.device (recover_plan D.device disk) (effects_of disk result.disk
+        (output_state (K.written sink.old) (K.faults sink.old)) (output_state (K.written sink.new) (K.faults sink.new))
+        result.report) }
+
+    // Where the disk is transparent the answer that is due comes, or that of a fault at its place.
+    ensures due { IsTrue D.device.is_transparent → IsDue (recover_plan D.device disk) result.report.refusal }
+
+    // The number of the refusal, and 0 exactly where there's none.
     ensures status { result.status ≡ status_at result.report.refusal }
-    ensures report { IsReadOnlyReport result.report.refusal result.report }
-    ensures reads_counted { (faults : ℕ) → ReadsCounted result.report.refusal faults faults }
-    ensures writes_counted { WritesCounted result.report.refusal (K.faults sink.old) (K.faults sink.new) }
-    ensures writes_later { K.faults sink.old ≤ K.faults sink.new }
-    ensures disk_later { D.device.fault_count disk ≤ D.device.fault_count result.disk }
-    ensures disk_fault { result.report.refusal ≡ Some Refusal.DiskFault →
-        raised (D.device.fault_count disk) ≤ D.device.fault_count result.disk }
-    ensures disk_writes { OneAtMost result.report.refusal (D.device.failed_writes disk)
-        (D.device.failed_writes result.disk) }
 {
     let Ok(mut line_buffer) = LineBuffer::new(alloc) else {
         return Ended::unopened(disk, Some(Refusal::OutOfMemory));

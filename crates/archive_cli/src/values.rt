@@ -17,6 +17,7 @@ ghost use Rattle.archive_cli.specs.ValuesPrinting.{PrintCounted, line_of, cells_
 use crate::scan_input::{ended, read_scan_input};
 use arch_types::refusal::Refusal;
 use arch_types::row::Row;
+use arch_types::steps::Steps;
 use command_words::job::ValuesWords;
 use container_extract::Extractor;
 use dump_lines::line_buffer::LineBuffer;
@@ -30,7 +31,9 @@ use retrieval::cell_text::{put_cell, put_values};
 use retrieval::cells::{calibration_of, cell_of};
 use retrieval::parameter::{KnownParameter, known_parameter};
 use space_packet::dump::Why;
-use std::alloc::{AllocError, Global};
+use std::alloc::Global;
+use std::marker::Brand;
+use std::sync::ledger::{Blank, Ledger};
 use yarch_table::table::Table;
 
 /// Reads three sheets and a dump, and prints the cells of one parameter in key order, duplicates dropped.
@@ -113,7 +116,14 @@ fn print<K: Sink>(
     ensures later { K.faults sink.old ≤ K.faults sink.new }
     ensures counted { PrintCounted (result_err result) (K.faults sink.old) (K.faults sink.new) }
 {
-    let count = print_cells(alloc, known, &loaded.table, line_buffer, sink)?;
+    let count = print_cells::<K, Brand>(
+        alloc,
+        Blank::new(1),
+        known,
+        &loaded.table,
+        line_buffer,
+        sink,
+    )?;
     put_end(line_buffer, loaded.why, count);
     line_buffer.flush(sink)?;
     Ok(())
@@ -131,8 +141,9 @@ fn put_end(line_buffer: &mut LineBuffer, why: Why, count: u64)
 }
 
 /// Prints the cells of a table's rows in key order, of which the last may still be buffered, and counts them.
-fn print_cells<K: Sink>(
+fn print_cells<K: Sink, L: Ledger>(
     alloc: Global,
+    blank: Blank,
     known: &KnownParameter,
     table: &Table,
     line_buffer: &mut LineBuffer,
@@ -142,6 +153,7 @@ fn print_cells<K: Sink>(
     requires shown { AllByRecursion IsVisible table.now.stored }
     requires few { length (sorted (rows_of table.now.stored)) < 2 ^ 64 }
     requires number { known.now.number < length known.now.mdb.parameters }
+    requires blank { (blank.name ≡ L.name) × (blank.parts ≡ L.parts) × (0 < blank.parts) }
     ensures buffered { OnOk result (IsBuffered (K.written sink.old) (K.written sink.new)
         (lines_of_cells known.now.mdb known.now.number table.now.stored) line_buffer.new) }
     ensures room { OnOk result (length line_buffer.new < 65536) }
@@ -152,35 +164,35 @@ fn print_cells<K: Sink>(
     ensures later { K.faults sink.old ≤ K.faults sink.new }
     ensures counted { PrintCounted (result_err result) (K.faults sink.old) (K.faults sink.new) }
 {
-    let mut extractor = Extractor::new(alloc);
+    let mut extractor = Extractor::new(alloc)?;
+    let (book, share) = blank.open::<L>();
+    let mut steps = Steps::new(book, share);
     let mut count = 0;
     for row in table.rows_at(u64::MAX) {
-        let found = put_cell_of(&mut extractor, known, row, line_buffer)?;
-        count += found;
+        count += put_cell_of(&mut extractor, known, row, line_buffer, &mut steps);
         line_buffer.flush_if_full(sink)?;
     }
     Ok(count)
 }
 
 /// Adds the line of the cell in the packet of a row, where there is one, and says how many there are.
-fn put_cell_of(
+fn put_cell_of<L: Ledger>(
     extractor: &mut Extractor,
     known: &KnownParameter,
     row: &Row,
     line_buffer: &mut LineBuffer,
-) -> Result<u64, AllocError>
+    steps: &mut Steps<L>,
+) -> u64
     requires room { length line_buffer.old < 65536 }
     requires number { known.now.number < length known.now.mdb.parameters }
-    ensures line { OnOk result (line_buffer.new ≡ line_buffer.old ++ line_of known.now.mdb known.now.number row.now) }
-    ensures count { IfOk result (λ count. count ≡ cells_in_row known.now.mdb known.now.number row.now) }
-    ensures kept { OnErr result (line_buffer.new ≡ line_buffer.old) }
+    ensures line { line_buffer.new ≡ line_buffer.old ++ line_of known.now.mdb known.now.number row.now }
+    ensures count { result ≡ cells_in_row known.now.mdb known.now.number row.now }
 {
-    let cell = cell_of(extractor, &known.mdb, known.number, row)?;
-    match cell {
-        None => Ok(0),
+    match cell_of(extractor, &known.mdb, known.number, row, steps) {
+        None => 0,
         Some(cell) => {
             put_cell(line_buffer, cell, calibration_of(&known.mdb, known.number));
-            Ok(1)
+            1
         }
     }
 }

@@ -1,9 +1,8 @@
-//! Tests of the commands, by `run` over disks, inputs and outputs in memory.
+//! Tests of `scan` and `values`, by `run` over inputs and outputs in memory.
 #![tactic(auto)]
 
+pub mod calls;
 #[cfg(test)]
-mod archive_tests;
-#[cfg(test)]
-mod tests;
+mod scan_tests;
 #[cfg(test)]
 mod values_tests;

@@ -1,6 +1,6 @@
 //! The text that `values` prints, its refusals, and faults of the outside.
 
-use crate::tests::{fault_of, file_of, words_of};
+use crate::calls::{fault_of, file_of, words_of};
 use arch_disk::MemDisk;
 use archive_cli::run::run;
 use outer_traits::clock::FixedClock;

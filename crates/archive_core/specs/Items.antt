@@ -22,5 +22,5 @@ abbrev pub prefix : ℕ → List Item → List Item
 prefix front items = take front items
 
 -- whether an item is a row of table `tm`, the first table, with its time in an interval
-abbrev pub is_row_of_interval : Interval → Item → Bool
-is_row_of_interval interval item = (item.table == 0) && int_eq (interval_of item.key.time) interval.0
+abbrev pub is_row_of_interval : ℕ → Interval → Item → Bool
+is_row_of_interval exponent interval item = (item.table == 0) && int_eq (interval_of exponent item.key.time) interval.0

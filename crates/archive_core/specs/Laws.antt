@@ -47,16 +47,16 @@ NewInTurn = (history : List Item) (first second : List Row) →
 
 -- the position of the last row is that of a row of `tm` in the interval, and the greatest
 abbrev pub LastIsGreatest : Type 0
-LastIsGreatest = (interval : Interval) (history : List Item) → IsLastIn interval history (last_in interval history)
+LastIsGreatest = (exponent : ℕ) (interval : Interval) (history : List Item) → IsLastIn exponent interval history (last_in exponent interval history)
 
 -- one item more
 abbrev pub LastAfterItem : Type 0
-LastAfterItem = (interval : Interval) (history : List Item) (item : Item) →
-    last_in interval (history ++ item ∷ []) ≡ (if is_row_of_interval interval item then Some (length history) else last_in interval history)
+LastAfterItem = (exponent : ℕ) (interval : Interval) (history : List Item) (item : Item) →
+    last_in exponent interval (history ++ item ∷ []) ≡ (if is_row_of_interval exponent interval item then Some (length history) else last_in exponent interval history)
 
 -- the last row decides whether an interval is late
 abbrev pub LateByLast : Type 0
-LateByLast = (interval : Interval) (history : List Item) (fills : List Fill) → IsTrue (is_late_in interval history fills) ↔ IsLate interval history fills
+LateByLast = (exponent : ℕ) (interval : Interval) (history : List Item) (fills : List Fill) → IsTrue (is_late_in exponent interval history fills) ↔ IsLate exponent interval history fills
 
 -- ---- fill lists
 

@@ -1,5 +1,5 @@
 -- Counts of intervals.
-use Rattle.std.proofs.Common.{◌≡◌, ℕ, ℤ, ◌+◌, List, Bool, true, false, true≢false, refl, sym, ◌∙◌, ap, subst, arith}
+use Rattle.std.proofs.Common.{◌≡◌, ℕ, ℤ, ◌+◌, ◌≤◌, List, Bool, true, false, true≢false, refl, sym, ◌∙◌, ap, subst, arith}
 use Rattle.std.specs.Prelude.{if◌then◌else◌, ◌≢◌}
 use Rattle.std.specs.Ordering.{int_eq}
 use Rattle.std.specs.BTreeMap.{is_at, insert_entry}
@@ -10,7 +10,7 @@ use Rattle.block_map.proofs.KeyedLists.{lookup-insert_entry_same, lookup-insert_
 use Rattle.arch_types.specs.declared.interval.Interval.{Interval}
 use Rattle.arch_types.specs.Interval.{interval_cmp}
 use Rattle.arch_types.proofs.Ranks.{interval_cmp_total, exact_intervals}
-use Rattle.archive_history.specs.LimitCounts.{or_zero, interval_row_count, one_at}
+use Rattle.archive_history.specs.LimitCounts.{HasAtMost, or_zero, interval_row_count, one_at}
 
 pub together : (a b : Interval) → a.0 ≡ b.0 → a ≡ b
 together a b numbers = ap (λ (n : ℤ). let i : Interval = record { 0 = n } in i) numbers
@@ -31,3 +31,18 @@ counted es i other v is = here (int_eq i.0 other.0) refl
         let ne : is_at (interval_cmp i) other ≡ false = apart i other (λ same. true≢false (sym ((Decides-int_eq i.0 other.0).1 (ap (λ (x : Interval). x.0) (sym same))) ∙ e)) in
         let none : interval_row_count es other ≡ interval_row_count es other + 0 = omega arith in
         ap or_zero (lookup-insert_entry_other interval_cmp_total other i v es ne) ∙ none
+
+-- the most rows of an interval, once one interval has one more
+pub at_most : (old new : List (Interval × ℕ)) (i : Interval) (most next : ℕ) → HasAtMost most old → ((other : Interval) → interval_row_count new other ≡ interval_row_count old other + one_at i other)
+    → interval_row_count old i + 1 ≤ next → most ≤ next → HasAtMost next new
+at_most old new i most next all counts here more other = go (int_eq i.0 other.0) refl
+  where
+    go : (b : Bool) → int_eq i.0 other.0 ≡ b → interval_row_count new other ≤ next
+    go true e =
+        let same : i ≡ other = together i other ((Decides-int_eq i.0 other.0).0 e) in
+        let one : one_at i other ≡ 1 = ap (λ (b : Bool). if b then 1 else 0) e in
+        let at_other : interval_row_count old other + 1 ≤ next = subst (λ (o : Interval). interval_row_count old o + 1 ≤ next) same here in
+        omega (arith, counts other, one, at_other)
+    go false e =
+        let none : one_at i other ≡ 0 = ap (λ (b : Bool). if b then 1 else 0) e in
+        omega (arith, counts other, none, all other, more)

@@ -25,33 +25,33 @@ take_more rows i d within =
 pub octets_more : (rows : List Row) (i : ℕ) (d : Row) → i < length rows → octets_of (take (i + 1) rows) ≡ octets_of (take i rows) + length (get_or rows i d).packet
 octets_more rows i d within = omega (arith, ap octets_of (take_more rows i d within), octets-append (take i rows) (get_or rows i d ∷ []))
 
-pub interval_more : (interval : Interval) (rows : List Row) (i : ℕ) (d : Row) → i < length rows → interval_rows interval (take (i + 1) rows) ≡ interval_rows interval (take i rows) + (if is_row_of_interval interval (get_or rows i d) then 1 else 0)
+pub interval_more : (interval : Interval) (rows : List Row) (i : ℕ) (d : Row) → i < length rows → interval_rows 22 interval (take (i + 1) rows) ≡ interval_rows 22 interval (take i rows) + (if is_row_of_interval 22 interval (get_or rows i d) then 1 else 0)
 interval_more interval rows i d within =
-    omega (arith, ap (interval_rows interval) (take_more rows i d within), interval_rows-append interval (take i rows) (get_or rows i d ∷ []), interval_rows-one interval (get_or rows i d))
+    omega (arith, ap (interval_rows 22 interval) (take_more rows i d within), interval_rows-append interval (take i rows) (get_or rows i d ∷ []), interval_rows-one interval (get_or rows i d))
 
 -- ---- each interval of the rows
 
 -- the interval of a row of table `tm` has no more rows than it may
 abbrev pub IsCounted : List Item → List Row → Row → Type 0
-IsCounted items rows row = row.table ≡ 0 → (interval : Interval) → interval.0 ≡ interval_of row.key.time → interval_rows interval (items ++ rows) ≤ limit_of limits.IntervalRows
+IsCounted items rows row = row.table ≡ 0 → (interval : Interval) → interval.0 ≡ interval_of 22 row.key.time → interval_rows 22 interval (items ++ rows) ≤ limit_of limits.IntervalRows
 
 and_true : (a b : Bool) → (a && b) ≡ true → (a ≡ true) × (b ≡ true)
 and_true true b e = (refl, e)
 and_true false b e = absurd cc
 
 -- an interval has none of these rows, or not too many
-none_or_few : (interval : Interval) (items : List Item) (all rows : List Row) → AllByRecursion (IsCounted items all) rows → (interval_rows interval rows ≡ 0) ⊎ (interval_rows interval (items ++ all) ≤ limit_of limits.IntervalRows)
+none_or_few : (interval : Interval) (items : List Item) (all rows : List Row) → AllByRecursion (IsCounted items all) rows → (interval_rows 22 interval rows ≡ 0) ⊎ (interval_rows 22 interval (items ++ all) ≤ limit_of limits.IntervalRows)
 none_or_few interval items all [] each = inl refl
-none_or_few interval items all (row ∷ rows) each = go (is_row_of_interval interval row) refl (none_or_few interval items all rows each.1)
+none_or_few interval items all (row ∷ rows) each = go (is_row_of_interval 22 interval row) refl (none_or_few interval items all rows each.1)
   where
-    go : (b : Bool) → is_row_of_interval interval row ≡ b → (interval_rows interval rows ≡ 0) ⊎ (interval_rows interval (items ++ all) ≤ limit_of limits.IntervalRows)
-        → (length (if b then row ∷ filter (is_row_of_interval interval) rows else filter (is_row_of_interval interval) rows) ≡ 0) ⊎ (interval_rows interval (items ++ all) ≤ limit_of limits.IntervalRows)
+    go : (b : Bool) → is_row_of_interval 22 interval row ≡ b → (interval_rows 22 interval rows ≡ 0) ⊎ (interval_rows 22 interval (items ++ all) ≤ limit_of limits.IntervalRows)
+        → (length (if b then row ∷ filter (is_row_of_interval 22 interval) rows else filter (is_row_of_interval 22 interval) rows) ≡ 0) ⊎ (interval_rows 22 interval (items ++ all) ≤ limit_of limits.IntervalRows)
     go true is rest =
-        let p = and_true (eqb row.table 0) (int_eq (interval_of row.key.time) interval.0) is in
-        inr (each.0 (eqb-true row.table 0 p.0) interval (sym ((Decides-int_eq (interval_of row.key.time) interval.0).0 p.1)))
+        let p = and_true (eqb row.table 0) (int_eq (interval_of 22 row.key.time) interval.0) is in
+        inr (each.0 (eqb-true row.table 0 p.0) interval (sym ((Decides-int_eq (interval_of 22 row.key.time) interval.0).0 p.1)))
     go false is rest = rest
 
 -- no interval has too many rows after rows whose intervals have not
-pub intervals_within : (items : List Item) (rows : List Row) → IsWithin items → AllByRecursion (IsCounted items rows) rows → (interval : Interval) → interval_rows interval (items ++ rows) ≤ limit_of limits.IntervalRows
+pub intervals_within : (items : List Item) (rows : List Row) → IsWithin 22 items → AllByRecursion (IsCounted items rows) rows → (interval : Interval) → interval_rows 22 interval (items ++ rows) ≤ limit_of limits.IntervalRows
 intervals_within items rows within each interval =
     ⊎_elim (λ none. omega (arith, none, interval_rows-append interval items rows, within.intervals interval)) (λ few. few) (none_or_few interval items rows rows each)

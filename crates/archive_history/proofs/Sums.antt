@@ -14,20 +14,20 @@ one_more : (b : Bool) (item : Item) (items : List Item) → length (cond b (item
 one_more true item items = omega arith
 one_more false item items = omega arith
 
-pub interval_rows-append : (interval : Interval) (a b : List Item) → interval_rows interval (a ++ b) ≡ interval_rows interval a + interval_rows interval b
-interval_rows-append interval [] b = let none : interval_rows interval b ≡ 0 + interval_rows interval b = omega arith in none
+pub interval_rows-append : (interval : Interval) (a b : List Item) → interval_rows 22 interval (a ++ b) ≡ interval_rows 22 interval a + interval_rows 22 interval b
+interval_rows-append interval [] b = let none : interval_rows 22 interval b ≡ 0 + interval_rows 22 interval b = omega arith in none
 interval_rows-append interval (item ∷ a) b =
-    omega (arith, interval_rows-append interval a b, one_more (is_row_of_interval interval item) item (filter (is_row_of_interval interval) (a ++ b)), one_more (is_row_of_interval interval item) item (filter (is_row_of_interval interval) a))
+    omega (arith, interval_rows-append interval a b, one_more (is_row_of_interval 22 interval item) item (filter (is_row_of_interval 22 interval) (a ++ b)), one_more (is_row_of_interval 22 interval item) item (filter (is_row_of_interval 22 interval) a))
 
-pub interval_rows-one : (interval : Interval) (item : Item) → interval_rows interval (item ∷ []) ≡ (if is_row_of_interval interval item then 1 else 0)
-interval_rows-one interval item = alone (is_row_of_interval interval item)
+pub interval_rows-one : (interval : Interval) (item : Item) → interval_rows 22 interval (item ∷ []) ≡ (if is_row_of_interval 22 interval item then 1 else 0)
+interval_rows-one interval item = alone (is_row_of_interval 22 interval item)
   where
     alone : (b : Bool) → length (cond b (item ∷ []) []) ≡ (if b then 1 else 0)
     alone true = refl
     alone false = refl
 
 -- fewer rows pass no limit either
-pub within_less : (a b : List Item) → IsWithin (a ++ b) → IsWithin a
+pub within_less : (a b : List Item) → IsWithin 22 (a ++ b) → IsWithin 22 a
 within_less a b w = record {
   rows = omega (arith, w.rows, length-append a b);
   octets = omega (arith, w.octets, octets-append a b);

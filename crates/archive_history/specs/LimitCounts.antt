@@ -1,5 +1,5 @@
 -- What the limits count.
-use Rattle.std.specs.Prelude.{ℕ, List, Option, Some, None, if◌then◌else◌}
+use Rattle.std.specs.Prelude.{ℕ, ◌≤◌, List, Option, Some, None, if◌then◌else◌}
 use Rattle.std.specs.Map.{lookup}
 use Rattle.std.specs.BTreeMap.{is_at}
 use Rattle.arch_types.specs.declared.interval.Interval.{Interval}
@@ -20,6 +20,10 @@ or_zero (Some count) = count
 -- how many rows an interval has
 abbrev pub interval_row_count : List (Interval × ℕ) → Interval → ℕ
 interval_row_count rows interval = or_zero (lookup (is_at (interval_cmp interval)) rows)
+
+-- no interval has more rows than this
+abbrev pub HasAtMost : ℕ → List (Interval × ℕ) → Type 0
+HasAtMost most rows = (interval : Interval) → interval_row_count rows interval ≤ most
 
 -- one at this interval, and none at any other
 abbrev pub one_at : Interval → Interval → ℕ

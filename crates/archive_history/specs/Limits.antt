@@ -15,29 +15,29 @@ octets_of [] = 0
 octets_of (row ∷ rows) = length row.packet + octets_of rows
 
 -- how many rows of table `tm` have their time in the interval
-abbrev pub interval_rows : Interval → List Item → ℕ
-interval_rows interval items = length (filter (is_row_of_interval interval) items)
+abbrev pub interval_rows : ℕ → Interval → List Item → ℕ
+interval_rows exponent interval items = length (filter (is_row_of_interval exponent interval) items)
 
 -- a history passes none of the limits
-pub record IsWithin (items : List Item) : Type 0 where
+pub record IsWithin (exponent : ℕ) (items : List Item) : Type 0 where
   pub rows : length (rows_in items) ≤ limit_of Rows
   pub octets : octets_of (rows_in items) ≤ limit_of HistoryOctets
-  pub intervals : (interval : Interval) → interval_rows interval items ≤ limit_of IntervalRows
+  pub intervals : (interval : Interval) → interval_rows exponent interval items ≤ limit_of IntervalRows
 
 -- this is the first limit that a history passes
-abbrev pub PassesFirst : Which → List Item → Type 0
-PassesFirst Rows items = limit_of Rows < length (rows_in items)
-PassesFirst HistoryOctets items = (length (rows_in items) ≤ limit_of Rows) × (limit_of HistoryOctets < octets_of (rows_in items))
-PassesFirst IntervalRows items =
-    (length (rows_in items) ≤ limit_of Rows) × (octets_of (rows_in items) ≤ limit_of HistoryOctets) × (interval : Interval) × (limit_of IntervalRows < interval_rows interval items)
-PassesFirst _ items = ⊥
+abbrev pub PassesFirst : ℕ → Which → List Item → Type 0
+PassesFirst exponent Rows items = limit_of Rows < length (rows_in items)
+PassesFirst exponent HistoryOctets items = (length (rows_in items) ≤ limit_of Rows) × (limit_of HistoryOctets < octets_of (rows_in items))
+PassesFirst exponent IntervalRows items =
+    (length (rows_in items) ≤ limit_of Rows) × (octets_of (rows_in items) ≤ limit_of HistoryOctets) × (interval : Interval) × (limit_of IntervalRows < interval_rows exponent interval items)
+PassesFirst exponent _ items = ⊥
 
 -- this is the first limit that is passed where a record more is appended to so many, for a history that came to be these items
-abbrev pub IsLimit : Which → ℕ → List Item → Type 0
-IsLimit Records records items = IsWithin items × (limit_of Records ≤ records)
-IsLimit which records items = PassesFirst which items
+abbrev pub IsLimit : ℕ → Which → ℕ → List Item → Type 0
+IsLimit exponent Records records items = IsWithin exponent items × (limit_of Records ≤ records)
+IsLimit exponent which records items = PassesFirst exponent which items
 
 -- no limit is passed, where a record more is appended to so many for the rows of a batch that are new
-pub record IsBelowLimits (records : ℕ) (history : List Item) (rows : List Row) : Type 0 where
-  pub within : IsWithin (ingested history rows)
+pub record IsBelowLimits (exponent : ℕ) (records : ℕ) (history : List Item) (rows : List Row) : Type 0 where
+  pub within : IsWithin exponent (ingested history rows)
   pub records_left : fresh_of history rows ≢ [] → records < limit_of Records

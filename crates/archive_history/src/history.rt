@@ -46,7 +46,7 @@ impl Model for History {
 
 /// The interval of a row's time.
 pub fn interval_of_row(row: &Row) -> Interval
-    ensures { result.0 ≡ interval_of row.now.key.time }
+    ensures { result.0 ≡ interval_of 22 row.now.key.time }
 {
     Interval::of(row.key.time)
 }
@@ -65,7 +65,7 @@ fn octets_in(rows: &[Row]) -> u64
 
 /// How many rows of table `tm` have their time in the interval.
 fn rows_in(rows: &[Row], interval: Interval) -> u64
-    ensures { result ≡ interval_rows interval rows.now }
+    ensures { result ≡ interval_rows 22 interval rows.now }
 {
     let mut count = 0;
     for row in rows {
@@ -81,8 +81,8 @@ fn are_too_many(limit_counts: &LimitCounts, interval: Interval, rows: &[Row]) ->
     requires few { length rows.now ≤ limit_of limits.Rows }
     requires counted { interval_row_count limit_counts.now.rows interval ≤ limit_of limits.IntervalRows }
     ensures some { result ≡ true → limit_of limits.IntervalRows < interval_row_count limit_counts.now.rows interval +
-        interval_rows interval (items_of rows.now) }
-    ensures none { result ≡ false → interval_row_count limit_counts.now.rows interval + interval_rows interval
+        interval_rows 22 interval (items_of rows.now) }
+    ensures none { result ≡ false → interval_row_count limit_counts.now.rows interval + interval_rows 22 interval
         (items_of rows.now) ≤ limit_of limits.IntervalRows }
 {
     let known = limit_counts.rows_of(interval);
@@ -106,7 +106,7 @@ impl History {
     /// The length of the history.
     pub fn len(&self) -> usize
         ensures len { result ≡ length self.now.items }
-        ensures within { IsWithin self.now.items }
+        ensures within { IsWithin 22 self.now.items }
         ensures history { IsHistory self.now.items }
     {
         self.table_set.len()
@@ -140,11 +140,16 @@ impl History {
     fn passes_interval(&self, rows: &[Row]) -> bool
         requires { length rows.now ≤ limit_of limits.Rows }
         ensures some { result ≡ true → (i : AnInterval) ×
-            (limit_of limits.IntervalRows < interval_rows i (self.now.items ++ items_of rows.now)) }
-        ensures none { result ≡ false → (i : AnInterval) → interval_rows i (self.now.items ++ items_of rows.now) ≤
+            (limit_of limits.IntervalRows < interval_rows 22 i (self.now.items ++ items_of rows.now)) }
+        ensures none { result ≡ false → (i : AnInterval) → interval_rows 22 i (self.now.items ++ items_of rows.now) ≤
             limit_of limits.IntervalRows }
     {
         let limit_counts = &self.limit_counts;
+        let limit = Which::IntervalRows.limit();
+        let added = rows.len() as u64;
+        if added <= limit && limit_counts.most_rows() <= limit - added {
+            return false;
+        }
         for row in rows {
             if row.table == TM {
                 let interval = interval_of_row(row);
@@ -158,8 +163,8 @@ impl History {
 
     /// The first limit that the history would pass with these rows.
     pub fn limit_passed(&self, rows: &[Row]) -> Option<Which>
-        ensures none { IfNone result (IsWithin (self.now.items ++ items_of rows.now)) }
-        ensures first { IfSome result (λ which. PassesFirst which (self.now.items ++ items_of rows.now)) }
+        ensures none { IfNone result (IsWithin 22 (self.now.items ++ items_of rows.now)) }
+        ensures first { IfSome result (λ which. PassesFirst 22 which (self.now.items ++ items_of rows.now)) }
     {
         if rows.len() as u64 > Which::Rows.limit() - self.table_set.len() as u64 {
             return Some(Which::Rows);
@@ -177,7 +182,7 @@ impl History {
     fn add(&mut self, row: Row) -> bool
         requires room { 0 < self.old.room }
         requires table { row.table < self.old.tables }
-        requires within { IsWithin (self.old.items ++ row ∷ []) }
+        requires within { IsWithin 22 (self.old.items ++ row ∷ []) }
         ensures items { self.new.items ≡ with_row self.old.items row }
         ensures fresh { result ≡ true → self.new.items ≡ self.old.items ++ row ∷ [] }
         ensures known { result ≡ false → self.new.items ≡ self.old.items }
@@ -201,7 +206,7 @@ impl History {
     pub fn add_all(&mut self, rows: Rows) -> bool
         requires room { length rows ≤ self.old.room }
         requires tables { AllByRecursion (λ row. row.table < self.old.tables) rows }
-        requires within { IsWithin (self.old.items ++ items_of rows) }
+        requires within { IsWithin 22 (self.old.items ++ items_of rows) }
         ensures all { result ≡ true → (ingested self.old.items rows ≡ self.old.items ++ items_of rows) ×
             (self.new.items ≡ self.old.items ++ items_of rows) }
         ensures some { result ≡ false → ingested self.old.items rows ≡ self.old.items ++ items_of rows → ⊥ }

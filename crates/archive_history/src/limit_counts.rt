@@ -2,7 +2,7 @@
 
 ghost use Rattle.std.specs.Prelude.{◌≡◌, ◌+◌, ◌<◌, ◌≤◌, ◌^◌, [], max, IfOk, OnOk, OnErr};
 ghost use Rattle.arch_types.specs.declared.interval.Interval.{Interval as AnInterval};
-ghost use Rattle.archive_history.specs.LimitCounts.{interval_row_count, one_at};
+ghost use Rattle.archive_history.specs.LimitCounts.{HasAtMost, interval_row_count, one_at};
 
 use arch_types::interval::Interval;
 use block_map::index::Index;
@@ -15,14 +15,18 @@ pub struct LimitCounts {
     octets: u64,
     /// The number of rows of each interval that has any.
     rows: Index<Interval, u64>,
+    /// The number of rows of the interval that has most.
+    most: u64,
 }
 
 impl Model for LimitCounts {
-    ghost use Rattle.archive_history.specs.LimitCounts.{LimitCountsView};
+    ghost use Rattle.archive_history.specs.LimitCounts.{HasAtMost, LimitCountsView};
 
     ghost Value = { LimitCountsView };
 
     ghost view = { λ s. record { octets = s.octets; rows = s.rows.entries; room = s.rows.room } };
+
+    ghost invariant = { λ s. HasAtMost s.most s.rows.entries };
 }
 
 impl LimitCounts {
@@ -33,6 +37,7 @@ impl LimitCounts {
         Ok(LimitCounts {
             octets: 0,
             rows: Index::new(alloc),
+            most: 0,
         })
     }
 
@@ -53,6 +58,13 @@ impl LimitCounts {
         ensures { result ≡ self.now.octets }
     {
         self.octets
+    }
+
+    /// How many rows an interval has at most, so that none need be looked up where that many more pass no limit.
+    pub(crate) fn most_rows(&self) -> u64
+        ensures { HasAtMost result self.now.rows }
+    {
+        self.most
     }
 
     /// How many rows an interval has.
@@ -83,9 +95,11 @@ impl LimitCounts {
         match self.rows.get(interval) {
             Some(rows) => {
                 self.rows.replace(interval, rows + 1);
+                self.most = self.most.max(rows + 1);
             }
             None => {
                 self.rows.insert(interval, 1);
+                self.most = self.most.max(1);
             }
         }
     }

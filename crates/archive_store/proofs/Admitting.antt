@@ -18,7 +18,7 @@ use Rattle.archive_store.specs.Stands.{Breaks}
 use Rattle.archive_store.proofs.Exact.{takes_entry}
 
 -- a history that passes a limit is not within all of them
-pub passed_not_within : (which : Which) (items : List Item) → PassesFirst which items → IsWithin items → ⊥
+pub passed_not_within : (which : Which) (items : List Item) → PassesFirst 22 which items → IsWithin 22 items → ⊥
 passed_not_within limits.DumpOctets items p w = absurd p
 passed_not_within limits.Rows items p w = omega (arith, p, w.rows)
 passed_not_within limits.HistoryOctets items p w = omega (arith, p.1, w.octets)
@@ -41,7 +41,7 @@ passed_not_within limits.Tables items p w = absurd p
 passed_not_within limits.Records items p w = absurd p
 
 -- the first limit that a history passes is the first of all
-pub limit_is : (which : Which) (records : ℕ) (items : List Item) → PassesFirst which items → IsLimit which records items
+pub limit_is : (which : Which) (records : ℕ) (items : List Item) → PassesFirst 22 which items → IsLimit 22 which records items
 limit_is limits.DumpOctets records items p = p
 limit_is limits.Rows records items p = p
 limit_is limits.HistoryOctets records items p = p
@@ -63,7 +63,7 @@ limit_is limits.SqlDepth records items p = p
 limit_is limits.Tables records items p = p
 limit_is limits.Records records items p = absurd p
 
-pub all_admitted : (head : Head) (items : List Item) (rows : List Row) → IsArchiveEntry (entries.Rows rows) → AllByRecursion (IsPlaced head) rows → IsWithin (items ++ items_of rows) → ingested items rows ≡ items ++ items_of rows → AreAdmitted (archive head items) rows
+pub all_admitted : (head : Head) (items : List Item) (rows : List Row) → IsArchiveEntry (entries.Rows rows) → AllByRecursion (IsPlaced head) rows → IsWithin 22 (items ++ items_of rows) → ingested items rows ≡ items ++ items_of rows → AreAdmitted (archive head items) rows
 all_admitted head items rows spelled placed within fresh = record { spelled = spelled; placed = placed; fresh = fresh; within = within }
 
 -- an entry that may not follow, and no entry at all

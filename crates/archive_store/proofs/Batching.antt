@@ -67,7 +67,7 @@ few_rows head rectime (a ∷ arrivals) all =
 
 -- the new rows of a batch may be added
 pub admitted : (head : Head) (history : List Item) (batch : Batch) → IsArchiveEntry (entries.Head head.tables head.mdb) → length head.mdb.containers < 2 ^ 16 → IsBatch head batch
-    → 1 ≤ length (fresh_of history (batch_rows batch)) → IsWithin (history ++ items_of (fresh_of history (batch_rows batch))) → AreAdmitted (archive head history) (fresh_of history (batch_rows batch))
+    → 1 ≤ length (fresh_of history (batch_rows batch)) → IsWithin 22 (history ++ items_of (fresh_of history (batch_rows batch))) → AreAdmitted (archive head history) (fresh_of history (batch_rows batch))
 admitted head history batch fits names is some within =
     let rows = batch_rows batch in
     let all : AllByRecursion (Fits head batch.rectime is.rectime fits.0.few names) (fresh_of history rows) =

@@ -1,6 +1,7 @@
 pub mod Admitting
 pub mod Archives
 pub mod Batching
+pub mod Calls
 pub mod Exact
 pub mod Going
 pub mod Healing

@@ -17,7 +17,7 @@ use Rattle.field_codec.specs.Spelling.{entry_octets}
 use Rattle.archive_store.specs.declared.head.Head.{Head}
 use Rattle.archive_store.specs.Entries.{Archive, archive, Replays}
 use Rattle.archive_store.specs.Stands.{StandsFor}
-use Rattle.archive_store.specs.Answers.{IsCreateImage}
+use Rattle.archive_store.specs.Calls.{IsCreateImage}
 use Rattle.archive_store.specs.PartialArchive.{IsReadArchive}
 use Rattle.archive_store.specs.Inside.{StoreInvariant}
 use Rattle.archive_store.proofs.PendingFaults.{without_fault_state, keeps_without_fault, prefix_self}

@@ -60,7 +60,7 @@ range_rises table low high history d j k le within =
 quotients : (a b : ℕ) → a ≤ b → a / 2 ^ 22 ≤ b / 2 ^ 22
 quotients a b le = le-div (a / 2 ^ 22) b (2 ^ 22) (omega arith) (omega (arith, div-mul-le_self a (2 ^ 22), le))
 
-pub intervals_rise : (t u : ℤ) → t ≤ℤ u → interval_of t ≤ℤ interval_of u
+pub intervals_rise : (t u : ℤ) → t ≤ℤ u → interval_of 22 t ≤ℤ interval_of 22 u
 intervals_rise (pos a) (pos b) le = omega (arith, ints, quotients a b (omega (arith, ints, le)))
 intervals_rise (negsuc a) (pos b) le = omega (arith, ints)
 intervals_rise (pos a) (negsuc b) le = absurd (omega (arith, ints, le))
@@ -95,8 +95,8 @@ rows_grown (p ∷ []) (suc n) part d row last is = absurd (omega (arith, last))
 rows_grown (p ∷ q ∷ parts) (suc n) part d row last is =
     ap (λ (l : List Row). p.rows ++ l) (rows_grown (q ∷ parts) n part d row (omega (arith, last)) is) ∙ sym (append_assoc p.rows (rows_of_parts (q ∷ parts)) (row ∷ []))
 
-pub each_grown : (parts : List Part) (n : ℕ) (part : Part) → AllByRecursion IsPlanPart parts → IsPlanPart part → AllByRecursion IsPlanPart (set parts n part)
-each_grown parts n part all here = all_set IsPlanPart parts n part all here
+pub each_grown : (parts : List Part) (n : ℕ) (part : Part) → AllByRecursion (IsPlanPart 22) parts → IsPlanPart 22 part → AllByRecursion (IsPlanPart 22) (set parts n part)
+each_grown parts n part all here = all_set (IsPlanPart 22) parts n part all here
 
 rising_set : (parts : List Part) (n : ℕ) (part d : Part) → part.interval.0 ≡ (get_or parts n d).interval.0 → AreRisingIntervals parts → AreRisingIntervals (set parts n part)
 rising_set [] n part d same up = tt
@@ -119,8 +119,8 @@ pub rows_begun : (parts : List Part) (part : Part) (row : Row) → part.rows ≡
 rows_begun [] part row is = append-nil part.rows ∙ is
 rows_begun (p ∷ parts) part row is = ap (λ (l : List Row). p.rows ++ l) (rows_begun parts part row is) ∙ sym (append_assoc p.rows (rows_of_parts parts) (row ∷ []))
 
-pub each_begun : (parts : List Part) (part : Part) → AllByRecursion IsPlanPart parts → IsPlanPart part → AllByRecursion IsPlanPart (parts ++ part ∷ [])
-each_begun parts part all here = all_push IsPlanPart parts part all here
+pub each_begun : (parts : List Part) (part : Part) → AllByRecursion (IsPlanPart 22) parts → IsPlanPart 22 part → AllByRecursion (IsPlanPart 22) (parts ++ part ∷ [])
+each_begun parts part all here = all_push (IsPlanPart 22) parts part all here
 
 -- each part before the last is below it
 last_greatest : (parts : List Part) (n : ℕ) (d : Part) (x : ℤ) → n + 1 ≡ length parts → AreRisingIntervals parts → (get_or parts n d).interval.0 <ℤ x → AllByRecursion (λ part. part.interval.0 <ℤ x) parts
@@ -153,7 +153,7 @@ earlier_all parts n d x last up all ne =
 abbrev one_more : Part → List Row → Part
 one_more old rows = record { interval = old.interval; rows = rows }
 
-pub interval_here : (old : Part) (row : Row) (interval : ℤ) → interval ≡ interval_of row.key.time → true ≡ int_eq old.interval.0 interval → old.interval.0 ≡ interval_of row.key.time
+pub interval_here : (old : Part) (row : Row) (interval : ℤ) → interval ≡ interval_of 22 row.key.time → true ≡ int_eq old.interval.0 interval → old.interval.0 ≡ interval_of 22 row.key.time
 interval_here old row interval is test = (Decides-int_eq old.interval.0 interval).0 (sym test) ∙ is
 
 all_rows_push : (P : Row → Type 0) (rows : List Row) (row : Row) → AllByRecursion P rows → P row → AllByRecursion P (rows ++ row ∷ [])
@@ -164,13 +164,13 @@ pub rows_put : (parts : List Part) (n : ℕ) (old : Part) (rows : List Row) (row
 rows_put parts n old rows row copy last there same is =
     rows_grown parts n (one_more old rows) old row last (is ∙ ap (λ (r : Row). old.rows ++ r ∷ []) same ∙ ap (λ (p : Part). p.rows ++ row ∷ []) (sym there))
 
-pub each_put : (parts : List Part) (n : ℕ) (old : Part) (rows : List Row) (row copy : Row) → n + 1 ≡ length parts → get_or parts n old ≡ old → copy ≡ row → rows ≡ old.rows ++ copy ∷ [] → old.interval.0 ≡ interval_of row.key.time → AllByRecursion IsPlanPart parts → AllByRecursion IsPlanPart (set parts n (one_more old rows))
+pub each_put : (parts : List Part) (n : ℕ) (old : Part) (rows : List Row) (row copy : Row) → n + 1 ≡ length parts → get_or parts n old ≡ old → copy ≡ row → rows ≡ old.rows ++ copy ∷ [] → old.interval.0 ≡ interval_of 22 row.key.time → AllByRecursion (IsPlanPart 22) parts → AllByRecursion (IsPlanPart 22) (set parts n (one_more old rows))
 each_put parts n old rows row copy last there same is interval all =
-    let was : IsPlanPart old = subst IsPlanPart there (all_at IsPlanPart parts n old all (omega (arith, last))) in
+    let was : IsPlanPart 22 old = subst (IsPlanPart 22) there (all_at (IsPlanPart 22) parts n old all (omega (arith, last))) in
     let grown : rows ≡ old.rows ++ row ∷ [] = is ∙ ap (λ (r : Row). old.rows ++ r ∷ []) same in
     each_grown parts n (one_more old rows) all (record {
       some = subst (λ (l : List Row). 0 < length l) (sym grown) (omega (arith, length-append old.rows (row ∷ [])));
-      each = subst (AllByRecursion (λ r. interval_of r.key.time ≡ old.interval.0)) (sym grown) (all_rows_push (λ r. interval_of r.key.time ≡ old.interval.0) old.rows row was.each (sym interval));
+      each = subst (AllByRecursion (λ r. interval_of 22 r.key.time ≡ old.interval.0)) (sym grown) (all_rows_push (λ r. interval_of 22 r.key.time ≡ old.interval.0) old.rows row was.each (sym interval));
     })
 
 pub rising_put : (parts : List Part) (n : ℕ) (old : Part) (rows : List Row) → get_or parts n old ≡ old → AreRisingIntervals parts → AreRisingIntervals (set parts n (one_more old rows))
@@ -188,11 +188,11 @@ classified_tail row rest classified k d low within =
     subst (λ (n : ℕ). is_before (get_or rest (k + 1) d) (get_or (row ∷ rest) n d) ≡ false) here
     (subst (λ (n : ℕ). is_before (get_or (row ∷ rest) n d) (get_or (row ∷ rest) (k + 1) d) ≡ false) next (classified (k + 1) d (omega arith) (omega (arith, within))))
 
-pub first_rises : (row : Row) (rest : List Row) (d : Row) (k : ℕ) → IsSortedBy is_before (row ∷ rest) → k < length rest → interval_of row.key.time ≤ℤ interval_of (get_or rest k d).key.time
+pub first_rises : (row : Row) (rest : List Row) (d : Row) (k : ℕ) → IsSortedBy is_before (row ∷ rest) → k < length rest → interval_of 22 row.key.time ≤ℤ interval_of 22 (get_or rest k d).key.time
 first_rises row rest d k classified within =
     let here : 0 + suc k ≡ suc k = omega arith in
     let rises : row.key.time ≤ℤ (get_or rest k d).key.time = subst (λ (n : ℕ). row.key.time ≤ℤ (get_or (row ∷ rest) n d).key.time) here (times_rise (row ∷ rest) d classified 0 (suc k) (omega (arith, within))) in
     intervals_rise row.key.time (get_or rest k d).key.time rises
 
-pub earlier_next : (parts : List Part) (row : Row) (rest : List Row) (d : Row) (k : ℕ) → ((j : ℕ) (e : Row) → j < length (row ∷ rest) → bounded (interval_of (get_or (row ∷ rest) j e).key.time) parts) → k < length rest → bounded (interval_of (get_or rest k d).key.time) parts
+pub earlier_next : (parts : List Part) (row : Row) (rest : List Row) (d : Row) (k : ℕ) → ((j : ℕ) (e : Row) → j < length (row ∷ rest) → bounded (interval_of 22 (get_or (row ∷ rest) j e).key.time) parts) → k < length rest → bounded (interval_of 22 (get_or rest k d).key.time) parts
 earlier_next parts row rest d k earlier within = earlier (suc k) d (omega (arith, within))

@@ -29,7 +29,7 @@ pub record AreAdmitted (old : Archive) (rows : List Row) : Type 0 where
   pub spelled : IsArchiveEntry (entries.Rows rows)
   pub placed : AllByRecursion (IsPlaced old.head) rows
   pub fresh : ingested old.history rows ≡ old.history ++ items_of rows
-  pub within : IsWithin (old.history ++ items_of rows)
+  pub within : IsWithin 22 (old.history ++ items_of rows)
 
 -- An entry makes an archive of nothing or of what there was: the first is a head, no other is, and rows are admitted.
 abbrev pub Applies : Option Archive → Entry → Archive → Type 0

@@ -1,5 +1,5 @@
-pub mod Answers
 pub mod Batches
+pub mod Calls
 pub mod Entries
 pub mod Inside
 pub mod Laws

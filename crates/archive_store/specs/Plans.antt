@@ -1,5 +1,5 @@
 -- What a plan holds.
-use Rattle.std.specs.Prelude.{◌≡◌, ◌<◌, ◌≤ℤ◌, ◌<ℤ◌, ℤ, List, [], ◌∷◌, length, None, map}
+use Rattle.std.specs.Prelude.{◌≡◌, ◌<◌, ◌≤ℤ◌, ◌<ℤ◌, ℕ, ℤ, List, [], ◌∷◌, length, None, map}
 use Rattle.std.specs.List.{flat_map, AllByRecursion}
 use Rattle.std.specs.Arc.{arc_value}
 use Rattle.arch_types.specs.declared.ask.Request.{Request}
@@ -19,9 +19,9 @@ abbrev pub rows_of_parts : List Part → List Row
 rows_of_parts parts = flat_map (λ part. part.rows) parts
 
 -- a part has a row, and all of its rows are in its interval
-pub record IsPlanPart (part : Part) : Type 0 where
+pub record IsPlanPart (exponent : ℕ) (part : Part) : Type 0 where
   pub some : 0 < length part.rows
-  pub each : AllByRecursion (λ row. interval_of row.key.time ≡ part.interval.0) part.rows
+  pub each : AllByRecursion (λ row. interval_of exponent row.key.time ≡ part.interval.0) part.rows
 
 -- the intervals of parts rise
 abbrev pub AreRisingIntervals : List Part → Type 0
@@ -29,11 +29,11 @@ AreRisingIntervals [] = Unit {0}
 AreRisingIntervals (part ∷ parts) = AllByRecursion (λ later. part.interval.0 <ℤ later.interval.0) parts × AreRisingIntervals parts
 
 -- The rows of `tm` with low <= time < high in the whole history, in the order of their keys, in one part for each interval that has any.
-pub record IsPlan (head : Head) (history : List Item) (low high : ℤ) (plan : Plan) : Type 0 where
+pub record IsPlan (exponent : ℕ) (head : Head) (history : List Item) (low high : ℤ) (plan : Plan) : Type 0 where
   pub front : plan.front ≡ length history
   pub mdb : arc_value plan.mdb ≡ head.mdb
   pub rows : rows_of_parts plan.parts ≡ range_of 0 low high (rows_in history)
-  pub each : AllByRecursion IsPlanPart plan.parts
+  pub each : AllByRecursion (IsPlanPart exponent) plan.parts
   pub rising : AreRisingIntervals plan.parts
 
 -- the database has no parameter of the name

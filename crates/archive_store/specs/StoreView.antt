@@ -62,8 +62,10 @@ pub record FaultInvariant {D : Type 0} (device : Device D) (store : StoreView D)
   pub writes_later : device.failed_writes store.opened ≤ device.failed_writes store.disk
   pub wrote : (faults : ℕ) → pending_fault_of store.fills ≡ Some faults → raised (device.failed_writes store.opened) ≤ device.failed_writes store.disk
 
--- a call whose write failed adds one fault, which holds these rows
+-- a call whose write failed adds one fault, which holds these rows, and leaves the history and the number of records
 pub record AddsFault {D : Type 0} (device : Device D) (old new : StoreView D) (rows : List Row) : Type 0 where
+  pub history : new.history ≡ old.history
+  pub records : new.records ≡ old.records
   pub count : ℕ
   pub count_is : count ≡ min (device.fault_count new.disk) (2 ^ 64 - 1)
   pub fills : new.fills ≡ old.fills ++ Fault count true rows ∷ []

@@ -1,13 +1,7 @@
 //! Batches, and what is done after a write that failed.
 
-ghost use Rattle.std.specs.Prelude.{◌≡◌, ◌≢◌, ◌<◌, ◌≤◌, ◌⊎◌, ◌+◌, ◌^◌, [], ℕ, None, Some, IsTrue, length, if◌then◌else◌, ◌++◌, OnOk, OnErr, IfOk, IfErr, IfSome, IfNone, MatchResult, Err, vec_len, vec_capacity};
-ghost use Rattle.arch_disk.specs.Image.{Image};
-ghost use Rattle.arch_disk.specs.Disk.{LeavesOnly, HasCause, CountsFailure};
-ghost use Rattle.arch_types.specs.declared.refusal.Refusal.TheVariants.{DiskFault, Limit, OutOfMemory};
-ghost use Rattle.arch_types.specs.declared.refusal.Which.{Which as AWhich};
-ghost use Rattle.arch_types.specs.History.{ingested};
-ghost use Rattle.archive_core.specs.Fills.{rows_of_faults, pending_fault_of, reopened};
-ghost use Rattle.archive_core.specs.Outcomes.{outcomes_of, fresh_of};
+ghost use Rattle.std.specs.Prelude.{◌≡◌, ◌<◌, ◌≤◌, ◌++◌, None, length, OnOk, IfOk, IfErr, IfSome, IfNone, vec_len, vec_capacity};
+ghost use Rattle.archive_core.specs.Fills.{pending_fault_of};
 ghost use Rattle.disk_journal.specs.State.{HasRoom, IsSame};
 ghost use Rattle.field_codec.specs.declared.entry.Entry.TheVariants as entries;
 ghost use Rattle.field_codec.specs.Entries.{IsArchiveEntry};
@@ -17,8 +11,7 @@ ghost use Rattle.archive_store.specs.Entries.{archive, AreAdmitted};
 ghost use Rattle.arch_types.specs.Limits.{limit_of};
 ghost use Rattle.arch_types.specs.declared.refusal.Which.TheVariants as limits;
 ghost use Rattle.archive_core.specs.Items.{items_of};
-ghost use Rattle.archive_history.specs.Limits.{IsLimit, IsBelowLimits, IsWithin};
-ghost use Rattle.archive_store.specs.Stands.{StandsFor};
+ghost use Rattle.archive_history.specs.Limits.{IsLimit, IsWithin};
 
 use crate::batch::{Batch, Ingested};
 use crate::classifying::{ClassifiedBatch, classify};
@@ -29,24 +22,17 @@ use arch_types::row::{Row, Rows};
 use archive_core::fills::{Fill, clear_failed_writes};
 use archive_history::history::History;
 use disk_journal::{Frame, Journal};
-use field_codec::{Entry, write_entry};
+use field_codec::{put_rows, rows_entry_len};
 use std::alloc::{AllocError, Global};
 
-/// A record with these rows, and the rows.
-fn rows_frame(alloc: Global, rows: Rows) -> Result<(Frame, Rows), AllocError>
-    requires { IsArchiveEntry (entries.Rows rows) }
-    ensures { IfOk result (λ r. (r.0 ≡ entry_octets (entries.Rows rows)) × (r.1 ≡ rows)) }
+/// A record with these rows.
+fn rows_frame(alloc: Global, rows: &[Row]) -> Result<Frame, AllocError>
+    requires { IsArchiveEntry (entries.Rows rows.now) }
+    ensures { IfOk result (λ frame. frame ≡ entry_octets (entries.Rows rows.now)) }
 {
-    let entry = Entry::Rows(rows);
-    let octets = write_entry(alloc, &entry)?;
-    let frame = Frame::of(alloc, octets.as_slice())?;
-    match entry {
-        Entry::Rows(rows) => Ok((frame, rows)),
-        Entry::Head {
-            tables: _tables,
-            mdb: _mdb,
-        } => unreachable!(),
-    }
+    let mut octets = Frame::begin(alloc, rows_entry_len(rows))?;
+    put_rows(&mut octets, rows)?;
+    Frame::finish(octets)
 }
 
 /// Takes all memory that an ingest of these rows needs.
@@ -55,11 +41,11 @@ fn prepare(
     journal: &mut Journal,
     history: &mut History,
     fills: &mut Vec<Fill>,
-    fresh: Rows,
-) -> Result<(Frame, Rows), AllocError>
-    requires { IsArchiveEntry (entries.Rows fresh) }
-    ensures frame { IfOk result (λ r. (r.0 ≡ entry_octets (entries.Rows fresh)) × (r.1 ≡ fresh)) }
-    ensures room { OnOk result (HasRoom journal.new × (length fresh ≤ history.new.room) ×
+    fresh: &[Row],
+) -> Result<Frame, AllocError>
+    requires { IsArchiveEntry (entries.Rows fresh.now) }
+    ensures frame { IfOk result (λ frame. frame ≡ entry_octets (entries.Rows fresh.now)) }
+    ensures room { OnOk result (HasRoom journal.new × (length fresh.now ≤ history.new.room) ×
         (vec_len fills.new < vec_capacity fills.new)) }
     ensures journal { IsSame journal.old journal.new }
     ensures history { (history.new.items ≡ history.old.items) × (history.new.tables ≡ history.old.tables) }
@@ -72,16 +58,16 @@ fn prepare(
 }
 
 impl<D: Disk> Store<D> {
-    ghost use Rattle.archive_store.specs.StoreView.{archive_of, IsNow, unacknowledged_rows, AddsFault, OnlyAppends};
+    ghost use Rattle.archive_store.specs.StoreView.{archive_of, OnlyAppends};
     ghost use Rattle.disk_journal.specs.Calls.{CountsNeverFall};
-    ghost use Rattle.archive_store.specs.Answers.{store_asks_reopen, IsIngestRefusal};
+    ghost use Rattle.archive_store.specs.Calls.{AreAppended, AreIngested, CrashLeavesEither, CrashLeavesNow, IsIngestRefusal, IsRowsRefusal, IsStoreReopened, IsStoreReopenRefusal, archive_with};
 
     /// The first limit that is passed with these rows and their record.
     fn limit_passed(&self, fresh: &[Row]) -> Option<Which>
-        ensures none { IfNone result (IsWithin (self.now.history ++ items_of fresh.now) ×
+        ensures none { IfNone result (IsWithin 22 (self.now.history ++ items_of fresh.now) ×
             (self.now.records < limit_of limits.Records)) }
         ensures first { IfSome result (λ which.
-            IsLimit which self.now.records (self.now.history ++ items_of fresh.now)) }
+            IsLimit 22 which self.now.records (self.now.history ++ items_of fresh.now)) }
     {
         if let Some(which) = self.history.limit_passed(fresh) {
             return Some(which);
@@ -94,32 +80,24 @@ impl<D: Disk> Store<D> {
 
     /// Appends new rows to the disk and then to the history. All memory is taken before the first device call.
     fn append(&mut self, alloc: Global, fresh: Rows) -> Result<(), Refusal>
-        requires no_failed_write { pending_fault_of self.old.fills ≡ None }
+        requires healed { pending_fault_of self.old.fills ≡ None }
         requires admitted { AreAdmitted (archive_of self.old) fresh }
         requires records { self.old.records < limit_of limits.Records }
-        ensures ok { OnOk result ((self.new.history ≡ self.old.history ++ items_of fresh) ×
-            (self.new.fills ≡ self.old.fills) × (self.new.records ≡ self.old.records + 1)) }
-        ensures same { (self.new.head ≡ self.old.head) × (self.new.opened ≡ self.old.opened) }
-        ensures refused { OnErr result (self.new.history ≡ self.old.history) }
-        ensures no_record { OnErr result (self.new.records ≡ self.old.records) }
-        ensures fault { result ≡ Err DiskFault → AddsFault D.device self.old self.new fresh }
-        ensures untouched { OnErr result ((result ≡ Err DiskFault) ⊎ (self.new ≡ self.old)) }
-        ensures any_moment { IsTrue D.device.is_transparent → LeavesOnly D.device self.old.disk self.new.disk (λ c.
-            StandsFor c (archive_of self.old) ⊎ StandsFor c
-            (archive self.old.head (self.old.history ++ items_of fresh))) }
-        ensures only { IfErr result (λ e. (e ≡ DiskFault) ⊎ (e ≡ OutOfMemory)) }
-        ensures later { CountsNeverFall D.device self.old.disk self.new.disk }
-        ensures no_failed_write { OnOk result (D.device.failed_writes self.new.disk ≡ D.device.failed_writes
-            self.old.disk) }
+        ensures appended { OnOk result (AreAppended D.device self.old self.new fresh) }
+        ensures refused { IfErr result (IsRowsRefusal D.device self.old self.new fresh) }
+        ensures crash { CrashLeavesEither D.device self.old.disk self.new.disk (archive_of self.old)
+            (archive self.old.head (self.old.history ++ items_of fresh)) }
+        ensures grows { OnlyAppends self.old self.new }
+        ensures counts { CountsNeverFall D.device self.old.disk self.new.disk }
     {
         let prepared = prepare(
             alloc,
             &mut self.journal,
             &mut self.history,
             &mut self.fills,
-            fresh,
+            fresh.as_slice(),
         );
-        let Ok((frame, fresh)) = prepared else {
+        let Ok(frame) = prepared else {
             return Err(Refusal::OutOfMemory);
         };
         match self.journal.append(&mut self.disk, &frame) {
@@ -144,40 +122,23 @@ impl<D: Disk> Store<D> {
     pub fn ingest(&mut self, alloc: Global, batch: &Batch) -> Result<Ingested, Refusal>
         requires { IsBatch self.old.head batch.now }
 
-        ensures ok { IfOk result (λ ingest. (ingest.outcomes ≡ outcomes_of self.old.history (batch_rows batch.now))
-            × (self.new.history ≡ ingested self.old.history (batch_rows batch.now)) × (self.new.fills ≡ self.old.fills)) }
-        ensures records { OnOk result (fresh_of self.old.history (batch_rows batch.now) ≢ [] →
-            self.new.records ≡ self.old.records + 1) }
-        ensures no_call { fresh_of self.old.history (batch_rows batch.now) ≡ [] → self.new ≡ self.old }
+        // Ok: the rows whose key their table lacked stand behind the history, in one record, if any is new.
+        ensures ingested { IfOk result (λ ingest.
+            AreIngested D.device self.old self.new (batch_rows batch.now) ingest.outcomes) }
 
-        // Refused, it leaves all as it was, but for the fault of a disk that failed, which holds the new rows.
-        ensures refused { OnErr result (self.new.history ≡ self.old.history) }
-        ensures no_record { OnErr result (self.new.records ≡ self.old.records) }
-        ensures fault { result ≡ Err DiskFault →
-            AddsFault D.device self.old self.new (fresh_of self.old.history (batch_rows batch.now)) }
-        ensures untouched { OnErr result ((result ≡ Err DiskFault) ⊎ (self.new ≡ self.old)) }
+        // NeedsReopen comes exactly where a failed write is pending, then the first limit that is passed where rows are
+        // new, then a fault of the disk, which leaves the new rows in a fault; else all is as it was. Want of memory
+        // comes before any call of the disk.
+        ensures refused { IfErr result (IsIngestRefusal D.device self.old self.new (batch_rows batch.now)) }
 
-        // A crash at any moment of the call leaves the history from before it, or the new one.
-        ensures any_moment { IsTrue D.device.is_transparent → pending_fault_of self.old.fills ≡ None
-            → LeavesOnly D.device self.old.disk self.new.disk (λ c. StandsFor c (archive_of self.old) ⊎ StandsFor c (archive self.old.head (ingested self.old.history (batch_rows batch.now)))) }
+        // Power lost at any moment of the call leaves the archive from before it, or the one with the batch.
+        ensures crash { pending_fault_of self.old.fills ≡ None →
+            CrashLeavesEither D.device self.old.disk self.new.disk (archive_of self.old)
+            (archive_with self.old (batch_rows batch.now)) }
 
-        // Both lists begin with the old ones, also where it is refused.
-        ensures goes_on { OnlyAppends self.old self.new }
-
-        // NeedsReopen comes exactly where a failed write stands, then the first limit that is passed where rows are new, then a fault of the disk.
-        // Want of memory comes before any call of the disk.
-        ensures needs_reopen { store_asks_reopen result ≡ pending_fault_of self.old.fills }
-        ensures limit { (which : AWhich) (number : ℕ) → result ≡ Err (Limit which number) →
-            (number ≡ limit_of which) ×
-            IsLimit which self.old.records (ingested self.old.history (batch_rows batch.now)) }
-        ensures limit_some { (which : AWhich) (number : ℕ) → result ≡ Err (Limit which number) →
-            fresh_of self.old.history (batch_rows batch.now) ≢ [] }
-        ensures below { MatchResult result (λ _. IsBelowLimits self.old.records self.old.history (batch_rows batch.now))
-            (λ e. e ≡ DiskFault → IsBelowLimits self.old.records self.old.history (batch_rows batch.now)) }
-        ensures only { IfErr result IsIngestRefusal }
-        ensures later { CountsNeverFall D.device self.old.disk self.new.disk }
-        ensures no_failed_write { OnOk result (D.device.failed_writes self.new.disk ≡ D.device.failed_writes
-            self.old.disk) }
+        // History and fill list begin with the old ones, whatever the call answers.
+        ensures grows { OnlyAppends self.old self.new }
+        ensures counts { CountsNeverFall D.device self.old.disk self.new.disk }
     {
         match self.pending_fault {
             Some(faults) => return Err(Refusal::NeedsReopen { faults }),
@@ -209,25 +170,15 @@ impl<D: Disk> Store<D> {
 
     /// Makes a write that failed as if it had never been made, so that batches are taken again. Takes no memory.
     pub fn reopen(&mut self) -> Result<(), Refusal>
-        ensures ok { OnOk result ((self.new.fills ≡ reopened self.old.fills) ×
-            (pending_fault_of self.new.fills ≡ None)) }
-        ensures err { OnErr result (self.new.fills ≡ self.old.fills) }
-        ensures same { (self.new.history ≡ self.old.history) × (self.new.head ≡ self.old.head) ×
-            (self.new.opened ≡ self.old.opened) × (self.new.records ≡ self.old.records) }
+        // Ok: no failed write is pending, and every image stands for the history, whatever failed before.
+        ensures reopened { OnOk result (IsStoreReopened D.device self.old self.new) }
 
-        // Afterwards every image stands for the history, whatever failed before.
-        ensures healed { IsTrue D.device.is_transparent → OnOk result ((c : Image) → D.device.images self.new.disk c →
-            StandsFor c (archive_of self.new)) }
+        // Refused, for a fault of the disk alone, all but the disk is as it was.
+        ensures refused { IfErr result (IsStoreReopenRefusal D.device self.old self.new) }
 
-        // A crash at any moment of the call leaves what it could have left before.
-        ensures any_moment { IsTrue D.device.is_transparent →
-            LeavesOnly D.device self.old.disk self.new.disk (IsNow self.old.head self.old.history
-            (unacknowledged_rows self.old.fills)) }
-        ensures no_call { pending_fault_of self.old.fills ≡ None → self.new.disk ≡ self.old.disk }
-        ensures only { IfErr result (λ e. e ≡ DiskFault) }
-        ensures later { CountsNeverFall D.device self.old.disk self.new.disk }
-        ensures writes { CountsFailure D.device self.old.disk self.new.disk result }
-        ensures cause { HasCause D.device self.old.disk self.new.disk result }
+        // Power lost at any moment of the call leaves what it could have left before.
+        ensures crash { CrashLeavesNow D.device self.old self.new.disk }
+        ensures counts { CountsNeverFall D.device self.old.disk self.new.disk }
     {
         match self.journal.heal(&mut self.disk) {
             Ok(()) => {

@@ -2,8 +2,9 @@
 //
 // A history is rows of tables, the first to come with its key in its table. It stands in the journal in file 0 of the disk: a head record
 // with the tables and the mission database, and then a record for each batch that had new rows. `StandsFor` (specs/Stands.antt) says which
-// archive an image of the disk is, `IsArchiveDamagedAt` where it is none, and `laws` that no image is two things. Contracts see a store as
-// `StoreView` (specs/StoreView.antt): history, fill list, head, the disk, and the disk of the opening.
+// archive an image of the disk is, `IsArchiveDamagedAt` where it is none, and `laws` that no image is two things. Contracts see a
+// store as `StoreView` (specs/StoreView.antt): history, fill list, head, the disk, and the disk of the opening. What each call
+// answers, and what each answer leaves, stands in specs/Calls.antt.
 // Callers: the commands that create, load, ask and recover an archive, and the store that many callers take in turns.
 //
 // The one idea of the proof is in the store's type: it keeps what a crash at any moment since the opening may have left (`CrashInvariant`), and how the

@@ -71,16 +71,15 @@ fn admit(made: &mut PartialArchive, rows: Rows) -> Result<bool, AllocError>
 fn take_in(
     alloc: Global,
     made: &mut Option<PartialArchive>,
-    body: Vec<u8>,
+    body: &Octets,
 ) -> Result<bool, AllocError>
     requires tables { HasTables made.old }
-    ensures yes { IfOk result (λ ok. ok ≡ true → (entry : AnEntry) × (body.items ≡ entry_octets entry) ×
+    ensures yes { IfOk result (λ ok. ok ≡ true → (entry : AnEntry) × (body.now ≡ entry_octets entry) ×
         (after : Archive) × (archive_made made.new ≡ Some after) × Applies (archive_made made.old) entry after) }
-    ensures no { IfOk result (λ ok. ok ≡ false → Breaks (archive_made made.old) body.items) }
+    ensures no { IfOk result (λ ok. ok ≡ false → Breaks (archive_made made.old) body.now) }
     ensures tables { HasTables made.new }
 {
-    let octets = Octets::from_vec(alloc, body)?;
-    match read_shared(alloc, &octets) {
+    match read_shared(alloc, body) {
         Err(NotAnEntry::OutOfMemory) => Err(AllocError),
         Err(NotAnEntry::Malformed) => Ok(false),
         Ok(Entry::Head { tables, mdb }) => {
@@ -167,7 +166,7 @@ pub(crate) fn read_archive<D: Disk>(
             Ok(None) => return finished(opening, made),
             Err(fault) => return Err(refusal_of(fault)),
         };
-        match take_in(alloc, &mut made, body) {
+        match take_in(alloc, &mut made, &body) {
             Ok(true) => {}
             Ok(false) => return Err(Refusal::Damaged { file: 0, at }),
             Err(_) => return Err(Refusal::OutOfMemory),

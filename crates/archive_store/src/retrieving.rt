@@ -51,12 +51,12 @@ fn container_names(alloc: Global, mdb: &Mdb) -> Result<Names, AllocError>
 /// One row more, in a part of its own where its interval has none yet.
 fn put(alloc: Global, parts: &mut Vec<Part>, row: &Row) -> Result<(), AllocError>
     ensures rows { OnOk result (rows_of_parts parts.new.items ≡ rows_of_parts parts.old.items ++ row.now ∷ []) }
-    ensures each { AllByRecursion IsPlanPart parts.old.items → OnOk result (AllByRecursion IsPlanPart parts.new.items) }
+    ensures each { AllByRecursion (IsPlanPart 22) parts.old.items → OnOk result (AllByRecursion (IsPlanPart 22) parts.new.items) }
     ensures rising { AreRisingIntervals parts.old.items →
-        AllByRecursion (λ part. part.interval.0 ≤ℤ interval_of row.now.key.time) parts.old.items →
+        AllByRecursion (λ part. part.interval.0 ≤ℤ interval_of 22 row.now.key.time) parts.old.items →
         OnOk result (AreRisingIntervals parts.new.items) }
     ensures bounded { (x : ℤ) → AllByRecursion (λ part. part.interval.0 ≤ℤ x) parts.old.items →
-        interval_of row.now.key.time ≤ℤ x →
+        interval_of 22 row.now.key.time ≤ℤ x →
         OnOk result (AllByRecursion (λ part. part.interval.0 ≤ℤ x) parts.new.items) }
 {
     let interval = interval_of_row(row);
@@ -75,7 +75,7 @@ fn put(alloc: Global, parts: &mut Vec<Part>, row: &Row) -> Result<(), AllocError
 fn parts_of(alloc: Global, history: &History, from: i64, to: i64) -> Result<Parts, AllocError>
     requires { 0 < history.now.tables }
     ensures { IfOk result (λ parts. (rows_of_parts parts ≡ range_of 0 from to history.now.items) ×
-        AllByRecursion IsPlanPart parts × AreRisingIntervals parts) }
+        AllByRecursion (IsPlanPart 22) parts × AreRisingIntervals parts) }
 {
     let mut parts = Vec::new(alloc);
     for row in history.range(from, to) {
@@ -93,7 +93,7 @@ fn planned(
 ) -> Result<Plan, AllocError>
     requires { 0 < history.now.tables }
     ensures { IfOk result (λ plan. (plan.front ≡ length history.now.items) × (arc_value plan.mdb ≡ arc_value mdb.now)
-        × (rows_of_parts plan.parts ≡ range_of 0 request.now.from request.now.to history.now.items) × AllByRecursion IsPlanPart plan.parts × AreRisingIntervals plan.parts) }
+        × (rows_of_parts plan.parts ≡ range_of 0 request.now.from request.now.to history.now.items) × AllByRecursion (IsPlanPart 22) plan.parts × AreRisingIntervals plan.parts) }
 {
     Ok(Plan {
         front: history.len() as u64,
@@ -107,7 +107,7 @@ impl<D: Disk> Store<D> {
 
     /// The rows of table `tm` that a retrieval extracts. It names a parameter of the database and a range that doesn't end before it begins.
     pub fn plan(&mut self, alloc: Global, request: &Request) -> Result<Plan, Refusal>
-        ensures planned { IfOk result (IsPlan self.old.head self.old.history request.now.from request.now.to) }
+        ensures planned { IfOk result (IsPlan 22 self.old.head self.old.history request.now.from request.now.to) }
         ensures same { self.new ≡ self.old }
 
         // UnknownParameter comes exactly where the database lacks the name, and then BadRange exactly where the range ends before it begins.

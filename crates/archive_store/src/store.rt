@@ -1,19 +1,14 @@
 //! The store.
 
-ghost use Rattle.std.specs.Prelude.{◌≡◌, ◌≢◌, ◌<◌, ◌≤◌, ◌⊎◌, [], ◌∷◌, List, ℕ, None, Some, IsTrue, length, get_or, OnOk, IfOk, IfErr, MatchResult};
-ghost use Rattle.arch_disk.specs.Image.{Image};
-ghost use Rattle.arch_disk.specs.Disk.{LeavesOnly, raised};
-ghost use Rattle.arch_types.specs.declared.refusal.Refusal.TheVariants.{DiskFault, OutOfMemory};
-ghost use Rattle.disk_journal.specs.Format.{HasRecords, HoldsNone};
+ghost use Rattle.std.specs.Prelude.{◌≡◌, [], IsTrue, length, IfOk, IfErr};
+ghost use Rattle.arch_disk.specs.Disk.{LeavesOnly};
 ghost use Rattle.disk_journal.specs.State.{IsUntouched};
 ghost use Rattle.field_codec.specs.declared.entry.Entry.TheVariants as entries;
 ghost use Rattle.field_codec.specs.Entries.{IsArchiveEntry};
 ghost use Rattle.field_codec.specs.Spelling.{entry_octets};
 ghost use Rattle.arch_types.specs.History.{IsHistory};
-ghost use Rattle.archive_store.specs.Entries.{Archive};
 ghost use Rattle.archive_history.specs.Limits.{IsWithin};
 ghost use Rattle.archive_store.specs.PartialArchive.{refusal_of_create};
-ghost use Rattle.archive_store.specs.Stands.{StandsFor, IsArchiveDamagedAt};
 ghost use Rattle.std.specs.Arc.{arc_value};
 
 use crate::head::Head;
@@ -23,7 +18,7 @@ use arch_types::refusal::Refusal;
 use archive_core::fills::Fill;
 use archive_history::history::History;
 use disk_journal::{Frame, Journal, JournalFault, Opening};
-use field_codec::{Entry, write_entry};
+use field_codec::write_head;
 use mdb_model::Mdb;
 use std::alloc::{AllocError, Global};
 use std::marker::Model;
@@ -59,19 +54,13 @@ impl<D: Disk> Model for Store<D> {
         × (s.history.tables ≡ length s.head.tables) × (arc_value s.mdb ≡ s.head.mdb) };
 }
 
-/// A record with this head, and the head.
-fn head_frame(alloc: Global, head: Head) -> Result<(Frame, Head), AllocError>
-    requires { IsArchiveEntry (entries.Head head.tables head.mdb) }
-    ensures { IfOk result (λ r. (r.0 ≡ entry_octets (entries.Head head.tables head.mdb)) × (r.1 ≡ head)) }
+/// A record with this head.
+fn head_frame(alloc: Global, head: &Head) -> Result<Frame, AllocError>
+    requires { IsArchiveEntry (entries.Head head.now.tables head.now.mdb) }
+    ensures { IfOk result (λ frame. frame ≡ entry_octets (entries.Head head.now.tables head.now.mdb)) }
 {
-    let Head { tables, mdb } = head;
-    let entry = Entry::Head { tables, mdb };
-    let octets = write_entry(alloc, &entry)?;
-    let frame = Frame::of(alloc, octets.as_slice())?;
-    match entry {
-        Entry::Head { tables, mdb } => Ok((frame, Head { tables, mdb })),
-        Entry::Rows(_rows) => unreachable!(),
-    }
+    let octets = write_head(alloc, head.tables.as_slice(), &head.mdb)?;
+    Frame::of(alloc, &octets)
 }
 
 /// The refusal for a fault of a journal that is made.
@@ -105,7 +94,7 @@ fn prepare_new(alloc: Global, head: Head) -> Result<NewArchive, AllocError>
         (arc_value f.mdb ≡ head.mdb)
         × (f.history.items ≡ []) × (f.history.tables ≡ length head.tables)) }
 {
-    let (frame, head) = head_frame(alloc, head)?;
+    let frame = head_frame(alloc, &head)?;
     let mdb = shared(alloc, &head.mdb)?;
     let history = History::new(alloc, head.tables.as_slice().len())?;
     Ok(NewArchive {
@@ -117,46 +106,29 @@ fn prepare_new(alloc: Global, head: Head) -> Result<NewArchive, AllocError>
 }
 
 impl<D: Disk> Store<D> {
-    ghost use Rattle.archive_store.specs.StoreView.{archive_of, CrashInvariant, FaultInvariant};
-    ghost use Rattle.disk_journal.specs.Calls.{CountsNeverFall};
-    ghost use Rattle.archive_store.specs.Answers.{IsOpenAnswer, IsOpenRefusal, IsDamagedArchiveOrFault, IsNoArchiveOrFault, IsFaultOrMemory, IsCreateAnswer, IsCreateRefusal, IsCreateImage};
+    ghost use Rattle.archive_store.specs.StoreView.{CrashInvariant, FaultInvariant};
+    ghost use Rattle.disk_journal.specs.Calls.{BeginsOpen, CountsNeverFall};
+    ghost use Rattle.archive_store.specs.Calls.{CrashLeavesHead, IsDecidedByImage, IsStoreCreated, IsStoreCreateRefusal, IsStoreOpened, IsStoreOpenRefusal, disk_of, opened_disk_of};
 
-    /// Makes an archive without rows on a disk that holds none. Where the last write or sync fails it closes the gate again, as far as the disk
-    /// lets it.
+    /// Makes an archive without rows on a disk that holds none. Where the last write or sync fails it closes the gate
+    /// again, as far as the disk lets it.
     pub fn create(alloc: Global, disk: D, head: Head) -> Result<Store<D>, (D, Refusal)>
         requires head { IsArchiveEntry (entries.Head head.tables head.mdb) }
-        ensures made { IfOk result (λ s. (s.history ≡ []) × (s.fills ≡ []) × (s.head ≡ head) × (s.opened ≡ s.disk)) }
-        ensures records { IfOk result (λ s. s.records ≡ 1) }
 
-        // Exists comes exactly where file 0 has two octets at least and the first is 1, and then the disk reads as before.
-        ensures none { IsTrue D.device.is_transparent → OnOk result (HoldsNone (D.device.reads disk 0)) }
-        ensures refused { IsTrue D.device.is_transparent →
-            IfErr result (λ e. IsCreateRefusal (D.device.reads disk) (D.device.reads e.0) e.1) }
+        // Ok: the disk held no archive, and holds one of this head without rows.
+        ensures created { IfOk result (IsStoreCreated D.device disk head) }
+
+        // Exists comes exactly where file 0 begins with an open gate, and the disk then reads as before. After one
+        // fault alone a crash leaves no archive, or what it could have left before. Memory is taken before any call.
+        ensures refused { IfErr result (λ e. IsStoreCreateRefusal D.device disk e.0 e.1) }
 
         // A disk that holds an archive is left as it is, whatever the call answers.
-        ensures kept { IsTrue D.device.is_transparent → 2 ≤ length (D.device.reads disk 0) →
-            get_or (D.device.reads disk 0) 0 0 ≡ 1 → IfErr result (λ e. IsUntouched D.device disk e.0) }
+        ensures kept { IsTrue D.device.is_transparent → BeginsOpen (D.device.reads disk 0) →
+            IsUntouched D.device disk (disk_of result) }
 
-        // A crash at any moment of the call leaves no archive or the head, or what it could have left before.
-        ensures any_moment { IsTrue D.device.is_transparent → HoldsNone (D.device.reads disk 0)
-            → MatchResult result (λ s. LeavesOnly D.device disk s.disk (IsCreateImage (D.device.images disk) head)) (λ e. LeavesOnly D.device disk e.0 (IsCreateImage (D.device.images disk) head)) }
-
-        // After a failure with fewer than two faults a crash leaves no archive, or what it could have left before.
-        ensures closed { IsTrue D.device.is_transparent → HoldsNone (D.device.reads disk 0) →
-            IfErr result (λ e. e.1 ≡ DiskFault
-            → D.device.fault_count e.0 < raised (raised (D.device.fault_count disk))
-            → (c : Image) → D.device.images e.0 c → D.device.images disk c ⊎ HoldsNone (c 0)) }
-
-        ensures only { IfErr result (λ e. IsCreateAnswer e.1) }
-        ensures memory { IfErr result (λ e. e.1 ≡ OutOfMemory → e.0 ≡ disk) }
-        ensures later { MatchResult result (λ s. CountsNeverFall D.device disk s.disk) (λ e.
-            CountsNeverFall D.device disk e.0) }
-        ensures writes { MatchResult result (λ s. D.device.failed_writes s.disk ≡ D.device.failed_writes disk)
-            (λ e. D.device.failed_writes e.0 ≢ D.device.failed_writes disk → e.1 ≡ DiskFault) }
-        ensures writes_most { IfErr result (λ e.
-            D.device.failed_writes e.0 ≤ raised (raised (D.device.failed_writes disk))) }
-        ensures cause { IfErr result (λ e. e.1 ≡ DiskFault → raised (D.device.fault_count disk) ≤ D.device.fault_count
-            e.0) }
+        // Power lost at any moment of the call leaves no archive or the head, or what it could have left before.
+        ensures crash { CrashLeavesHead D.device disk (disk_of result) head }
+        ensures counts { CountsNeverFall D.device disk (disk_of result) }
     {
         let mut disk = disk;
         let Ok(new_archive) = prepare_new(alloc, head) else {
@@ -188,41 +160,20 @@ impl<D: Disk> Store<D> {
 
     /// Opens the archive of a disk.
     pub fn open(alloc: Global, disk: D) -> Result<Store<D>, (D, Refusal)>
-        ensures opened { IsTrue D.device.is_transparent →
-            IfOk result (λ s. StandsFor (D.device.reads disk) (archive_of s) ×
-            (D.device.reads s.disk ≡ D.device.reads disk)) }
-        ensures fills { IfOk result (λ s. s.fills ≡ []) }
+        // Ok: the store is what the disk stands for, without a fault.
+        ensures opened { IfOk result (IsStoreOpened D.device disk) }
 
-        ensures records { IsTrue D.device.is_transparent → IfOk result (λ s. (bodies : List (List ℕ)) ×
-            HasRecords (D.device.reads disk 0) bodies × (s.records ≡ length bodies)) }
+        // Refused: no archive is there, it is damaged at a gate, the disk failed, or memory is wanting. A write failed
+        // only where the sync at the beginning did.
+        ensures refused { IfErr result (λ e. IsStoreOpenRefusal D.device disk e.0 e.1) }
 
-        // The history of the opening is the one that was handed in.
-        ensures opening { IfOk result (λ s. D.device.reads s.opened ≡ D.device.reads disk) }
-        ensures refused { IsTrue D.device.is_transparent → IfErr result (λ e. IsOpenRefusal (D.device.reads disk) e.1) }
-        ensures reads { IfErr result (λ e. D.device.reads e.0 ≡ D.device.reads disk) }
-
-        // What the disk reads as decides, but for a fault of the disk and want of memory: no archive, damage at a gate, or the archive.
-        ensures nothing { IsTrue D.device.is_transparent → HoldsNone (D.device.reads disk 0) →
-            MatchResult result (λ _. ⊥) (λ e. IsNoArchiveOrFault e.1) }
-        ensures damaged { IsTrue D.device.is_transparent → (at : ℕ) → IsArchiveDamagedAt (D.device.reads disk) at →
-            MatchResult result (λ _. ⊥) (λ e. IsDamagedArchiveOrFault at e.1) }
-        ensures stands { IsTrue D.device.is_transparent → (archive : Archive) →
-            StandsFor (D.device.reads disk) archive → MatchResult result (λ s. archive_of s ≡ archive) (λ e.
-            IsFaultOrMemory e.1) }
+        // What the disk reads as decides which of these it is, but for a fault of the disk and want of memory.
+        ensures decided { IsTrue D.device.is_transparent → IsDecidedByImage (D.device.reads disk) result }
+        ensures reads { D.device.reads (disk_of result) ≡ D.device.reads disk }
 
         // Up to the opening's syncs, and where it is refused, a crash leaves what it could have left before.
-        ensures handed_in { MatchResult result (λ s. LeavesOnly D.device disk s.opened (D.device.images disk)) (λ e.
-            LeavesOnly D.device disk e.0 (D.device.images disk)) }
-        ensures only { IfErr result (λ e. IsOpenAnswer e.1) }
-        ensures later { MatchResult result (λ s. CountsNeverFall D.device disk s.opened) (λ e.
-            CountsNeverFall D.device disk e.0) }
-
-        // A write failed only where the sync at the beginning did.
-        ensures writes { MatchResult result (λ s. D.device.failed_writes s.disk ≡ D.device.failed_writes disk)
-            (λ e. (D.device.failed_writes e.0 ≡ D.device.failed_writes disk)
-            ⊎ ((e.1 ≡ DiskFault) × (D.device.failed_writes e.0 ≡ raised (D.device.failed_writes disk)))) }
-        ensures cause { IfErr result (λ e. e.1 ≡ DiskFault → raised (D.device.fault_count disk) ≤ D.device.fault_count
-            e.0) }
+        ensures crash { LeavesOnly D.device disk (opened_disk_of result) (D.device.images disk) }
+        ensures counts { CountsNeverFall D.device disk (opened_disk_of result) }
     {
         let mut disk = disk;
         let opening = match Opening::begin(alloc, &mut disk, 0) {
@@ -272,7 +223,7 @@ impl<D: Disk> Store<D> {
     /// The length of the history.
     pub fn front(&self) -> u64
         ensures front { result ≡ length self.now.history }
-        ensures history { IsHistory self.now.history × IsWithin self.now.history }
+        ensures history { IsHistory self.now.history × IsWithin 22 self.now.history }
         ensures images { IsTrue D.device.is_transparent → CrashInvariant D.device self.now }
         ensures faults { FaultInvariant D.device self.now }
     {

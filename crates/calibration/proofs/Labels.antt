@@ -7,7 +7,7 @@ use Rattle.mdb_items.specs.declared.calibration.EnumRow.{EnumRow}
 use Rattle.mdb_items.specs.declared.calibration.Table.{Table}
 use Rattle.mdb_items.specs.declared.calibration.Table.TheVariants.{Poly, Points, Enum}
 use Rattle.mdb_items.specs.ParameterRows.{table_of_calibration}
-use Rattle.mdb_model.specs.LabelOrder.{label_row, label_row_by, labels_of_table}
+use Rattle.mdb_lookups.specs.LabelOrder.{label_row, label_row_by, labels_of_table}
 use Rattle.calibration.specs.Admitted.{IsAdmitted, KeepsRules}
 use Rattle.calibration.specs.Calibrated.{calibrated, is_enum, is_enumeration, label_at, value_by}
 use Rattle.calibration.proofs.Admission.{place_within}

@@ -1,23 +1,16 @@
 -- The calibration of a parameter is admitted by the rules that a mission database keeps.
-use Rattle.std.proofs.Common.{◌≡◌, ◌∙◌, ◌≤◌, ℕ, zero, suc, List, [], ◌∷◌, Option, Some, None, refl, ap, sym, arith}
-use Rattle.std.specs.Prelude.{slice_get, sum_by, ℤ}
-use Rattle.std.proofs.lemmas.List.Sums.{sum_by-cons}
+use Rattle.std.proofs.Common.{◌≡◌, ◌∙◌, ◌≤◌, ℕ, List, Option, Some, None, refl, ap, sym}
+use Rattle.std.specs.Prelude.{slice_get, ℤ}
 use Rattle.mdb_items.specs.declared.calibration.Calibration.{Calibration}
 use Rattle.mdb_items.specs.declared.calibration.Table.{Table}
 use Rattle.mdb_items.specs.declared.calibration.Table.TheVariants.{Poly, Points, Enum}
 use Rattle.mdb_items.specs.declared.parameter.Parameter.{Parameter}
-use Rattle.mdb_items.specs.Database.{Database, IsDatabase, row_count, table_len}
+use Rattle.mdb_items.specs.Database.{Database, IsDatabase, table_len}
 use Rattle.mdb_items.specs.ParameterRows.{admits, reference_to, referenced_table, table_of_calibration}
 use Rattle.mdb_items.specs.Structure.{IsTable}
-use Rattle.mdb_model.specs.Lookups.{calibration_numbered}
+use Rattle.mdb_lookups.specs.Lookups.{calibration_numbered}
 use Rattle.mdb_model.proofs.Structure.{structured}
 use Rattle.calibration.specs.Admitted.{IsAdmitted, IsInWidth, KeepsRules}
-
--- a calibration's rows are some of all
-count_in : (cs : List Calibration) (n : ℕ) (c : Calibration) → slice_get cs n ≡ Some c → row_count c ≤ sum_by row_count cs
-count_in [] n c is = cc
-count_in (d ∷ cs) zero c is = let same : d ≡ c = cc in omega (arith, sum_by-cons row_count d cs, ap row_count same)
-count_in (d ∷ cs) (suc n) c is = omega (arith, sum_by-cons row_count d cs, count_in cs n c is)
 
 keeps_rules : (t : Table) → IsTable t → table_len t ≤ 65536 → KeepsRules (Some t)
 keeps_rules (Poly rows) is few = tt
@@ -27,8 +20,8 @@ keeps_rules (Enum rows) is few = few
 rules_at : (db : Database) (n : ℕ) (o : Option Calibration) → IsDatabase db → slice_get db.calibrations n ≡ o → KeepsRules (table_of_calibration o)
 rules_at db n None is at = tt
 rules_at db n (Some c) is at =
-    let s = structured db is in
-    keeps_rules c.table (s.calibrations n c at).rows (omega (arith, count_in db.calibrations n c at, s.few_rows))
+    let s = (structured db is).calibrations n c at in
+    keeps_rules c.table s.rows s.few
 
 rules_of : (db : Database) (o : Option ℕ) → IsDatabase db → KeepsRules (table_of_calibration (calibration_numbered db.calibrations o))
 rules_of db None is = tt

@@ -5,7 +5,7 @@ ghost use Rattle.std.specs.List.{position};
 ghost use Rattle.std.specs.Ordering.{int_eq};
 ghost use Rattle.calibration.specs.Admitted.{IsAdmitted};
 ghost use Rattle.calibration.specs.Calibrated.{calibrated, is_enumeration, label_at};
-ghost use Rattle.mdb_model.specs.Lookups.{calibration_of};
+ghost use Rattle.mdb_lookups.specs.Lookups.{calibration_of};
 
 use crate::points::on_points;
 use crate::polynomial::polynomial;

@@ -2,8 +2,8 @@
 use Rattle.std.proofs.Common.{◌≡◌, ◌∙◌, Option, ap, subst, sym}
 use Rattle.mdb_items.specs.declared.calibration.Calibration.{Calibration}
 use Rattle.mdb_items.specs.Database.{Database, IsDatabase}
-use Rattle.mdb_model.specs.Lookups.{calibration_of, calibration_of_parameter}
-use Rattle.mdb_rules.proofs.Ends.{item_at}
+use Rattle.mdb_lookups.specs.Lookups.{calibration_of, calibration_of_parameter}
+use Rattle.mdb_items.proofs.Ends.{item_at}
 use Rattle.calibration.specs.Admitted.{IsAdmitted}
 use Rattle.calibration.proofs.Rules.{admitted}
 use Rattle.container_extract.specs.declared.values.RawValue.{RawValue}

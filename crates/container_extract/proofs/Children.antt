@@ -5,7 +5,7 @@ use Rattle.std.specs.List.{find, position}
 use Rattle.std.proofs.lemmas.Bool.{cases_Bool, eqb-true}
 use Rattle.mdb_items.specs.declared.container.Container.{Container}
 use Rattle.mdb_items.specs.Database.{Database}
-use Rattle.mdb_model.specs.Children.{children_from, children_of, is_parent_of}
+use Rattle.mdb_lookups.specs.Children.{children_from, children_of, is_parent_of}
 use Rattle.container_extract.specs.declared.values.RawValue.{RawValue}
 use Rattle.container_extract.specs.Chain.{first_child, is_number, is_taken}
 use Rattle.container_extract.specs.Step.{AreOfPath, holds_at}

@@ -1,16 +1,20 @@
 -- The walk as the code takes it.
-use Rattle.std.proofs.Common.{◌≡◌, ◌∙◌, ◌-◌, ◌<◌, ℕ, List, [], ◌∷◌, ◌++◌, length, map, Some, None, ap, sym, arith, subst}
+use Rattle.std.proofs.Common.{◌≡◌, ◌∙◌, ◌+◌, ◌-◌, ◌<◌, ◌≤◌, ℕ, List, [], ◌∷◌, ◌++◌, length, map, Some, None, ap, sym, arith, subst, length-append}
 use Rattle.std.specs.Prelude.{flat_map}
-use Rattle.std.proofs.lemmas.List.{map-append}
+use Rattle.std.proofs.lemmas.List.{length-map, map-append}
 use Rattle.mdb_items.specs.declared.container.Entry.{Entry}
 use Rattle.mdb_items.specs.Database.{Database, IsDatabase}
-use Rattle.mdb_model.specs.PlacedConditions.{path_parameters}
+use Rattle.mdb_items.specs.Structure.{IsPath}
+use Rattle.mdb_items.proofs.Ends.{item_at}
+use Rattle.mdb_lookups.specs.PlacedConditions.{path_parameters}
 use Rattle.mdb_model.proofs.Structure.{structured}
 use Rattle.container_extract.specs.declared.values.RawValue.{RawValue}
 use Rattle.container_extract.specs.Chain.{IsChain, chain_of, entries_at}
 use Rattle.container_extract.specs.Extraction.{raw_extraction, raw_values_along}
 use Rattle.container_extract.specs.Step.{AreAbove, IsStep, parameters_of_values}
+use Rattle.container_extract.specs.Values.{raw_value_of}
 use Rattle.container_extract.proofs.Chains.{is_chain_of}
+use Rattle.container_extract.proofs.Paths.{a_path}
 use Rattle.container_extract.proofs.Placed.{parameters_of_raw}
 use Rattle.container_extract.proofs.Walk.{IsWalk, walk_begins, walk_ends, walk_goes_on}
 
@@ -24,7 +28,22 @@ values_above db packet chain values n w =
     let above = flat_map (entries_at db) chain in
     let so_far : parameters_of_values values ≡ map (λ (e : Entry). e.parameter) above = ap parameters_of_values w.taken ∙ parameters_of_raw db packet above in
     ap (λ (ps : List ℕ). ps ++ map (λ (e : Entry). e.parameter) (entries_at db n)) so_far
-    ∙ sym (map-append (λ (e : Entry). e.parameter) above (entries_at db n)) ∙ ap path_parameters (sym w.path.1)
+    ∙ sym (map-append (λ (e : Entry). e.parameter) above (entries_at db n)) ∙ ap path_parameters (sym w.path)
+
+-- the path of a container on the walk keeps the rules
+path_kept : (db : Database) (packet chain : List ℕ) (values : List RawValue) (n : ℕ) → IsDatabase db → IsWalk db packet chain values n → IsPath (a_path (length chain + 1) (flat_map (entries_at db) chain ++ entries_at db n))
+path_kept db packet chain values n is w = let here = item_at db.containers n w.known in subst IsPath w.path ((structured db is).containers n here.0 here.1).path
+
+-- so there is room for the container
+pub chain_fits : (db : Database) (packet chain : List ℕ) (values : List RawValue) (n : ℕ) → IsDatabase db → IsWalk db packet chain values n → length chain < 32
+chain_fits db packet chain values n is w = omega (arith, (path_kept db packet chain values n is w).few_containers)
+
+-- and for the values of its entries
+pub entries_fit : (db : Database) (packet chain : List ℕ) (values : List RawValue) (n : ℕ) → IsDatabase db → IsWalk db packet chain values n → length values + length (entries_at db n) ≤ 256
+entries_fit db packet chain values n is w =
+    let above = flat_map (entries_at db) chain in
+    let so_far : length values ≡ length above = ap length w.taken ∙ length-map above (raw_value_of db packet) in
+    omega (arith, so_far, length-append above (entries_at db n), (path_kept db packet chain values n is w).few_entries)
 
 -- the numbers of containers have sixteen bits
 pub number_small : (db : Database) (packet chain : List ℕ) (values : List RawValue) (n : ℕ) → IsDatabase db → IsWalk db packet chain values n → n < 65536

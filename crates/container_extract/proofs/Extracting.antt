@@ -17,7 +17,7 @@ use Rattle.container_extract.specs.declared.values.ParameterValue.{ParameterValu
 use Rattle.container_extract.specs.declared.values.RawValue.{RawValue}
 use Rattle.container_extract.specs.Bits.{raw_bits_at, field_at}
 use Rattle.container_extract.specs.Chain.{chain_of, entries_at}
-use Rattle.container_extract.specs.Laws.{ExtractionIsCalibrated, ExtractionKeepsRules, IsValue, RawExtractionKeepsRules, ValueIsCalibrated}
+use Rattle.container_extract.specs.Laws.{ExtractionIsCalibrated, ExtractionKeepsRules, IsValue, RawExtractionKeepsRules, RawValueIsSound, ValueIsCalibrated}
 use Rattle.container_extract.specs.Values.{IsRawValue, calibrated_value, coding_of, fits, raw_among, raw_of, raw_value_of, value_among, value_of}
 use Rattle.container_extract.specs.Extraction.{raw_extraction}
 use Rattle.container_extract.proofs.Paths.{all_known, chain_keeps}
@@ -32,8 +32,8 @@ raw_in_width db packet e p is at =
     let raw : raw_of db packet e ≡ raw_bits_at packet e.at p.bits p.coding = ap (λ (o : Option Parameter). raw_bits_at packet e.at (bits_of_parameter o) (coding_of o)) at in
     subst (IsInWidth p.coding p.bits) (sym raw) (in_width p.coding p.bits (field_at packet e.at p.bits) width below)
 
-raw_value_is_sound : (db : Database) (packet : List ℕ) (e : Entry) → IsDatabase db → IsEntry db e → IsRawValue db (raw_value_of db packet e)
-raw_value_is_sound db packet e is entry = record { known = entry.parameter; in_width = λ p at. raw_in_width db packet e p is at }
+entry_is_sound : (db : Database) (packet : List ℕ) (e : Entry) → IsDatabase db → IsEntry db e → IsRawValue db (raw_value_of db packet e)
+entry_is_sound db packet e is entry = record { known = entry.parameter; in_width = λ p at. raw_in_width db packet e p is at }
 
 value_is_sound : (db : Database) (packet : List ℕ) (e : Entry) → IsDatabase db → IsEntry db e → IsValue db (value_of db packet e)
 value_is_sound db packet e is entry = record {
@@ -76,7 +76,7 @@ extraction_keeps_rules = λ db packet is.
 raw_values_are_sound : (db : Database) (packet : List ℕ) (k : ℕ) (es : List Entry) → IsDatabase db → AllByRecursion (IsEntry db) es → AllByRecursion (IsRawValue db) (map (raw_value_of db packet) (take k es))
 raw_values_are_sound db packet zero es is all = tt
 raw_values_are_sound db packet (suc k) [] is all = tt
-raw_values_are_sound db packet (suc k) (e ∷ es) is all = (raw_value_is_sound db packet e is all.0, raw_values_are_sound db packet k es is all.1)
+raw_values_are_sound db packet (suc k) (e ∷ es) is all = (entry_is_sound db packet e is all.0, raw_values_are_sound db packet k es is all.1)
 
 -- their parameters are those of the values
 same_parameters : (db : Database) (packet : List ℕ) (es : List Entry) → map (λ (v : ParameterValue). v.parameter) (map (value_of db packet) es) ≡ map (λ (v : RawValue). v.parameter) (map (raw_value_of db packet) es)
@@ -121,5 +121,5 @@ found_keeps P q (w ∷ vs) v all is = elim (cases_Bool (w.parameter == q)) [
 ]
 
 -- so the raw value of a parameter in a packet is one of the database
-pub found_is_sound : (db : Database) (packet : List ℕ) (q : ℕ) (v : RawValue) → IsDatabase db → raw_among q (raw_extraction db packet) ≡ Some v → IsRawValue db v
-found_is_sound db packet q v is found = found_keeps (IsRawValue db) q (raw_extraction db packet) v (raw_extraction_keeps_rules db packet is).each found
+pub raw_value_is_sound : RawValueIsSound
+raw_value_is_sound = λ db packet q v is found. found_keeps (IsRawValue db) q (raw_extraction db packet) v (raw_extraction_keeps_rules db packet is).each found

@@ -1,6 +1,7 @@
 pub mod Numbers
 pub mod Widths
 pub mod Chains
+pub mod Known
 pub mod Paths
 pub mod Extracting
 pub mod Admitting

@@ -6,7 +6,7 @@ use Rattle.std.proofs.lemmas.List.{append-nil}
 use Rattle.std.proofs.lemmas.List.Elements.{filter_more}
 use Rattle.mdb_items.specs.declared.container.Container.{Container}
 use Rattle.mdb_items.specs.Lists.{last_of}
-use Rattle.mdb_rules.proofs.Ends.{last_of-push}
+use Rattle.mdb_items.proofs.Ends.{last_of-push}
 use Rattle.container_extract.specs.Chain.{has_archive, name_along}
 
 abbrev flagged : List Container → ℕ → Bool

@@ -7,20 +7,11 @@ use Rattle.mdb_items.specs.declared.container.Entry.{Entry}
 use Rattle.mdb_items.specs.Database.{Database, IsDatabase}
 use Rattle.mdb_items.specs.Paths.{ContainerPath, path_at, path_below, paths_of}
 use Rattle.mdb_items.specs.Structure.{IsBelowParent, IsEntry, IsPath}
-use Rattle.mdb_rules.specs.Totals.{AreEarlier, parent_of}
-use Rattle.mdb_rules.proofs.Ancestry.{path_here}
 use Rattle.mdb_model.proofs.DatabaseFits.{all_join}
-use Rattle.mdb_rules.proofs.Ends.{item_at}
+use Rattle.mdb_items.proofs.Ends.{item_at}
 use Rattle.mdb_model.proofs.Structure.{structured}
 use Rattle.container_extract.specs.Chain.{IsChain, IsChainFrom, chain_of, entries_at, container_entries}
 use Rattle.container_extract.proofs.Chains.{chain_is_one, child_of}
-
--- the parents of containers stand earlier
-parents_earlier : (db : Database) → IsDatabase db → AreEarlier db.containers
-parents_earlier db is n p within e =
-    let here = item_at db.containers n within in
-    let parent : here.0.parent ≡ Some p = ap parent_of (sym here.1) ∙ e in
-    subst (IsBelowParent n) parent ((structured db is).containers n here.0 here.1).parent
 
 -- the path of the container with a number
 abbrev pub path_to : Database → ℕ → ContainerPath
@@ -40,7 +31,7 @@ record IsAlong (db : Database) (containers : ℕ) (entries : List Entry) : Type 
 pub child_path : (db : Database) (n m : ℕ) (c : Container) (k : ℕ) (entries : List Entry) → IsDatabase db → slice_get db.containers m ≡ Some c → c.parent ≡ Some n → path_to db n ≡ a_path k entries
     → path_to db m ≡ a_path (suc k) (entries ++ entries_at db m)
 child_path db n m c k entries is at parent up =
-    let below : path_to db m ≡ path_below (path_at (paths_of db.containers) c.parent) c = path_here db.containers m c (parents_earlier db is) at in
+    let below : path_to db m ≡ path_below (path_at (paths_of db.containers) c.parent) c = ((structured db is).containers m c at).below in
     let over : path_at (paths_of db.containers) c.parent ≡ a_path k entries = ap (path_at (paths_of db.containers)) parent ∙ up in
     let own : c.entries ≡ entries_at db m = ap container_entries (sym at) in
     below ∙ ap (λ (p : ContainerPath). path_below p c) over ∙ ap (λ (es : List Entry). a_path (suc k) (entries ++ es)) own
@@ -71,7 +62,7 @@ along db packet above k n (m ∷ chain) is within goes here =
 -- the root's path is itself alone
 root_path : (db : Database) (c : Container) (o : Option ℕ) → IsDatabase db → slice_get db.containers 0 ≡ Some c → c.parent ≡ o → IsBelowParent 0 o → path_to db 0 ≡ a_path 1 (entries_at db 0)
 root_path db c None is at parent first =
-    path_here db.containers 0 c (parents_earlier db is) at ∙ ap (λ (o : Option ℕ). path_below (path_at (paths_of db.containers) o) c) parent ∙ ap (a_path 1) (ap container_entries (sym at))
+    ((structured db is).containers 0 c at).below ∙ ap (λ (o : Option ℕ). path_below (path_at (paths_of db.containers) o) c) parent ∙ ap (a_path 1) (ap container_entries (sym at))
 root_path db c (Some p) is at parent first = absurd (omega (arith, first))
 
 pub root_along : (db : Database) → IsDatabase db → path_to db 0 ≡ a_path 1 (entries_at db 0)

@@ -10,7 +10,7 @@ use Rattle.mdb_items.specs.declared.container.Container.{Container}
 use Rattle.mdb_items.specs.declared.container.Entry.{Entry}
 use Rattle.mdb_items.specs.Database.{Database}
 use Rattle.mdb_items.specs.Paths.{path_at, paths_of}
-use Rattle.mdb_model.specs.PlacedConditions.{path_parameters, placed_condition, placed_of, with_place}
+use Rattle.mdb_lookups.specs.PlacedConditions.{path_parameters, placed_condition, placed_of, with_place}
 use Rattle.container_extract.specs.declared.values.RawValue.{RawValue}
 use Rattle.container_extract.specs.Chain.{entries_at}
 use Rattle.container_extract.specs.Step.{AreAbove, AreOfPath, holds_at, holds_by_places, is_met_at, parameters_of_values}

@@ -1,5 +1,5 @@
 -- The walk from the root down.
-use Rattle.std.proofs.Common.{◌≡◌, ◌∙◌, ◌<◌, ℕ, suc, List, [], ◌∷◌, ◌++◌, length, map, Option, Some, None, Bool, true, false, cond, inl, inr, refl, ap, sym, subst, append_assoc}
+use Rattle.std.proofs.Common.{◌≡◌, ◌∙◌, ◌+◌, ◌<◌, ℕ, suc, List, [], ◌∷◌, ◌++◌, length, map, Option, Some, None, Bool, true, false, cond, inl, inr, refl, ap, sym, subst, append_assoc, arith, length-append}
 use Rattle.std.specs.Prelude.{◌&&◌, flat_map, if◌then◌else◌}
 use Rattle.std.specs.List.{list_all, take_while}
 use Rattle.std.proofs.lemmas.Bool.{cases_Bool}
@@ -41,10 +41,10 @@ pub record IsWalk (db : Database) (packet : List ℕ) (chain : List ℕ) (values
   pub fit : list_all (fits db packet) (flat_map (entries_at db) chain) ≡ true
   pub taken : values ≡ map (raw_value_of db packet) (flat_map (entries_at db) chain)
   pub known : n < length db.containers
-  pub path : (k : ℕ) × (path_to db n ≡ a_path k (flat_map (entries_at db) chain ++ entries_at db n))
+  pub path : path_to db n ≡ a_path (length chain + 1) (flat_map (entries_at db) chain ++ entries_at db n)
 
 pub walk_begins : (db : Database) (packet : List ℕ) → IsDatabase db → IsWalk db packet [] [] 0
-walk_begins db packet is = record { goes = λ rest h. (refl, h); fit = refl; taken = refl; known = (structured db is).root; path = (1, root_along db is) }
+walk_begins db packet is = record { goes = λ rest h. (refl, h); fit = refl; taken = refl; known = (structured db is).root; path = root_along db is }
 
 -- where all of its entries are taken, its values follow
 values_more : (db : Database) (packet : List ℕ) (chain : List ℕ) (values more : List RawValue) (n : ℕ) (next : Option ℕ) → IsWalk db packet chain values n → IsStep db packet values n more next
@@ -88,7 +88,8 @@ walk_goes_on db packet chain values more n m is w s =
     let below = next_below db packet (above ++ entries_at db n) n m is next in
     let es = entries_more db chain n in
     let child = child_of db packet (above ++ entries_at db n) n m next in
-    let under = child_path db n m child.0 w.path.0 (above ++ entries_at db n) is child.1 child.3 w.path.1 in
+    let under = child_path db n m child.0 (length chain + 1) (above ++ entries_at db n) is child.1 child.3 w.path in
+    let longer : suc (length chain + 1) ≡ length (chain ++ n ∷ []) + 1 = omega (arith, length-append chain (n ∷ [])) in
     let goes : (rest : List ℕ) → IsChainFrom db packet (flat_map (entries_at db) (chain ++ n ∷ [])) (m ∷ rest) → IsChain db packet ((chain ++ n ∷ []) ++ m ∷ rest) =
     λ rest h. subst (IsChain db packet) (sym (append_assoc chain (n ∷ []) (m ∷ rest))) (w.goes (m ∷ rest) (next, subst (λ (xs : List Entry). IsChainFrom db packet xs (m ∷ rest)) es h)) in (
       record {
@@ -96,7 +97,7 @@ walk_goes_on db packet chain values more n m is w s =
         fit = ap (list_all (fits db packet)) es ∙ list_all-append (fits db packet) above (entries_at db n) ∙ ap (λ b. b && list_all (fits db packet) (entries_at db n)) w.fit ∙ all;
         taken = values_more db packet chain values more n (Some m) w s all ∙ ap (map (raw_value_of db packet)) (sym es);
         known = below.1;
-        path = (suc w.path.0, under ∙ ap (λ (xs : List Entry). a_path (suc w.path.0) (xs ++ entries_at db m)) (sym es));
+        path = under ∙ ap (λ (k : ℕ). a_path k ((above ++ entries_at db n) ++ entries_at db m)) longer ∙ ap (λ (xs : List Entry). a_path (length (chain ++ n ∷ []) + 1) (xs ++ entries_at db m)) (sym es);
       },
       below.0,
     )

@@ -1,14 +1,14 @@
 -- What holds of chains and extractions.
 use Rattle.std.specs.Prelude.{◌≡◌, ◌<◌, ◌≤◌, ℕ, List, Some, length, map, nat_eq, option_map, slice_get}
-use Rattle.std.specs.List.{AllByRecursion, IsDistinct}
+use Rattle.std.specs.List.{All, AllByRecursion, IsDistinct}
 use Rattle.mdb_items.specs.declared.parameter.Parameter.{Parameter}
 use Rattle.mdb_items.specs.Database.{Database, IsDatabase}
-use Rattle.mdb_model.specs.Lookups.{calibration_of}
+use Rattle.mdb_lookups.specs.Lookups.{calibration_of}
 use Rattle.calibration.specs.Admitted.{IsInWidth}
 use Rattle.calibration.specs.Calibrated.{calibrated}
 use Rattle.container_extract.specs.declared.values.ParameterValue.{ParameterValue}
 use Rattle.container_extract.specs.declared.values.RawValue.{RawValue}
-use Rattle.container_extract.specs.Chain.{IsChain, chain_of}
+use Rattle.container_extract.specs.Chain.{IsChain, chain_of, packet_name_of}
 use Rattle.container_extract.specs.Extraction.{extraction, raw_extraction}
 use Rattle.container_extract.specs.Values.{IsRawValue, calibrated_value, raw_among, value_among}
 
@@ -19,6 +19,14 @@ ChainIsOne = (db : Database) (packet : List ℕ) → IsDatabase db → IsChain d
 -- and it has at most 32 containers
 abbrev pub ChainIsShort : Type 0
 ChainIsShort = (db : Database) (packet : List ℕ) → IsDatabase db → length (chain_of db packet) ≤ 32
+
+-- its numbers are those of containers of the database
+abbrev pub ChainIsKnown : Type 0
+ChainIsKnown = (db : Database) (packet : List ℕ) → IsDatabase db → All (λ n. n < length db.containers) (chain_of db packet)
+
+-- and so is a packet name
+abbrev pub PacketNameIsKnown : Type 0
+PacketNameIsKnown = (db : Database) (packet : List ℕ) → IsDatabase db → packet_name_of db packet < length db.containers
 
 -- a value is that of a parameter of the database: its raw number has the width of the parameter's coding and bits, and its engineering value
 -- is the raw number by the parameter's calibration
@@ -46,6 +54,10 @@ pub record AreRawValues (db : Database) (values : List RawValue) : Type 0 where
 -- the raw values of a packet, and of any other octets, under a database are such raw values
 abbrev pub RawExtractionKeepsRules : Type 0
 RawExtractionKeepsRules = (db : Database) (packet : List ℕ) → IsDatabase db → AreRawValues db (raw_extraction db packet)
+
+-- and so the raw value of a parameter is one of the database
+abbrev pub RawValueIsSound : Type 0
+RawValueIsSound = (db : Database) (packet : List ℕ) (q : ℕ) (v : RawValue) → IsDatabase db → raw_among q (raw_extraction db packet) ≡ Some v → IsRawValue db v
 
 -- an extraction is the raw one, each value with its engineering value
 abbrev pub ExtractionIsCalibrated : Type 0

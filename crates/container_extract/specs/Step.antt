@@ -5,7 +5,7 @@ use Rattle.mdb_items.specs.declared.container.Comparison.{Comparison}
 use Rattle.mdb_items.specs.declared.container.Container.{Container}
 use Rattle.mdb_items.specs.Database.{Database}
 use Rattle.mdb_items.specs.Paths.{path_at, paths_of}
-use Rattle.mdb_model.specs.PlacedConditions.{path_parameters, placed_condition}
+use Rattle.mdb_lookups.specs.PlacedConditions.{path_parameters, placed_condition}
 use Rattle.container_extract.specs.declared.values.RawValue.{RawValue}
 use Rattle.container_extract.specs.Chain.{entries_at, first_child}
 use Rattle.container_extract.specs.Values.{fits, is_met, raw_value_of}

@@ -12,7 +12,7 @@ use Rattle.mdb_items.specs.declared.parameter.Coding.TheVariants.{Uint}
 use Rattle.mdb_items.specs.declared.parameter.Parameter.{Parameter}
 use Rattle.mdb_items.specs.Database.{Database}
 use Rattle.mdb_items.specs.Paths.{bits_of_parameter}
-use Rattle.mdb_model.specs.Lookups.{calibration_of}
+use Rattle.mdb_lookups.specs.Lookups.{calibration_of}
 use Rattle.calibration.specs.Admitted.{IsInWidth}
 use Rattle.calibration.specs.Calibrated.{calibrated}
 use Rattle.container_extract.specs.declared.values.ParameterValue.{ParameterValue}

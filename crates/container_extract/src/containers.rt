@@ -1,16 +1,15 @@
 //! What comes after a container.
 
-ghost use Rattle.std.specs.Prelude.{◌≡◌, ◌<◌, length, slice_get, option_copied, IfOk};
+ghost use Rattle.std.specs.Prelude.{◌≡◌, ◌+◌, ◌<◌, ◌≤◌, length, slice_get, option_copied, vec_len, vec_capacity};
 ghost use Rattle.std.specs.List.{find};
 ghost use Rattle.mdb_items.specs.Database.{IsDatabase};
-ghost use Rattle.container_extract.specs.Chain.{first_child, has_archive, name_along};
+ghost use Rattle.container_extract.specs.Chain.{entries_at, first_child, has_archive, name_along};
 ghost use Rattle.container_extract.specs.Step.{AreAbove, AreOfPath, IsStep, holds_at};
 
 use crate::conditions::holds_by_places;
 use crate::entries::take_entries;
 use crate::values::RawValue;
 use mdb_model::{Container, Mdb};
-use std::alloc::AllocError;
 
 /// The condition of the container with a number holds of the values at its places.
 fn holds_at(mdb: &Mdb, number: u16, values: &[RawValue]) -> bool
@@ -47,17 +46,19 @@ pub(crate) fn next_of(
     packet: &[u8],
     number: u16,
     values: &mut Vec<RawValue>,
-) -> Result<Option<u16>, AllocError>
+) -> Option<u16>
     requires known { number < length mdb.now.containers }
     requires sound { IsDatabase mdb.now }
     requires above { AreAbove mdb.now number values.old.items }
-    ensures { IfOk result (λ next. IsStep mdb.now packet.now values.old.items number values.new.items next) }
+    requires room { vec_len values.old + length (entries_at mdb.now number) ≤ vec_capacity values.old }
+    ensures step { IsStep mdb.now packet.now values.old.items number values.new.items result }
+    ensures capacity { vec_capacity values.new ≡ vec_capacity values.old }
 {
     let entries = mdb.container(number).entries.as_slice();
-    if !take_entries(mdb, packet, entries, values)? {
-        return Ok(None);
+    if !take_entries(mdb, packet, entries, values) {
+        return None;
     }
-    Ok(first_child(mdb, number, values.as_slice()))
+    first_child(mdb, number, values.as_slice())
 }
 
 fn has_archive(container: Option<&Container>) -> bool

@@ -1,13 +1,12 @@
 //! The raw values of entries.
 
-ghost use Rattle.std.specs.Prelude.{◌≡◌, ◌<◌, ◌++◌, length, map, true, IfOk};
+ghost use Rattle.std.specs.Prelude.{◌≡◌, ◌+◌, ◌<◌, ◌≤◌, ◌++◌, length, map, true, vec_len, vec_capacity};
 ghost use Rattle.std.specs.List.{All, list_all, take_while};
 ghost use Rattle.container_extract.specs.Values.{fits, raw_value_of};
 
 use crate::fields::bits;
 use crate::values::RawValue;
 use mdb_model::{Entry, Mdb};
-use std::alloc::AllocError;
 
 /// The entry doesn't pass the packet's end.
 fn fits(mdb: &Mdb, packet: &[u8], entry: Entry) -> bool
@@ -38,17 +37,19 @@ pub(crate) fn take_entries(
     packet: &[u8],
     entries: &[Entry],
     values: &mut Vec<RawValue>,
-) -> Result<bool, AllocError>
+) -> bool
     requires known { All (λ e. e.parameter < length mdb.now.parameters) entries.now }
-    ensures taken { IfOk result (λ whole. values.new.items ≡ values.old.items ++ map (raw_value_of mdb.now packet.now)
-        (take_while (fits mdb.now packet.now) entries.now)) }
-    ensures whole { IfOk result (λ whole. whole ≡ list_all (fits mdb.now packet.now) entries.now) }
+    requires room { vec_len values.old + length entries.now ≤ vec_capacity values.old }
+    ensures taken { values.new.items ≡ values.old.items ++ map (raw_value_of mdb.now packet.now)
+        (take_while (fits mdb.now packet.now) entries.now) }
+    ensures whole { result ≡ list_all (fits mdb.now packet.now) entries.now }
+    ensures capacity { vec_capacity values.new ≡ vec_capacity values.old }
 {
     for entry in entries {
         if !fits(mdb, packet, *entry) {
-            return Ok(false);
+            return false;
         }
-        values.push(raw_value_of(mdb, packet, *entry))?;
+        values.push_reserved(raw_value_of(mdb, packet, *entry));
     }
-    Ok(true)
+    true
 }

@@ -35,8 +35,8 @@ pub fn extract<L: Ledger>(
     ensures values { IfOk result (λ x. x.values ≡ extraction mdb.now packet.now) }
 {
     steps.tick();
-    let mut raw = RawExtracted::new(alloc);
-    raw.walk(mdb, packet)?;
+    let mut raw = RawExtracted::new(alloc)?;
+    raw.walk(mdb, packet);
     mdb.is_sound();
     let values = calibrated_values(alloc, mdb, raw.values.as_slice())?;
     Ok(Extracted {
@@ -49,5 +49,5 @@ pub fn extract<L: Ledger>(
 pub fn packet_name(alloc: Global, mdb: &Mdb, packet: &[u8]) -> Result<u16, AllocError>
     ensures { IfOk result (λ name. name ≡ packet_name_of mdb.now packet.now) }
 {
-    Extractor::new(alloc).packet_name(mdb, packet)
+    Ok(Extractor::new(alloc)?.packet_name(mdb, packet))
 }

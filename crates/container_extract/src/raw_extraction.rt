@@ -1,14 +1,18 @@
 //! Raw extractions in buffers that are used again.
 
-ghost use Rattle.std.specs.Prelude.{◌≡◌, ◌+◌, [], IfOk};
+ghost use Rattle.std.specs.Prelude.{◌≡◌, ◌+◌, [], option_copied, IfOk};
 ghost use Rattle.container_extract.specs.Chain.{chain_of, packet_name_of};
 ghost use Rattle.container_extract.specs.Extraction.{raw_extraction};
+ghost use Rattle.container_extract.specs.Laws.{AreRawValues};
+ghost use Rattle.container_extract.specs.Room.{HasPacketRoom};
+ghost use Rattle.container_extract.specs.Values.{raw_among};
 
 use crate::containers::{name_along, next_of};
 use crate::values::RawValue;
 use arch_types::steps::Steps;
 use mdb_model::Mdb;
 use std::alloc::{AllocError, Global};
+use std::marker::Model;
 use std::sync::ledger::Ledger;
 
 /// The containers that a path has at most.
@@ -26,45 +30,67 @@ pub struct RawExtracted {
     pub chain: Vec<u16>,
 }
 
-/// Extracts one packet after the other, each in place of the one before.
+/// Extracts one packet after the other, each in place of the one before. It takes memory when it is made, and none after that.
 #[derive(Debug, Drop)]
 pub struct Extractor {
     extracted: RawExtracted,
 }
 
+impl Model for Extractor {
+    ghost use Rattle.container_extract.specs.Room.{HasPacketRoom};
+
+    ghost Value = { Unit {0} };
+
+    ghost view = { λ _. tt };
+
+    ghost invariant = { λ e. HasPacketRoom e.extracted };
+}
+
 impl RawExtracted {
-    /// Nothing.
-    pub(crate) fn new(alloc: Global) -> RawExtracted {
-        RawExtracted {
-            values: Vec::new(alloc),
-            chain: Vec::new(alloc),
-        }
+    /// Nothing, with room for any packet.
+    pub(crate) fn new(alloc: Global) -> Result<RawExtracted, AllocError>
+        ensures { IfOk result HasPacketRoom }
+    {
+        Ok(RawExtracted {
+            values: Vec::with_capacity(alloc, MAX_ENTRIES)?,
+            chain: Vec::with_capacity(alloc, MAX_CONTAINERS)?,
+        })
     }
 
-    /// Forgets what was extracted, and has room for any packet from then on.
-    fn restart(&mut self) -> Result<(), AllocError>
-        ensures values { IfOk result (λ _. self.new.values.items ≡ []) }
-        ensures chain { IfOk result (λ _. self.new.chain.items ≡ []) }
+    /// The raw value of a parameter, where the packet has one.
+    pub fn value(&self, parameter: u16) -> Option<&RawValue>
+        ensures { option_copied result ≡ raw_among parameter self.now.values.items }
+    {
+        self.values
+            .iter()
+            .find(|value| value.parameter == parameter)
+    }
+
+    /// Forgets what was extracted.
+    fn restart(&mut self)
+        requires { HasPacketRoom self.old }
+        ensures room { HasPacketRoom self.new }
+        ensures values { self.new.values.items ≡ [] }
+        ensures chain { self.new.chain.items ≡ [] }
     {
         self.values.clear();
-        self.values.reserve(MAX_ENTRIES)?;
         self.chain.clear();
-        self.chain.reserve(MAX_CONTAINERS)?;
-        Ok(())
     }
 
-    /// Goes down from the root. The octets need not be a whole packet.
-    pub(crate) fn walk(&mut self, mdb: &Mdb, packet: &[u8]) -> Result<(), AllocError>
-        ensures chain { IfOk result (λ _. self.new.chain.items ≡ chain_of mdb.now packet.now) }
-        ensures values { IfOk result (λ _. self.new.values.items ≡ raw_extraction mdb.now packet.now) }
+    /// Goes down from the root, in place of what was extracted before. The octets need not be a whole packet.
+    pub(crate) fn walk(&mut self, mdb: &Mdb, packet: &[u8])
+        requires { HasPacketRoom self.old }
+        ensures room { HasPacketRoom self.new }
+        ensures chain { self.new.chain.items ≡ chain_of mdb.now packet.now }
+        ensures values { self.new.values.items ≡ raw_extraction mdb.now packet.now }
     {
-        self.restart()?;
+        self.restart();
         let mut number = 0;
         mdb.is_sound();
         'down: loop {
-            self.chain.push(number)?;
-            match next_of(mdb, packet, number, &mut self.values)? {
-                None => return Ok(()),
+            self.chain.push_reserved(number);
+            match next_of(mdb, packet, number, &mut self.values) {
+                None => return,
                 Some(child) => number = child,
             }
         }
@@ -72,47 +98,36 @@ impl RawExtracted {
 }
 
 impl Extractor {
-    /// An extractor, which takes memory with its first packet and none after that.
-    pub fn new(alloc: Global) -> Extractor {
-        Extractor {
-            extracted: RawExtracted::new(alloc),
-        }
+    /// An extractor, with room for any packet.
+    pub fn new(alloc: Global) -> Result<Extractor, AllocError> {
+        Ok(Extractor {
+            extracted: RawExtracted::new(alloc)?,
+        })
     }
 
-    /// The chain and the raw values of a packet, in one step. The octets need not be a whole packet. The one error is want of memory.
+    /// The chain and the raw values of a packet, in one step. The octets need not be a whole packet.
     pub fn extract<L: Ledger>(
         &mut self,
         mdb: &Mdb,
         packet: &[u8],
         steps: &mut Steps<L>,
-    ) -> Result<&RawExtracted, AllocError>
+    ) -> &RawExtracted
         ensures step { steps.new ≡ steps.old + 1 }
-        ensures chain { IfOk result (λ x. x.now.chain.items ≡ chain_of mdb.now packet.now) }
-        ensures values { IfOk result (λ x. x.now.values.items ≡ raw_extraction mdb.now packet.now) }
+        ensures chain { result.now.chain.items ≡ chain_of mdb.now packet.now }
+        ensures values { result.now.values.items ≡ raw_extraction mdb.now packet.now }
+        ensures rules { AreRawValues mdb.now result.now.values.items }
     {
         steps.tick();
-        self.extract_uncounted(mdb, packet)
+        mdb.is_sound();
+        self.extracted.walk(mdb, packet);
+        &self.extracted
     }
 
-    /// The same, for a caller that counts no steps.
-    pub fn extract_uncounted(
-        &mut self,
-        mdb: &Mdb,
-        packet: &[u8],
-    ) -> Result<&RawExtracted, AllocError>
-        ensures chain { IfOk result (λ x. x.now.chain.items ≡ chain_of mdb.now packet.now) }
-        ensures values { IfOk result (λ x. x.now.values.items ≡ raw_extraction mdb.now packet.now) }
+    /// The packet name: the number of the last container of the packet's chain with the archive flag, or else of the root.
+    pub fn packet_name(&mut self, mdb: &Mdb, packet: &[u8]) -> u16
+        ensures { result ≡ packet_name_of mdb.now packet.now }
     {
-        self.extracted.walk(mdb, packet)?;
-        Ok(&self.extracted)
-    }
-
-    /// The packet name: the number of the last container of the packet's chain with the archive flag, or else of the root. The one error is
-    /// want of memory.
-    pub fn packet_name(&mut self, mdb: &Mdb, packet: &[u8]) -> Result<u16, AllocError>
-        ensures { IfOk result (λ name. name ≡ packet_name_of mdb.now packet.now) }
-    {
-        self.extracted.walk(mdb, packet)?;
-        Ok(name_along(mdb.container_list(), self.extracted.chain.as_slice()))
+        self.extracted.walk(mdb, packet);
+        name_along(mdb.container_list(), self.extracted.chain.as_slice())
     }
 }

@@ -5,9 +5,10 @@ ghost use Rattle.std.specs.Prelude.{◌≡◌, ◌<◌};
 use arch_types::cell::Eng;
 use arch_types::steps::Steps;
 use container_extract::chain::Chain;
+use container_extract::laws::raw_value_is_sound;
 use container_extract::values::{ParameterValue, Values};
-use container_extract::{Extracted, Extractor, bits, extract, packet_name};
-use mdb_model::{Coding, Items, Mdb, MdbFault, RawMdb, Record, Sheet};
+use container_extract::{Extracted, Extractor, bits, eng_of, extract, packet_name};
+use mdb_model::{Coding, Mdb, MdbFault, RawMdb, Record, Sheet};
 use std::alloc::{AllocError, Global};
 use std::marker::Brand;
 use std::sync::ledger::{Blank, Ledger};
@@ -84,9 +85,9 @@ fn record(alloc: Global, line: &str) -> Result<Record, AllocError> {
 }
 
 fn sheet(alloc: Global, text: &str) -> Result<Sheet, AllocError> {
-    let mut records = Items::new(alloc);
+    let mut records = Sheet::new(alloc);
     for line in text.split('|') {
-        records.push(record(alloc, line)?)?;
+        records.push(&record(alloc, line)?)?;
     }
     Ok(records)
 }
@@ -223,29 +224,98 @@ fn worked_packets(rt: HostRuntime) -> Result<(), Fail> {
     Ok(())
 }
 
-/// The packet name and the number of values of a packet, by an extractor that had others before.
-fn named_by(
+/// The packet name and the number of values of a packet, by an extractor that may have had others before.
+fn named_by<L: Ledger>(
+    extractor: &mut Extractor,
+    blank: Blank,
+    mdb: &Mdb,
+    packet: &[u8],
+) -> (u16, usize)
+    requires name { blank.name ≡ L.name }
+    requires parts { blank.parts ≡ L.parts }
+    requires some { 0 < blank.parts }
+{
+    let (book, share) = blank.open::<L>();
+    let mut steps = Steps::new(book, share);
+    let name = extractor.packet_name(mdb, packet);
+    let found = extractor.extract(mdb, packet, &mut steps);
+    (name, found.values.len())
+}
+
+/// The same of a packet that hexadecimal digits spell.
+fn named(
     alloc: Global,
     extractor: &mut Extractor,
     mdb: &Mdb,
     digits: &str,
 ) -> Result<(u16, usize), AllocError> {
     let packet = octets_of(alloc, digits)?;
-    let name = extractor.packet_name(mdb, packet.as_slice())?;
-    let found = extractor.extract_uncounted(mdb, packet.as_slice())?;
-    Ok((name, found.values.len()))
+    Ok(named_by::<Brand>(extractor, Blank::new(1), mdb, packet.as_slice()))
 }
 
 #[test]
 fn packets_one_after_the_other(rt: HostRuntime) -> Result<(), Fail> {
     let mdb = database(rt.alloc(), FLIGHT)?;
-    let mut extractor = Extractor::new(rt.alloc());
+    let mut extractor = Extractor::new(rt.alloc())?;
     for (digits, want) in [
         ("0864c00000070000000180002afe", (1, 3)),
         ("0866c000000600000001800007", (0, 1)),
         ("0865c000000600000001800007", (2, 2)),
     ] {
-        assert_eq!(rt; named_by(rt.alloc(), &mut extractor, &mdb, digits)?, want);
+        assert_eq!(rt; named(rt.alloc(), &mut extractor, &mdb, digits)?, want);
+    }
+    Ok(())
+}
+
+/// The engineering value of a parameter in a packet, by an extractor that may have had others before.
+fn eng_by<L: Ledger>(
+    extractor: &mut Extractor,
+    blank: Blank,
+    mdb: &Mdb,
+    packet: &[u8],
+    parameter: u16,
+) -> Option<Eng>
+    requires name { blank.name ≡ L.name }
+    requires parts { blank.parts ≡ L.parts }
+    requires some { 0 < blank.parts }
+{
+    let (book, share) = blank.open::<L>();
+    let mut steps = Steps::new(book, share);
+    mdb.is_sound();
+    raw_value_is_sound();
+    let found = extractor.extract(mdb, packet, &mut steps);
+    match found.value(parameter) {
+        None => None,
+        Some(value) => Some(eng_of(mdb, *value)),
+    }
+}
+
+/// The same of a packet that hexadecimal digits spell.
+fn eng_said(
+    alloc: Global,
+    extractor: &mut Extractor,
+    mdb: &Mdb,
+    digits: &str,
+    parameter: u16,
+) -> Result<Option<Eng>, AllocError> {
+    let packet = octets_of(alloc, digits)?;
+    Ok(eng_by::<Brand>(extractor, Blank::new(1), mdb, packet.as_slice(), parameter))
+}
+
+#[test]
+fn engineering_values(rt: HostRuntime) -> Result<(), Fail> {
+    let mdb = database(rt.alloc(), CALIBRATED)?;
+    let mut extractor = Extractor::new(rt.alloc())?;
+    for (digits, want) in [
+        ("fb00", Some(Eng::Label(0))),
+        ("0102", Some(Eng::Undef)),
+        ("03", None),
+        ("0001", Some(Eng::Label(1))),
+    ] {
+        assert_eq!(rt;
+            eng_said(rt.alloc(), &mut extractor, &mdb, digits, 1)?,
+            want
+        );
     }
     Ok(())
 }

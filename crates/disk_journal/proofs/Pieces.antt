@@ -4,7 +4,7 @@ use Rattle.std.specs.Prelude.{nat_lt, if◌then◌else◌}
 use Rattle.std.proofs.lemmas.Bool.Decides.{nat_tests}
 use Rattle.std.proofs.lemmas.List.{append-nil, take_at, take_all, drop_all, drop-drop, take-take, get_or-take, get_or-drop, length-take-le}
 use Rattle.std.proofs.lemmas.Slice.{between_is}
-use Rattle.disk_journal.specs.PieceReader.{held_from, IsPieceOf}
+use Rattle.disk_journal.specs.PieceReader.{held_from, piece_octets, IsPieceOf}
 use Rattle.disk_journal.specs.declared.piece_reader.PieceReader.{PieceReader}
 
 part_of : (behind : Bool) (begin at : ℕ) (piece content : List ℕ) → (behind ≡ false → begin ≤ at) → piece ≡ take (length piece) (drop begin content) → let part = if behind then [] else drop (at - begin) piece in part ≡ take (length part) (drop at content)
@@ -22,10 +22,10 @@ not_behind at begin e = grind (arith, nat_tests)
 
 -- what the piece holds from a place on is what stands there in the file
 pub held_is : (reader : PieceReader) (content : List ℕ) (at : ℕ) → IsPieceOf reader content → held_from reader at ≡ take (length (held_from reader at)) (drop at content)
-held_is reader content at is = part_of (nat_lt at reader.at) reader.at at reader.piece.items content (not_behind at reader.at) is
+held_is reader content at is = part_of (nat_lt at reader.at) reader.at at (piece_octets reader.piece) content (not_behind at reader.at) is
 
 -- at its own place it holds all
-pub held_at : (reader : PieceReader) (at : ℕ) → reader.at ≡ at → held_from reader at ≡ reader.piece.items
+pub held_at : (reader : PieceReader) (at : ℕ) → reader.at ≡ at → held_from reader at ≡ piece_octets reader.piece
 held_at reader at is = grind (arith, nat_tests)
 
 -- the first of the octets that stand at a place

@@ -1,5 +1,6 @@
 // A record ready to be written.
 ghost use Rattle.std.specs.Prelude.{◌≡◌, ◌+◌, ◌^◌, ◌<◌, ◌++◌, [], ◌∷◌, List, ℕ, length, IfOk};
+ghost use Rattle.std.specs.Int.{w32, to_be_bytes};
 ghost use Rattle.disk_journal.specs.Format.{framed};
 ghost use Rattle.disk_journal.specs.Frame.{body_in};
 
@@ -21,17 +22,34 @@ impl Model for Frame {
 }
 
 impl Frame {
+    /// The front of a frame round a body of so many octets: its length, and room to put the body behind it.
+    pub fn begin(alloc: Global, size: u32) -> Result<Vec<u8>, AllocError>
+        ensures { IfOk result (λ front. front.items ≡ to_be_bytes w32 size) }
+    {
+        let mut front = Vec::new(alloc);
+        front.reserve(size as usize + 5)?;
+        front.extend_from_slice(&size.to_be_bytes())?;
+        Ok(front)
+    }
+
+    /// The frame round the body that was put behind its front.
+    pub fn finish(octets: Vec<u8>) -> Result<Frame, AllocError>
+        requires { (body : List ℕ) × (octets.items ≡ framed body) × (length body < 2 ^ 32) }
+        ensures { (body : List ℕ) → octets.items ≡ framed body → IfOk result (λ frame. frame ≡ body) }
+    {
+        let mut octets = octets;
+        octets.push(0)?;
+        Ok(Frame { octets })
+    }
+
     /// A frame round a body shorter than 2^32 octets.
     pub fn of(alloc: Global, body: &[u8]) -> Result<Frame, AllocError>
         requires { length body.now < 2 ^ 32 }
         ensures { IfOk result (λ frame. frame ≡ body.now) }
     {
-        let mut octets = Vec::new(alloc);
-        octets.reserve(body.len() + 5)?;
-        octets.extend_from_slice(&(body.len() as u32).to_be_bytes())?;
+        let mut octets = Frame::begin(alloc, body.len() as u32)?;
         octets.extend_from_slice(body)?;
-        octets.push(0)?;
-        Ok(Frame { octets })
+        Frame::finish(octets)
     }
 
     /// The length of the body in octets.

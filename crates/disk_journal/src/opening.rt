@@ -10,6 +10,7 @@ use crate::journal::{Extent, Journal, PendingFault, begins_open};
 use crate::piece_reader::PieceReader;
 use crate::steps::flush;
 use arch_disk::Disk;
+use arch_types::octets::Octets;
 use std::alloc::{AllocError, Global};
 
 /// A reading of a file, up to a gate.
@@ -111,17 +112,17 @@ impl Opening {
         Ok(())
     }
 
-    /// The body of the next record; None at the closed gate that ends them.
+    /// The body of the next record, mostly a part of the piece that was read; None at the closed gate that ends them.
     pub fn next<D: Disk>(
         &mut self,
         alloc: Global,
         disk: &mut D,
-    ) -> Result<Option<Vec<u8>>, JournalFault>
+    ) -> Result<Option<Octets>, JournalFault>
         requires { IsTrue D.device.is_transparent → (bodies : List (List ℕ)) ×
             IsAt self.old (D.device.reads disk.old (file_read self.old)) bodies }
         ensures some { IsTrue D.device.is_transparent → (bodies : List (List ℕ)) →
             IsAt self.old (D.device.reads disk.old (file_read self.old)) bodies
-            → IfOk result (λ next. IfSome next (λ body. IsAt self.new (D.device.reads disk.old (file_read self.old)) (bodies ++ body.items ∷ []))) }
+            → IfOk result (λ next. IfSome next (λ body. IsAt self.new (D.device.reads disk.old (file_read self.old)) (bodies ++ body ∷ []))) }
         ensures none { IsTrue D.device.is_transparent → (bodies : List (List ℕ)) →
             IsAt self.old (D.device.reads disk.old (file_read self.old)) bodies
             → IfOk result (λ next. next ≡ None → HasRecords (D.device.reads disk.old (file_read self.old)) bodies × IsAt self.new (D.device.reads disk.old (file_read self.old)) bodies) }
@@ -129,7 +130,7 @@ impl Opening {
             IsAt self.old (D.device.reads disk.old (file_read self.old)) bodies
             → (at : ℕ) → result ≡ Err (JournalFault.Damaged at) → (at ≡ gate_of self.old) × IsCutShortAt (D.device.reads disk.old (file_read self.old)) bodies }
         ensures moves { IfOk result (λ next. IfSome next (λ body. (gate_of self.old < gate_of self.new) ×
-            (length body.items < 2 ^ 32))) }
+            (length body < 2 ^ 32))) }
         ensures file { file_read self.new ≡ file_read self.old }
         ensures looked { OnlyReads D.device disk.old disk.new }
         ensures only { IfErr result IsReadFault }

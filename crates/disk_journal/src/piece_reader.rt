@@ -1,5 +1,5 @@
 // A file that is read front to back in pieces, so that a call of the disk is paid once a piece and not for each look.
-ghost use Rattle.std.specs.Prelude.{◌≡◌, ◌+◌, ◌^◌, ◌<◌, ◌≤◌, ◌⊎◌, [], IsTrue, length, take, drop, get_or, OnOk, IfOk, IfErr};
+ghost use Rattle.std.specs.Prelude.{◌≡◌, ◌+◌, ◌^◌, ◌<◌, ◌≤◌, ◌⊎◌, None, IsTrue, length, take, drop, get_or, OnOk, IfOk, IfErr, IfSome};
 ghost use Rattle.std.specs.Int.{w32, from_be_bytes, to_be_bytes};
 ghost use Rattle.arch_disk.specs.Disk.{OnlyReads, raised};
 ghost use Rattle.disk_journal.specs.declared.fault.JournalFault.TheVariants.{DiskFault, OutOfMemory};
@@ -7,7 +7,8 @@ ghost use Rattle.disk_journal.specs.declared.fault.JournalFault.TheVariants.{Dis
 use crate::JournalFault;
 use crate::steps::number_of;
 use arch_disk::Disk;
-use std::alloc::Global;
+use arch_types::octets::Octets;
+use std::alloc::{AllocError, Global};
 
 // The most octets that a piece has.
 const PIECE_LEN: u64 = 256 * 1024;
@@ -21,8 +22,9 @@ pub struct PieceReader {
     pub(crate) len: u64,
     /// The place in the file at which the piece begins.
     at: u64,
-    /// The one piece that is kept: empty up to the first look, and its memory is used again for the next one.
-    piece: Vec<u8>,
+    /// The last piece that was read. What was cut out of it shares its memory.
+    piece: Option<Octets>,
+    alloc: Global,
 }
 
 impl PieceReader {
@@ -31,13 +33,14 @@ impl PieceReader {
     /// Nothing is read yet.
     pub fn new(alloc: Global, file: u32, len: u64) -> PieceReader
         ensures file { (result.file ≡ file) × (result.len ≡ len) }
-        ensures piece { result.piece.items ≡ [] }
+        ensures piece { result.piece ≡ None }
     {
         PieceReader {
             file,
             len,
             at: 0,
-            piece: Vec::new(alloc),
+            piece: None,
+            alloc,
         }
     }
 
@@ -45,14 +48,29 @@ impl PieceReader {
     fn held(&self, at: u64) -> &[u8]
         ensures { result.now ≡ held_from self.now at }
     {
-        if at < self.at {
-            return &[];
+        match &self.piece {
+            Some(piece) if at >= self.at && at - self.at < piece.len() as u64 => {
+                &piece.as_slice()[(at - self.at) as usize..]
+            }
+            _ => &[],
         }
-        let skipped = at - self.at;
-        if skipped < self.piece.len() as u64 {
-            &self.piece[skipped as usize..]
-        } else {
-            &[]
+    }
+
+    // This many octets of the piece, as a part of it; None where it doesn't hold them all.
+    fn part_held(&self, at: u64, size: usize) -> Result<Option<Octets>, AllocError>
+        ensures some { IfOk result (λ part. IfSome part (λ octets. (octets ≡ take size (held_from self.now at)) ×
+            (size ≤ length (held_from self.now at)))) }
+        ensures none { IfOk result (λ part. part ≡ None → length (held_from self.now at) ≤ size) }
+    {
+        match &self.piece {
+            Some(piece) if at >= self.at && at - self.at <= piece.len() as u64 => {
+                let from = (at - self.at) as usize;
+                if size > piece.len() - from {
+                    return Ok(None);
+                }
+                Ok(Some(piece.part(from, from + size)?))
+            }
+            _ => Ok(None),
         }
     }
 
@@ -73,16 +91,12 @@ impl PieceReader {
             return Ok(());
         }
         let left = self.len.saturating_sub(at).min(PIECE_LEN);
-        self.piece.resize((left as usize).max(size), 0)?;
+        let mut octets = Vec::new(self.alloc);
+        octets.resize((left as usize).max(size), 0)?;
+        disk.read_at(self.file, at, &mut octets)?;
+        self.piece = Some(Octets::from_vec(self.alloc, octets)?);
         self.at = at;
-        match disk.read_at(self.file, at, &mut self.piece) {
-            Ok(()) => Ok(()),
-            Err(_) => {
-                // What a failed read leaves is no piece of the file: a next look reads again.
-                self.piece.clear();
-                Err(JournalFault::DiskFault)
-            }
-        }
+        Ok(())
     }
 
     /// One octet.
@@ -122,37 +136,38 @@ impl PieceReader {
         Ok(number_of(&self.held(at)[..4]))
     }
 
-    /// A run of octets: what the piece holds of it, and the rest straight from the disk, which a next piece need not hold.
+    /// A run of octets: a part of the piece that holds it, or what the piece holds of it and the rest straight from the
+    /// disk, which a next piece need not hold.
     pub fn octets<D: Disk>(
         &self,
         alloc: Global,
         disk: &mut D,
         at: u64,
         size: u32,
-    ) -> Result<Vec<u8>, JournalFault>
+    ) -> Result<Octets, JournalFault>
         requires inside { at + size < 2 ^ 64 }
         requires reading { IsTrue D.device.is_transparent →
             IsReading self.now (D.device.reads disk.old self.now.file) × (at + size ≤ self.now.len) }
         ensures octets { IsTrue D.device.is_transparent → IfOk result (λ octets.
-            octets.items ≡ take size (drop at (D.device.reads disk.old self.now.file))) }
-        ensures long { IfOk result (λ octets. length octets.items ≡ size) }
+            octets ≡ take size (drop at (D.device.reads disk.old self.now.file))) }
+        ensures long { IfOk result (λ octets. length octets ≡ size) }
         ensures looked { OnlyReads D.device disk.old disk.new }
         ensures only { IfErr result (λ e. (e ≡ DiskFault) ⊎ (e ≡ OutOfMemory)) }
         ensures cause { result ≡ Err JournalFault.DiskFault →
             raised (D.device.fault_count disk.old) ≤ D.device.fault_count disk.new }
     {
         let size = size as usize;
-        let held = self.held(at);
-        if held.len() >= size {
-            let octets = held[..size].to_vec(alloc)?;
-            return Ok(octets);
+        match self.part_held(at, size)? {
+            Some(part) => return Ok(part),
+            None => {}
         }
+        let held = self.held(at);
         let mut octets = Vec::new(alloc);
         octets.reserve(size)?;
         octets.extend_from_slice(held)?;
         octets.resize(size, 0)?;
         let rest = held.len();
         disk.read_at(self.file, at + rest as u64, &mut octets[rest..])?;
-        Ok(octets)
+        Ok(Octets::from_vec(alloc, octets)?)
     }
 }

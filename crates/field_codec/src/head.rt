@@ -25,8 +25,8 @@ pub(crate) fn read_head(alloc: Global, octets: &[u8]) -> Result<(Names, Mdb), No
     Ok((tables, mdb))
 }
 
-/// The octets of an entry that is a head.
-pub(crate) fn write_head(alloc: Global, tables: &[Name], mdb: &Mdb) -> Result<Vec<u8>, AllocError>
+/// The octets of an entry that is a head: its kind, the tables, and the database.
+pub fn write_head(alloc: Global, tables: &[Name], mdb: &Mdb) -> Result<Vec<u8>, AllocError>
     requires { IsHead (tables.now, mdb.now) }
     ensures octets { IfOk result (λ out. out.items ≡ number w8 1 ++ head_octets tables.now mdb.now) }
     ensures short { IfOk result (λ out. length out.items < 2 ^ 30) }

@@ -23,5 +23,7 @@ mod writing;
 
 pub use entry::Entry;
 pub use fault::NotAnEntry;
+pub use head::write_head;
 pub use reading::{read_entry, read_shared};
+pub use rows::{put_rows, rows_entry_len};
 pub use writing::write_entry;

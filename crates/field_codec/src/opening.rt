@@ -88,6 +88,8 @@ struct TableCodec;
 impl Decode for TableCodec {
     type Value = Name;
 
+    const LEAST_OCTETS: usize = 2;
+
     ghost read = { table_name_at };
 
     #[tactic(auto, unfolding(crate::specs::Reading::table_name_at))]

@@ -1,6 +1,6 @@
 //! Rows as octets, both ways.
 
-ghost use Rattle.std.specs.Prelude.{◌≡◌, ◌*◌, ◌<◌, ◌≤◌, ◌^◌, ◌++◌, length, IfOk};
+ghost use Rattle.std.specs.Prelude.{◌≡◌, ◌*◌, ◌<◌, ◌≤◌, ◌^◌, ◌++◌, length, IfOk, OnOk};
 ghost use Rattle.std.specs.Int.{w8};
 ghost use Rattle.std.specs.List.{AllByRecursion, flat_map};
 ghost use Rattle.arch_types.specs.Packet.{IsPacket};
@@ -110,7 +110,7 @@ fn some_rows_at<'a>(
     requires { IsEndOf octets.now block.now }
     ensures { Gives (λ x. (x.0, x.1.now)) result (times_at row_at count octets.now) }
 {
-    let mut rows = Rows::new(alloc);
+    let mut rows = Rows::from_vec(Vec::with_capacity(alloc, count as usize)?);
     let mut rest = octets;
     for _ in 0..count {
         let (row, after) = row_at(block, rest)?;
@@ -189,16 +189,33 @@ fn rows_size(rows: &[Row]) -> usize
     size
 }
 
-/// The octets of an entry of rows.
+/// How many octets an entry of rows has.
+pub fn rows_entry_len(rows: &[Row]) -> u32
+    requires { AreStored rows.now }
+    ensures len { result ≡ length (number w8 2 ++ rows_octets rows.now) }
+    ensures short { result < 2 ^ 30 }
+{
+    (3 + rows_size(rows)) as u32
+}
+
+/// Adds the octets of an entry of rows to a buffer.
 #[tactic(auto, unfolding(octet_fields::specs::Spelling::counted))]
+pub fn put_rows(out: &mut Vec<u8>, rows: &[Row]) -> Result<(), AllocError>
+    requires { AreStored rows.now }
+    ensures { OnOk result (out.new.items ≡ out.old.items ++ (number w8 2 ++ rows_octets rows.now)) }
+{
+    put_u8(out, 2)?;
+    put_u16(out, rows.len() as u16)?;
+    put_each::<RowCodec>(out, rows)
+}
+
+/// The octets of an entry of rows.
 pub(crate) fn write_rows(alloc: Global, rows: &[Row]) -> Result<Vec<u8>, AllocError>
     requires { AreStored rows.now }
     ensures octets { IfOk result (λ out. out.items ≡ number w8 2 ++ rows_octets rows.now) }
     ensures short { IfOk result (λ out. length out.items < 2 ^ 30) }
 {
-    let mut out = Vec::with_capacity(alloc, 3 + rows_size(rows))?;
-    put_u8(&mut out, 2)?;
-    put_u16(&mut out, rows.len() as u16)?;
-    put_each::<RowCodec>(&mut out, rows)?;
+    let mut out = Vec::with_capacity(alloc, rows_entry_len(rows) as usize)?;
+    put_rows(&mut out, rows)?;
     Ok(out)
 }

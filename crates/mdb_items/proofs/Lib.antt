@@ -1,2 +1,5 @@
 pub mod Powers
 pub mod Records
+pub mod Places
+pub mod Ends
+pub mod ContainerPaths

@@ -1,5 +1,5 @@
 -- What stands on the path from the root down to a container.
-use Rattle.std.specs.Prelude.{ℕ, suc, ◌+◌, ◌==◌, Bool, List, [], ◌∷◌, ◌++◌, length, fold, slice_get, Option, Some, None, unwrap_or}
+use Rattle.std.specs.Prelude.{◌≡◌, ℕ, suc, ◌+◌, ◌<◌, ◌==◌, Bool, List, [], ◌∷◌, ◌++◌, length, fold, slice_get, Option, Some, None, unwrap_or}
 use Rattle.std.specs.List.{list_any}
 use Rattle.mdb_items.specs.declared.container.Container.{Container}
 use Rattle.mdb_items.specs.declared.container.Entry.{Entry}
@@ -31,6 +31,15 @@ with_path paths c = paths ++ path_below (path_at paths c.parent) c ∷ []
 -- the paths of containers that each stand below their parents
 unfoldable pub paths_of : List Container → List ContainerPath
 paths_of containers = fold with_path [] containers
+
+-- the parent of a container, where there is one
+abbrev pub parent_of : Option Container → Option ℕ
+parent_of None = None
+parent_of (Some c) = c.parent
+
+-- each parent stands earlier
+abbrev pub AreEarlier : List Container → Type 0
+AreEarlier cs = (n p : ℕ) → n < length cs → parent_of (slice_get cs n) ≡ Some p → p < n
 
 -- the number of the last container
 abbrev pub last_number : List Container → Option ℕ

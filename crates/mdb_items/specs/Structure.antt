@@ -15,9 +15,9 @@ use Rattle.mdb_items.specs.declared.container.Container.{Container}
 use Rattle.mdb_items.specs.declared.container.Entry.{Entry}
 use Rattle.mdb_items.specs.declared.parameter.Parameter.{Parameter}
 use Rattle.mdb_items.specs.ContainerRows.{compares_other}
-use Rattle.mdb_items.specs.Database.{Database, IsDatabase, entry_count, row_count}
+use Rattle.mdb_items.specs.Database.{Database, IsDatabase, entry_count, row_count, table_len}
 use Rattle.mdb_items.specs.Numbers.{is_decimal, is_in_range}
-use Rattle.mdb_items.specs.Paths.{ContainerPath, bits_at, path_at, paths_of}
+use Rattle.mdb_items.specs.Paths.{ContainerPath, bits_at, path_at, path_below, paths_of}
 use Rattle.mdb_items.specs.ParameterRows.{admits, fits_coding, is_reference, reference_to, referenced_table}
 use Rattle.mdb_items.specs.Texts.{Text, is_label}
 
@@ -94,10 +94,11 @@ IsTable (Poly rows) = IsPolynomial rows
 IsTable (Points points) = IsPolyline points
 IsTable (Enum rows) = IsEnumeration rows
 
--- a calibration has a name, and sound rows
+-- a calibration has a name, and sound rows, no more than a database has
 pub record IsCalibration (c : Calibration) : Type 0 where
   pub named : IsName c.name
   pub rows : IsTable c.table
+  pub few : table_len c.table ≤ 65536
 
 -- ---- parameters
 
@@ -136,13 +137,15 @@ abbrev pub IsBelowParent : ℕ → Option ℕ → Type 0
 IsBelowParent n None = n ≡ 0
 IsBelowParent n (Some parent) = parent < n
 
--- the container with a number has a name, stands below its parent, and its condition, entries and path are sound
+-- the container with a number has a name, stands below its parent, its condition, entries and path are sound, and its path
+-- is its parent's, and then itself
 pub record IsContainer (d : Database) (n : ℕ) (c : Container) : Type 0 where
   pub named : IsName c.name
   pub parent : IsBelowParent n c.parent
   pub condition : IsCondition (path_at (paths_of d.containers) c.parent).entries c.condition
   pub entries : AllByRecursion (IsEntry d) c.entries
   pub path : IsPath (path_at (paths_of d.containers) (Some n))
+  pub below : path_at (paths_of d.containers) (Some n) ≡ path_below (path_at (paths_of d.containers) c.parent) c
 
 -- ---- the database
 

@@ -22,4 +22,4 @@ pub use fault::{MdbFault, MdbLimit, MdbSheet};
 pub use name::MdbName;
 pub use not_mdb::NotMdb;
 pub use parameter::{Coding, Parameter};
-pub use sheet::{RawMdb, Record, Sheet};
+pub use sheet::{RawMdb, Record, Sheet, SheetRecord};

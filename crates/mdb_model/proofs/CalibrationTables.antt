@@ -1,11 +1,12 @@
 -- The tables that rows of calibrations spell.
-use Rattle.std.proofs.Common.{◌≡◌, ◌∙◌, ◌<◌, ◌≤◌, ℕ, suc, List, [], ◌∷◌, ◌++◌, length, map, Option, Some, None, Bool, true, false, refl, ap, sym, arith, inl, inr, subst}
-use Rattle.std.specs.Prelude.{◌&&◌, ◌-◌, not, slice_get, fold, if◌then◌else◌, is_none, is_some, flat_map}
+use Rattle.std.proofs.Common.{◌≡◌, ◌∙◌, ◌<◌, ◌≤◌, ℕ, zero, suc, List, [], ◌∷◌, ◌++◌, length, map, Option, Some, None, Bool, true, false, refl, ap, sym, arith, inl, inr, subst}
+use Rattle.std.specs.Prelude.{◌&&◌, ◌-◌, not, slice_get, fold, if◌then◌else◌, is_none, is_some, flat_map, sum_by}
 use Rattle.std.specs.List.{AllByRecursion, IsDistinct}
 use Rattle.std.specs.Str.{bytes_eq}
 use Rattle.std.proofs.lemmas.Bool.{cases_lt, leb-true}
 use Rattle.std.proofs.lemmas.Cmp.{int_eq_equiv, nat_eq_equiv}
 use Rattle.std.proofs.lemmas.List.{map-append}
+use Rattle.std.proofs.lemmas.List.Sums.{sum_by-cons}
 use Rattle.std.proofs.lemmas.Option.{same_Some, slice_get_within}
 use Rattle.text_forms.specs.Names.{is_name}
 use Rattle.mdb_items.specs.declared.calibration.Calibration.{Calibration}
@@ -18,17 +19,18 @@ use Rattle.mdb_items.specs.declared.rows.RowValues.{RowValues}
 use Rattle.mdb_items.specs.declared.rows.RowValues.TheVariants.{Unread, Coefficient, Point, Label}
 use Rattle.mdb_items.specs.CalibrationRows.{CalibrationRow, calibration_checks, calibrations_of, continued, empty_table, has_x, has_y, is_named, is_other_kind, is_point, is_unread, repeats, rows_of_calibration, table_named, with_calibration_row, with_name, with_new_row, table_with_row}
 use Rattle.mdb_items.specs.Checks.{first_broken}
-use Rattle.mdb_items.specs.Database.{Database, IsDatabase, table_len}
+use Rattle.mdb_items.specs.Database.{Database, IsDatabase, row_count, table_len}
 use Rattle.mdb_items.specs.Lists.{at_last, last_of}
 use Rattle.mdb_model.specs.Rechecking.{are_sound, calibration_fault_before, calibrations_sound, first_name}
 use Rattle.mdb_items.specs.Structure.{AreDistinctExponents, AreDistinctNames, AreDistinctNumbers, IsCalibration, IsLabelled, IsName, IsPoint, ArePointsRising, IsTable, IsTerm}
 use Rattle.mdb_items.specs.Texts.{Text, place_of}
 use Rattle.mdb_rules.proofs.CalibrationSpelling.{last_named, own_kind}
 use Rattle.mdb_model.proofs.ContainersFit.{both_true, none_is}
+use Rattle.mdb_model.proofs.Counts.{counts}
 use Rattle.mdb_model.proofs.DatabaseFits.{all_join, all_split, item_of}
 use Rattle.mdb_model.proofs.DatabaseOctets.{calibrations_are_sound, parts_of}
 use Rattle.mdb_model.proofs.Distinct.{new_name, rises_more, text_equiv, with_new, with_other}
-use Rattle.mdb_rules.proofs.Ends.{at_last-push, last_of-push, length-push, slice_get-end, slice_get-left, snoc}
+use Rattle.mdb_items.proofs.Ends.{at_last-push, last_of-push, length-push, slice_get-end, slice_get-left, snoc}
 use Rattle.mdb_rules.proofs.Passing.{all_pass, is_true}
 
 -- ---- one more row of a table
@@ -268,11 +270,21 @@ all_rows (row ∷ rows) above sound is =
     let s = row_is_sound above row (first_name rows) (none_is (calibration_fault_before above row rows) p.0) in
     all_rows rows (with_calibration_row above row) p.1 (one_more above row (first_name rows) (continued above row.name) refl s is)
 
-finished : (above : List Calibration) (next : Option Text) → AreBegun above next → next ≡ None → (n : ℕ) (c : Calibration) → slice_get above n ≡ Some c → IsCalibration c
-finished above next is end n c at =
+-- a calibration's rows are some of all
+count_in : (cs : List Calibration) (n : ℕ) (c : Calibration) → slice_get cs n ≡ Some c → row_count c ≤ sum_by row_count cs
+count_in [] n c is = cc
+count_in (d ∷ cs) zero c is = let same : d ≡ c = cc in omega (arith, sum_by-cons row_count d cs, ap row_count same)
+count_in (d ∷ cs) (suc n) c is = omega (arith, sum_by-cons row_count d cs, count_in cs n c is)
+
+finished : (above : List Calibration) (next : Option Text) → AreBegun above next → next ≡ None → sum_by row_count above ≤ 65536 → (n : ℕ) (c : Calibration) → slice_get above n ≡ Some c → IsCalibration c
+finished above next is end few n c at =
     let begun = item_of IsBegun above n c is.each at in
     let other : is_named c.name next ≡ false = ap (is_named c.name) end in
-    record { named = begun.named; rows = whole c.table begun.some begun.table (is.long n c at (λ last. other)) }
+    record {
+      named = begun.named;
+      rows = whole c.table begun.some begun.table (is.long n c at (λ last. other));
+      few = omega (arith, count_in above n c at, few);
+    }
 
 none_begun : (next : Option Text) → AreBegun [] next
 unfolding IsDistinct
@@ -288,4 +300,5 @@ calibrations_are d is =
     let p = parts_of d is in
     let rows = flat_map rows_of_calibration d.calibrations in
     let done = all_rows rows [] (calibrations_are_sound rows p.calibrations_none) (none_begun (first_name rows)) in
-    subst AreCalibrations p.calibrations (record { names = done.names; each = finished (calibrations_of rows) None done refl })
+    let few = subst (λ (cs : List Calibration). sum_by row_count cs ≤ 65536) (sym p.calibrations) (counts d is.small).rows in
+    subst AreCalibrations p.calibrations (record { names = done.names; each = finished (calibrations_of rows) None done refl few })

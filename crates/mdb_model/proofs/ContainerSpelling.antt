@@ -24,7 +24,7 @@ use Rattle.mdb_items.specs.Paths.{ContainerPath}
 use Rattle.mdb_items.specs.Lists.{is_empty}
 use Rattle.mdb_items.specs.ParameterRows.{referenced_number}
 use Rattle.mdb_items.specs.Texts.{Text}
-use Rattle.mdb_rules.proofs.Ends.{at_last-push, slice_get-end, snoc, take-front}
+use Rattle.mdb_items.proofs.Ends.{at_last-push, slice_get-end, snoc, take-front}
 use Rattle.mdb_rules.proofs.Passing.{AllPass, all_pass, each_none, first_none, is_true, none_broken, or_else-none}
 
 -- the rules of a row's entry

@@ -21,9 +21,9 @@ use Rattle.mdb_items.specs.Numbers.{is_in_range}
 use Rattle.mdb_items.specs.ParameterRows.{is_reference, referenced_number, reference_to}
 use Rattle.mdb_model.specs.Rechecking.{are_sound, containers_sound}
 use Rattle.mdb_octets.specs.Spelling.{FitsComparison, FitsContainer, FitsEntry, link}
-use Rattle.mdb_rules.proofs.Ancestry.{length-paths_of, paths_of-push}
+use Rattle.mdb_items.proofs.ContainerPaths.{length-paths_of, paths_of-push}
 use Rattle.mdb_model.proofs.DatabaseFits.{all_join, name_short, range_fits}
-use Rattle.mdb_rules.proofs.Ends.{at_last-push, length-push, slice_get-end}
+use Rattle.mdb_items.proofs.Ends.{at_last-push, length-push, slice_get-end}
 use Rattle.mdb_rules.proofs.Passing.{all_pass, is_true, or_else-none}
 
 pub none_is : {X : Type 0} (o : Option X) → is_none o ≡ true → o ≡ None

@@ -29,7 +29,7 @@ use Rattle.mdb_items.specs.Database.{row_count, table_len}
 use Rattle.mdb_model.specs.Rechecking.{HasRows}
 use Rattle.mdb_octets.specs.Spelling.{FitsCalibration, FitsEnum, FitsParameter, FitsPoints, FitsPoly, FitsTable, link}
 use Rattle.mdb_items.specs.Texts.{Text, is_label}
-use Rattle.mdb_rules.proofs.Ends.{at_last-push}
+use Rattle.mdb_items.proofs.Ends.{at_last-push}
 use Rattle.mdb_rules.proofs.Passing.{all_pass, each_none, is_true}
 
 -- ---- lists

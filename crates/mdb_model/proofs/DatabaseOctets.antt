@@ -18,7 +18,7 @@ use Rattle.mdb_octets.specs.Spelling.{FitsDatabase}
 use Rattle.std.specs.List.{AllByRecursion}
 use Rattle.mdb_model.proofs.ContainersFit.{containers_fit}
 use Rattle.mdb_model.proofs.DatabaseFits.{calibrations_fit, calibrations_have_rows, parameters_fit}
-use Rattle.mdb_rules.proofs.Ends.{slice_get-end, take-front}
+use Rattle.mdb_items.proofs.Ends.{slice_get-end, take-front}
 use Rattle.mdb_rules.proofs.Passing.{or_else-none}
 use Rattle.mdb_model.proofs.RowsAgain.{rows_none, rows_sound}
 

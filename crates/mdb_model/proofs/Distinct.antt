@@ -17,7 +17,7 @@ use Rattle.mdb_items.specs.Structure.{ArePointsRising}
 use Rattle.mdb_items.specs.Texts.{Text, place_of}
 use Rattle.mdb_model.proofs.DatabaseFits.{all_join, all_split}
 use Rattle.mdb_rules.proofs.Passing.{is_true}
-use Rattle.mdb_rules.proofs.Places.{absent}
+use Rattle.mdb_items.proofs.Places.{absent}
 
 pub text_equiv : IsEquivalence bytes_eq
 text_equiv = nat_list_eq_equiv

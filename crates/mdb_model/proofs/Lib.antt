@@ -11,15 +11,6 @@ pub mod ContainersFit
 pub mod DatabaseOctets
 pub mod ListsAgain
 pub mod Counts
-pub mod Families
 pub mod Distinct
 pub mod CalibrationTables
 pub mod Structure
-pub mod FirstOfKey
-pub mod NamesInOrder
-pub mod SortedNames
-pub mod ItemEquality
-pub mod SortedKeys
-pub mod LabelsInOrder
-pub mod LabelOrders
-pub mod PathPlaces

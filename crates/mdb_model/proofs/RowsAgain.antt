@@ -32,8 +32,8 @@ use Rattle.mdb_items.specs.ParameterRows.{referenced_number, parameter_checks, p
 use Rattle.mdb_model.specs.Rechecking.{CalibrationsRechecked, ContainersRechecked, HasRows, ParametersRechecked, Refused, RowsRechecked, CalibrationRechecked, are_sound, calibration_fault_before, calibrations_sound, container_fault_below, containers_sound, first_name, parameter_fault_below, parameters_sound, row_with, with_parameter_row}
 use Rattle.mdb_rules.specs.Steps.{IsInStep}
 use Rattle.mdb_items.specs.Texts.{Text, place_of}
-use Rattle.mdb_rules.proofs.Ends.{length-at_last}
-use Rattle.mdb_rules.proofs.Passing.{all_pass, each_none, first_none, take-next}
+use Rattle.mdb_items.proofs.Ends.{length-at_last, take-next}
+use Rattle.mdb_rules.proofs.Passing.{all_pass, each_none, first_none}
 
 -- ---- any rows
 

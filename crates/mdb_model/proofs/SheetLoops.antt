@@ -1,6 +1,6 @@
 -- The rows of a sheet, one by one.
-use Rattle.std.proofs.Common.{◌≡◌, ◌∙◌, ◌+◌, ◌<◌, ℕ, zero, suc, List, [], ◌∷◌, ◌++◌, length, map, take, Option, Some, None, inl, inr, false, refl, ap, sym, arith}
-use Rattle.std.specs.Prelude.{slice_get, option_map, fold, ◌==◌}
+use Rattle.std.proofs.Common.{◌≡◌, ◌∙◌, ◌+◌, ◌-◌, ◌<◌, ◌≤◌, ℕ, zero, suc, List, [], ◌∷◌, ◌++◌, length, map, drop, take, Option, Some, None, inl, inr, refl, ap, sym, arith}
+use Rattle.std.specs.Prelude.{slice_get, option_map, fold}
 use Rattle.std.proofs.lemmas.Bool.{cases_lt}
 use Rattle.std.proofs.lemmas.List.{map-append, take-map}
 use Rattle.std.proofs.lemmas.List.Sums.{fold-append}
@@ -17,7 +17,20 @@ use Rattle.mdb_items.specs.Database.{broken_below, containers_fault}
 use Rattle.mdb_items.specs.ParameterRows.{parameter_fault, parameter_fault_at, parameter_of, parameters_of}
 use Rattle.mdb_model.specs.Sheets.{read_calibration, read_container, read_containers, read_parameter}
 use Rattle.mdb_items.specs.Texts.{Text}
-use Rattle.mdb_rules.proofs.Passing.{first_none, first_some, take-next}
+use Rattle.mdb_rules.proofs.Passing.{first_none, first_some}
+use Rattle.mdb_items.proofs.Ends.{take-next}
+
+-- a record below the header
+pub below_header : (sheet : List (List Text)) (place : ℕ) → 1 ≤ place → slice_get (drop 1 sheet) (place - 1) ≡ slice_get sheet place
+below_header sheet zero le = absurd (omega (arith, le))
+below_header [] (suc i) le = refl
+below_header (r ∷ sheet) (suc i) le = ap (slice_get sheet) (omega arith)
+
+-- and the one behind it
+pub below_header_next : (sheet : List (List Text)) (place : ℕ) → 1 ≤ place → slice_get (drop 1 sheet) (place - 1 + 1) ≡ slice_get sheet (place + 1)
+below_header_next sheet place le =
+    let same : place - 1 + 1 ≡ place + 1 - 1 = omega arith in
+    ap (slice_get (drop 1 sheet)) same ∙ below_header sheet (place + 1) (omega arith)
 
 -- the rows before a place are sound
 abbrev pub SoundBelow : (ℕ → Option ℕ) → ℕ → Type 0
@@ -30,8 +43,8 @@ sound_more fault i below here j lt = elim (cases_lt j i) [
 ]
 
 -- the first row that breaks a rule is the fault of the sheet
-pub found : (s : MdbSheet) (fault : ℕ → Option ℕ) (n i rule : ℕ) → i < n → SoundBelow fault i → fault i ≡ Some rule → option_map (broken_below s) (first_at fault n) ≡ Some (record { sheet = s; row = i + 2; rule = rule })
-found s fault n i rule lt below is = ap (option_map (broken_below s)) (first_some fault n i rule lt below is)
+pub found : (s : MdbSheet) (fault : ℕ → Option ℕ) (n i row rule : ℕ) → i < n → row ≡ i + 2 → SoundBelow fault i → fault i ≡ Some rule → option_map (broken_below s) (first_at fault n) ≡ Some (record { sheet = s; row = row; rule = rule })
+found s fault n i row rule lt number below is = rw number (ap (option_map (broken_below s)) (first_some fault n i rule lt below is))
 
 pub sound_all : (s : MdbSheet) (fault : ℕ → Option ℕ) (n : ℕ) → SoundBelow fault n → option_map (broken_below s) (first_at fault n) ≡ None
 sound_all s fault n below = ap (option_map (broken_below s)) (first_none fault n below)
@@ -98,7 +111,3 @@ container_more ps records i fields items at same =
 pub containers_fault_is : (ps : List Parameter) (rows : List ContainerRow) → 0 < length rows → containers_fault ps rows ≡ option_map (broken_below sheet.Containers) (first_at (container_fault_at ps rows) (length rows))
 containers_fault_is ps [] some = absurd (omega arith)
 containers_fault_is ps (row ∷ rows) some = refl
-
-pub some_row : (records : List (List Text)) → (length records == 0) ≡ false → 0 < length records
-some_row [] e = cc
-some_row (r ∷ records) e = omega arith

@@ -28,14 +28,14 @@ use Rattle.mdb_items.specs.ParameterRows.{admits, fits_coding, is_reference, par
 use Rattle.mdb_model.specs.Rechecking.{are_sound, containers_sound, parameters_sound, with_parameter_row}
 use Rattle.mdb_items.specs.Structure.{AreDistinctEntries, AreDistinctNames, IsBelowParent, IsContainer, IsEntry, IsParameter, IsPath, IsStructured, IsWhole}
 use Rattle.mdb_items.specs.Texts.{Text}
-use Rattle.mdb_rules.proofs.Ancestry.{length-paths_of, paths_extend, paths_of-push}
+use Rattle.mdb_items.proofs.ContainerPaths.{length-paths_of, paths_extend, paths_of-push}
 use Rattle.mdb_model.proofs.CalibrationTables.{calibrations_are}
 use Rattle.mdb_model.proofs.ContainersFit.{begin_step, new_container_of, both_true, last_path-push, none_is, number_back, with_entries}
 use Rattle.mdb_model.proofs.Counts.{counts}
 use Rattle.mdb_model.proofs.DatabaseFits.{all_join}
 use Rattle.mdb_model.proofs.DatabaseOctets.{containers_are_sound, containers_first, parameters_are_sound, parts_of}
 use Rattle.mdb_model.proofs.Distinct.{new_name, text_equiv, with_new, with_other}
-use Rattle.mdb_rules.proofs.Ends.{at_last-push, length-push, slice_get-end}
+use Rattle.mdb_items.proofs.Ends.{at_last-push, length-push, slice_get-end}
 use Rattle.mdb_rules.proofs.Passing.{all_pass, each_none, is_true, or_else-none}
 use Rattle.mdb_model.proofs.RowsAgain.{parameter_back}
 
@@ -237,6 +237,7 @@ containers_placed d above (c ∷ cs) whole paths names sound =
       };
       entries = entries.placed;
       path = subst IsPath (sym own) path;
+      below = own ∙ ap (λ (l : ContainerPath). path_below l c) (sym kept);
     } in
     let now = above ++ c ∷ [] in
     let name : Container → Text = λ k. k.name in

@@ -1,11 +1,11 @@
 -- What a checked mission database keeps.
 use Rattle.std.specs.Prelude.{map}
 use Rattle.mdb_model.specs.declared.mdb.Inner.TheInside.{Inside}
-use Rattle.mdb_model.specs.Children.{AreChildren}
+use Rattle.mdb_lookups.specs.Children.{AreChildren}
 use Rattle.mdb_items.specs.Database.{Database, IsDatabase}
-use Rattle.mdb_model.specs.LabelOrder.{AreLabelOrders}
-use Rattle.mdb_model.specs.NameOrder.{IsNameOrder}
-use Rattle.mdb_model.specs.PlacedConditions.{ArePlacedConditions}
+use Rattle.mdb_lookups.specs.LabelOrder.{AreLabelOrders}
+use Rattle.mdb_lookups.specs.NameOrder.{IsNameOrder}
+use Rattle.mdb_lookups.specs.PlacedConditions.{ArePlacedConditions}
 
 -- the database of the fields
 abbrev pub database_inside : Inside → Database

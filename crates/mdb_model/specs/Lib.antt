@@ -1,10 +1,4 @@
 pub mod Sheets
-pub mod Children
 pub mod Inside
 pub mod SheetResults
 pub mod Rechecking
-pub mod NameOrder
-pub mod Lookups
-pub mod SortedKeys
-pub mod LabelOrder
-pub mod PlacedConditions

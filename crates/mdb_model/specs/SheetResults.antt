@@ -13,7 +13,8 @@ use Rattle.mdb_items.specs.ContainerRows.{containers_of}
 use Rattle.mdb_items.specs.Database.{Database, Rows, calibrations_fault, containers_fault, database_of, first_fault, limit_passed, parameters_fault}
 use Rattle.mdb_items.specs.ParameterRows.{parameters_of}
 use Rattle.mdb_model.specs.Sheets.{is_calibration_header, is_container_header, is_parameter_header, read_calibration, read_containers, read_parameter, sheet_fault}
-use Rattle.mdb_rules.specs.Totals.{AreEarlier, HasPaths}
+use Rattle.mdb_rules.specs.Totals.{HasPaths}
+use Rattle.mdb_items.specs.Paths.{AreEarlier}
 use Rattle.mdb_rules.specs.Steps.{IsInStep, Refuses}
 use Rattle.mdb_items.specs.Texts.{Text}
 

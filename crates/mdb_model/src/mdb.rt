@@ -1,12 +1,12 @@
 //! The checked mission database.
 
-ghost use Rattle.std.specs.Prelude.{◌≡◌, ◌<◌, ◌↔◌, IfOk, Some, is_some, length, map, option_copied, slice_get, true};
+ghost use Rattle.std.specs.Prelude.{◌≡◌, ◌<◌, ◌↔◌, IfOk, IfSome, Some, is_some, length, map, option_copied, slice_get, true};
 ghost use Rattle.mdb_items.specs.declared.not_mdb.NotMdb.TheVariants.{OutOfMemory};
-ghost use Rattle.mdb_model.specs.Children.{children_of};
+ghost use Rattle.mdb_lookups.specs.Children.{children_of};
 ghost use Rattle.mdb_items.specs.Database.{IsDatabase, limit_passed};
-ghost use Rattle.mdb_model.specs.LabelOrder.{label_row_by};
-ghost use Rattle.mdb_model.specs.Lookups.{calibration_numbered, calibration_of};
-ghost use Rattle.mdb_model.specs.PlacedConditions.{placed_condition};
+ghost use Rattle.mdb_lookups.specs.LabelOrder.{label_row_by};
+ghost use Rattle.mdb_lookups.specs.Lookups.{calibration_numbered, calibration_of};
+ghost use Rattle.mdb_lookups.specs.PlacedConditions.{placed_condition};
 ghost use Rattle.mdb_model.specs.SheetResults.{AreSpelledLists, IsCalibrationSheetResult, IsContainerSheetResult, IsParameterSheetResult, IsLimitsResult, database_of_lists};
 ghost use Rattle.mdb_model.specs.Rechecking.{ListsRechecked, refusal};
 ghost use Rattle.mdb_model.specs.Sheets.{IsCheckResult};
@@ -14,23 +14,22 @@ ghost use Rattle.mdb_octets.specs.Spelling.{database_octets};
 ghost use Rattle.mdb_items.specs.Texts.{place_of};
 ghost use Rattle.octet_fields.specs.Answers.{ReadsEach, ReadsOnly};
 
-use crate::children::children_of;
-use crate::equality::are_same;
-use crate::label_order::{label_orders, label_row_by};
-use crate::name_order::{name_order, number_of};
-use crate::placed_conditions::placed_conditions;
 use crate::rechecking::{
     have_rows, rechecked_calibrations, rechecked_containers, rechecked_parameters,
 };
 use crate::sheet_rows::{is_calibration_header, is_container_header, is_parameter_header};
-use crate::sheets::{calibrations_of, containers_of, parameters_of};
+use crate::sheets::{calibrations_of, containers_of, parameters_of, record_at};
 use item_list::items::Items;
 use mdb_items::calibration::Calibration;
 use mdb_items::container::{Comparison, Container};
 use mdb_items::fault::{MdbFault, MdbLimit, MdbSheet};
 use mdb_items::not_mdb::NotMdb;
 use mdb_items::parameter::Parameter;
-use mdb_items::sheet::{RawMdb, Record};
+use mdb_items::sheet::{RawMdb, Sheet};
+use mdb_lookups::equality::are_same;
+use mdb_lookups::label_order::label_row_by;
+use mdb_lookups::lookups::Lookups;
+use mdb_lookups::name_order::number_of;
 use mdb_octets::reading::{ItemLists, item_lists};
 use mdb_octets::spelling::spelling;
 use mdb_rules::calibration_rows::Calibrations;
@@ -99,51 +98,51 @@ fn no_header(sheet: MdbSheet) -> MdbFault
 }
 
 /// The calibrations of a sheet.
-fn checked_calibrations(alloc: Global, records: &[Record]) -> Result<Calibrations, MdbFault>
-    ensures { IsCalibrationSheetResult records.now result }
+fn checked_calibrations(alloc: Global, sheet: &Sheet) -> Result<Calibrations, MdbFault>
+    ensures { IsCalibrationSheetResult sheet.now result }
 {
-    let [header, rows @ ..] = records else {
+    let Some(header) = record_at(sheet, 0) else {
         return Err(no_header(MdbSheet::Calibrations));
     };
-    if !is_calibration_header(header) {
+    if !is_calibration_header(&header) {
         return Err(no_header(MdbSheet::Calibrations));
     }
-    calibrations_of(alloc, rows)
+    calibrations_of(alloc, sheet)
 }
 
 /// The parameters of a sheet.
 fn checked_parameters(
     alloc: Global,
     calibrations: &Calibrations,
-    records: &[Record],
+    sheet: &Sheet,
 ) -> Result<Parameters, MdbFault>
-    ensures { IsParameterSheetResult calibrations.now.items.items calibrations.now.names records.now result }
+    ensures { IsParameterSheetResult calibrations.now.items.items calibrations.now.names sheet.now result }
 {
-    let [header, rows @ ..] = records else {
+    let Some(header) = record_at(sheet, 0) else {
         return Err(no_header(MdbSheet::Parameters));
     };
-    if !is_parameter_header(header) {
+    if !is_parameter_header(&header) {
         return Err(no_header(MdbSheet::Parameters));
     }
-    parameters_of(alloc, calibrations, rows)
+    parameters_of(alloc, calibrations, sheet)
 }
 
 /// The containers of a sheet.
 fn checked_containers(
     alloc: Global,
     parameters: &Parameters,
-    records: &[Record],
+    sheet: &Sheet,
 ) -> Result<Containers, MdbFault>
     requires { parameters.now.names ≡ map (λ p. p.name) parameters.now.items.items }
-    ensures { IsContainerSheetResult parameters.now.items.items records.now result }
+    ensures { IsContainerSheetResult parameters.now.items.items sheet.now result }
 {
-    let [header, rows @ ..] = records else {
+    let Some(header) = record_at(sheet, 0) else {
         return Err(no_header(MdbSheet::Containers));
     };
-    if !is_container_header(header) {
+    if !is_container_header(&header) {
         return Err(no_header(MdbSheet::Containers));
     }
-    containers_of(alloc, parameters, rows)
+    containers_of(alloc, parameters, sheet)
 }
 
 /// The first limit that the rows pass.
@@ -183,22 +182,23 @@ pub(crate) fn within_limits(
     if let Some((which, number)) = limit_of(&calibrations, &parameters, &containers) {
         return Err(MdbFault::Limit { which, number });
     }
-    let parameter_order = name_order(alloc, parameters.items.as_slice())?;
-    let container_order = name_order(alloc, containers.items.as_slice())?;
-    let children = children_of(alloc, containers.items.as_slice())?;
-    let placed_conditions = placed_conditions(alloc, containers.items.as_slice())?;
-    let label_orders = label_orders(alloc, calibrations.items.as_slice())?;
+    let lookups = Lookups::for_items(
+        alloc,
+        parameters.items.as_slice(),
+        calibrations.items.as_slice(),
+        containers.items.as_slice(),
+    )?;
     let mdb = shared(
         alloc,
         Inner {
-            parameter_order,
-            container_order,
+            parameter_order: lookups.parameter_order,
+            container_order: lookups.container_order,
             parameters: parameters.items,
             calibrations: calibrations.items,
             containers: containers.items,
-            children,
-            placed_conditions,
-            label_orders,
+            children: lookups.children,
+            placed_conditions: lookups.placed_conditions,
+            label_orders: lookups.label_orders,
         },
     )?;
     Ok(mdb)
@@ -209,9 +209,9 @@ impl Mdb {
     pub fn check(alloc: Global, raw: &RawMdb) -> Result<Mdb, MdbFault>
         ensures { IsCheckResult raw.now result }
     {
-        let calibrations = checked_calibrations(alloc, raw.calibrations.as_slice())?;
-        let parameters = checked_parameters(alloc, &calibrations, raw.parameters.as_slice())?;
-        let containers = checked_containers(alloc, &parameters, raw.containers.as_slice())?;
+        let calibrations = checked_calibrations(alloc, &raw.calibrations)?;
+        let parameters = checked_parameters(alloc, &calibrations, &raw.parameters)?;
+        let containers = checked_containers(alloc, &parameters, &raw.containers)?;
         within_limits(alloc, calibrations, parameters, containers)
     }
 }
@@ -240,7 +240,8 @@ impl Mdb {
 
     /// The number of the parameter that has a name.
     pub fn parameter_number(&self, name: &str) -> Option<u16>
-        ensures { result ≡ place_of name.now (map (λ p. p.name) self.now.parameters) }
+        ensures value { result ≡ place_of name.now (map (λ p. p.name) self.now.parameters) }
+        ensures within { IfSome result (λ n. n < length self.now.parameters) }
     {
         let inner = &*self.inner;
         number_of(
@@ -252,7 +253,8 @@ impl Mdb {
 
     /// The number of the container that has a name.
     pub fn container_number(&self, name: &str) -> Option<u16>
-        ensures { result ≡ place_of name.now (map (λ c. c.name) self.now.containers) }
+        ensures value { result ≡ place_of name.now (map (λ c. c.name) self.now.containers) }
+        ensures within { IfSome result (λ n. n < length self.now.containers) }
     {
         let inner = &*self.inner;
         number_of(

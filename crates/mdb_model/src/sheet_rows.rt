@@ -12,7 +12,7 @@ use mdb_items::parameter::Coding;
 use mdb_items::rows::{
     ContainerColumns, NewContainer, ParameterRow, Position, Reference, RowValues,
 };
-use mdb_items::sheet::Record;
+use mdb_items::sheet::SheetRecord;
 use mdb_items::texts::{decimal_number, offset, small_number, whole_number};
 use mdb_rules::condition::condition;
 use mdb_rules::names::Names;
@@ -78,7 +78,7 @@ pub(crate) fn read_reference(names: &Names, text: &[u8]) -> Reference
 pub(crate) fn read_parameter(
     alloc: Global,
     calibrations: &Names,
-    fields: &Record,
+    fields: &SheetRecord<'_>,
 ) -> Result<ParameterRow, AllocError>
     ensures { IfOk result (λ row. row ≡ read_parameter calibrations.now fields.now) }
 {
@@ -111,7 +111,7 @@ pub(crate) fn read_columns(
     alloc: Global,
     parameters: &Names,
     above: &Names,
-    fields: &Record,
+    fields: &SheetRecord<'_>,
 ) -> Result<ContainerColumns, AllocError>
     ensures { IfOk result (λ columns. columns ≡ read_columns parameters.now above.now (field fields.now 0)
         (field fields.now 1) (field fields.now 2) (field fields.now 3)) }
@@ -182,21 +182,21 @@ pub(crate) fn read_position(end: u32, entry: Reference, text: &[u8]) -> Position
 }
 
 /// Two neighbouring fields are these texts.
-fn are_texts(fields: &Record, place: usize, first: &[u8], second: &[u8]) -> bool
+fn are_texts(fields: &SheetRecord<'_>, place: usize, first: &[u8], second: &[u8]) -> bool
     requires { place < 2 ^ 32 }
     ensures { result ≡ are_texts fields.now place first.now second.now }
 {
     fields.field(place) == first && fields.field(place + 1) == second
 }
 
-pub(crate) fn is_calibration_header(fields: &Record) -> bool
+pub(crate) fn is_calibration_header(fields: &SheetRecord<'_>) -> bool
     ensures { result ≡ is_calibration_header fields.now }
 {
     fields.len() == 4
         && (are_texts(fields, 0, b"name", b"kind") && are_texts(fields, 2, b"x", b"y"))
 }
 
-pub(crate) fn is_parameter_header(fields: &Record) -> bool
+pub(crate) fn is_parameter_header(fields: &SheetRecord<'_>) -> bool
     ensures { result ≡ is_parameter_header fields.now }
 {
     fields.len() == 4
@@ -204,7 +204,7 @@ pub(crate) fn is_parameter_header(fields: &Record) -> bool
             && are_texts(fields, 2, b"bits", b"calibration"))
 }
 
-pub(crate) fn is_container_header(fields: &Record) -> bool
+pub(crate) fn is_container_header(fields: &SheetRecord<'_>) -> bool
     ensures { result ≡ is_container_header fields.now }
 {
     fields.len() == 6

@@ -1,6 +1,6 @@
 //! The three sheets, checked one after the other.
 
-ghost use Rattle.std.specs.Prelude.{◌≡◌, ◌∷◌, ◌++◌, [], None, Some, Ok, option_copied, option_map, map, slice_get, IfOk};
+ghost use Rattle.std.specs.Prelude.{◌≡◌, ◌∷◌, ◌++◌, [], None, Some, Ok, option_copied, option_map, map, drop, slice_get, IfOk};
 ghost use Rattle.mdb_items.specs.CalibrationRows.{calibration_fault, with_calibration_row};
 ghost use Rattle.mdb_items.specs.ContainerRows.{row_fault, with_container_row};
 ghost use Rattle.mdb_items.specs.ParameterRows.{parameter_fault, parameter_of};
@@ -13,15 +13,15 @@ use crate::sheet_rows::{
     read_columns, read_parameter, read_position, read_reference, read_row_values,
 };
 use mdb_items::fault::{MdbFault, MdbSheet};
-use mdb_items::sheet::Record;
+use mdb_items::sheet::{Sheet, SheetRecord};
 use mdb_rules::calibration_rows::Calibrations;
 use mdb_rules::container_rows::{Containers, is_continuing};
 use mdb_rules::parameter_rows::Parameters;
 use std::alloc::{AllocError, Global};
 
 /// The first field of a record, if there is a record.
-fn first_field(fields: Option<&Record>) -> Option<&[u8]>
-    ensures { option_copied result ≡ option_map (λ r. field r 0) (option_copied fields.entry) }
+fn first_field<'a>(fields: Option<SheetRecord<'a>>) -> Option<&'a [u8]>
+    ensures { option_copied result ≡ option_map (λ r. field r 0) fields.entry }
 {
     match fields {
         Some(fields) => Some(fields.field(0)),
@@ -30,22 +30,26 @@ fn first_field(fields: Option<&Record>) -> Option<&[u8]>
 }
 
 /// The record at a place, if there is one.
-fn record_at(records: &[Record], place: usize) -> Option<&Record>
-    ensures { option_copied result ≡ slice_get records.now place }
+pub(crate) fn record_at(sheet: &Sheet, place: usize) -> Option<SheetRecord<'_>>
+    ensures { result ≡ slice_get sheet.now place }
 {
-    records.get(place)
+    if place < sheet.len() {
+        Some(sheet.record(place))
+    } else {
+        None
+    }
 }
 
 /// Takes a record in, or answers the first rule that it breaks.
 fn take_calibration(
     alloc: Global,
     calibrations: &mut Calibrations,
-    fields: &Record,
-    next: Option<&Record>,
+    fields: &SheetRecord<'_>,
+    next: Option<SheetRecord<'_>>,
 ) -> Result<Option<u8>, AllocError>
     requires { IsInStep calibrations.old }
     ensures fault { IfOk result (λ rule. rule ≡ calibration_fault calibrations.old.items.items
-        (Some (read_calibration fields.now)) (option_map read_calibration (option_copied next.entry))) }
+        (Some (read_calibration fields.now)) (option_map read_calibration next.entry)) }
     ensures added { result ≡ Ok None →
         calibrations.new.items.items ≡ with_calibration_row calibrations.old.items.items
         (read_calibration fields.now) }
@@ -64,16 +68,17 @@ fn take_calibration(
 }
 
 /// The calibrations of the records below the header.
-pub(crate) fn calibrations_of(alloc: Global, records: &[Record]) -> Result<Calibrations, MdbFault>
-    ensures { IsCalibrationsResult (map read_calibration records.now) result }
+pub(crate) fn calibrations_of(alloc: Global, sheet: &Sheet) -> Result<Calibrations, MdbFault>
+    ensures { IsCalibrationsResult (map read_calibration (drop 1 sheet.now)) result }
 {
     let mut calibrations = Calibrations::new(alloc);
-    for (i, fields) in records.iter().enumerate() {
-        let next = record_at(records, i + 1);
-        if let Some(rule) = take_calibration(alloc, &mut calibrations, fields, next)? {
+    for place in 1..sheet.len() {
+        let fields = sheet.record(place);
+        let next = record_at(sheet, place + 1);
+        if let Some(rule) = take_calibration(alloc, &mut calibrations, &fields, next)? {
             return Err(MdbFault::Bad {
                 sheet: MdbSheet::Calibrations,
-                row: i + 2,
+                row: place + 1,
                 rule,
             });
         }
@@ -86,7 +91,7 @@ fn take_parameter(
     alloc: Global,
     calibrations: &Calibrations,
     parameters: &mut Parameters,
-    fields: &Record,
+    fields: &SheetRecord<'_>,
 ) -> Result<Option<u8>, AllocError>
     requires names { parameters.old.names ≡ map (λ p. p.name) parameters.old.items.items }
     ensures fault { IfOk result (λ rule.
@@ -109,17 +114,18 @@ fn take_parameter(
 pub(crate) fn parameters_of(
     alloc: Global,
     calibrations: &Calibrations,
-    records: &[Record],
+    sheet: &Sheet,
 ) -> Result<Parameters, MdbFault>
     ensures { IsParametersResult calibrations.now.items.items (map (read_parameter calibrations.now.names)
-        records.now) result }
+        (drop 1 sheet.now)) result }
 {
     let mut parameters = Parameters::new(alloc);
-    for (i, fields) in records.iter().enumerate() {
-        if let Some(rule) = take_parameter(alloc, calibrations, &mut parameters, fields)? {
+    for place in 1..sheet.len() {
+        let fields = sheet.record(place);
+        if let Some(rule) = take_parameter(alloc, calibrations, &mut parameters, &fields)? {
             return Err(MdbFault::Bad {
                 sheet: MdbSheet::Parameters,
-                row: i + 2,
+                row: place + 1,
                 rule,
             });
         }
@@ -132,7 +138,7 @@ fn take_container(
     alloc: Global,
     parameters: &Parameters,
     containers: &mut Containers,
-    fields: &Record,
+    fields: &SheetRecord<'_>,
 ) -> Result<Option<u8>, AllocError>
     requires path { HasPaths parameters.now.items.items containers.old }
     requires names { parameters.now.names ≡ map (λ p. p.name) parameters.now.items.items }
@@ -160,13 +166,13 @@ fn take_container(
 pub(crate) fn containers_of(
     alloc: Global,
     parameters: &Parameters,
-    records: &[Record],
+    sheet: &Sheet,
 ) -> Result<Containers, MdbFault>
     requires { parameters.now.names ≡ map (λ p. p.name) parameters.now.items.items }
     ensures { IsContainersResult parameters.now.items.items (read_containers parameters.now.items.items []
-        records.now) result }
+        (drop 1 sheet.now)) result }
 {
-    if records.is_empty() {
+    if sheet.len() <= 1 {
         return Err(MdbFault::Bad {
             sheet: MdbSheet::Containers,
             row: 1,
@@ -174,11 +180,12 @@ pub(crate) fn containers_of(
         });
     }
     let mut containers = Containers::new(alloc);
-    for (i, fields) in records.iter().enumerate() {
-        if let Some(rule) = take_container(alloc, parameters, &mut containers, fields)? {
+    for place in 1..sheet.len() {
+        let fields = sheet.record(place);
+        if let Some(rule) = take_container(alloc, parameters, &mut containers, &fields)? {
             return Err(MdbFault::Bad {
                 sheet: MdbSheet::Containers,
-                row: i + 2,
+                row: place + 1,
                 rule,
             });
         }

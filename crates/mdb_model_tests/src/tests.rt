@@ -2,7 +2,7 @@
 
 ghost use Rattle.std.specs.Prelude.{◌<◌};
 
-use mdb_model::{Items, Mdb, MdbFault, MdbLimit, MdbSheet, NotMdb, RawMdb, Record, Sheet};
+use mdb_model::{Mdb, MdbFault, MdbLimit, MdbSheet, NotMdb, RawMdb, Record, Sheet};
 use std::alloc::{AllocError, Global};
 use std::test::Fail;
 use std::thread::join;
@@ -131,9 +131,9 @@ fn record(alloc: Global, line: &str) -> Result<Record, AllocError> {
 }
 
 fn sheet(alloc: Global, text: &str) -> Result<Sheet, AllocError> {
-    let mut records = Items::new(alloc);
+    let mut records = Sheet::new(alloc);
     for line in text.split('|') {
-        records.push(record(alloc, line)?)?;
+        records.push(&record(alloc, line)?)?;
     }
     Ok(records)
 }

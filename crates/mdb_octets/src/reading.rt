@@ -51,6 +51,8 @@ fn coding_at(octets: &[u8]) -> Result<(Coding, &[u8]), DecodeError>
 impl Decode for ParameterCodec {
     type Value = Parameter;
 
+    const LEAST_OCTETS: usize = 5;
+
     ghost read = { parameter_at };
 
     #[tactic(auto, unfolding(crate::specs::Reading::parameter_at))]
@@ -75,6 +77,8 @@ impl Decode for ParameterCodec {
 impl Decode for PolyRowCodec {
     type Value = PolyRow;
 
+    const LEAST_OCTETS: usize = 9;
+
     ghost read = { poly_at };
 
     #[tactic(auto, unfolding(crate::specs::Reading::poly_at))]
@@ -94,6 +98,8 @@ impl Decode for PolyRowCodec {
 impl Decode for PointsRowCodec {
     type Value = PointsRow;
 
+    const LEAST_OCTETS: usize = 24;
+
     ghost read = { points_at };
 
     #[tactic(auto, unfolding(crate::specs::Reading::points_at))]
@@ -106,6 +112,8 @@ impl Decode for PointsRowCodec {
 
 impl Decode for EnumRowCodec {
     type Value = EnumRow;
+
+    const LEAST_OCTETS: usize = 17;
 
     ghost read = { enum_at };
 
@@ -147,6 +155,8 @@ fn table_at(alloc: Global, octets: &[u8]) -> Result<(Table, &[u8]), DecodeError>
 impl Decode for CalibrationCodec {
     type Value = Calibration;
 
+    const LEAST_OCTETS: usize = 6;
+
     ghost read = { calibration_at };
 
     #[tactic(auto, unfolding(crate::specs::Reading::calibration_at))]
@@ -177,6 +187,8 @@ fn operator_at(octets: &[u8]) -> Result<(Operator, &[u8]), DecodeError>
 impl Decode for ComparisonCodec {
     type Value = Comparison;
 
+    const LEAST_OCTETS: usize = 19;
+
     ghost read = { comparison_at };
 
     #[tactic(auto, unfolding(crate::specs::Reading::comparison_at))]
@@ -198,6 +210,8 @@ impl Decode for ComparisonCodec {
 
 impl Decode for EntryCodec {
     type Value = Entry;
+
+    const LEAST_OCTETS: usize = 6;
 
     ghost read = { entry_at };
 
@@ -224,6 +238,8 @@ fn archive_at(octets: &[u8]) -> Result<(bool, &[u8]), DecodeError>
 
 impl Decode for ContainerCodec {
     type Value = Container;
+
+    const LEAST_OCTETS: usize = 7;
 
     ghost read = { container_at };
 

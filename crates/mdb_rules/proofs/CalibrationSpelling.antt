@@ -16,8 +16,8 @@ use Rattle.mdb_items.specs.CalibrationRows.{CalibrationRow, calibration_checks, 
 use Rattle.mdb_items.specs.Checks.{first_at, first_broken}
 use Rattle.mdb_items.specs.Lists.{at_last}
 use Rattle.mdb_items.specs.Texts.{Text}
-use Rattle.mdb_rules.proofs.Ends.{at_last-push, item_at, last_of-push, snoc}
-use Rattle.mdb_rules.proofs.Passing.{all_pass, each_none, is_same, is_true, take-next}
+use Rattle.mdb_items.proofs.Ends.{at_last-push, item_at, last_of-push, snoc, take-next}
+use Rattle.mdb_rules.proofs.Passing.{all_pass, each_none, is_same, is_true}
 
 -- values of a table's kind become its last row
 row_values_row : (t : Table) (row_values : RowValues) → is_other_kind (Some t) row_values ≡ false → has_x row_values ≡ true → has_y row_values ≡ true → row_values_of (table_with_row t row_values) ≡ row_values_of t ++ row_values ∷ []

@@ -15,7 +15,7 @@ use Rattle.mdb_items.specs.Numbers.{has_number}
 use Rattle.mdb_rules.specs.Steps.{IsInStep}
 use Rattle.mdb_items.specs.Texts.{Text}
 use Rattle.mdb_rules.proofs.CalibrationSpelling.{last_named}
-use Rattle.mdb_rules.proofs.Ends.{at_last-push, last_of-push, length-push, map-at_last, set-last, snoc}
+use Rattle.mdb_items.proofs.Ends.{at_last-push, last_of-push, length-push, map-at_last, set-last, snoc}
 
 -- a row that doesn't repeat is new among the numbers
 pub new_number : (o : Option Table) (row_values : RowValues) → is_other_kind o row_values ≡ false → repeats o row_values ≡ false → AreNew (enum_numbers o) row_values

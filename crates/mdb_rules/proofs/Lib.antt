@@ -1,8 +1,6 @@
-pub mod Places
 pub mod Degrees
 pub mod Outcomes
 pub mod Pieces
-pub mod Ends
 pub mod Ancestry
 pub mod TotalsSteps
 pub mod ContainerSteps

@@ -1,9 +1,7 @@
 -- Rules that all pass, and the first row that breaks one.
-use Rattle.std.proofs.Common.{◌≡◌, ◌∙◌, ◌+◌, ◌<◌, ℕ, zero, suc, List, [], ◌∷◌, ◌++◌, take, Option, Some, None, Bool, true, false, inl, inr, refl, ap, sym, arith}
-use Rattle.std.specs.Prelude.{not, ◌==◌, slice_get, option_map}
+use Rattle.std.proofs.Common.{◌≡◌, ◌∙◌, ◌<◌, ℕ, zero, suc, [], ◌∷◌, Option, Some, None, Bool, true, false, inl, inr, refl, ap, sym, arith}
+use Rattle.std.specs.Prelude.{not, ◌==◌, option_map}
 use Rattle.std.proofs.lemmas.Bool.{cases_lt, eqb-true}
-use Rattle.std.proofs.lemmas.List.{take_more}
-use Rattle.std.proofs.lemmas.Option.{get_or_from_slice_get, slice_get_within}
 use Rattle.mdb_items.specs.Checks.{Checks, first_at, first_broken, or_else}
 
 -- no rule is broken
@@ -66,7 +64,3 @@ each_none fault (suc n) e j lt =
       | inl less ↦ each_none fault n p.0 j less
       | inr more ↦ let same : j ≡ n = omega arith in ap fault same ∙ option_none n (fault n) p.1
     ]
-
--- one more item
-pub take-next : {X : Type 0} (xs : List X) (i : ℕ) (x : X) → slice_get xs i ≡ Some x → take (i + 1) xs ≡ take i xs ++ x ∷ []
-take-next xs i x is = take_more xs i x (slice_get_within xs i x is) ∙ ap (λ y. take i xs ++ y ∷ []) (get_or_from_slice_get xs i x x is)

@@ -10,11 +10,11 @@ use Rattle.mdb_rules.specs.declared.container_rows.Containers.{Containers}
 use Rattle.mdb_rules.specs.declared.container_rows.PathTotals.{PathTotals}
 use Rattle.mdb_items.specs.declared.parameter.Parameter.{Parameter}
 use Rattle.mdb_items.specs.ContainerRows.{last_path, with_new_entry}
-use Rattle.mdb_items.specs.Paths.{ContainerPath, bits_at, end_after, last_number, path_at, path_below, path_end, paths_of, no_path}
+use Rattle.mdb_items.specs.Paths.{ContainerPath, bits_at, end_after, last_number, path_at, path_below, path_end, paths_of, no_path, AreEarlier, parent_of}
 use Rattle.mdb_items.specs.Lists.{at_last, last_of}
-use Rattle.mdb_rules.specs.Totals.{AreEarlier, HasPaths, no_totals, parent_of, totals_at, totals_of}
-use Rattle.mdb_rules.proofs.Ancestry.{length-paths_of, paths_of-push}
-use Rattle.mdb_rules.proofs.Ends.{at_last-push, last_of-push, length-at_last, length-mapped, length-push, map-at_last, set-last, slice_get-end, slice_get-left, snoc}
+use Rattle.mdb_rules.specs.Totals.{HasPaths, no_totals, totals_at, totals_of}
+use Rattle.mdb_items.proofs.ContainerPaths.{length-paths_of, paths_of-push}
+use Rattle.mdb_items.proofs.Ends.{at_last-push, last_of-push, length-at_last, length-mapped, length-push, map-at_last, set-last, slice_get-end, slice_get-left, snoc}
 
 of_option : (ps : List Parameter) (o : Option ContainerPath) → unwrap_or (option_map (totals_of ps) o) no_totals ≡ totals_of ps (unwrap_or o no_path)
 of_option ps None = refl

@@ -4,24 +4,15 @@ use Rattle.mdb_items.specs.declared.container.Container.{Container}
 use Rattle.mdb_rules.specs.declared.container_rows.Containers.{Containers}
 use Rattle.mdb_rules.specs.declared.container_rows.PathTotals.{PathTotals}
 use Rattle.mdb_items.specs.declared.parameter.Parameter.{Parameter}
-use Rattle.mdb_items.specs.Paths.{ContainerPath, path_end, paths_of}
+use Rattle.mdb_items.specs.Paths.{AreEarlier, ContainerPath, path_end, paths_of}
 
 -- the counts of a path, and the bit after its last entry
 abbrev pub totals_of : List Parameter → ContainerPath → PathTotals
 totals_of parameters path = record { containers = path.containers; entries = length path.entries; end = path_end parameters path }
 
--- the parent of a container, where there is one
-abbrev pub parent_of : Option Container → Option ℕ
-parent_of None = None
-parent_of (Some c) = c.parent
-
 -- the number, if any, is that of a container
 abbrev pub IsNumber : List Container → Option ℕ → Type 0
 IsNumber cs number = (n : ℕ) → number ≡ Some n → n < length cs
-
--- each parent stands earlier
-abbrev pub AreEarlier : List Container → Type 0
-AreEarlier cs = (n p : ℕ) → n < length cs → parent_of (slice_get cs n) ≡ Some p → p < n
 
 -- the names and the totals are those of the containers, each of which stands below its parent
 pub record HasPaths (parameters : List Parameter) (c : Containers) : Type 0 where

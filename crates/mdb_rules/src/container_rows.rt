@@ -6,11 +6,11 @@ ghost use Rattle.mdb_items.specs.Checks.{first_broken};
 ghost use Rattle.mdb_items.specs.ContainerRows.{new_container_checks, compares_other, continued_checks, entry_checks, columns_checks, is_condition, is_continuing, is_known, is_nothing, is_parent, is_placed, is_repeated, is_too_far, last_path, path_up, with_entry, with_columns, with_new_entry};
 ghost use Rattle.mdb_items.specs.declared.parameter.Parameter.{Parameter as ParameterValue};
 ghost use Rattle.mdb_items.specs.declared.rows.ContainerColumns.TheVariants.{Begins as BeginsValue};
-ghost use Rattle.mdb_items.specs.Paths.{bits_at, last_number, path_at, path_end, paths_of, stands_on};
+ghost use Rattle.mdb_items.specs.Paths.{bits_at, last_number, path_at, path_end, paths_of, stands_on, AreEarlier};
 ghost use Rattle.mdb_items.specs.Lists.{at_last, is_empty};
 ghost use Rattle.mdb_items.specs.Numbers.{is_in_range};
 ghost use Rattle.mdb_items.specs.ParameterRows.{referenced_number};
-ghost use Rattle.mdb_rules.specs.Totals.{AreEarlier, HasPaths, HasSomePaths, KeepsPaths, totals_at};
+ghost use Rattle.mdb_rules.specs.Totals.{HasPaths, HasSomePaths, KeepsPaths, totals_at};
 ghost use Rattle.mdb_items.specs.Texts.{place_of};
 
 use crate::calibration_rows::is_in_range;

@@ -4,7 +4,7 @@ use Rattle.std.specs.Prelude.{slice_get}
 use Rattle.std.proofs.lemmas.List.{map-append}
 use Rattle.arch_types.specs.declared.ask.Ask.{Ask}
 use Rattle.mdb_items.specs.Checks.{first_broken}
-use Rattle.mdb_rules.proofs.Passing.{take-next}
+use Rattle.mdb_items.proofs.Ends.{take-next}
 use Rattle.mdb_sheets.specs.Asks.{ask_checks, ask_of, rows_fault}
 use Rattle.mdb_sheets.specs.Sheets.{Fields}
 

@@ -1,3 +1,4 @@
 pub mod Fields
 pub mod Reached
 pub mod AskRows
+pub mod Sheets

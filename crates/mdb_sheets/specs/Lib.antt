@@ -1,3 +1,4 @@
 pub mod Sheets
 pub mod Refusal
 pub mod Asks
+pub mod Plans

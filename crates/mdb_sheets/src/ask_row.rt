@@ -6,7 +6,7 @@ ghost use Rattle.mdb_sheets.specs.Asks.{IsAskResult, descending_of, most_of};
 use arch_types::ask::{Ask, Request};
 use arch_types::name::Name;
 use arch_types::octets::Octets;
-use mdb_model::Record;
+use mdb_model::SheetRecord;
 use std::alloc::{AllocError, Global};
 use text_forms::number_of;
 use time_text::read_time_octets;
@@ -57,7 +57,7 @@ fn most_of(text: &[u8]) -> Option<Option<u64>>
 
 /// The ask of a row.
 #[tactic(auto, unfolding(crate::specs::Asks::ask_checks, crate::specs::Asks::ask_of))]
-pub(crate) fn read_ask(alloc: Global, row: &Record) -> Result<Ask, AskFault>
+pub(crate) fn read_ask(alloc: Global, row: &SheetRecord<'_>) -> Result<Ask, AskFault>
     ensures { IsAskResult row.now result }
 {
     if row.len() != 7 {

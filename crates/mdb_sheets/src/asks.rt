@@ -1,6 +1,6 @@
 //! The sheet of asks.
 
-ghost use Rattle.std.specs.Prelude.{◌≡◌, ◌+◌, ◌<◌, ◌≤◌, ◌^◌, length, IfOk, IfErr, IsErrOf};
+ghost use Rattle.std.specs.Prelude.{◌≡◌, ◌<◌, ◌≤◌, ◌^◌, drop, IfOk, IfErr, IsErrOf};
 ghost use Rattle.arch_types.specs.declared.refusal.Which.TheVariants.{SheetOctets};
 ghost use Rattle.arch_types.specs.Limits.{limit_of};
 ghost use Rattle.mdb_model.specs.Sheets.{are_texts};
@@ -14,20 +14,20 @@ use crate::ask_row::{AskFault, read_ask};
 use crate::records::records;
 use arch_types::ask::Asks;
 use arch_types::refusal::{Refusal, Sheet as Named, Which};
-use mdb_model::{Record, Sheet};
+use mdb_model::{Sheet, SheetRecord};
 use outer_traits::source::Source;
 use outer_traits::whole::{ReadFault, read_whole};
 use std::alloc::Global;
 
 /// Two neighbouring fields are these texts.
-fn are_texts(row: &Record, place: usize, first: &[u8], second: &[u8]) -> bool
+fn are_texts(row: &SheetRecord<'_>, place: usize, first: &[u8], second: &[u8]) -> bool
     requires { place < 2 ^ 32 }
     ensures { result ≡ are_texts row.now place first.now second.now }
 {
     row.field(place) == first && row.field(place + 1) == second
 }
 
-fn is_ask_header(row: &Record) -> bool
+fn is_ask_header(row: &SheetRecord<'_>) -> bool
     ensures { result ≡ is_ask_header row.now }
 {
     row.len() == 7
@@ -47,15 +47,14 @@ fn broken(row: usize, rule: u8) -> Refusal
 }
 
 /// The asks of the rows below the header.
-fn asks_below(alloc: Global, rows: &[Record]) -> Result<Asks, Refusal>
-    requires { length rows.now + 2 < 2 ^ 64 }
-    ensures { IsAskRowsResult rows.now result }
+fn asks_below(alloc: Global, sheet: &Sheet) -> Result<Asks, Refusal>
+    ensures { IsAskRowsResult (drop 1 sheet.now) result }
 {
     let mut asks = Asks::new(alloc);
-    for (i, row) in rows.iter().enumerate() {
-        match read_ask(alloc, row) {
+    for place in 1..sheet.len() {
+        match read_ask(alloc, &sheet.record(place)) {
             Ok(ask) => asks.push(ask)?,
-            Err(AskFault::Broken(rule)) => return Err(broken(i + 2, rule)),
+            Err(AskFault::Broken(rule)) => return Err(broken(place + 1, rule)),
             Err(AskFault::OutOfMemory) => return Err(Refusal::OutOfMemory),
         }
     }
@@ -66,13 +65,13 @@ fn asks_below(alloc: Global, rows: &[Record]) -> Result<Asks, Refusal>
 pub(crate) fn asks_of(alloc: Global, sheet: &Sheet) -> Result<Asks, Refusal>
     ensures { IsAsksResult sheet.now result }
 {
-    let Some((header, rows)) = sheet.as_slice().split_first() else {
-        return Err(broken(1, 1));
-    };
-    if !is_ask_header(header) {
+    if sheet.len() == 0 {
         return Err(broken(1, 1));
     }
-    let asks = asks_below(alloc, rows)?;
+    if !is_ask_header(&sheet.record(0)) {
+        return Err(broken(1, 1));
+    }
+    let asks = asks_below(alloc, sheet)?;
     if asks.as_slice().len() as u64 > Which::Asks.limit() {
         return Err(Refusal::Limit {
             which: Which::Asks,

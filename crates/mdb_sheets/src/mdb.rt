@@ -3,6 +3,9 @@
 ghost use Rattle.std.specs.Prelude.{◌≡◌, ◌+◌, ◌<◌, ◌≤◌, ◌^◌, IfOk, IfErr, OnOk};
 ghost use Rattle.std.specs.Result.{result_err};
 ghost use Rattle.outer_traits.specs.Outside.{Stays};
+ghost use Rattle.outer_ledgers.specs.Ledger.{inputs_state};
+ghost use Rattle.input_plans.specs.Inputs.{ReadAs};
+ghost use Rattle.mdb_sheets.specs.Plans.{sheets_plan};
 ghost use Rattle.mdb_sheets.specs.Sheets.{AreSheets, IsRefusal, ReadsCounted, more};
 
 use crate::sheet::read_sheet;
@@ -22,6 +25,13 @@ pub fn read_mdb<I: Inputs>(
     calibrations: &str,
     containers: &str,
 ) -> Result<RawMdb, Refusal>
+    // It went as its plan may go.
+    ensures read { ReadAs 3 (sheets_plan (I.files inputs.old) parameters.now calibrations.now containers.now) result
+        (inputs_state (I.files inputs.old) (I.open_sources inputs.old)
+        (I.given inputs.old) (I.faults inputs.old) (I.never_fails inputs.old))
+        (inputs_state (I.files inputs.new) (I.open_sources inputs.new)
+        (I.given inputs.new) (I.faults inputs.new) (I.never_fails inputs.new)) }
+
     ensures sheets { IfOk result (AreSheets (I.files inputs.old) parameters.now calibrations.now containers.now) }
     ensures refused { IfErr result (IsRefusal (I.files inputs.old) parameters.now calibrations.now containers.now
         (I.faults inputs.old) (I.faults inputs.new) (I.given inputs.old) (I.given inputs.new)) }

@@ -1,6 +1,6 @@
 //! The records of octets.
 
-ghost use Rattle.std.specs.Prelude.{◌≡◌, IfOk};
+ghost use Rattle.std.specs.Prelude.{◌≡◌, IfOk, OnOk};
 ghost use Rattle.csv.specs.Records.{fields_of};
 ghost use Rattle.mdb_sheets.specs.Sheets.{sheet_of};
 
@@ -8,8 +8,8 @@ use csv::{ByteRecord, ErrorKind, ReaderBuilder};
 use mdb_model::{Record, Sheet};
 use std::alloc::{AllocError, Global};
 
-/// The records of a sheet's octets, of any number of fields each, every field copied once. A reader of such records can fail only where its
-/// octets can't be read, which octets in memory always can, or where there's no memory left.
+/// The records of a sheet's octets, of any number of fields each. A reader of such records can fail only where its octets can't be read, which
+/// octets in memory always can, or where there's no memory left.
 pub(crate) fn records(alloc: Global, octets: &[u8]) -> Result<Sheet, AllocError>
     ensures { IfOk result (λ sheet. sheet ≡ sheet_of octets.now) }
 {
@@ -18,6 +18,7 @@ pub(crate) fn records(alloc: Global, octets: &[u8]) -> Result<Sheet, AllocError>
         .flexible(true)
         .from_reader(alloc, octets);
     let mut row = ByteRecord::new(alloc);
+    let mut copy = Record::new(alloc);
     let mut sheet = Sheet::new(alloc);
     loop {
         let found = match reader.read_byte_record(&mut row) {
@@ -30,19 +31,18 @@ pub(crate) fn records(alloc: Global, octets: &[u8]) -> Result<Sheet, AllocError>
         if !found {
             return Ok(sheet);
         }
-        let next = record_of(alloc, &row)?;
-        sheet.push(next)?;
+        refill(&mut copy, &row)?;
+        sheet.push(&copy)?;
     }
 }
 
-/// The record with the fields of a row.
-fn record_of(alloc: Global, row: &ByteRecord) -> Result<Record, AllocError>
-    ensures { IfOk result (λ copy. copy ≡ fields_of row.now) }
+/// Fills a record anew, with the fields of a row.
+fn refill(copy: &mut Record, row: &ByteRecord) -> Result<(), AllocError>
+    ensures { OnOk result (copy.new ≡ fields_of row.now) }
 {
-    let mut copy = Record::new(alloc);
-    copy.reserve(row.len(), row.as_slice().len())?;
+    copy.clear();
     for octets in row {
         copy.push(octets)?;
     }
-    Ok(copy)
+    Ok(())
 }

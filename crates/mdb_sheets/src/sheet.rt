@@ -3,6 +3,9 @@
 ghost use Rattle.std.specs.Prelude.{◌≡◌, ◌+◌, ◌<◌, ◌≤◌, ◌^◌, IfOk, IfErr, OnOk};
 ghost use Rattle.std.specs.Result.{result_err};
 ghost use Rattle.outer_traits.specs.Outside.{Stays, one_more};
+ghost use Rattle.outer_ledgers.specs.Ledger.{inputs_state};
+ghost use Rattle.input_plans.specs.Inputs.{ReadAs};
+ghost use Rattle.mdb_sheets.specs.Plans.{reads_sheet};
 ghost use Rattle.mdb_sheets.specs.Sheets.{IsSheet, IsSheetRefused, ReadsCounted};
 
 use crate::records::records;
@@ -20,6 +23,13 @@ pub(crate) fn read_sheet<I: Inputs>(
     inputs: &mut I,
     name: &str,
 ) -> Result<Sheet, Refusal>
+    // It went as its plan may go.
+    ensures read { ReadAs 1 (reads_sheet (I.files inputs.old) name.now) result
+        (inputs_state (I.files inputs.old) (I.open_sources inputs.old)
+        (I.given inputs.old) (I.faults inputs.old) (I.never_fails inputs.old))
+        (inputs_state (I.files inputs.new) (I.open_sources inputs.new)
+        (I.given inputs.new) (I.faults inputs.new) (I.never_fails inputs.new)) }
+
     ensures sheet { IfOk result (IsSheet (I.files inputs.old) name.now) }
     ensures refused { IfErr result (IsSheetRefused (I.files inputs.old) name.now
         (I.faults inputs.old) (I.faults inputs.new) (I.given inputs.old) (I.given inputs.new)) }

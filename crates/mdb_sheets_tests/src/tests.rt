@@ -34,10 +34,11 @@ fn sheets(alloc: Global, octets: &[u8]) -> Result<RawMdb, Fail> {
 /// The records of a sheet, each field in brackets and each record ended by a line feed.
 fn shown(alloc: Global, sheet: &Sheet) -> Result<Vec<u8>, AllocError> {
     let mut text = Vec::new(alloc);
-    for record in sheet.as_slice() {
-        for place in 0..record.len() {
+    for place in 0..sheet.len() {
+        let record = sheet.record(place);
+        for column in 0..record.len() {
             text.push(b'[')?;
-            text.extend_from_slice(record.field(place))?;
+            text.extend_from_slice(record.field(column))?;
             text.push(b']')?;
         }
         text.push(b'\n')?;

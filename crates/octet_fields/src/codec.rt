@@ -32,6 +32,10 @@ pub trait Encode {
 pub trait Decode {
     type Value: Drop;
 
+    /// The fewest octets that a value is spelled in, at least 1. `each_at` makes room by it and claims nothing of it:
+    /// one that is too low costs memory, one that is too high a second reservation.
+    const LEAST_OCTETS: usize = 1;
+
     /// The value that stands at the front, and the octets after it.
     ghost read: { Reader Self.Value };
 
@@ -59,7 +63,8 @@ pub fn each_at<D: Decode>(
 ) -> Result<(Vec<D::Value>, &[u8]), DecodeError>
     ensures { Gives (λ x. (x.0.items, x.1.now)) result (times_at D.read count octets.now) }
 {
-    let mut values = Vec::with_capacity(alloc, room_for(count, octets, 1))?;
+    let room = room_for(count, octets, D::LEAST_OCTETS.max(1));
+    let mut values = Vec::with_capacity(alloc, room)?;
     let mut rest = octets;
     for _ in 0..count {
         let (value, after) = D::at(alloc, rest)?;

@@ -57,6 +57,8 @@ struct StationCodec;
 impl Decode for StationCodec {
     type Value = Station;
 
+    const LEAST_OCTETS: usize = 10;
+
     ghost read = { station_at };
 
     #[tactic(auto, unfolding(crate::specs::Example::station_at))]

@@ -10,7 +10,7 @@ use Rattle.mdb_items.specs.declared.parameter.Parameter.{Parameter}
 use Rattle.mdb_items.specs.Database.{Database, IsDatabase}
 use Rattle.mdb_items.specs.Structure.{IsLabelled, IsTable}
 use Rattle.mdb_items.specs.Texts.{is_label}
-use Rattle.mdb_model.specs.Lookups.{calibration_numbered, calibration_of, calibration_of_parameter}
+use Rattle.mdb_lookups.specs.Lookups.{calibration_numbered, calibration_of, calibration_of_parameter}
 use Rattle.mdb_model.proofs.Structure.{structured}
 use Rattle.retrieval.specs.CellText.{HasShortLabels, rows_of_table}
 

@@ -7,7 +7,7 @@ use Rattle.arch_types.specs.Arrivals.{arrivals}
 use Rattle.arch_types.specs.History.{firsts}
 use Rattle.arch_types.specs.Table.{table_of}
 use Rattle.mdb_items.specs.Database.{Database}
-use Rattle.mdb_model.specs.Lookups.{calibration_of}
+use Rattle.mdb_lookups.specs.Lookups.{calibration_of}
 use Rattle.container_extract.specs.Chain.{packet_name_of}
 use Rattle.container_extract.specs.Extraction.{cell_of}
 use Rattle.retrieval.specs.CellText.{cell_line}

@@ -1,8 +1,10 @@
 //! The answer of an archive to a request.
 
-ghost use Rattle.std.specs.Prelude.{◌≡◌, ◌++◌, IfOk, OnOk, None, reverse, true};
+ghost use Rattle.std.specs.Prelude.{◌≡◌, ◌+◌, ◌≤◌, ◌++◌, IfOk, OnOk, None, length, reverse, true};
 ghost use Rattle.std.specs.Arc.{arc_value};
 ghost use Rattle.std.specs.List.{filter_map};
+ghost use Rattle.arch_types.specs.Table.{range_of};
+ghost use Rattle.archive_core.specs.Items.{rows_in};
 ghost use Rattle.archive_store.specs.Plans.{rows_of_parts};
 ghost use Rattle.container_extract.specs.Extraction.{cell_of};
 ghost use Rattle.retrieval.specs.AnswerText.{IsParameterAnswer, truncated, cell_list, is_full, request_refusal, in_asked_order};
@@ -15,11 +17,13 @@ use arch_types::cell::{Cell, Cells};
 use arch_types::name::Name;
 use arch_types::refusal::Refusal;
 use arch_types::row::Row;
+use arch_types::steps::Steps;
 use archive_store::{Part, Plan, Store};
 use container_extract::Extractor;
 use mdb_model::Mdb;
 use std::alloc::{AllocError, Global};
 use std::sync::Arc;
+use std::sync::ledger::Ledger;
 
 /// The answer to a request, with the database and the parameter that it is over.
 #[derive(Drop)]
@@ -30,15 +34,18 @@ pub struct ParameterAnswer {
     pub answer: Answer,
 }
 
-/// The answer to a request over the whole history of a store, whose database has the parameter.
-pub fn answer_request<D: Disk>(
+/// The answer to a request over the whole history of a store, whose database has the parameter, in a step for each row of the range at most.
+pub fn answer_request<D: Disk, L: Ledger>(
     alloc: Global,
     store: &mut Store<D>,
     request: &Request,
+    steps: &mut Steps<L>,
 ) -> Result<ParameterAnswer, AllocError>
     requires { request_refusal (number_named store.old.head.mdb request.now.parameter) request.now ≡ None }
     ensures found { IfOk result (IsParameterAnswer store.old.head.mdb store.old.history request.now) }
     ensures same { store.new ≡ store.old }
+    ensures steps { steps.new ≤ steps.old + length (range_of 0 request.now.from request.now.to
+        (rows_in store.old.history)) }
 {
     let plan = match store.plan(alloc, request) {
         Ok(plan) => plan,
@@ -48,7 +55,7 @@ pub fn answer_request<D: Disk>(
     let Some(number) = number_of(&plan.mdb, &request.parameter) else {
         unreachable!();
     };
-    let cells = plan_cells(alloc, &plan, number, request)?;
+    let cells = plan_cells(alloc, &plan, number, request, steps)?;
     let Plan {
         front,
         mdb,
@@ -73,37 +80,41 @@ pub fn number_of(mdb: &Mdb, name: &Name) -> Option<u16>
 
 /// The cells of a plan's rows: those of the request's parameter in key order, the last first where it is descending, and of these the first
 /// `limit`.
-fn plan_cells(
+fn plan_cells<L: Ledger>(
     alloc: Global,
     plan: &Plan,
     number: u16,
     request: &Request,
+    steps: &mut Steps<L>,
 ) -> Result<Cells, AllocError>
-    ensures { IfOk result (λ cells.
+    ensures cells { IfOk result (λ cells.
         cells ≡ truncated request.now.limit (in_asked_order request.now.descending
         (filter_map (cell_of (arc_value plan.now.mdb) number) (rows_of_parts plan.now.parts)))) }
+    ensures steps { steps.new ≤ steps.old + length (rows_of_parts plan.now.parts) }
 {
     let parts = plan.parts.as_slice();
     if request.descending {
-        let cells = last_cells(alloc, &plan.mdb, number, parts, request.limit)?;
+        let cells = last_cells(alloc, &plan.mdb, number, parts, request.limit, steps)?;
         return Ok(Cells::from_vec(cells));
     }
-    let cells = first_cells(alloc, &plan.mdb, number, parts, request.limit)?;
+    let cells = first_cells(alloc, &plan.mdb, number, parts, request.limit, steps)?;
     Ok(Cells::from_vec(cells))
 }
 
 /// The first cells in key order.
-fn first_cells(
+fn first_cells<L: Ledger>(
     alloc: Global,
     mdb: &Mdb,
     number: u16,
     parts: &[Part],
     limit: Option<u64>,
+    steps: &mut Steps<L>,
 ) -> Result<Vec<Cell>, AllocError>
-    ensures { IfOk result (λ cells.
+    ensures cells { IfOk result (λ cells.
         cells.items ≡ truncated limit (filter_map (cell_of mdb.now number) (rows_of_parts parts.now))) }
+    ensures steps { steps.new ≤ steps.old + length (rows_of_parts parts.now) }
 {
-    let mut extractor = Extractor::new(alloc);
+    let mut extractor = Extractor::new(alloc)?;
     let mut cells = Vec::new(alloc);
     for part in parts {
         add_cells(
@@ -113,24 +124,27 @@ fn first_cells(
             part.rows.as_slice(),
             limit,
             &mut cells,
+            steps,
         )?;
     }
     Ok(cells)
 }
 
 /// The first cells in the opposite order. The last rows are extracted first, and none beyond the limit.
-fn last_cells(
+fn last_cells<L: Ledger>(
     alloc: Global,
     mdb: &Mdb,
     number: u16,
     parts: &[Part],
     limit: Option<u64>,
+    steps: &mut Steps<L>,
 ) -> Result<Vec<Cell>, AllocError>
-    ensures { IfOk result (λ cells.
+    ensures cells { IfOk result (λ cells.
         cells.items ≡ truncated limit
         (in_asked_order true (filter_map (cell_of mdb.now number) (rows_of_parts parts.now)))) }
+    ensures steps { steps.new ≤ steps.old + length (rows_of_parts parts.now) }
 {
-    let mut extractor = Extractor::new(alloc);
+    let mut extractor = Extractor::new(alloc)?;
     let mut cells = Vec::new(alloc);
     for part in parts.iter().rev() {
         add_last_cells(
@@ -140,66 +154,73 @@ fn last_cells(
             part.rows.as_slice(),
             limit,
             &mut cells,
+            steps,
         )?;
     }
     Ok(cells)
 }
 
 /// Adds the cells of rows, up to a limit of all.
-fn add_cells(
+fn add_cells<L: Ledger>(
     extractor: &mut Extractor,
     mdb: &Mdb,
     number: u16,
     rows: &[Row],
     limit: Option<u64>,
     cells: &mut Vec<Cell>,
+    steps: &mut Steps<L>,
 ) -> Result<(), AllocError>
     requires { truncated limit cells.old.items ≡ cells.old.items }
-    ensures { OnOk result (cells.new.items ≡ truncated limit (cells.old.items ++ filter_map (cell_of mdb.now number)
-        rows.now)) }
+    ensures cells { OnOk result (cells.new.items ≡ truncated limit (cells.old.items ++ filter_map
+        (cell_of mdb.now number) rows.now)) }
+    ensures steps { steps.new ≤ steps.old + length rows.now }
 {
     for row in rows {
         if is_full(cells.as_slice(), limit) {
             return Ok(());
         }
-        add_cell(extractor, mdb, number, row, cells)?;
+        add_cell(extractor, mdb, number, row, cells, steps)?;
     }
     Ok(())
 }
 
 /// Adds the cells of rows, those of the last row first, up to a limit of all.
-fn add_last_cells(
+fn add_last_cells<L: Ledger>(
     extractor: &mut Extractor,
     mdb: &Mdb,
     number: u16,
     rows: &[Row],
     limit: Option<u64>,
     cells: &mut Vec<Cell>,
+    steps: &mut Steps<L>,
 ) -> Result<(), AllocError>
     requires { truncated limit cells.old.items ≡ cells.old.items }
-    ensures { OnOk result (cells.new.items ≡ truncated limit (cells.old.items ++ filter_map (cell_of mdb.now number)
-        (reverse rows.now))) }
+    ensures cells { OnOk result (cells.new.items ≡ truncated limit (cells.old.items ++ filter_map
+        (cell_of mdb.now number) (reverse rows.now))) }
+    ensures steps { steps.new ≤ steps.old + length rows.now }
 {
     for row in rows.iter().rev() {
         if is_full(cells.as_slice(), limit) {
             return Ok(());
         }
-        add_cell(extractor, mdb, number, row, cells)?;
+        add_cell(extractor, mdb, number, row, cells, steps)?;
     }
     Ok(())
 }
 
 /// Adds the cell of a row, where there is one.
-fn add_cell(
+fn add_cell<L: Ledger>(
     extractor: &mut Extractor,
     mdb: &Mdb,
     number: u16,
     row: &Row,
     cells: &mut Vec<Cell>,
+    steps: &mut Steps<L>,
 ) -> Result<(), AllocError>
-    ensures { OnOk result (cells.new.items ≡ cells.old.items ++ cell_list (cell_of mdb.now number row.now)) }
+    ensures cell { OnOk result (cells.new.items ≡ cells.old.items ++ cell_list (cell_of mdb.now number row.now)) }
+    ensures step { steps.new ≡ steps.old + 1 }
 {
-    match cell_of(extractor, mdb, number, row)? {
+    match cell_of(extractor, mdb, number, row, steps) {
         None => Ok(()),
         Some(cell) => {
             cells.push(cell)?;

@@ -2,16 +2,23 @@ use Rattle.std.proofs.Common.{◌≡◌, ◌∙◌, drop, w64, arith}
 use Rattle.std.proofs.lemmas.Int.{to_z-of_z}
 use Rattle.std.proofs.lemmas.Result.{err_from_is_err_and}
 use Rattle.archive_store.specs.Batches.{batch_rows}
+use Rattle.archive_store.proofs.Calls.{ingest_fault, ingest_history, ingest_records, ingest_untouched}
 use Rattle.space_packet.specs.Rest.{why_of}
 use Rattle.archive_cli.proofs.Arrived.{few_arrived}
 use Rattle.archive_cli.proofs.DiskWrites.{refused_writes}
-use Rattle.archive_cli.proofs.Batching.{so_far_more, so_far_end, so_far_memory, so_far_refused, records_still, refused_for, IsSoFar}
+use Rattle.archive_cli.proofs.Batching.{so_far_more, so_far_end, so_far_memory, so_far_none, so_far_refused, refused_for, IsSoFar}
 use Rattle.archive_cli.proofs.batches.ingest_dump.Goals as goal
+
+pub returns-in_err-extractor-clause-stopped : goal.returns-in_err-extractor-clause-stopped
+returns-in_err-extractor-clause-stopped g c =
+    let moment = to_z-of_z w64 c.args.moment c.ranges.moment in
+    let p = err_from_is_err_and c.from_residual.result c.from_residual.ensures.1 in
+    rw (p.1, p.2) (so_far_memory c.args.store.now c.args.dump.now c.args.link c.args.moment c.args.store.now 0 0 0 (so_far_none c.args.store.now c.args.dump.now c.args.link c.args.moment c.requires.no_failed_write))
 
 pub returns-in_err-taken-clause-stopped : goal.returns-in_err-taken-clause-stopped
 returns-in_err-taken-clause-stopped g c =
     let moment = to_z-of_z w64 c.args.moment c.ranges.moment in
-    let p = err_from_is_err_and c.from_residual.result c.from_residual.ensures.1 in
+    let p = err_from_is_err_and c.from_residual-in_err-taken.result c.from_residual-in_err-taken.ensures.1 in
     rw (p.1, p.2) (so_far_memory c.args.store.now c.args.dump.now c.args.link c.args.moment c.batches.store c.batches.places.at c.batches.packets c.batches.idle (rw moment at c.batches.invariant.so_far))
 
 pub returns-then-taken-eq0-clause-whole : goal.returns-then-taken-eq0-clause-whole
@@ -37,38 +44,44 @@ returns-in_err-ingest-clause-stopped g c =
     let moment = to_z-of_z w64 c.args.moment c.ranges.moment in
     let p = err_from_is_err_and c.from_residual-in_err-ingest.result c.from_residual-in_err-ingest.ensures.1 in
     let taken = rw (moment, c.head.ensures.head) at c.in_ok-taken.ensures.taken in
-    let e = c.in_err-ingest.ensures in
+    let device = g.D.Disk.device in
+    let rows = batch_rows c.in_ok-taken.taken.batch in
+    let refusal = c.in_err-ingest.field-0.0 in
+    let refused = c.in_err-ingest.ensures.refused in
     let so_far : IsSoFar c.args.store.now c.batches.store c.args.dump.now c.args.link c.args.moment c.batches.places.at c.batches.packets c.batches.idle = rw moment at c.batches.invariant.so_far in
     rw (p.1, p.2)
     (so_far_refused c.args.store.now c.args.dump.now c.args.link c.args.moment c.batches.store c.ingest.new.self c.batches.places.at c.next_batch.new.places.at c.batches.packets c.batches.idle c.in_ok-taken.taken
-    c.in_err-ingest.field-0.0 so_far taken c.in_ok-taken.ensures.last e.refused c.ingest.ensures.goes_on.head c.ingest.ensures.goes_on.opened
-    (records_still g.D.Disk.device c.batches.store c.ingest.new.self (batch_rows c.in_ok-taken.taken.batch) c.in_err-ingest.field-0.0 e.fault e.untouched)
-    (refused_for g.D.Disk.device c.batches.store c.ingest.new.self (batch_rows c.in_ok-taken.taken.batch) c.in_err-ingest.field-0.0 so_far.fills e.refused e.fault e.untouched e.limit e.needs_reopen e.only))
+    refusal so_far taken c.in_ok-taken.ensures.last (ingest_history device c.batches.store c.ingest.new.self rows refusal refused) c.ingest.ensures.grows.head c.ingest.ensures.grows.opened
+    (λ none. ingest_records device c.batches.store c.ingest.new.self rows refusal refused) (refused_for device c.batches.store c.ingest.new.self rows refusal so_far.fills refused))
 
 pub batches-preserved : goal.batches-preserved
 batches-preserved g c =
     let moment = to_z-of_z w64 c.args.moment c.ranges.moment in
     let taken = rw (moment, c.head.ensures.head) at c.in_ok-taken.ensures.taken in
-    let ok = c.in_ok-ingest.ensures.ok in
+    let ok = c.in_ok-ingest.ensures.ingested in
     record {
       dump = c.next_batch.ensures.dump ∙ c.batches.invariant.dump;
       so_far = rw (moment, c.as_slice-in-batches.ensures)
           (so_far_more c.args.store.now c.args.dump.now c.args.link c.args.moment c.batches.store c.ingest.new.self c.batches.places.at c.next_batch.new.places.at c.batches.packets c.batches.idle c.in_ok-taken.taken
-          (rw moment at c.batches.invariant.so_far) taken ok.1 ok.2 c.ingest.ensures.goes_on.head c.ingest.ensures.goes_on.opened
-          c.in_ok-ingest.ensures.records c.ingest.ensures.no_call);
-      writes = c.in_ok-ingest.ensures.no_failed_write ∙ c.batches.invariant.writes;
+          (rw moment at c.batches.invariant.so_far) taken ok.history ok.fills c.ingest.ensures.grows.head c.ingest.ensures.grows.opened
+          ok.one_record ok.no_call);
+      writes = ok.no_failed_write ∙ c.batches.invariant.writes;
     }
 
 -- how many writes of the disk failed
 
 pub returns-in_err-taken-clause-disk_writes : goal.returns-in_err-taken-clause-disk_writes
 returns-in_err-taken-clause-disk_writes g c =
-    let p = err_from_is_err_and c.from_residual.result c.from_residual.ensures.1 in
+    let p = err_from_is_err_and c.from_residual-in_err-taken.result c.from_residual-in_err-taken.ensures.1 in
     rw (p.1, p.2) c.batches.invariant.writes
 
 pub returns-in_err-ingest-clause-disk_writes : goal.returns-in_err-ingest-clause-disk_writes
 returns-in_err-ingest-clause-disk_writes g c =
     let p = err_from_is_err_and c.from_residual-in_err-ingest.result c.from_residual-in_err-ingest.ensures.1 in
-    let e = c.in_err-ingest.ensures in
+    let device = g.D.Disk.device in
+    let rows = batch_rows c.in_ok-taken.taken.batch in
+    let refusal = c.in_err-ingest.field-0.0 in
+    let refused = c.in_err-ingest.ensures.refused in
     rw (p.1, p.2)
-    (refused_writes g.D.Disk.device c.batches.store c.ingest.new.self _ c.in_err-ingest.field-0.0 _ c.batches.invariant.writes e.fault e.untouched)
+    (refused_writes device c.batches.store c.ingest.new.self _ refusal _ c.batches.invariant.writes
+    (ingest_fault device c.batches.store c.ingest.new.self rows refusal refused) (ingest_untouched device c.batches.store c.ingest.new.self rows refusal refused))

@@ -1,11 +1,12 @@
 use Rattle.std.proofs.Common.{◌∙◌, Some, ap, inl, length, refl, sym, subst, arith, rules, w64, SFits}
 use Rattle.std.proofs.lemmas.Int.{to_z-of_z}
 use Rattle.arch_types.specs.declared.refusal.Refusal.TheVariants.{OutOfMemory}
+use Rattle.archive_store.proofs.Calls.{open_counted}
 use Rattle.archive_store.specs.StoreView.{archive_of}
 use Rattle.command_words.specs.JobView.{load_words_of}
 use Rattle.archive_cli.specs.Loading.{IsLoadRun}
 use Rattle.archive_cli.specs.LoadEnding.{IsLoadEnding}
-use Rattle.archive_cli.proofs.ReadOnly.{read_only_store}
+use Rattle.archive_cli.proofs.ReadOnly.{read_only_store, unopened_fault}
 use Rattle.archive_cli.proofs.Counted.{reads_closed}
 use Rattle.archive_cli.proofs.During.{opened_store}
 use Rattle.archive_cli.proofs.DiskWrites.{load_unopened_writes, unread_writes}
@@ -37,9 +38,9 @@ returns-in-Err-received-clause-ended g c = λ known given.
     let written = g.K.Sink.written c.args.sink.now in
     let faults = g.K.Sink.faults c.args.sink.now in
     let call = call_of given (g.I.Inputs.files c.args.inputs.now) (g.C.Clock.next c.args.clock.now) before now written written faults faults in
-    let opened = c.in-Ok-open-2.ensures.opened known in
+    let opened = c.in-Ok-open-2.ensures.opened in
     let closed_store = c.nothing_loaded.ensures.closed_store in
-    let disk = read_only_store device c.args.disk s opened.0 opened.1 c.in-Ok-open-2.ensures.opening c.in-Ok-open-2.ensures.fills c.in-Ok-open-2.ensures.handed_in (closed_store.images known) in
+    let disk = read_only_store device c.args.disk s (opened.stands known) c.in-Ok-open-2.ensures.reads opened.opening opened.fills c.in-Ok-open-2.ensures.crash (closed_store.images known) in
     let counted = rw c.in-Ok-open.ensures.fresh at c.in-Err-received.ensures.counted in
     let reads = reads_closed (Some unread.refusal) before (g.I.Inputs.faults c.open.new.self) _ now c.in-Ok-open.ensures.counted counted c.close-2.ensures.kept c.close-2.ensures.risen in
     subst (λ (d : g.row.D.Denot). IsLoadEnding device call (load_words_of c.args.words) c.args.disk d report.refusal report) (sym closed_store.disk_is)
@@ -59,12 +60,12 @@ returns-in-Ok-received-clause-ended g c = λ known given.
     let call = call_of given (g.I.Inputs.files c.args.inputs.now) (g.C.Clock.next c.args.clock.now) (g.I.Inputs.faults c.args.inputs.now) (g.I.Inputs.faults c.close-2.new.self) old new
     (g.K.Sink.faults c.args.sink.now) (g.K.Sink.faults c.load_dump.new.sink) in
     let fits : SFits w64 moment = search rules in
-    let opened = c.in-Ok-open-2.ensures.opened known in
-    let records = c.in-Ok-open-2.ensures.records known in
+    let opened = c.in-Ok-open-2.ensures.opened in
+    let records = opened.records known in
     let link = c.in-Ok-received.ensures.link in
     let ready : IsReady device call words c.args.disk s received.dump moment = record {
-      opened = opened_store device c.args.disk s opened.0 opened.1 c.in-Ok-open-2.ensures.opening c.in-Ok-open-2.ensures.handed_in records.0 records.1 records.2;
-      later = c.in-Ok-open-2.ensures.later.faults;
+      opened = opened_store device c.args.disk s (opened.stands known) c.in-Ok-open-2.ensures.reads opened.opening c.in-Ok-open-2.ensures.crash records.0 records.1 records.2;
+      later = c.in-Ok-open-2.ensures.counts.faults;
       link = omega (arith, link.0, link.1);
       input = gives_input (g.I.Inputs.files c.args.inputs.now) c.args.words.dump.now _ received.dump c.in-Ok-open.ensures.found c.in-Ok-received.ensures.whole;
       short = c.in-Ok-received.ensures.short;
@@ -167,13 +168,20 @@ returns-in-Err-clause-disk_writes g c =
 pub returns-in-Err-open-clause-disk_writes : goal.returns-in-Err-open-clause-disk_writes
 returns-in-Err-open-clause-disk_writes g c =
     rw c.unopened-in-Err-open.ensures.disk
-    (load_unopened_writes c.in-Err-open.refusal c.unopened-in-Err-open.result.report _ _ c.unopened-in-Err-open.ensures.report c.in-Err-open.ensures.writes)
+    (load_unopened_writes c.in-Err-open.refusal c.unopened-in-Err-open.result.report _ _ c.unopened-in-Err-open.ensures.report (open_counted g.D.Disk.device c.args.disk c.in-Err-open.disk c.in-Err-open.refusal c.in-Err-open.ensures.refused))
 
 pub returns-in-Err-received-clause-disk_writes : goal.returns-in-Err-received-clause-disk_writes
 returns-in-Err-received-clause-disk_writes g c =
     let unread = c.in-Err-received.unread in
     unread_writes _ c.args.words.link unread.refusal unread.link (length c.in-Ok-open-2.store.history) c.nothing_loaded.result.report _ _ c.nothing_loaded.ensures.report
-    c.in-Err-received.ensures.unread (ap (λ (d : g.row.D.Denot). g.D.Disk.device.failed_writes d) c.nothing_loaded.ensures.closed_store.disk_is ∙ c.in-Ok-open-2.ensures.writes)
+    c.in-Err-received.ensures.unread (ap (λ (d : g.row.D.Denot). g.D.Disk.device.failed_writes d) c.nothing_loaded.ensures.closed_store.disk_is ∙ c.in-Ok-open-2.ensures.opened.no_failed_write)
 
 pub returns-in-Ok-received-clause-disk_writes : goal.returns-in-Ok-received-clause-disk_writes
-returns-in-Ok-received-clause-disk_writes g c = rw c.in-Ok-open-2.ensures.writes at c.load_dump.ensures.disk_writes
+returns-in-Ok-received-clause-disk_writes g c = rw c.in-Ok-open-2.ensures.opened.no_failed_write at c.load_dump.ensures.disk_writes
+
+-- that a fault of the disk was counted
+
+pub returns-in-Err-open-clause-disk_fault : goal.returns-in-Err-open-clause-disk_fault
+returns-in-Err-open-clause-disk_fault g c = λ fault.
+    rw c.unopened-in-Err-open.ensures.disk
+    (unopened_fault g.D.Disk.device c.args.disk c.in-Err-open.disk c.in-Err-open.refusal c.unopened-in-Err-open.result.report c.unopened-in-Err-open.ensures.report c.in-Err-open.ensures.refused fault)

@@ -28,7 +28,7 @@ overflow_add-count g c =
     let total = rw step at c.loop-row.invariant.counted in
     let next = count_next db number c.in-Some.row.now c.next.new.self in
     let few = cells_few db number (sorted (rows_of c.args.table.now.stored)) in
-    omega (arith, total, next, few, c.in_ok-found.ensures.count, c.requires.few)
+    omega (arith, total, next, few, c.put_cell_of-count.ensures.count, c.requires.few)
 
 pub loop-row-preserved : goal.loop-row-preserved
 loop-row-preserved g c =
@@ -39,22 +39,22 @@ loop-row-preserved g c =
     let step : c.loop-row.row-iterator ≡ c.in-Some.row.now ∷ c.next.new.self = let s = c.in-Some.ensures.steps in cc in
     let before = regroup (line_of db number) first (g.K.Sink.written c.loop-row.sink) lines c.loop-row.line_buffer c.loop-row.row-iterator c.next.new.self c.in-Some.row.now step c.loop-row.invariant.buffered in
     let flushed : IsBuffered (g.K.Sink.written c.loop-row.sink) (g.K.Sink.written c.flush_if_full.new.sink) (c.loop-row.line_buffer ++ line_of db number c.in-Some.row.now) c.flush_if_full.new.self =
-    rw c.in_ok-found.ensures.line at c.in_ok-flush_if_full.ensures.buffered in
+    rw c.put_cell_of-count.ensures.line at c.in_ok-flush_if_full.ensures.buffered in
     let total = rw step at c.loop-row.invariant.counted in
     let next = count_next db number c.in-Some.row.now c.next.new.self in record {
       buffered = buffered_more first (g.K.Sink.written c.loop-row.sink) (g.K.Sink.written c.flush_if_full.new.sink) lines (c.loop-row.line_buffer ++ line_of db number c.in-Some.row.now) c.flush_if_full.new.self
           (flat_map (line_of db number) c.next.new.self) before flushed;
       room = c.in_ok-flush_if_full.ensures.room;
-      counted = omega (arith, total, next, c.in_ok-found.ensures.count);
+      counted = omega (arith, total, next, c.put_cell_of-count.ensures.count);
       no_fault = c.in_ok-flush_if_full.ensures.no_fault ∙ c.loop-row.invariant.no_fault;
     }
 
-pub returns-in_err-found-clause-some : goal.returns-in_err-found-clause-some
-returns-in_err-found-clause-some g c =
+pub returns-in_err-extractor-clause-some : goal.returns-in_err-extractor-clause-some
+returns-in_err-extractor-clause-some g c =
+    let first = g.K.Sink.written c.args.sink.now in
     let lines = lines_of_cells c.args.known.now.mdb c.args.known.now.number c.args.table.now.stored in
     let p = err_from_is_err_and c.from_residual.result c.from_residual.ensures.1 in
-    rw p.1 (buffered_front (g.K.Sink.written c.args.sink.now) (g.K.Sink.written c.loop-row.sink) lines
-    (c.loop-row.line_buffer ++ flat_map (line_of c.args.known.now.mdb c.args.known.now.number) c.loop-row.row-iterator) c.loop-row.invariant.buffered)
+    rw p.1 (buffered_front first first lines lines (buffered_none first lines))
 
 pub returns-in_err-flush_if_full-clause-some : goal.returns-in_err-flush_if_full-clause-some
 returns-in_err-flush_if_full-clause-some g c =
@@ -64,7 +64,7 @@ returns-in_err-flush_if_full-clause-some g c =
     let lines = lines_of_cells db number c.args.table.now.stored in
     let step : c.loop-row.row-iterator ≡ c.in-Some.row.now ∷ c.next.new.self = let s = c.in-Some.ensures.steps in cc in
     let before = regroup (line_of db number) first (g.K.Sink.written c.loop-row.sink) lines c.loop-row.line_buffer c.loop-row.row-iterator c.next.new.self c.in-Some.row.now step c.loop-row.invariant.buffered in
-    let some = rw c.in_ok-found.ensures.line at c.in_err-flush_if_full.ensures.some in
+    let some = rw c.put_cell_of-count.ensures.line at c.in_err-flush_if_full.ensures.some in
     let p = err_from_is_err_and c.from_residual-in_err-flush_if_full.result c.from_residual-in_err-flush_if_full.ensures.1 in
     rw p.1 (buffered_some first (g.K.Sink.written c.loop-row.sink) (g.K.Sink.written c.flush_if_full.new.sink) lines (c.loop-row.line_buffer ++ line_of db number c.in-Some.row.now)
     (flat_map (line_of db number) c.next.new.self) before some)

@@ -5,10 +5,10 @@ use Rattle.archive_history.proofs.history.are_too_many.Goals as goal
 
 pub returns-then-known-rows-clause-none : goal.returns-then-known-rows-clause-none
 returns-then-known-rows-clause-none c few =
-    omega (arith, c.rows_of-known.ensures, few_filter (is_row_of_interval c.args.interval) c.args.rows.now, c.if-known-rows.true, c.limit.ensures)
+    omega (arith, c.rows_of-known.ensures, few_filter (is_row_of_interval 22 c.args.interval) c.args.rows.now, c.if-known-rows.true, c.limit.ensures)
 
 pub overflow_add-result : goal.overflow_add-result
 overflow_add-result c =
     let less : c.rows_of-known.result + c.rows_in.result < 2 ^ 64 =
-    omega (arith, c.rows_of-known.ensures, c.requires.counted, c.rows_in.ensures, few_filter (is_row_of_interval c.args.interval) c.args.rows.now, c.requires.few) in
+    omega (arith, c.rows_of-known.ensures, c.requires.counted, c.rows_in.ensures, few_filter (is_row_of_interval 22 c.args.interval) c.args.rows.now, c.requires.few) in
     search (rules, arith)

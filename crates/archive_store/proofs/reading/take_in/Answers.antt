@@ -44,17 +44,17 @@ pub returns-then-is_some-clause-no : goal.returns-then-is_some-clause-no
 returns-then-is_some-clause-no c refused =
     let head : Head = record { tables = c.in-Ok-Head.tables; mdb = c.in-Ok-Head.mdb } in
     let spelled = rw c.in-Ok-Head.field-0-is at c.in-Ok-Head.ensures.spelled in
-    breaks_entry (archive_made c.args.made.now) (kinds.Head head.tables head.mdb) c.args.body.items spelled.0 (sym c.in_ok-octets.ensures ∙ spelled.1)
+    breaks_entry (archive_made c.args.made.now) (kinds.Head head.tables head.mdb) c.args.body.now spelled.0 spelled.1
     (λ after. no_second c.args.made.now head after (sym c.if-is_some.ensures))
 
-pub returns-in-Ok-Head-clause-yes : goal.returns-in-Ok-Head-clause-yes
-returns-in-Ok-Head-clause-yes c ok =
+pub returns-in_ok-history-in-Ok-Head-clause-yes : goal.returns-in_ok-history-in-Ok-Head-clause-yes
+returns-in_ok-history-in-Ok-Head-clause-yes c ok =
     let head : Head = record { tables = c.in-Ok-Head.tables; mdb = c.in-Ok-Head.mdb } in
     let items = c.in_ok-history-in-Ok-Head.history.items in
     let spelled = rw c.in-Ok-Head.field-0-is at c.in-Ok-Head.ensures.spelled in
     let empty : items ≡ [] = ap (λ (h : HistoryView). h.items) c.in_ok-history-in-Ok-Head.ensures in (
       kinds.Head head.tables head.mdb,
-      sym c.in_ok-octets.ensures ∙ spelled.1,
+      spelled.1,
       archive head items,
       refl,
       takes_head c.args.made.now head items (sym c.if-is_some.ensures) spelled.0 empty,
@@ -64,9 +64,9 @@ pub returns-in-Some-clause-yes : goal.returns-in-Some-clause-yes
 returns-in-Some-clause-yes c =
     let made : PartialArchive = c.in-Some.made in
     let rows : List Row = c.in-Ok-Rows.rows in
-    let body : List ℕ = c.args.body.items in
+    let body : List ℕ = c.args.body.now in
     let now = c.admit.new.made in
     let spelled = rw c.in-Ok-Rows.field-0-is at c.in-Ok-Rows.ensures.spelled in
     if_ok c.admit.result (λ ok. ok ≡ true → AreAdmitted (archive made.head made.history.items) rows × (now.history.items ≡ made.history.items ++ rows)) (λ ok. ok ≡ true → IsTaken c.args.made.now body now.head now.history.items)
-    (λ ok p is. takes_rows c.args.made.now made rows body now.head now.history.items c.in-Some.is (sym c.in_ok-octets.ensures ∙ spelled.1) c.admit.ensures.head (p is))
+    (λ ok p is. takes_rows c.args.made.now made rows body now.head now.history.items c.in-Some.is spelled.1 c.admit.ensures.head (p is))
     c.admit.ensures.yes

@@ -30,15 +30,15 @@ loop-row-preserved c =
     let inv = c.loop-row.invariant in
     let parts = c.loop-row.parts.items in
     let classified : IsSortedBy is_before (row ∷ rest) = subst (IsSortedBy is_before) step inv.classified in
-    let earlier : (j : ℕ) (e : Row) → j < length (row ∷ rest) → bounded (interval_of (get_or (row ∷ rest) j e).key.time) parts =
-    subst (λ (l : List Row). (j : ℕ) (e : Row) → j < length l → bounded (interval_of (get_or l j e).key.time) parts) step inv.earlier in
+    let earlier : (j : ℕ) (e : Row) → j < length (row ∷ rest) → bounded (interval_of 22 (get_or (row ∷ rest) j e).key.time) parts =
+    subst (λ (l : List Row). (j : ℕ) (e : Row) → j < length l → bounded (interval_of 22 (get_or l j e).key.time) parts) step inv.earlier in
     let put = c.in_ok-put.ensures in
     record {
       rows = ap (λ (l : List Row). l ++ rest) put.rows ∙ append_assoc (rows_of_parts parts) (row ∷ []) rest ∙ ap (λ (l : List Row). rows_of_parts parts ++ l) (sym step) ∙ inv.rows;
       each = put.each inv.each;
       rising = put.rising inv.rising (earlier 0 row (omega arith));
       classified = classified_tail row rest classified;
-      earlier = λ k d within. put.bounded (interval_of (get_or rest k d).key.time) (earlier_next parts row rest d k earlier within) (first_rises row rest d k classified within);
+      earlier = λ k d within. put.bounded (interval_of 22 (get_or rest k d).key.time) (earlier_next parts row rest d k earlier within) (first_rises row rest d k classified within);
     }
 
 pub returns : goal.returns

@@ -12,8 +12,8 @@ use Rattle.archive_store.proofs.retrieving.parts_of.Given as goal
 abbrev pub invariant-loop-row : goal.invariant-loop-row
 invariant-loop-row l = record {
   rows : rows_of_parts l.parts.items ++ l.row-iterator ≡ range_of 0 l.fn.from l.fn.to l.history.items;
-  each : AllByRecursion IsPlanPart l.parts.items;
+  each : AllByRecursion (IsPlanPart 22) l.parts.items;
   rising : AreRisingIntervals l.parts.items;
   classified : IsSortedBy is_before l.row-iterator;
-  earlier : (k : ℕ) (d : Row) → k < length l.row-iterator → bounded (interval_of (get_or l.row-iterator k d).key.time) l.parts.items;
+  earlier : (k : ℕ) (d : Row) → k < length l.row-iterator → bounded (interval_of 22 (get_or l.row-iterator k d).key.time) l.parts.items;
 }

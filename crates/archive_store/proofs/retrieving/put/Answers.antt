@@ -30,7 +30,7 @@ returns-then-eq-clause-each c all =
     let n = c.len-count.result - 1 in
     let same : c.index.result.now ≡ old = c.index.ensures ∙ default_free parts n c.index.result.now old (omega (arith, c.len-count.ensures, c.if-count-gt0.true)) ∙ sym c.index_mut.ensures.value in
     let test : true ≡ int_eq old.interval.0 c.interval_of_row-interval.result.0 = subst (λ (p : Part). true ≡ int_eq p.interval.0 c.interval_of_row-interval.result.0) same c.if-eq.ensures in
-    on_ok c.push.result (c.push.new.self ≡ old.rows ++ c.in_ok-copy.copy ∷ []) (AllByRecursion IsPlanPart (set parts n (grown old c.push.new.self)))
+    on_ok c.push.result (c.push.new.self ≡ old.rows ++ c.in_ok-copy.copy ∷ []) (AllByRecursion (IsPlanPart 22) (set parts n (grown old c.push.new.self)))
     (λ is. each_put parts n old c.push.new.self c.args.row.now c.in_ok-copy.copy (omega (arith, c.len-count.ensures, c.if-count-gt0.true)) (sym c.index_mut.ensures.value) c.in_ok-copy.ensures is (interval_here old c.args.row.now c.interval_of_row-interval.result.0 c.interval_of_row-interval.ensures test) all) c.push.ensures.ok
 
 pub returns-then-eq-clause-rising : goal.returns-then-eq-clause-rising
@@ -54,10 +54,10 @@ none_before P [] none = tt
 none_before P (p ∷ parts) none = absurd (omega (arith, none))
 
 -- a part with one row
-one_part : (part : Part) (row : Row) → part.rows ≡ row ∷ [] → part.interval.0 ≡ interval_of row.key.time → IsPlanPart part
+one_part : (part : Part) (row : Row) → part.rows ≡ row ∷ [] → part.interval.0 ≡ interval_of 22 row.key.time → IsPlanPart 22 part
 one_part part row rows interval = record {
   some = subst (λ (l : List Row). 0 < length l) (sym rows) (omega arith);
-  each = subst (AllByRecursion (λ r. interval_of r.key.time ≡ part.interval.0)) (sym rows) (sym interval, tt);
+  each = subst (AllByRecursion (λ r. interval_of 22 r.key.time ≡ part.interval.0)) (sym rows) (sym interval, tt);
 }
 
 pub returns-clause-each : goal.returns-clause-each
@@ -65,7 +65,7 @@ returns-clause-each c all =
     let parts = c.args.parts.now.items in
     let rows : c.push-2.new.self ≡ c.args.row.now ∷ [] = c.in_ok-push.ensures.ok ∙ ap (λ (l : List Row). l ++ c.in_ok-copy.copy ∷ []) c.new-rows.ensures ∙ ap (λ (r : Row). r ∷ []) c.in_ok-copy.ensures in
     let part : Part = record { interval = c.interval_of_row-interval.result; rows = c.push-2.new.self } in
-    subst (AllByRecursion IsPlanPart) (sym c.in_ok-push-2.ensures.items) (each_begun parts part all (one_part part c.args.row.now rows c.interval_of_row-interval.ensures))
+    subst (AllByRecursion (IsPlanPart 22)) (sym c.in_ok-push-2.ensures.items) (each_begun parts part all (one_part part c.args.row.now rows c.interval_of_row-interval.ensures))
 
 pub returns-clause-rising : goal.returns-clause-rising
 returns-clause-rising c up all =

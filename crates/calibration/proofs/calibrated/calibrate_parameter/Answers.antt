@@ -2,8 +2,8 @@
 use Rattle.std.proofs.Common.{◌≡◌, ◌∙◌, ap, sym, true}
 use Rattle.std.specs.Int.{w128}
 use Rattle.std.proofs.lemmas.Int.{to_z-of_z}
-use Rattle.mdb_model.specs.LabelOrder.{label_row_by}
-use Rattle.mdb_model.specs.Lookups.{calibration_of}
+use Rattle.mdb_lookups.specs.LabelOrder.{label_row_by}
+use Rattle.mdb_lookups.specs.Lookups.{calibration_of}
 use Rattle.calibration.specs.Calibrated.{is_enumeration, label_at}
 use Rattle.calibration.proofs.Labels.{label_by, row_within}
 use Rattle.calibration.proofs.calibrated.calibrate_parameter.Goals as goal

@@ -3,7 +3,7 @@ use Rattle.std.proofs.Common.{FitsSigned, refl, rules, subst, sym}
 use Rattle.std.specs.Prelude.{ℤ}
 use Rattle.std.specs.Int.{w128}
 use Rattle.std.proofs.lemmas.Int.{to_z-of_z}
-use Rattle.mdb_model.specs.Lookups.{calibration_of}
+use Rattle.mdb_lookups.specs.Lookups.{calibration_of}
 use Rattle.calibration.specs.Admitted.{IsAdmitted}
 use Rattle.container_extract.proofs.Admitting.{raw_admitted}
 use Rattle.container_extract.proofs.engineering.eng_of.Goals as goal

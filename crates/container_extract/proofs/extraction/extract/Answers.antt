@@ -14,16 +14,16 @@ calibrated_values-requires g c =
     let db = c.args.mdb.now in
     let packet = c.args.packet.now in
     let each = All-from_recursion (IsRawValue db) (raw_extraction db packet) (raw_extraction_keeps_rules db packet c.is_sound.ensures).each in
-    subst (All (IsRawValue db)) (sym (c.as_slice.ensures.value ∙ c.in_ok-walk.ensures.values)) each
+    subst (All (IsRawValue db)) (sym (c.as_slice.ensures.value ∙ c.walk.ensures.values)) each
 
 pub returns-clause-chain : goal.returns-clause-chain
 returns-clause-chain g c =
     let db = c.args.mdb.now in
     let packet = c.args.packet.now in
-    subst (IsChain db packet) (sym (c.from_vec.ensures ∙ c.in_ok-walk.ensures.chain)) (chain_is_one db packet c.is_sound.ensures).0
+    subst (IsChain db packet) (sym (c.from_vec.ensures ∙ c.walk.ensures.chain)) (chain_is_one db packet c.is_sound.ensures).0
 
 pub returns-clause-values : goal.returns-clause-values
 returns-clause-values g c =
     let db = c.args.mdb.now in
     let packet = c.args.packet.now in
-    c.in_ok-values.ensures ∙ ap (map (calibrated_value db)) (c.as_slice.ensures.value ∙ c.in_ok-walk.ensures.values) ∙ sym (extraction_is_calibrated db packet)
+    c.in_ok-values.ensures ∙ ap (map (calibrated_value db)) (c.as_slice.ensures.value ∙ c.walk.ensures.values) ∙ sym (extraction_is_calibrated db packet)

@@ -3,7 +3,7 @@ use Rattle.octet_fields.proofs.Times.{ends, goes_on, is_done}
 use Rattle.field_codec.proofs.rows.some_rows_at.Goals as goal
 
 pub returns-in_err-row : goal.returns-in_err-row
-returns-in_err-row c = ends row_at (λ x. (x.0, x.1.now)) c.from_residual.result _ _ c.args.count c.loop.counter c.loop.rest.now _ c.from_residual.ensures.1 c.loop-test.true c.in_err-row.ensures.gives c.loop.invariant.read
+returns-in_err-row c = ends row_at (λ x. (x.0, x.1.now)) c.from_residual-in_err-row.result _ _ c.args.count c.loop.counter c.loop.rest.now _ c.from_residual-in_err-row.ensures.1 c.loop-test.true c.in_err-row.ensures.gives c.loop.invariant.read
 
 pub loop-preserved : goal.loop-preserved
 loop-preserved c = record {

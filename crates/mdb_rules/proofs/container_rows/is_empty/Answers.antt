@@ -1,5 +1,5 @@
 use Rattle.std.proofs.Common.{◌∙◌, sym}
-use Rattle.mdb_rules.proofs.Ends.{is_empty-length}
+use Rattle.mdb_items.proofs.Ends.{is_empty-length}
 use Rattle.mdb_rules.proofs.container_rows.is_empty.Goals as goal
 
 pub returns : goal.returns

@@ -31,7 +31,7 @@ loop-found-preserved c =
       flexible = c.in-Ok.ensures.flexible ∙ inv.flexible;
       ready = inl (c.in-Ok.ensures.ready inv.trim);
       config = read.2 ∙ inv.config;
-      reached = (more.0, more.1, rw (c.in_ok-push.ensures.ok, c.in_ok-next.ensures) more.2);
+      reached = (more.0, more.1, rw (c.in_ok-push.ensures.pushed, c.in_ok-refill.ensures) more.2);
     }
 
 pub loop-found-smaller : goal.loop-found-smaller

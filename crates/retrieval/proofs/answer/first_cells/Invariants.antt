@@ -1,4 +1,4 @@
-use Rattle.std.proofs.Common.{◌≡◌, ◌++◌, drop}
+use Rattle.std.proofs.Common.{◌≡◌, ◌+◌, ◌≤◌, ◌++◌, drop, length}
 use Rattle.std.specs.List.{filter_map}
 use Rattle.archive_store.specs.Plans.{rows_of_parts}
 use Rattle.container_extract.specs.Extraction.{cell_of}
@@ -6,7 +6,8 @@ use Rattle.retrieval.specs.AnswerText.{truncated}
 use Rattle.retrieval.proofs.answer.first_cells.Given as goal
 
 abbrev pub invariant-loop-part : goal.invariant-loop-part
-invariant-loop-part l = record {
+invariant-loop-part g l = record {
   all : truncated l.limit (l.cells.items ++ filter_map (cell_of l.mdb l.number) (rows_of_parts (drop l.part-index l.parts))) ≡ truncated l.limit (filter_map (cell_of l.mdb l.number) (rows_of_parts l.parts));
   within : truncated l.limit l.cells.items ≡ l.cells.items;
+  steps : l.steps + length (rows_of_parts (drop l.part-index l.parts)) ≤ l.initial.steps + length (rows_of_parts l.parts);
 }

@@ -9,12 +9,12 @@ returns-in-Err c = record {
 
 pub returns-in-Some : goal.returns-in-Some
 returns-in-Some c = record {
-  known = is_parameter c.args.sheets.now c.args.name.now c.in-Ok.mdb c.parameter_number.result c.in-Some.number c.in-Ok.ensures c.parameter_number.ensures c.in-Some.is;
+  known = is_parameter c.args.sheets.now c.args.name.now c.in-Ok.mdb c.parameter_number.result c.in-Some.number c.in-Ok.ensures c.parameter_number.ensures.value c.in-Some.is;
   refused = tt;
 }
 
 pub returns-in-None : goal.returns-in-None
 returns-in-None c = record {
   known = tt;
-  refused = unknown_parameter c.args.sheets.now c.args.name.now c.in-Ok.mdb c.parameter_number.result c.in-Ok.ensures c.parameter_number.ensures c.in-None.is;
+  refused = unknown_parameter c.args.sheets.now c.args.name.now c.in-Ok.mdb c.parameter_number.result c.in-Ok.ensures c.parameter_number.ensures.value c.in-None.is;
 }

@@ -38,7 +38,7 @@ pub add-requires-clause-within : goal.add-requires-clause-within
 add-requires-clause-within c =
     let step : c.loop-row.row-iterator.rest.items ≡ c.in-Some.row ∷ c.next.new.self.rest.items = let s = c.in-Some.ensures.steps in cc in
     let left = ap (λ (l : List Row). c.loop-row.yielded ++ l) (sym step) ∙ c.loop-row.invariant.left in
-    subst (λ (l : List Item). IsWithin (l ++ c.in-Some.row ∷ [])) (sym c.loop-row.invariant.items)
+    subst (λ (l : List Item). IsWithin 22 (l ++ c.in-Some.row ∷ [])) (sym c.loop-row.invariant.items)
     (first_within c.args.self.now.items c.loop-row.yielded c.next.new.self.rest.items c.args.rows c.in-Some.row left c.requires.within)
 
 pub returns-then-not-add-clause-some : goal.returns-then-not-add-clause-some

@@ -6,7 +6,8 @@ use Rattle.archive_history.specs.Limits.{interval_rows, IsWithin}
 use Rattle.archive_history.specs.TableSet.{HistoryView}
 use Rattle.archive_history.proofs.Counting.{together}
 use Rattle.archive_history.proofs.Intervals.{IsCounted, intervals_within}
-use Rattle.archive_history.proofs.Steps.{all_take_more}
+use Rattle.archive_core.specs.Items.{is_row_of_interval}
+use Rattle.archive_history.proofs.Steps.{all_take_more, few_filter}
 use Rattle.archive_history.proofs.Sums.{interval_rows-append}
 use Rattle.archive_history.proofs.history.History.passes_interval.Goals as goal
 use Rattle.archive_history.proofs.history.History.passes_interval.Goals.{then-row-eq-TM+else-are_too_many, else-row-eq-TM}
@@ -25,8 +26,8 @@ loop-row-preserved c =
       | then-row-eq-TM+else-are_too_many w ↦ λ table interval same.
           let i = w.interval_of_row-interval.result in
           let here : interval ≡ i = together interval i (same ∙ sym w.interval_of_row-interval.ensures) in
-          subst (λ (x : Interval). interval_rows x (items ++ rows) ≤ 262144) (sym here)
-          (omega (arith, interval_rows-append i items rows, c.self.invariant.rows i, w.if-are_too_many.ensures.none refl, ap (λ (s : HistoryView). interval_rows i s.items) c.self.view_is))
+          subst (λ (x : Interval). interval_rows 22 x (items ++ rows) ≤ 262144) (sym here)
+          (omega (arith, interval_rows-append i items rows, c.self.invariant.rows i, w.if-are_too_many.ensures.none refl, ap (λ (s : HistoryView). interval_rows 22 i s.items) c.self.view_is))
       | else-row-eq-TM w ↦ λ table interval same. absurd (omega (arith, w.if-row-eq-TM.false, table))
     ])
 
@@ -35,11 +36,17 @@ returns-then-are_too_many-clause-some c is =
     let i = c.interval_of_row-interval.result in
     let items = c.args.self.now.items in
     let rows = c.args.rows.now in
-    (i, omega (arith, interval_rows-append i items rows, c.self.invariant.rows i, c.if-are_too_many.ensures.some refl, ap (λ (s : HistoryView). interval_rows i s.items) c.self.view_is))
+    (i, omega (arith, interval_rows-append i items rows, c.self.invariant.rows i, c.if-are_too_many.ensures.some refl, ap (λ (s : HistoryView). interval_rows 22 i s.items) c.self.view_is))
+
+pub returns-then-most_rows-limit-clause-none : goal.returns-then-most_rows-limit-clause-none
+returns-then-most_rows-limit-clause-none c is i =
+    let items = c.args.self.now.items in
+    let rows = c.args.rows.now in
+    omega (arith, interval_rows-append i items rows, few_filter (is_row_of_interval 22 i) rows, c.self.invariant.rows i, c.most_rows.ensures i, c.limit-limit.ensures, c.if-added-limit.true, c.if-most_rows-limit.true, ap (λ (s : HistoryView). interval_rows 22 i s.items) c.self.view_is)
 
 pub returns-clause-none : goal.returns-clause-none
 returns-clause-none c is i =
     let items = c.args.self.now.items in
     let rows = c.args.rows.now in
     let all = subst (AllByRecursion (IsCounted items rows)) (take_all c.loop-row.row-index rows (omega (arith, c.loop-row-test.false))) c.loop-row.invariant in
-    intervals_within items rows (subst (λ (s : HistoryView). IsWithin s.items) c.self.view_is c.self.invariant.within) all i
+    intervals_within items rows (subst (λ (s : HistoryView). IsWithin 22 s.items) c.self.view_is c.self.invariant.within) all i

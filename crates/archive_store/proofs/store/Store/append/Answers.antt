@@ -9,11 +9,10 @@ use Rattle.archive_core.specs.Items.{Item}
 use Rattle.disk_journal.specs.Format.{IsBeforeOrAfter}
 use Rattle.disk_journal.specs.State.{HasOnDisk as JournalHasOnDisk}
 use Rattle.disk_journal.specs.State.{unhealed_fault, faults_of, file_of, count_of}
-use Rattle.disk_journal.proofs.Calls.{appended_on, append_failed_on, append_crash_on, refusal_failed, refused_count}
+use Rattle.disk_journal.proofs.Calls.{appended_on, append_failed_on, append_crash_on, refusal_failed}
 use Rattle.field_codec.specs.declared.entry.Entry.TheVariants as entries
 use Rattle.field_codec.specs.Spelling.{entry_octets}
-use Rattle.std.specs.List.{AllByRecursion}
-use Rattle.archive_store.specs.Entries.{archive, AreAdmitted, IsPlaced}
+use Rattle.archive_store.specs.Entries.{archive, AreAdmitted}
 use Rattle.archive_store.specs.Inside.{StoreInvariant, view_of}
 use Rattle.archive_store.specs.StoreView.{StoreView}
 use Rattle.archive_store.specs.Stands.{StandsFor}
@@ -34,9 +33,9 @@ invariant_of-self-in-Ok-append g c =
     let fresh : List Row = c.args.fresh in
     let mid = c.prepare-prepared.new.journal in
     let body : List ℕ = entry_octets (entries.Rows fresh) in
-    let no_failed_write : pending_fault_of s.fills.items ≡ None = subst (λ (x : StoreView g.row.D.Denot). pending_fault_of x.fills ≡ None) (sym c.self.view_is) c.requires.no_failed_write in
+    let no_failed_write : pending_fault_of s.fills.items ≡ None = subst (λ (x : StoreView g.row.D.Denot). pending_fault_of x.fills ≡ None) (sym c.self.view_is) c.requires.healed in
     let ok : AreAdmitted (archive s.head s.history.items) fresh = subst (λ (x : StoreView g.row.D.Denot). AreAdmitted (archive x.head x.history) fresh) (sym c.self.view_is) c.requires.admitted in
-    let frame : c.in-Ok.frame ≡ body = c.in-Ok.ensures.frame.0 in
+    let frame : c.in-Ok.frame ≡ body = c.in-Ok.ensures.frame ∙ ap (λ (l : List Row). entry_octets (entries.Rows l)) c.as_slice.ensures in
     let run = λ (transparent : IsTrue device.is_transparent) (bodies : List (List ℕ)) (pending : List ℕ) (keeps : JournalHasOnDisk device mid bodies pending s.disk) (no_pending_fault : unhealed_fault mid ≡ None).
     subst (λ (b : List ℕ). LeavesOnly device s.disk c.append.new.disk (λ c'. IsBeforeOrAfter bodies b (c' (file_of mid)))) frame (append_crash_on device mid bodies pending s.disk transparent keeps c.append.new.disk c.in-Ok.frame (c.append.ensures.crash no_pending_fault)) in
     let moments = moments_of device s.disk c.append.new.disk s.opened.value s.journal mid s.head s.history.items fresh s.fills.items s.pending_fault k ok no_failed_write c.prepare-prepared.ensures.journal run in
@@ -45,28 +44,27 @@ invariant_of-self-in-Ok-append g c =
     subst (λ (b : List ℕ). JournalHasOnDisk device c.append.new.self (bodies ++ b ∷ []) pending c.append.new.disk) frame (appended_on device mid bodies pending s.disk transparent keeps c.append.new.self c.append.new.disk c.in-Ok.frame _ c.in-Ok-append.ensures.appended) in
     let done = kept_ok device s.disk c.append.new.disk s.opened.value mid c.append.new.self s.head s.history.items fresh s.fills.items s.pending_fault k_mid ok no_failed_write c.append.ensures.file c.in-Ok-append.ensures.appended.no_pending_fault keeps moments c.append.ensures.counts.faults c.in-Ok-append.ensures.appended.no_failed_write in
     let prepared = c.prepare-prepared.ensures.history in
-    let same : c.in-Ok.fresh ≡ fresh = c.in-Ok.ensures.frame.1 in
-    let new : ingested c.prepare-prepared.new.history.items c.in-Ok.fresh ≡ c.prepare-prepared.new.history.items ++ c.in-Ok.fresh =
-    subst (λ (l : List Item). ingested l c.in-Ok.fresh ≡ l ++ c.in-Ok.fresh) (sym prepared.0) (subst (λ (l : List Row). ingested s.history.items l ≡ s.history.items ++ l) (sym same) ok.fresh) in
-    let grown = all_added c.add_all.result (c.add_all.new.self.items ≡ c.prepare-prepared.new.history.items ++ c.in-Ok.fresh) (λ is. (c.add_all.ensures.all is).1) (λ is. c.add_all.ensures.some is new) in
-    let items : c.add_all.new.self.items ≡ s.history.items ++ fresh = grown ∙ ap (λ (l : List Item). l ++ c.in-Ok.fresh) prepared.0 ∙ ap (λ (l : List Row). s.history.items ++ l) same in (
+    let new : ingested c.prepare-prepared.new.history.items fresh ≡ c.prepare-prepared.new.history.items ++ fresh =
+    subst (λ (l : List Item). ingested l fresh ≡ l ++ fresh) (sym prepared.0) ok.fresh in
+    let grown = all_added c.add_all.result (c.add_all.new.self.items ≡ c.prepare-prepared.new.history.items ++ fresh) (λ is. (c.add_all.ensures.all is).1) (λ is. c.add_all.ensures.some is new) in
+    let items : c.add_all.new.self.items ≡ s.history.items ++ fresh = grown ∙ ap (λ (l : List Item). l ++ fresh) prepared.0 in (
       subst (λ (r : List Item). StoreInvariant device c.append.new.disk s.opened.value c.append.new.self s.head r c.prepare-prepared.new.fills.items s.pending_fault) (sym items)
           (subst (λ (f : List Fill). StoreInvariant device c.append.new.disk s.opened.value c.append.new.self s.head (s.history.items ++ fresh) f s.pending_fault) (sym c.prepare-prepared.ensures.fills.0) done),
       c.add_all.ensures.tables ∙ prepared.1 ∙ c.self.invariant.1,
       c.self.invariant.2,
     )
 
-pub returns-in-Ok-append-clause-any_moment : goal.returns-in-Ok-append-clause-any_moment
-returns-in-Ok-append-clause-any_moment g c =
+pub returns-in-Ok-append-clause-crash : goal.returns-in-Ok-append-clause-crash
+returns-in-Ok-append-clause-crash g c =
     let device = g.D.Disk.device in
     let s = c.self.inside in
     let k = c.self.invariant.0 in
     let fresh : List Row = c.args.fresh in
     let mid = c.prepare-prepared.new.journal in
     let body : List ℕ = entry_octets (entries.Rows fresh) in
-    let no_failed_write : pending_fault_of s.fills.items ≡ None = subst (λ (x : StoreView g.row.D.Denot). pending_fault_of x.fills ≡ None) (sym c.self.view_is) c.requires.no_failed_write in
+    let no_failed_write : pending_fault_of s.fills.items ≡ None = subst (λ (x : StoreView g.row.D.Denot). pending_fault_of x.fills ≡ None) (sym c.self.view_is) c.requires.healed in
     let ok : AreAdmitted (archive s.head s.history.items) fresh = subst (λ (x : StoreView g.row.D.Denot). AreAdmitted (archive x.head x.history) fresh) (sym c.self.view_is) c.requires.admitted in
-    let frame : c.in-Ok.frame ≡ body = c.in-Ok.ensures.frame.0 in
+    let frame : c.in-Ok.frame ≡ body = c.in-Ok.ensures.frame ∙ ap (λ (l : List Row). entry_octets (entries.Rows l)) c.as_slice.ensures in
     let run = λ (transparent : IsTrue device.is_transparent) (bodies : List (List ℕ)) (pending : List ℕ) (keeps : JournalHasOnDisk device mid bodies pending s.disk) (no_pending_fault : unhealed_fault mid ≡ None).
     subst (λ (b : List ℕ). LeavesOnly device s.disk c.append.new.disk (λ c'. IsBeforeOrAfter bodies b (c' (file_of mid)))) frame (append_crash_on device mid bodies pending s.disk transparent keeps c.append.new.disk c.in-Ok.frame (c.append.ensures.crash no_pending_fault)) in
     let moments = moments_of device s.disk c.append.new.disk s.opened.value s.journal mid s.head s.history.items fresh s.fills.items s.pending_fault k ok no_failed_write c.prepare-prepared.ensures.journal run in
@@ -80,9 +78,9 @@ invariant_of-self-in-Err g c =
     let fresh : List Row = c.args.fresh in
     let mid = c.prepare-prepared.new.journal in
     let body : List ℕ = entry_octets (entries.Rows fresh) in
-    let no_failed_write : pending_fault_of s.fills.items ≡ None = subst (λ (x : StoreView g.row.D.Denot). pending_fault_of x.fills ≡ None) (sym c.self.view_is) c.requires.no_failed_write in
+    let no_failed_write : pending_fault_of s.fills.items ≡ None = subst (λ (x : StoreView g.row.D.Denot). pending_fault_of x.fills ≡ None) (sym c.self.view_is) c.requires.healed in
     let ok : AreAdmitted (archive s.head s.history.items) fresh = subst (λ (x : StoreView g.row.D.Denot). AreAdmitted (archive x.head x.history) fresh) (sym c.self.view_is) c.requires.admitted in
-    let frame : c.in-Ok.frame ≡ body = c.in-Ok.ensures.frame.0 in
+    let frame : c.in-Ok.frame ≡ body = c.in-Ok.ensures.frame ∙ ap (λ (l : List Row). entry_octets (entries.Rows l)) c.as_slice.ensures in
     let run = λ (transparent : IsTrue device.is_transparent) (bodies : List (List ℕ)) (pending : List ℕ) (keeps : JournalHasOnDisk device mid bodies pending s.disk) (no_pending_fault : unhealed_fault mid ≡ None).
     subst (λ (b : List ℕ). LeavesOnly device s.disk c.append.new.disk (λ c'. IsBeforeOrAfter bodies b (c' (file_of mid)))) frame (append_crash_on device mid bodies pending s.disk transparent keeps c.append.new.disk c.in-Ok.frame (c.append.ensures.crash no_pending_fault)) in
     let moments = moments_of device s.disk c.append.new.disk s.opened.value s.journal mid s.head s.history.items fresh s.fills.items s.pending_fault k ok no_failed_write c.prepare-prepared.ensures.journal run in
@@ -93,47 +91,40 @@ invariant_of-self-in-Err g c =
     let keeps = λ (transparent : IsTrue device.is_transparent) (bodies : List (List ℕ)) (pending : List ℕ) (keeps : JournalHasOnDisk device mid bodies pending s.disk).
     subst (λ (b : List ℕ). JournalHasOnDisk device c.append.new.self bodies b c.append.new.disk) frame (append_failed_on device mid bodies pending s.disk transparent keeps c.append.new.self c.append.new.disk c.in-Ok.frame failed) in
     let done = kept_err device s.disk c.append.new.disk s.opened.value mid c.append.new.self s.head s.history.items fresh s.fills.items s.pending_fault c.faults-count.result k_mid ok no_failed_write c.append.ensures.file failed.pending_fault c.faults-count.ensures keeps moments failed.rose failed.wrote in
-    let same : c.in-Ok.fresh ≡ fresh = c.in-Ok.ensures.frame.1 in
     let fills : c.push_reserved.new.self.items ≡ s.fills.items ++ fault c.faults-count.result fresh ∷ [] =
-    c.push_reserved.ensures.items ∙ ap (λ (l : List Fill). l ++ fault c.faults-count.result c.in-Ok.fresh ∷ []) c.prepare-prepared.ensures.fills.0 ∙ ap (λ (r : List Row). s.fills.items ++ fault c.faults-count.result r ∷ []) same in (
+    c.push_reserved.ensures.items ∙ ap (λ (l : List Fill). l ++ fault c.faults-count.result fresh ∷ []) c.prepare-prepared.ensures.fills.0 in (
       subst (λ (r : List Item). StoreInvariant device c.append.new.disk s.opened.value c.append.new.self s.head r c.push_reserved.new.self.items (Some c.faults-count.result)) (sym c.prepare-prepared.ensures.history.0)
           (subst (λ (f : List Fill). StoreInvariant device c.append.new.disk s.opened.value c.append.new.self s.head s.history.items f (Some c.faults-count.result)) (sym fills) done),
       c.prepare-prepared.ensures.history.1 ∙ c.self.invariant.1,
       c.self.invariant.2,
     )
 
-pub returns-clause-any_moment : goal.returns-clause-any_moment
-returns-clause-any_moment g c =
+pub returns-clause-crash : goal.returns-clause-crash
+returns-clause-crash g c =
     let device = g.D.Disk.device in
     let s = c.self.inside in
     let k = c.self.invariant.0 in
     let fresh : List Row = c.args.fresh in
     let mid = c.prepare-prepared.new.journal in
     let body : List ℕ = entry_octets (entries.Rows fresh) in
-    let no_failed_write : pending_fault_of s.fills.items ≡ None = subst (λ (x : StoreView g.row.D.Denot). pending_fault_of x.fills ≡ None) (sym c.self.view_is) c.requires.no_failed_write in
+    let no_failed_write : pending_fault_of s.fills.items ≡ None = subst (λ (x : StoreView g.row.D.Denot). pending_fault_of x.fills ≡ None) (sym c.self.view_is) c.requires.healed in
     let ok : AreAdmitted (archive s.head s.history.items) fresh = subst (λ (x : StoreView g.row.D.Denot). AreAdmitted (archive x.head x.history) fresh) (sym c.self.view_is) c.requires.admitted in
-    let frame : c.in-Ok.frame ≡ body = c.in-Ok.ensures.frame.0 in
+    let frame : c.in-Ok.frame ≡ body = c.in-Ok.ensures.frame ∙ ap (λ (l : List Row). entry_octets (entries.Rows l)) c.as_slice.ensures in
     let run = λ (transparent : IsTrue device.is_transparent) (bodies : List (List ℕ)) (pending : List ℕ) (keeps : JournalHasOnDisk device mid bodies pending s.disk) (no_pending_fault : unhealed_fault mid ≡ None).
     subst (λ (b : List ℕ). LeavesOnly device s.disk c.append.new.disk (λ c'. IsBeforeOrAfter bodies b (c' (file_of mid)))) frame (append_crash_on device mid bodies pending s.disk transparent keeps c.append.new.disk c.in-Ok.frame (c.append.ensures.crash no_pending_fault)) in
     let moments = moments_of device s.disk c.append.new.disk s.opened.value s.journal mid s.head s.history.items fresh s.fills.items s.pending_fault k ok no_failed_write c.prepare-prepared.ensures.journal run in
     subst (λ (x : StoreView g.row.D.Denot). IsTrue device.is_transparent → LeavesOnly device x.disk c.append.new.disk (λ c'. StandsFor c' (archive x.head x.history) ⊎ StandsFor c' (archive x.head (x.history ++ fresh)))) c.self.view_is moments
 
-pub returns-in_default-clause-any_moment : goal.returns-in_default-clause-any_moment
-returns-in_default-clause-any_moment g c transparent =
+pub returns-in_default-clause-crash : goal.returns-in_default-clause-crash
+returns-in_default-clause-crash g c transparent =
     let device = g.D.Disk.device in
     let s = c.self.inside in
-    let no_failed_write : pending_fault_of s.fills.items ≡ None = subst (λ (x : StoreView g.row.D.Denot). pending_fault_of x.fills ≡ None) (sym c.self.view_is) c.requires.no_failed_write in
+    let no_failed_write : pending_fault_of s.fills.items ≡ None = subst (λ (x : StoreView g.row.D.Denot). pending_fault_of x.fills ≡ None) (sym c.self.view_is) c.requires.healed in
     subst (λ (x : StoreView g.row.D.Denot). LeavesOnly device x.disk s.disk (λ c'. StandsFor c' (archive x.head x.history) ⊎ StandsFor c' (archive x.head (x.history ++ c.args.fresh)))) c.self.view_is
     (stands_now device (view_of s.disk s.opened.value s.journal s.head s.history.items s.fills.items) _ (c.self.invariant.0.images transparent) no_failed_write (λ c' stands. inl stands))
 
 pub add_all-requires-clause-tables : goal.add_all-requires-clause-tables
 add_all-requires-clause-tables g c =
     let s = c.self.inside in
-    let same : c.in-Ok.fresh ≡ c.args.fresh = c.in-Ok.ensures.frame.1 in
     let ok : AreAdmitted (archive s.head s.history.items) c.args.fresh = subst (λ (x : StoreView g.row.D.Denot). AreAdmitted (archive x.head x.history) c.args.fresh) (sym c.self.view_is) c.requires.admitted in
-    let placed = subst (λ (l : List Row). AllByRecursion (IsPlaced s.head) l) (sym same) ok.placed in
-    placed_tables s.head c.in-Ok.fresh c.prepare-prepared.new.history.tables (c.prepare-prepared.ensures.history.1 ∙ c.self.invariant.1) placed
-
-pub returns-clause-no_record : goal.returns-clause-no_record
-returns-clause-no_record g c =
-    refused_count g.D.Disk.device c.prepare-prepared.new.journal c.append.new.self c.self.inside.disk c.append.new.disk c.in-Ok.frame c.in-Err.field-0 c.in-Err.ensures.refused ∙ ap length c.prepare-prepared.ensures.journal.extents ∙ ap (λ (x : StoreView g.row.D.Denot). x.records) c.self.view_is
+    placed_tables s.head c.args.fresh c.prepare-prepared.new.history.tables (c.prepare-prepared.ensures.history.1 ∙ c.self.invariant.1) ok.placed

@@ -1,55 +1,25 @@
-use Rattle.std.proofs.Common.{◌≡◌, ◌⊎◌, inl, ◌≤◌, ◌++◌, List, length, refl, sym, ◌∙◌, ap, subst, arith}
+use Rattle.std.proofs.Common.{◌≡◌, ◌≢◌, ◌⊎◌, inl, ◌≤◌, ◌++◌, List, [], length, None, refl, sym, ◌∙◌, ap, subst, arith}
 use Rattle.arch_disk.specs.Disk.{LeavesOnly}
-use Rattle.arch_types.specs.declared.refusal.Refusal.TheVariants.{DiskFault}
-use Rattle.arch_types.specs.declared.refusal.Which.{Which}
 use Rattle.arch_types.specs.declared.row.Row.{Row}
-use Rattle.arch_types.specs.History.{ingested}
-use Rattle.arch_types.specs.Limits.{limit_of}
+use Rattle.archive_core.specs.Fills.{pending_fault_of}
 use Rattle.archive_core.specs.Items.{Item}
 use Rattle.archive_core.specs.Outcomes.{outcomes_of, fresh_of}
 use Rattle.archive_store.specs.Batches.{batch_rows, IsBatch}
+use Rattle.archive_store.specs.Calls.{AreIngested, IsIngestRefusal}
 use Rattle.archive_store.specs.Entries.{archive, AreAdmitted}
-use Rattle.archive_history.specs.Limits.{IsWithin, IsLimit, IsBelowLimits}
+use Rattle.archive_history.specs.Limits.{IsWithin, IsLimit}
 use Rattle.archive_store.specs.StoreView.{StoreView, CrashInvariant}
 use Rattle.archive_store.specs.Stands.{StandsFor}
 use Rattle.archive_store.proofs.Batching.{admitted, sortable}
-use Rattle.archive_store.proofs.Ingesting.{added, nothing_added, below_none, below_some}
+use Rattle.archive_store.proofs.Calls.{passed_on, rows_refused}
+use Rattle.archive_store.proofs.Ingesting.{added, nothing_added, none_new, below_none, below_some}
 use Rattle.archive_store.proofs.Kept.{stands_now}
-use Rattle.archive_history.proofs.Steps.{match_known}
 use Rattle.archive_store.proofs.store.Store.ingest.Goals as goal
 
 pub classify-requires : goal.classify-requires
 classify-requires g c =
     sortable c.self.inside.head c.args.batch.now c.self.inside.history.tables c.self.invariant.1
     (subst (λ (x : StoreView g.row.D.Denot). IsBatch x.head c.args.batch.now) (sym c.self.view_is) c.requires)
-
-pub returns-then-len-eq0-clause-ok : goal.returns-then-len-eq0-clause-ok
-returns-then-len-eq0-clause-ok g c =
-    let rows = batch_rows c.args.batch.now in
-    let classified = c.in-Ok.classified in
-    let items = c.self.inside.history.items in
-    subst (λ (x : StoreView g.row.D.Denot). (classified.outcomes ≡ outcomes_of x.history rows) × (x.history ≡ ingested x.history rows) × (x.fills ≡ x.fills)) c.self.view_is
-    (c.in-Ok.ensures.outcomes, nothing_added items rows classified.fresh c.in-Ok.ensures.fresh (omega (arith, c.len.ensures, c.if-len-eq0.true)), refl)
-
-pub returns-then-len-eq0-clause-below : goal.returns-then-len-eq0-clause-below
-returns-then-len-eq0-clause-below g c =
-    let rows = batch_rows c.args.batch.now in
-    let classified = c.in-Ok.classified in
-    let items = c.self.inside.history.items in
-    subst (λ (x : StoreView g.row.D.Denot). IsBelowLimits x.records x.history rows) c.self.view_is
-    (below_none _ items rows classified.fresh c.in-Ok.ensures.fresh (omega (arith, c.len.ensures, c.if-len-eq0.true)) c.len-known.ensures.within)
-
-pub returns-in-Some-limit_passed-clause-limit : goal.returns-in-Some-limit_passed-clause-limit
-returns-in-Some-limit_passed-clause-limit g c which number e =
-    let rows = batch_rows c.args.batch.now in
-    let now = c.args.self.now in
-    let w : c.in-Some-limit_passed.which ≡ which = cc (e) in
-    let n : c.limit.result ≡ number = cc (e) in
-    let fresh : c.as_slice.result.now ≡ fresh_of now.history rows = c.as_slice.ensures ∙ subst (λ (x : StoreView g.row.D.Denot). c.in-Ok.classified.fresh ≡ fresh_of x.history rows) c.self.view_is c.in-Ok.ensures.fresh in
-    let first = c.in-Some-limit_passed.ensures.first in (
-      sym n ∙ c.limit.ensures ∙ ap limit_of w,
-      subst (λ (v : Which). IsLimit v now.records (ingested now.history rows)) w (subst (IsLimit c.in-Some-limit_passed.which now.records) (added now.history rows c.as_slice.result.now fresh) first),
-    )
 
 pub append-requires-clause-admitted : goal.append-requires-clause-admitted
 append-requires-clause-admitted g c =
@@ -59,64 +29,108 @@ append-requires-clause-admitted g c =
     let classified = c.in-Ok.classified in
     let fits = subst (λ (x : StoreView g.row.D.Denot). IsBatch x.head c.args.batch.now) (sym c.self.view_is) c.requires in
     let some : 1 ≤ length (fresh_of s.history.items rows) = omega (arith, ap length c.in-Ok.ensures.fresh, c.len.ensures, c.if-len-eq0.false) in
-    let within_now : IsWithin (now.history ++ classified.fresh) = subst (λ (l : List Row). IsWithin (now.history ++ l)) c.as_slice.ensures c.in_default-limit_passed.ensures.none.0 in
-    let within : IsWithin (s.history.items ++ fresh_of s.history.items rows) =
-    subst (λ (l : List Row). IsWithin (s.history.items ++ l)) c.in-Ok.ensures.fresh (subst (λ (x : StoreView g.row.D.Denot). IsWithin (x.history ++ classified.fresh)) (sym c.self.view_is) within_now) in
+    let within_now : IsWithin 22 (now.history ++ classified.fresh) = subst (λ (l : List Row). IsWithin 22 (now.history ++ l)) c.as_slice.ensures c.in_default-limit_passed.ensures.none.0 in
+    let within : IsWithin 22 (s.history.items ++ fresh_of s.history.items rows) =
+    subst (λ (l : List Row). IsWithin 22 (s.history.items ++ l)) c.in-Ok.ensures.fresh (subst (λ (x : StoreView g.row.D.Denot). IsWithin 22 (x.history ++ classified.fresh)) (sym c.self.view_is) within_now) in
     let done = admitted s.head s.history.items c.args.batch.now c.self.invariant.0.head_is (omega (arith, c.containers-names.ensures, c.containers-names.type_inv)) fits some within in
     subst (λ (x : StoreView g.row.D.Denot). AreAdmitted (archive x.head x.history) classified.fresh) c.self.view_is
     (subst (AreAdmitted (archive s.head s.history.items)) (sym c.in-Ok.ensures.fresh) done)
 
-pub returns-in_err-append-clause-any_moment : goal.returns-in_err-append-clause-any_moment
-returns-in_err-append-clause-any_moment g c transparent no_failed_write =
+pub returns-in_err-append-clause-crash : goal.returns-in_err-append-clause-crash
+returns-in_err-append-clause-crash g c no_failed_write transparent =
     let rows = batch_rows c.args.batch.now in
     let now = c.args.self.now in
     let fresh = subst (λ (x : StoreView g.row.D.Denot). c.in-Ok.classified.fresh ≡ fresh_of x.history rows) c.self.view_is c.in-Ok.ensures.fresh in
-    subst (λ (l : List Item). LeavesOnly g.D.Disk.device now.disk c.append.new.self.disk (λ c'. StandsFor c' (archive now.head now.history) ⊎ StandsFor c' (archive now.head l))) (added now.history rows c.in-Ok.classified.fresh fresh) (c.append.ensures.any_moment transparent)
+    subst (λ (l : List Item). LeavesOnly g.D.Disk.device now.disk c.append.new.self.disk (λ c'. StandsFor c' (archive now.head now.history) ⊎ StandsFor c' (archive now.head l))) (added now.history rows c.in-Ok.classified.fresh fresh) (c.append.ensures.crash transparent)
 
-pub returns-in_err-append-clause-below : goal.returns-in_err-append-clause-below
-returns-in_err-append-clause-below g c =
+pub returns-clause-crash : goal.returns-clause-crash
+returns-clause-crash g c no_failed_write transparent =
+    let rows = batch_rows c.args.batch.now in
+    let now = c.args.self.now in
+    let fresh = subst (λ (x : StoreView g.row.D.Denot). c.in-Ok.classified.fresh ≡ fresh_of x.history rows) c.self.view_is c.in-Ok.ensures.fresh in
+    subst (λ (l : List Item). LeavesOnly g.D.Disk.device now.disk c.append.new.self.disk (λ c'. StandsFor c' (archive now.head now.history) ⊎ StandsFor c' (archive now.head l))) (added now.history rows c.in-Ok.classified.fresh fresh) (c.append.ensures.crash transparent)
+
+pub returns-in_default-clause-crash : goal.returns-in_default-clause-crash
+returns-in_default-clause-crash g c no_failed_write transparent =
+    let device = g.D.Disk.device in
+    stands_now device c.args.self.now _ (subst (λ (x : StoreView g.row.D.Denot). CrashInvariant device x) c.self.view_is (c.self.invariant.0.images transparent)) no_failed_write (λ c' stands. inl stands)
+
+pub returns-then-len-eq0-clause-crash : goal.returns-then-len-eq0-clause-crash
+returns-then-len-eq0-clause-crash g c no_failed_write transparent =
+    let device = g.D.Disk.device in
+    stands_now device c.args.self.now _ (subst (λ (x : StoreView g.row.D.Denot). CrashInvariant device x) c.self.view_is (c.self.invariant.0.images transparent)) no_failed_write (λ c' stands. inl stands)
+
+pub returns-in-Some-limit_passed-clause-crash : goal.returns-in-Some-limit_passed-clause-crash
+returns-in-Some-limit_passed-clause-crash g c no_failed_write transparent =
+    let device = g.D.Disk.device in
+    stands_now device c.args.self.now _ (subst (λ (x : StoreView g.row.D.Denot). CrashInvariant device x) c.self.view_is (c.self.invariant.0.images transparent)) no_failed_write (λ c' stands. inl stands)
+
+pub returns-then-len-eq0-clause-ingested : goal.returns-then-len-eq0-clause-ingested
+returns-then-len-eq0-clause-ingested g c =
+    let device = g.D.Disk.device in
+    let rows = batch_rows c.args.batch.now in
+    let classified = c.in-Ok.classified in
+    let items = c.self.inside.history.items in
+    let zero : length classified.fresh ≡ 0 = omega (arith, c.len.ensures, c.if-len-eq0.true) in
+    subst (λ (x : StoreView g.row.D.Denot). AreIngested device x x rows classified.outcomes) c.self.view_is
+    (record {
+      healed = sym c.self.invariant.0.pending_fault_is ∙ c.in-None.is;
+      below = below_none _ items rows classified.fresh c.in-Ok.ensures.fresh zero c.len-known.ensures.within;
+      outcomes_are = c.in-Ok.ensures.outcomes;
+      history = nothing_added items rows classified.fresh c.in-Ok.ensures.fresh zero;
+      fills = refl;
+      one_record = λ some. absurd (some (none_new items rows classified.fresh c.in-Ok.ensures.fresh zero));
+      no_call = λ none. refl;
+      no_failed_write = refl;
+    })
+
+pub returns-in-Some-limit_passed-clause-refused : goal.returns-in-Some-limit_passed-clause-refused
+returns-in-Some-limit_passed-clause-refused g c =
+    let rows = batch_rows c.args.batch.now in
+    let now = c.args.self.now in
+    let fresh : c.in-Ok.classified.fresh ≡ fresh_of now.history rows = subst (λ (x : StoreView g.row.D.Denot). c.in-Ok.classified.fresh ≡ fresh_of x.history rows) c.self.view_is c.in-Ok.ensures.fresh in
+    let healed = subst (λ (x : StoreView g.row.D.Denot). pending_fault_of x.fills ≡ None) c.self.view_is (sym c.self.invariant.0.pending_fault_is ∙ c.in-None.is) in
+    let some_new : fresh_of now.history rows ≢ [] = λ none. absurd (omega (arith, ap length fresh, ap length none, c.len.ensures, c.if-len-eq0.false)) in
+    let which = c.in-Some-limit_passed.which in (
+      record {
+        healed = healed;
+        some_new = some_new;
+        number_is = c.limit.ensures;
+        first = subst (IsLimit 22 which now.records) (added now.history rows c.as_slice.result.now (c.as_slice.ensures ∙ fresh)) c.in-Some-limit_passed.ensures.first;
+      },
+      refl,
+    )
+
+pub returns-in_err-append-clause-refused : goal.returns-in_err-append-clause-refused
+returns-in_err-append-clause-refused g c =
+    let device = g.D.Disk.device in
     let rows = batch_rows c.args.batch.now in
     let now = c.args.self.now in
     let none = c.in_default-limit_passed.ensures.none in
-    let fresh : c.as_slice.result.now ≡ fresh_of now.history rows = c.as_slice.ensures ∙ subst (λ (x : StoreView g.row.D.Denot). c.in-Ok.classified.fresh ≡ fresh_of x.history rows) c.self.view_is c.in-Ok.ensures.fresh in
-    match_known c.from_residual.result (IsBelowLimits now.records now.history rows) (λ e. e ≡ DiskFault)
-    (below_some now.records now.history rows c.as_slice.result.now fresh none.0 none.1)
+    let fresh : c.in-Ok.classified.fresh ≡ fresh_of now.history rows = subst (λ (x : StoreView g.row.D.Denot). c.in-Ok.classified.fresh ≡ fresh_of x.history rows) c.self.view_is c.in-Ok.ensures.fresh in
+    let healed = subst (λ (x : StoreView g.row.D.Denot). pending_fault_of x.fills ≡ None) c.self.view_is (sym c.self.invariant.0.pending_fault_is ∙ c.in-None.is) in
+    let some_new : fresh_of now.history rows ≢ [] = λ none. absurd (omega (arith, ap length fresh, ap length none, c.len.ensures, c.if-len-eq0.false)) in
+    let below = below_some now.records now.history rows c.as_slice.result.now (c.as_slice.ensures ∙ fresh) none.0 none.1 in
+    passed_on c.from_residual.result c.in_err-append.field-0.0 (IsIngestRefusal device now c.append.new.self rows) c.from_residual.ensures.1
+    (rows_refused device now c.append.new.self rows c.in-Ok.classified.fresh c.in_err-append.field-0.0 fresh healed some_new below c.in_err-append.ensures.refused)
 
-pub returns-clause-ok : goal.returns-clause-ok
-returns-clause-ok g c =
+pub returns-clause-ingested : goal.returns-clause-ingested
+returns-clause-ingested g c =
     let rows = batch_rows c.args.batch.now in
     let now = c.args.self.now in
-    let fresh = subst (λ (x : StoreView g.row.D.Denot). c.in-Ok.classified.fresh ≡ fresh_of x.history rows) c.self.view_is c.in-Ok.ensures.fresh in
+    let none = c.in_default-limit_passed.ensures.none in
+    let fresh : c.in-Ok.classified.fresh ≡ fresh_of now.history rows = subst (λ (x : StoreView g.row.D.Denot). c.in-Ok.classified.fresh ≡ fresh_of x.history rows) c.self.view_is c.in-Ok.ensures.fresh in
+    let healed = subst (λ (x : StoreView g.row.D.Denot). pending_fault_of x.fills ≡ None) c.self.view_is (sym c.self.invariant.0.pending_fault_is ∙ c.in-None.is) in
+    let some_new : fresh_of now.history rows ≢ [] = λ none. absurd (omega (arith, ap length fresh, ap length none, c.len.ensures, c.if-len-eq0.false)) in
     let outcomes = subst (λ (x : StoreView g.row.D.Denot). c.in-Ok.classified.outcomes ≡ outcomes_of x.history rows) c.self.view_is c.in-Ok.ensures.outcomes in
-    let ok = c.in_ok-append.ensures.ok in
-    (outcomes, ok.0 ∙ added now.history rows c.in-Ok.classified.fresh fresh, ok.1)
-
-pub returns-clause-any_moment : goal.returns-clause-any_moment
-returns-clause-any_moment g c transparent no_failed_write =
-    let rows = batch_rows c.args.batch.now in
-    let now = c.args.self.now in
-    let fresh = subst (λ (x : StoreView g.row.D.Denot). c.in-Ok.classified.fresh ≡ fresh_of x.history rows) c.self.view_is c.in-Ok.ensures.fresh in
-    subst (λ (l : List Item). LeavesOnly g.D.Disk.device now.disk c.append.new.self.disk (λ c'. StandsFor c' (archive now.head now.history) ⊎ StandsFor c' (archive now.head l))) (added now.history rows c.in-Ok.classified.fresh fresh) (c.append.ensures.any_moment transparent)
-
-pub returns-clause-below : goal.returns-clause-below
-returns-clause-below g c =
-    let rows = batch_rows c.args.batch.now in
-    let now = c.args.self.now in
-    let none = c.in_default-limit_passed.ensures.none in
-    let fresh : c.as_slice.result.now ≡ fresh_of now.history rows = c.as_slice.ensures ∙ subst (λ (x : StoreView g.row.D.Denot). c.in-Ok.classified.fresh ≡ fresh_of x.history rows) c.self.view_is c.in-Ok.ensures.fresh in
-    below_some now.records now.history rows c.as_slice.result.now fresh none.0 none.1
-
-pub returns-in_default-clause-any_moment : goal.returns-in_default-clause-any_moment
-returns-in_default-clause-any_moment g c transparent no_failed_write =
-    let device = g.D.Disk.device in
-    stands_now device c.args.self.now _ (subst (λ (x : StoreView g.row.D.Denot). CrashInvariant device x) c.self.view_is (c.self.invariant.0.images transparent)) no_failed_write (λ c' stands. inl stands)
-
-pub returns-then-len-eq0-clause-any_moment : goal.returns-then-len-eq0-clause-any_moment
-returns-then-len-eq0-clause-any_moment g c transparent no_failed_write =
-    let device = g.D.Disk.device in
-    stands_now device c.args.self.now _ (subst (λ (x : StoreView g.row.D.Denot). CrashInvariant device x) c.self.view_is (c.self.invariant.0.images transparent)) no_failed_write (λ c' stands. inl stands)
-
-pub returns-in-Some-limit_passed-clause-any_moment : goal.returns-in-Some-limit_passed-clause-any_moment
-returns-in-Some-limit_passed-clause-any_moment g c transparent no_failed_write =
-    let device = g.D.Disk.device in
-    stands_now device c.args.self.now _ (subst (λ (x : StoreView g.row.D.Denot). CrashInvariant device x) c.self.view_is (c.self.invariant.0.images transparent)) no_failed_write (λ c' stands. inl stands)
+    let appended = c.in_ok-append.ensures.appended in
+    record {
+      healed = healed;
+      below = below_some now.records now.history rows c.as_slice.result.now (c.as_slice.ensures ∙ fresh) none.0 none.1;
+      outcomes_are = outcomes;
+      history = appended.history ∙ added now.history rows c.in-Ok.classified.fresh fresh;
+      fills = appended.fills;
+      one_record = λ some. appended.records;
+      no_call = λ nothing. absurd (some_new nothing);
+      no_failed_write = appended.no_failed_write;
+    }

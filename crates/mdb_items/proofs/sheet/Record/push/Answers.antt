@@ -1,16 +1,11 @@
-use Rattle.std.proofs.Common.{◌≡◌, ◌+◌, length, arith, ap}
+use Rattle.std.proofs.Common.{◌≡◌, ◌+◌, ◌∙◌, length, ap}
 use Rattle.std.proofs.lemmas.List.{length-append}
-use Rattle.mdb_items.proofs.Records.{ends_push, fields_push}
+use Rattle.mdb_items.proofs.Records.{ends_push, parts_push}
 use Rattle.mdb_items.proofs.sheet.Record.push.Goals as goal
 
 -- the end of the octets with the field
-end_is : (c : goal.After-push_reserved) → c.in-Ok.end ≡ length c.self.inside.octets.items + length c.args.field.now
-end_is c =
-    let sum = c.saturating_add.ensures in
-    let small = c.in-Ok.ensures.0 in
-    let same = c.in-Ok.ensures.1 in
-    let long : length c.as_slice.result.now ≡ length c.self.inside.octets.items = ap length c.as_slice.ensures.value in
-    omega (arith, sum, small, same, long)
+end_is : (c : goal.After-push_reserved) → c.in_ok-end.end ≡ length c.self.inside.octets.items + length c.args.field.now
+end_is c = c.in_ok-end.ensures ∙ ap (λ n. n + length c.args.field.now) (ap length c.as_slice.ensures.value)
 
 pub invariant_of-self-2 : goal.invariant_of-self-2
 invariant_of-self-2 c =
@@ -20,4 +15,4 @@ invariant_of-self-2 c =
 pub returns-clause-pushed : goal.returns-clause-pushed
 returns-clause-pushed c =
     rw (c.in_ok-extend_from_slice.ensures.items, c.push_reserved.ensures.items, c.in_ok-reserve.ensures.items, end_is c, ← c.self.view_is)
-    (fields_push 0 c.self.inside.ends.items c.self.inside.octets.items c.args.field.now c.self.invariant)
+    (parts_push 0 c.self.inside.ends.items c.self.inside.octets.items c.args.field.now c.self.invariant)

@@ -2,7 +2,7 @@ use Rattle.std.proofs.Common.{◌≡◌, ◌∙◌, ap, refl, ℕ, Vec, Global, 
 use Rattle.std.specs.Str.{bytes_eq}
 use Rattle.std.specs.List.{position, list_any}
 use Rattle.std.proofs.lemmas.List.{map-append}
-use Rattle.mdb_rules.proofs.Places.{absent, position-map}
+use Rattle.mdb_items.proofs.Places.{absent, position-map}
 use Rattle.mdb_rules.proofs.names.Names.add.Goals as goal
 
 pub returns-clause-added : goal.returns-clause-added

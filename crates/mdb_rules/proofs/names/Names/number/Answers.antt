@@ -1,7 +1,7 @@
 use Rattle.std.proofs.Common.{◌∙◌, ap, ℕ, Vec, Global}
 use Rattle.std.specs.Str.{bytes_eq}
 use Rattle.std.specs.List.{position}
-use Rattle.mdb_rules.proofs.Places.{position-map}
+use Rattle.mdb_items.proofs.Places.{position-map}
 use Rattle.mdb_rules.proofs.names.Names.number.Goals as goal
 
 pub returns : goal.returns

@@ -1,0 +1,541 @@
+-- Where the plan of `create` ends, and what was said of `create` by cases follows.
+use Rattle.std.proofs.Common.{◌≡◌, ◌⊎◌, ◌≤◌, ◌<◌, ◌+◌, ◌^◌, ◌-◌, ◌∙◌, inl, inr, ℕ, ℤ, zero, suc, Bool, true, false, List, [], length, Option, Some, None, refl, sym, ap, subst, arith}
+use Rattle.std.specs.Prelude.{IfSome, IsNone, IsSomeAnd, IsTrue, min, option_map}
+use Rattle.std.specs.FinMap.{get}
+use Rattle.arch_disk.specs.Disk.{Device, LeavesOnly, raised}
+use Rattle.arch_disk.proofs.Moments.{started}
+use Rattle.arch_types.specs.declared.refusal.Refusal.{Refusal}
+use Rattle.arch_types.specs.declared.refusal.Refusal.TheVariants.{Missing, ReadFault, Limit, Exists, DiskFault, OutOfMemory}
+use Rattle.arch_types.specs.declared.refusal.Which.{Which}
+use Rattle.arch_types.specs.declared.refusal.Which.TheVariants.{SheetOctets}
+use Rattle.arch_types.specs.Limits.{limit_of}
+use Rattle.disk_journal.specs.Calls.{IsJournalCreateFailed}
+use Rattle.disk_journal.specs.Format.{HoldsNone}
+use Rattle.mdb_items.specs.declared.fault.MdbLimit.{MdbLimit}
+use Rattle.mdb_items.specs.declared.sheet.RawMdb.{RawMdb}
+use Rattle.mdb_items.specs.Checks.{or_else}
+use Rattle.mdb_items.specs.Database.{Broken, limit_passed}
+use Rattle.mdb_model.specs.Sheets.{sheets_database, sheets_fault}
+use Rattle.mdb_sheets.proofs.Sheets.{has_sheet}
+use Rattle.mdb_sheets.specs.Plans.{gives_sheets, reads_second, reads_sheet, reads_third}
+use Rattle.mdb_sheets.specs.Sheets.{AreSheets, Fields, HasSheet, IsRefusal, IsSheet, IsSheetRefused, ReadsCounted, sheet_of}
+use Rattle.outer_traits.specs.Outside.{Files, HasRisen, IsOneMoreAtMost, one_more}
+use Rattle.outer_traits.specs.Whole.{IsThere}
+use Rattle.archive_store.specs.declared.head.Head.{Head}
+use Rattle.archive_store.specs.Calls.{IsCreateImage, IsStoreCreateRefusal}
+use Rattle.archive_store.proofs.Calls.{store_create_counted, store_create_most}
+use Rattle.command_plans.specs.Plan.{OfMemory, OfInputs, OfDisk, Plan, Return, Stop, May, Ask, Choose, Way, Ended, Cut, Allows, and_then, fault_refusal, map_done}
+use Rattle.command_plans.proofs.Plans.{end_of}
+use Rattle.command_words.specs.Job.{SheetWords}
+use Rattle.dump_lines.specs.Output.{WritesCounted}
+use Rattle.input_plans.specs.Inputs.{InputRead, OverLimit, WithinLimit, IsInputAs, IsThereAs, input_read, input_there, reading_fault, reads}
+use Rattle.outer_ledgers.specs.Ledger.{Counted, InputsState, UsedDisk, UsedInputs, given_more, raised_by}
+use Rattle.outer_ledgers.proofs.Ledgers.{counted_later, counted_risen, no_failed_write, rose_later}
+use Rattle.retrieval.specs.Parameter.{broken_rule, passed_limit, sheets_refusal}
+use Rattle.archive_cli.specs.declared.report.Report.{Report}
+use Rattle.archive_cli.specs.Call.{Call, call_of}
+use Rattle.archive_cli.specs.Caused.{IsCreateCaused}
+use Rattle.archive_cli.specs.Command.{SoFar, Did, Effects, RanOver, failed_at, looked, nothing_done, sources_at}
+use Rattle.archive_cli.specs.Create.{HoldsAs, checks_head, create_plan, head_checked, made, made_where, makes, making_failed}
+use Rattle.archive_cli.specs.CreateEnding.{AreGood, AreRefused, HoldsOne, IsCreateEnding, IsMakingFailed, create_line, new_head}
+use Rattle.archive_cli.specs.DiskWrites.{TwoAtMost}
+use Rattle.archive_cli.specs.Durable.{FailedAtMostOnce}
+use Rattle.archive_cli.specs.HandedBack.{IsCreateBack, SameWithoutSource}
+use Rattle.archive_cli.specs.Order.{AreInOrder, create_inputs}
+use Rattle.archive_cli.specs.ReadOnly.{IsReadAsBefore}
+use Rattle.archive_cli.specs.Report.{IsReadOnlyReport, unopened}
+use Rattle.archive_cli.proofs.Caused.{create_made_cause, create_refused_cause, create_unmade_cause}
+use Rattle.archive_cli.proofs.CreateAnswers.{one-not-none}
+use Rattle.archive_cli.proofs.CreatePlan.{ReadThree, makes_after}
+use Rattle.archive_cli.proofs.Created.{create_reads, create_refused, create_unmade, create_writes, created, refused_kind, sheet_disk, sheet_writes, unmade_fault}
+use Rattle.archive_cli.proofs.DiskWrites.{none_of_two, unmade_writes}
+use Rattle.archive_cli.proofs.Ends.{WasPrinted, prints_end, silent_all}
+use Rattle.archive_cli.proofs.HandedBack.{create_same, given_unasked, made_back, unmade_back}
+use Rattle.archive_cli.proofs.Ordered.{created_in_order, sheets_in_order, unread_few}
+use Rattle.archive_cli.proofs.ReadOnly.{untouched}
+use Rattle.archive_cli.proofs.Reading.{sheets_unread}
+use Rattle.archive_cli.proofs.Recovered.{finished_disk, finished_reads, not_read_only, read_only_report}
+
+-- ---- before the disk was asked
+
+-- why an input wasn't read, how many sources were given by then, and whether a call failed
+abbrev pub IsUnread : Option Files → Which → List ℕ → ℕ → Refusal → ℕ → Bool → Type 0
+IsUnread files which name s (Missing lacking) n failed = (lacking ≡ name) × IfSome files (λ all. IsNone (get all name)) × (n ≡ s) × (failed ≡ false)
+IsUnread files which name s ReadFault n failed = IsThere files name × ((n ≡ s) ⊎ (n ≡ s + 1)) × (failed ≡ true)
+IsUnread files which name s (Limit passed number) n failed =
+    (passed ≡ which) × (number ≡ limit_of which) × IfSome files (λ all. IsSomeAnd (get all name) (λ octets. limit_of which < length octets)) × (n ≡ s + 1) × (failed ≡ false)
+IsUnread files which name s OutOfMemory n failed = ((n ≡ s) ⊎ (n ≡ s + 1)) × (failed ≡ false)
+IsUnread files which name s other n failed = ⊥
+
+-- the sheets gave no head
+abbrev IsHeadless : Option Files → SheetWords → Refusal → ℕ → Bool → Type 0
+IsHeadless files words refusal n failed =
+    IsUnread files SheetOctets words.parameters 0 refusal n failed
+    ⊎ ((HasSheet files words.parameters × IsUnread files SheetOctets words.calibrations 1 refusal n failed)
+    ⊎ ((HasSheet files words.parameters × HasSheet files words.calibrations × IsUnread files SheetOctets words.containers 2 refusal n failed)
+    ⊎ ((raw : RawMdb) × AreSheets files words.parameters words.calibrations words.containers raw
+    × ((sheets_refusal raw ≡ Some refusal) ⊎ (refusal ≡ OutOfMemory)) × (n ≡ 3) × (failed ≡ false))))
+
+-- three plans, one behind the other
+behind : {X Y Z : Type 0} (p : Plan ℕ X) (f : X → Plan ℕ Y) (g : Y → Plan ℕ Z) (k : Z → Plan SoFar ⊥) (way : Way SoFar ⊥) →
+    Allows (and_then (map_done nothing_done (and_then (and_then p f) g)) k) way → Allows (and_then (map_done nothing_done (and_then p (λ x. and_then (f x) g))) k) way
+behind (Return x) f g k way goes = goes
+behind (Stop s refusal) f g k way goes = goes
+behind (May fault s p) f g k way (inl goes) = inl goes
+behind (May fault s p) f g k way (inr goes) = inr (behind p f g k way goes)
+behind (Ask is next) f g k way goes = (goes.0, goes.1, behind (next goes.0) f g k way goes.2)
+behind (Choose is next) f g k way goes = (goes.0, goes.1, behind (next goes.0) f g k way goes.2)
+
+-- nothing was asked of the disk
+pub record NotBegun {D : Type 0} (device : Device D) (e : Effects D) (a b : InputsState) (refusal : Refusal) (sources : ℕ) (failed : Bool) : Type 0 where
+  pub report : e.report ≡ unopened (Some refusal)
+  pub silent : e.output'.written ≡ e.output.written
+  pub faults : e.output'.faults ≡ e.output.faults
+  pub disk : e.disk' ≡ e.disk
+  pub inputs : UsedInputs a b sources failed
+
+module _ {D : Type 0} (device : Device D) (e : Effects D) (a b : InputsState) where
+  -- it ended on this way, and used the inputs so
+  abbrev pub DidOver : Way SoFar ⊥ → Type 0
+  DidOver way = Did device e way × UsedInputs a b (sources_at way) (failed_at way OfInputs)
+
+  ended_before : (way : Way SoFar ⊥) (n : ℕ) (refusal : Refusal) → way ≡ Ended (nothing_done n) (Some refusal) → DidOver way → NotBegun device e a b refusal n false
+  ended_before way n refusal is did =
+      let here : DidOver (Ended (nothing_done n) (Some refusal)) = subst DidOver is did in record {
+        report = here.0.report;
+        silent = silent_all e.output.written e.output'.written here.0.printed;
+        faults = here.0.output.counted;
+        disk = here.0.disk;
+        inputs = here.1;
+      }
+
+  cut_before : (way : Way SoFar ⊥) (n : ℕ) (failed : Bool) → way ≡ Cut (nothing_done n) (reading_fault failed) → DidOver way → NotBegun device e a b (fault_refusal (reading_fault failed)) n failed
+  cut_before way n true is did =
+      let here : DidOver (Cut (nothing_done n) OfInputs) = subst DidOver is did in record {
+        report = here.0.report;
+        silent = silent_all e.output.written e.output'.written here.0.printed;
+        faults = here.0.output.counted;
+        disk = here.0.disk;
+        inputs = here.1;
+      }
+  cut_before way n false is did =
+      let here : DidOver (Cut (nothing_done n) OfMemory) = subst DidOver is did in record {
+        report = here.0.report;
+        silent = silent_all e.output.written e.output'.written here.0.printed;
+        faults = here.0.output.counted;
+        disk = here.0.disk;
+        inputs = here.1;
+      }
+
+  -- it ended before the disk was asked, for a cause P
+  abbrev pub EndsBefore : (Refusal → ℕ → Bool → Type 0) → Type 0
+  EndsBefore P = (refusal : Refusal) × (n : ℕ) × (failed : Bool) × P refusal n failed × NotBegun device e a b refusal n failed
+
+  module _ {X Y : Type 0} (files : Option Files) (which : Which) (of : List ℕ → X) (name : List ℕ) (s : ℕ) (k : X → Plan ℕ Y) (f : Y → Plan SoFar ⊥) (way : Way SoFar ⊥) (did : DidOver way) where
+    -- what the reading of an input leads to: it wasn't read, or it was and the way went on
+    abbrev pub ReadsOn : Type 0
+    ReadsOn = EndsBefore (IsUnread files which name s) ⊎ ((x : X) × IsInputAs files which of name (WithinLimit x) × Allows (and_then (map_done nothing_done (k x)) f) way)
+
+    read_end : (found : InputRead X) → IsInputAs files which of name found → Allows (and_then (map_done nothing_done (and_then (input_read which (s + 1) found) k)) f) way → ReadsOn
+    read_end OverLimit long goes =
+        inl (Limit which (limit_of which), s + 1, false, (refl, refl, long, refl, refl), ended_before way (s + 1) (Limit which (limit_of which)) goes did)
+    read_end (WithinLimit x) is goes = inr (x, is, goes)
+
+    there_end : (there : Bool) → IsThereAs files name there → Allows (and_then (map_done nothing_done (and_then (input_there files which of name s there) k)) f) way → ReadsOn
+    there_end false none goes = inl (Missing name, s, false, (refl, none, refl, refl), ended_before way s (Missing name) goes did)
+    there_end true there (inl goes) = inl (ReadFault, s, true, (there, inl refl, refl), cut_before way s true goes did)
+    there_end true there (inr (inl goes)) = inl (OutOfMemory, s + 1, false, (inr refl, refl), cut_before way (s + 1) false goes did)
+    there_end true there (inr (inr (inl goes))) = inl (ReadFault, s + 1, true, (there, inr refl, refl), cut_before way (s + 1) true goes did)
+    there_end true there (inr (inr (inr h))) = read_end h.0 h.1 h.2
+
+    pub reads_end : Allows (and_then (map_done nothing_done (and_then (reads files which of name s) k)) f) way → ReadsOn
+    reads_end (inl goes) = inl (OutOfMemory, s, false, (inl refl, refl), cut_before way s false goes did)
+    reads_end (inr h) = there_end h.0 h.1 h.2
+
+  module _ (files : Option Files) (words : SheetWords) (way : Way SoFar ⊥) (did : DidOver way) where
+    -- the sheets gave no head, or one with which it went on
+    abbrev HeadsOn : Type 0
+    HeadsOn = EndsBefore (IsHeadless files words) ⊎ ((raw : RawMdb) × AreGood files words raw × Allows (makes device e.disk (new_head raw)) way)
+
+    checked_end : (raw : RawMdb) (found : Option Refusal) → AreSheets files words.parameters words.calibrations words.containers raw → found ≡ sheets_refusal raw →
+        Allows (and_then (map_done nothing_done (head_checked 3 raw found)) (makes device e.disk)) way → HeadsOn
+    checked_end raw None are is goes = inr (raw, record { sheets = are; admitted = sym is }, goes)
+    checked_end raw (Some refusal) are is goes = inl (refusal, 3, false, inr (inr (inr (raw, are, inl (sym is), refl, refl))), ended_before way 3 refusal goes did)
+
+    checks_end : (raw : RawMdb) → AreSheets files words.parameters words.calibrations words.containers raw →
+        Allows (and_then (map_done nothing_done (checks_head 3 raw)) (makes device e.disk)) way → HeadsOn
+    checks_end raw are (inl goes) = inl (OutOfMemory, 3, false, inr (inr (inr (raw, are, inr refl, refl, refl))), cut_before way 3 false goes did)
+    checks_end raw are (inr h) = checked_end raw h.0 are h.1 h.2
+
+    third_end : (ps cs : List Fields) → IsSheet files words.parameters ps → IsSheet files words.calibrations cs →
+        Allows (and_then (map_done nothing_done (and_then (reads_third files words.containers ps 2 cs) (checks_head 3))) (makes device e.disk)) way → HeadsOn
+    third_end ps cs p c goes =
+        elim (reads_end files SheetOctets (λ octets. sheet_of octets) words.containers 2 (λ ks. and_then (gives_sheets ps cs ks) (checks_head 3)) (makes device e.disk) way did
+        (behind (reads_sheet files words.containers 2) (gives_sheets ps cs) (checks_head 3) (makes device e.disk) way goes)) [
+          | inl n ↦ inl (n.0, n.1, n.2, inr (inr (inl (has_sheet files words.parameters ps p, has_sheet files words.calibrations cs c, n.3))), n.4)
+          | inr h ↦ checks_end (record { parameters = ps; calibrations = cs; containers = h.0 }) (record { parameters_sheet = p; calibrations_sheet = c; containers_sheet = h.1 }) h.2
+        ]
+
+    second_end : (ps : List Fields) → IsSheet files words.parameters ps →
+        Allows (and_then (map_done nothing_done (and_then (reads_second files words.calibrations words.containers 1 ps) (checks_head 3))) (makes device e.disk)) way → HeadsOn
+    second_end ps p goes =
+        elim (reads_end files SheetOctets (λ octets. sheet_of octets) words.calibrations 1 (λ cs. and_then (reads_third files words.containers ps 2 cs) (checks_head 3)) (makes device e.disk) way did
+        (behind (reads_sheet files words.calibrations 1) (reads_third files words.containers ps 2) (checks_head 3) (makes device e.disk) way goes)) [
+          | inl n ↦ inl (n.0, n.1, n.2, inr (inl (has_sheet files words.parameters ps p, n.3)), n.4)
+          | inr h ↦ third_end ps h.0 p h.1 h.2
+        ]
+
+    pub heads_end : Allows (create_plan device e.disk files words) way → HeadsOn
+    heads_end goes =
+        elim (reads_end files SheetOctets (λ octets. sheet_of octets) words.parameters 0 (λ ps. and_then (reads_second files words.calibrations words.containers 1 ps) (checks_head 3)) (makes device e.disk) way did
+        (behind (reads_sheet files words.parameters 0) (reads_second files words.calibrations words.containers 1) (checks_head 3) (makes device e.disk) way goes)) [
+          | inl n ↦ inl (n.0, n.1, n.2, inl n.3, n.4)
+          | inr h ↦ second_end h.0 h.1 h.2
+        ]
+
+-- ---- what is known of sheets that gave no head
+
+more_is : (s g : ℕ) → given_more (s + 1) g ≡ one_more (given_more s g)
+more_is zero g = refl
+more_is (suc s) g =
+    let next : suc s + 1 ≡ suc (suc s) = omega arith in
+    let step : min (g + suc (suc s)) (2 ^ 64 - 1) ≡ min (min (g + suc s) (2 ^ 64 - 1) + 1) (2 ^ 64 - 1) = omega arith in
+    subst (λ (n : ℕ). given_more n g ≡ one_more (given_more (suc s) g)) (sym next) step
+
+module _ (a b : InputsState) (refusal : Refusal) (n : ℕ) (failed : Bool) (used : UsedInputs a b n failed) where
+  gave_so : (s : ℕ) → n ≡ s → b.given ≡ given_more s a.given
+  gave_so s is = subst (λ (m : ℕ). b.given ≡ given_more m a.given) is used.gave
+
+  gave_next : (s : ℕ) → n ≡ s + 1 → b.given ≡ one_more (given_more s a.given)
+  gave_next s is = gave_so (s + 1) is ∙ more_is s a.given
+
+  one_at_most : (s : ℕ) → (n ≡ s) ⊎ (n ≡ s + 1) → IsOneMoreAtMost (given_more s a.given) b.given
+  one_at_most s (inl is) = inl (gave_so s is)
+  one_at_most s (inr is) = inr (gave_next s is)
+
+  still : failed ≡ false → b.faults ≡ a.faults
+  still is = subst (λ (f : Bool). Counted f a.faults b.faults) is used.counted
+
+  risen : failed ≡ true → HasRisen a.faults b.faults
+  risen is = counted_risen a.faults b.faults (subst (λ (f : Bool). Counted f a.faults b.faults) is used.counted)
+
+-- a sheet that wasn't read, after so many others
+sheet_refused : (files : Option Files) (name : List ℕ) (s : ℕ) (a b : InputsState) (refusal : Refusal) (n : ℕ) (failed : Bool) → UsedInputs a b n failed →
+    IsUnread files SheetOctets name s refusal n failed → IsSheetRefused files name a.faults b.faults (given_more s a.given) b.given refusal
+sheet_refused files name s a b (Missing lacking) n failed used h = ((h.0, h.1), gave_so a b (Missing lacking) n failed used s h.2)
+sheet_refused files name s a b ReadFault n failed used h = ((risen a b ReadFault n failed used h.2, h.0), one_at_most a b ReadFault n failed used s h.1)
+sheet_refused files name s a b (Limit which number) n failed used h = ((h.0, h.1, h.2), gave_next a b (Limit which number) n failed used s h.3)
+sheet_refused files name s a b OutOfMemory n failed used h = (tt, one_at_most a b OutOfMemory n failed used s h.0)
+sheet_refused files name s a b other n failed used h = absurd h
+
+unread_counted : (files : Option Files) (which : Which) (name : List ℕ) (s : ℕ) (a b : InputsState) (refusal : Refusal) (n : ℕ) (failed : Bool) → UsedInputs a b n failed →
+    IsUnread files which name s refusal n failed → ReadsCounted (Some refusal) a.faults b.faults
+unread_counted files which name s a b (Missing lacking) n failed used h = still a b (Missing lacking) n failed used h.3
+unread_counted files which name s a b ReadFault n failed used h = risen a b ReadFault n failed used h.2
+unread_counted files which name s a b (Limit passed number) n failed used h = still a b (Limit passed number) n failed used h.4
+unread_counted files which name s a b OutOfMemory n failed used h = still a b OutOfMemory n failed used h.1
+unread_counted files which name s a b other n failed used h = absurd h
+
+some_counted : (r refusal : Refusal) (before now : ℕ) → ◌≡◌ {A = Option Refusal} (Some r) (Some refusal) → ReadsCounted (Some r) before now → ReadsCounted (Some refusal) before now
+some_counted r refusal before now e h = let same : r ≡ refusal = cc in subst (λ (x : Refusal). ReadsCounted (Some x) before now) same h
+
+bad_cases : (broken : Option Broken) (passed : Option (MdbLimit × ℕ)) (refusal : Refusal) (before now : ℕ) → now ≡ before →
+    or_else (option_map broken_rule broken) (option_map passed_limit passed) ≡ Some refusal → ReadsCounted (Some refusal) before now
+bad_cases (Some broken) passed refusal before now same e = some_counted (broken_rule broken) refusal before now e same
+bad_cases None (Some passed) refusal before now same e = some_counted (passed_limit passed) refusal before now e same
+bad_cases None None refusal before now same e = absurd (cc (e))
+
+-- the refusal of sheets that were read is of no read
+bad_counted : (raw : RawMdb) (refusal : Refusal) (before now : ℕ) → now ≡ before → sheets_refusal raw ≡ Some refusal → ReadsCounted (Some refusal) before now
+unfolding sheets_refusal
+bad_counted raw refusal before now same e = bad_cases (sheets_fault raw) (limit_passed (sheets_database raw)) refusal before now same e
+
+-- why the sheets gave no head, and what that did to the inputs
+pub record Headless (files : Option Files) (words : SheetWords) (a b : InputsState) (refusal : Refusal) : Type 0 where
+  pub refused : AreRefused files words a.faults b.faults refusal
+  pub order : AreInOrder files (create_inputs words) a.given b.given (Some refusal)
+  pub counted : ReadsCounted (Some refusal) a.faults b.faults
+  pub few : b.given ≤ a.given + 3
+
+module _ (files : Option Files) (words : SheetWords) (a b : InputsState) where
+  unread_headless : (refusal : Refusal) → ReadsCounted (Some refusal) a.faults b.faults →
+      IsRefusal files words.parameters words.calibrations words.containers a.faults b.faults a.given b.given refusal → Headless files words a b refusal
+  unread_headless refusal counted r = record {
+    refused = inl (sheets_unread files words.parameters words.calibrations words.containers a.faults b.faults a.given b.given refusal r);
+    order = sheets_in_order files words.parameters words.calibrations words.containers [] a.faults b.faults a.given b.given refusal r;
+    counted = counted;
+    few = unread_few files words.parameters words.calibrations words.containers a.faults b.faults a.given b.given refusal r;
+  }
+
+  few_more : b.given ≡ min (a.given + 3) (2 ^ 64 - 1) → b.given ≤ a.given + 3
+  few_more is = omega (arith, is)
+
+  bad_headless : (refusal : Refusal) (raw : RawMdb) → AreSheets files words.parameters words.calibrations words.containers raw → b.faults ≡ a.faults → b.given ≡ given_more 3 a.given →
+      (sheets_refusal raw ≡ Some refusal) ⊎ (refusal ≡ OutOfMemory) → Headless files words a b refusal
+  bad_headless refusal raw are same gave (inl is) = record {
+    refused = inr (raw, are, is);
+    order = created_in_order files words a.given b.given (Some refusal) raw are;
+    counted = bad_counted raw refusal a.faults b.faults same is;
+    few = few_more gave;
+  }
+  bad_headless refusal raw are same gave (inr is) = subst (λ (r : Refusal). Headless files words a b r) (sym is) (record {
+    refused = inl (inl tt);
+    order = created_in_order files words a.given b.given (Some OutOfMemory) raw are;
+    counted = same;
+    few = few_more gave;
+  })
+
+  headless : (refusal : Refusal) (n : ℕ) (failed : Bool) → UsedInputs a b n failed → IsHeadless files words refusal n failed → Headless files words a b refusal
+  headless refusal n failed used (inl h) =
+      unread_headless refusal (unread_counted files SheetOctets words.parameters 0 a b refusal n failed used h) (inl (sheet_refused files words.parameters 0 a b refusal n failed used h))
+  headless refusal n failed used (inr (inl h)) =
+      unread_headless refusal (unread_counted files SheetOctets words.calibrations 1 a b refusal n failed used h.1) (inr (inl (h.0, sheet_refused files words.calibrations 1 a b refusal n failed used h.1)))
+  headless refusal n failed used (inr (inr (inl h))) =
+      unread_headless refusal (unread_counted files SheetOctets words.containers 2 a b refusal n failed used h.2) (inr (inr (h.0, h.1, sheet_refused files words.containers 2 a b refusal n failed used h.2)))
+  headless refusal n failed used (inr (inr (inr h))) = bad_headless refusal h.0 h.1 (still a b refusal n failed used h.4) (gave_so a b refusal n failed used 3 h.3) h.2
+
+-- ---- once the disk was asked
+
+-- no archive was made
+pub record NotMade {D : Type 0} (device : Device D) (e : Effects D) (head : Head) : Type 0 where
+  pub refusal : Refusal
+  pub refused : IsStoreCreateRefusal device e.disk e.disk' refusal
+  pub kept : IsTrue device.is_transparent → HoldsOne (device.reads e.disk) → IsReadAsBefore device e.disk e.disk'
+  pub images : IsTrue device.is_transparent → HoldsNone (device.reads e.disk 0) → LeavesOnly device e.disk e.disk' (IsCreateImage (device.images e.disk) head)
+  pub report : e.report ≡ unopened (Some refusal)
+  pub silent : e.output'.written ≡ e.output.written
+  pub faults : e.output'.faults ≡ e.output.faults
+  pub later : device.fault_count e.disk ≤ device.fault_count e.disk'
+  pub wrote : device.failed_writes e.disk ≤ device.failed_writes e.disk'
+
+-- two more at most
+two_at_most : (n before now : ℕ) → n ≤ 2 → now ≡ raised_by n before → (before ≤ now) × (now ≤ raised (raised before))
+two_at_most zero before now few is = let same : now ≡ before = is in (omega (arith, same), omega (arith, same))
+two_at_most (suc zero) before now few is = let one : now ≡ raised before = is in (omega (arith, one), omega (arith, one))
+two_at_most (suc (suc zero)) before now few is = let two : now ≡ raised (raised before) = is in (omega (arith, two), omega (arith, two))
+two_at_most (suc (suc (suc n))) before now few is = absurd (omega (arith, few))
+
+module _ {D : Type 0} (device : Device D) (e : Effects D) where
+  -- fewer than two faults more are one at most
+  failed_once : raised (device.fault_count e.disk) ≤ device.fault_count e.disk' → device.fault_count e.disk' < raised (raised (device.fault_count e.disk)) → FailedAtMostOnce device e.disk e.disk'
+  failed_once rose few = record { most = omega (arith, rose, few); below = omega (arith, rose, few) }
+
+  making_failed_is : (head : Head) → UsedDisk device e.disk e.disk' true 0 2 → (IsTrue device.is_transparent → IsMakingFailed device e.disk e.disk' head) → IsJournalCreateFailed device 0 e.disk e.disk'
+  making_failed_is head used left = record {
+    rose = used.faults;
+    wrote_most = (two_at_most used.writes.0 (device.failed_writes e.disk) (device.failed_writes e.disk') used.writes.2 used.writes.3).1;
+    closed = λ few known none. (left known).closed none (failed_once used.faults few);
+  }
+
+  module _ (head : Head) (way : Way SoFar ⊥) (did : Did device e way) where
+    abbrev MakesOn : Type 0
+    MakesOn = NotMade device e head ⊎ WasPrinted device e (made head) (create_line head.mdb)
+
+    where_end : (there : Bool) → (IsTrue device.is_transparent → HoldsAs (device.reads e.disk) there) → Allows (made_where head there) way → MakesOn
+    where_end true is goes =
+        let did : Did device e (Ended (looked 3) (Some Exists)) = subst (λ (w : Way SoFar ⊥). Did device e w) goes did in
+        let same = no_failed_write device e.disk e.disk' false did.disk.0 in
+        inl (record {
+          refusal = Exists;
+          refused = (λ known. (is known, (did.disk.1 known).reads), same);
+          kept = λ known one. did.disk.1 known;
+          images = λ known none. absurd (one-not-none (device.reads e.disk 0) (is known).0 (is known).1 none);
+          report = did.report;
+          silent = silent_all e.output.written e.output'.written did.printed;
+          faults = did.output.counted;
+          later = did.disk.0.faults;
+          wrote = omega (arith, same);
+        })
+    where_end false is goes = inr (prints_end device e (made head) (create_line head.mdb) way refl goes did)
+
+    pub makes_end : Allows (makes device e.disk head) way → MakesOn
+    makes_end (inl goes) =
+        let did : Did device e (Cut (nothing_done 3) OfMemory) = subst (λ (w : Way SoFar ⊥). Did device e w) goes did in
+        inl (record {
+          refusal = OutOfMemory;
+          refused = did.disk;
+          kept = λ known one. subst (λ (d : D). IsReadAsBefore device e.disk d) (sym did.disk) (untouched device e.disk);
+          images = λ known none. subst (λ (d : D). LeavesOnly device e.disk d (IsCreateImage (device.images e.disk) head)) (sym did.disk)
+              (started device e.disk (IsCreateImage (device.images e.disk) head) (λ c now. inl now));
+          report = did.report;
+          silent = silent_all e.output.written e.output'.written did.printed;
+          faults = did.output.counted;
+          later = omega (arith, ap (λ (d : D). device.fault_count d) did.disk);
+          wrote = omega (arith, ap (λ (d : D). device.failed_writes d) did.disk);
+        })
+    makes_end (inr (inl goes)) =
+        let did : Did device e (Cut (making_failed head) OfDisk) = subst (λ (w : Way SoFar ⊥). Did device e w) goes did in
+        let used = did.disk.0 in
+        inl (record {
+          refusal = DiskFault;
+          refused = making_failed_is head used did.disk.1;
+          kept = λ known. (did.disk.1 known).kept;
+          images = λ known. (did.disk.1 known).images;
+          report = did.report;
+          silent = silent_all e.output.written e.output'.written did.printed;
+          faults = did.output.counted;
+          later = rose_later true (device.fault_count e.disk) (device.fault_count e.disk') used.faults;
+          wrote = (two_at_most used.writes.0 (device.failed_writes e.disk) (device.failed_writes e.disk') used.writes.2 used.writes.3).0;
+        })
+    makes_end (inr (inr h)) = where_end h.0 h.1 h.2
+
+-- ---- what was said by cases follows
+
+-- the sheets gave no head
+pub record WasHeadless {D : Type 0} (device : Device D) (e : Effects D) (files : Option Files) (words : SheetWords) (a b : InputsState) : Type 0 where
+  pub refusal : Refusal
+  pub head : Headless files words a b refusal
+  pub report : e.report ≡ unopened (Some refusal)
+  pub silent : e.output'.written ≡ e.output.written
+  pub faults : e.output'.faults ≡ e.output.faults
+  pub disk : e.disk' ≡ e.disk
+
+-- they did
+pub record WasHeaded {D : Type 0} (device : Device D) (e : Effects D) (files : Option Files) (words : SheetWords) (a b : InputsState) : Type 0 where
+  pub raw : RawMdb
+  pub good : AreGood files words raw
+  pub inputs : UsedInputs a b 3 false
+  pub came : NotMade device e (new_head raw) ⊎ WasPrinted device e (made (new_head raw)) (create_line (sheets_database raw))
+
+module _ {D : Type 0} (device : Device D) (e : Effects D) (files : Option Files) (words : SheetWords) (a b : InputsState) (ran : RanOver device (create_plan device e.disk files words) e a b) where
+  at_end : WasHeadless device e files words a b ⊎ WasHeaded device e files words a b
+  at_end = elim (heads_end device e a b files words ran.way (ran.did, ran.inputs) ran.allows) [
+    | inl h ↦ inl (record {
+      refusal = h.0;
+      head = headless files words a b h.0 h.1 h.2 h.4.inputs h.3;
+      report = h.4.report;
+      silent = h.4.silent;
+      faults = h.4.faults;
+      disk = h.4.disk;
+    })
+    | inr h ↦
+        let each = end_of ReadThree (makes device e.disk (new_head h.0)) ran.way (makes_after device e.disk (new_head h.0)) h.2 in
+        inr (record { raw = h.0; good = h.1; inputs = rw (each.0, each.1) at ran.inputs; came = makes_end device e (new_head h.0) ran.way ran.did h.2 })
+  ]
+
+  abbrev call : List (List ℕ) → Option ℤ → Call
+  call given moment = call_of given files moment a.faults b.faults e.output.written e.output'.written e.output.faults e.output'.faults
+
+  -- for each answer its cause, what was written and what became of the disk
+  pub create_ended : (given : List (List ℕ)) (moment : Option ℤ) → IsTrue device.is_transparent → IsCreateEnding device (call given moment) words e.disk e.disk' e.report.refusal e.report
+  create_ended given moment known = elim at_end [
+    | inl n ↦ create_refused device (call given moment) words e.disk e.disk' n.refusal e.report n.report n.head.refused n.silent
+        (subst (λ (d : D). IsReadAsBefore device e.disk d) (sym n.disk) (untouched device e.disk))
+    | inr w ↦ elim w.came [
+      | inl n ↦ create_unmade device (call given moment) words e.disk e.disk' w.raw n.refusal e.report n.report w.good n.silent known n.refused (n.kept known) (n.images known)
+      | inr p ↦ created device (call given moment) words e.disk e.disk' w.raw p.refusal e.report p.report w.good (p.disk.1 known) p.finished p.counted
+    ]
+  ]
+
+  -- the causes that words and inputs give, on any disk
+  pub create_caused : (given : List (List ℕ)) (moment : Option ℤ) → IsCreateCaused (call given moment) words e.report.refusal
+  create_caused given moment = elim at_end [
+    | inl n ↦ create_refused_cause (call given moment) words n.refusal e.report n.report n.head.refused
+    | inr w ↦ elim w.came [
+      | inl n ↦ create_unmade_cause device e.disk e.disk' (call given moment) words n.refusal e.report n.report n.refused (w.raw, w.good)
+      | inr p ↦ create_made_cause (call given moment) words p.refusal e.report 0 e.output.written e.output'.written (create_line (sheets_database w.raw)) p.report p.finished (w.raw, w.good)
+    ]
+  ]
+
+  pub create_report : IsReadOnlyReport e.report.refusal e.report
+  create_report = elim at_end [
+    | inl n ↦ not_read_only n.refusal e.report n.report
+    | inr w ↦ elim w.came [
+      | inl n ↦ not_read_only n.refusal e.report n.report
+      | inr p ↦ read_only_report p.refusal 0 e.report p.report
+    ]
+  ]
+
+  -- the order of the sheets, and how many sources were given
+  pub create_order : AreInOrder files (create_inputs words) a.given b.given e.report.refusal
+  create_order = elim at_end [
+    | inl n ↦ subst (λ (r : Report). AreInOrder files (create_inputs words) a.given b.given r.refusal) (sym n.report) n.head.order
+    | inr w ↦ created_in_order files words a.given b.given e.report.refusal w.raw w.good.sheets
+  ]
+
+  pub create_gave : b.given ≤ a.given + 3
+  create_gave = elim at_end [
+    | inl n ↦ n.head.few
+    | inr w ↦ few_more files words a b w.inputs.gave
+  ]
+
+  pub create_unasked : SameWithoutSource a.given b.given e.disk e.disk'
+  create_unasked = elim at_end [
+    | inl n ↦ λ below same. n.disk
+    | inr w ↦ given_unasked a.given b.given 3 e.disk e.disk' (omega arith) w.inputs.gave
+  ]
+
+  -- counts of the inputs, of the output and of the disk
+  pub create_later : a.faults ≤ b.faults
+  create_later = counted_later (failed_at ran.way OfInputs) a.faults b.faults ran.inputs.counted
+
+  pub create_reads_counted : ReadsCounted e.report.refusal a.faults b.faults
+  create_reads_counted = elim at_end [
+    | inl n ↦ subst (λ (r : Report). ReadsCounted r.refusal a.faults b.faults) (sym n.report) n.head.counted
+    | inr w ↦ elim w.came [
+      | inl n ↦ subst (λ (r : Report). ReadsCounted r.refusal a.faults b.faults) (sym n.report)
+          (subst (λ (now : ℕ). ReadsCounted (Some n.refusal) a.faults now) (sym w.inputs.counted) (create_reads device e.disk e.disk' n.refusal n.refused a.faults))
+      | inr p ↦ subst (λ (r : Report). ReadsCounted r.refusal a.faults b.faults) (sym p.report)
+          (subst (λ (now : ℕ). ReadsCounted p.refusal a.faults now) (sym w.inputs.counted)
+          (finished_reads p.refusal e.output.written e.output'.written (create_line (sheets_database w.raw)) p.finished a.faults))
+    ]
+  ]
+
+  pub create_writes_counted : WritesCounted e.report.refusal e.output.faults e.output'.faults
+  create_writes_counted = elim at_end [
+    | inl n ↦ subst (λ (r : Report). WritesCounted r.refusal e.output.faults e.output'.faults) (sym n.report)
+        (subst (λ (now : ℕ). WritesCounted (Some n.refusal) e.output.faults now) (sym n.faults)
+        (sheet_writes n.refusal (refused_kind files words a.faults b.faults n.refusal n.head.refused) e.output.faults))
+    | inr w ↦ elim w.came [
+      | inl n ↦ subst (λ (r : Report). WritesCounted r.refusal e.output.faults e.output'.faults) (sym n.report)
+          (subst (λ (now : ℕ). WritesCounted (Some n.refusal) e.output.faults now) (sym n.faults) (create_writes device e.disk e.disk' n.refusal n.refused e.output.faults))
+      | inr p ↦ subst (λ (r : Report). WritesCounted r.refusal e.output.faults e.output'.faults) (sym p.report) p.counted
+    ]
+  ]
+
+  pub create_writes_later : e.output.faults ≤ e.output'.faults
+  create_writes_later = elim at_end [
+    | inl n ↦ omega (arith, n.faults)
+    | inr w ↦ elim w.came [
+      | inl n ↦ omega (arith, n.faults)
+      | inr p ↦ p.later
+    ]
+  ]
+
+  pub create_disk_later : device.fault_count e.disk ≤ device.fault_count e.disk'
+  create_disk_later = elim at_end [
+    | inl n ↦ omega (arith, ap (λ (d : D). device.fault_count d) n.disk)
+    | inr w ↦ elim w.came [
+      | inl n ↦ n.later
+      | inr p ↦ p.disk.0.faults
+    ]
+  ]
+
+  pub create_disk_fault : e.report.refusal ≡ Some DiskFault → raised (device.fault_count e.disk) ≤ device.fault_count e.disk'
+  create_disk_fault is = elim at_end [
+    | inl n ↦ absurd (sheet_disk n.refusal (refused_kind files words a.faults b.faults n.refusal n.head.refused) (sym (ap (λ (r : Report). r.refusal) n.report) ∙ is))
+    | inr w ↦ elim w.came [
+      | inl n ↦ unmade_fault device e.disk e.disk' n.refusal e.report n.report n.refused is
+      | inr p ↦ absurd (finished_disk p.refusal e.output.written e.output'.written (create_line (sheets_database w.raw)) p.finished (sym (ap (λ (r : Report). r.refusal) p.report) ∙ is))
+    ]
+  ]
+
+  pub create_disk_writes : TwoAtMost e.report.refusal (device.failed_writes e.disk) (device.failed_writes e.disk')
+  create_disk_writes = elim at_end [
+    | inl n ↦ none_of_two e.report.refusal (device.failed_writes e.disk) (device.failed_writes e.disk') (ap (λ (d : D). device.failed_writes d) n.disk)
+    | inr w ↦ elim w.came [
+      | inl n ↦ unmade_writes n.refusal e.report (device.failed_writes e.disk) (device.failed_writes e.disk') n.report n.wrote (store_create_most device e.disk e.disk' n.refusal n.refused)
+          (store_create_counted device e.disk e.disk' n.refusal n.refused)
+      | inr p ↦ none_of_two e.report.refusal (device.failed_writes e.disk) (device.failed_writes e.disk') (no_failed_write device e.disk e.disk' false p.disk.0)
+    ]
+  ]
+
+  -- refused before the disk was asked, it hands the very disk back
+  pub create_handed_back : IsCreateBack e.disk e.disk' e.report.refusal
+  create_handed_back = elim at_end [
+    | inl n ↦ create_same e.disk e.disk' e.report.refusal n.disk
+    | inr w ↦ elim w.came [
+      | inl n ↦ unmade_back device e.disk e.disk' n.refusal e.report n.report n.refused
+      | inr p ↦ made_back e.disk e.disk' p.refusal e.report e.output.written e.output'.written (create_line (sheets_database w.raw)) p.report p.finished
+    ]
+  ]

@@ -1,0 +1,5 @@
+//! Tests of the commands on an archive, by `run` over disks, inputs and outputs in memory.
+#![tactic(auto)]
+
+#[cfg(test)]
+mod archive_tests;

@@ -1,0 +1,249 @@
+-- What the words on a store's calls say, one fact at a time.
+use Rattle.std.proofs.Common.{◌≡◌, ◌≢◌, ◌⊎◌, inl, inr, ⊎_elim, ◌≤◌, ℕ, List, [], Option, Some, None, refl, sym, ◌∙◌, ap, subst, arith}
+use Rattle.std.specs.Prelude.{IsTrue, Result, Ok, Err, OnOk, IfErr, IsErrAnd, MatchResult}
+use Rattle.arch_disk.specs.Image.{Image}
+use Rattle.arch_disk.specs.Disk.{Device, HasCause, CountsFailure, raised}
+use Rattle.arch_types.specs.declared.refusal.Refusal.{Refusal}
+use Rattle.arch_types.specs.declared.refusal.Refusal.TheVariants.{Usage, Missing, ReadFault, WriteFault, BadPacket, BadSheet, BadSql, NoArchive, Exists, Damaged, DiskFault, NeedsReopen, UnknownParameter, BadRange, UnknownTable, Limit, Mismatch, Late, OutOfMemory}
+use Rattle.arch_types.specs.declared.refusal.Which.{Which}
+use Rattle.arch_types.specs.declared.row.Row.{Row}
+use Rattle.arch_types.specs.History.{ingested}
+use Rattle.arch_types.specs.Limits.{limit_of}
+use Rattle.archive_core.specs.Fills.{pending_fault_of}
+use Rattle.archive_core.specs.Outcomes.{fresh_of}
+use Rattle.archive_history.specs.Limits.{IsLimit, IsBelowLimits}
+use Rattle.disk_journal.specs.Calls.{IsJournalCreateFailed, CountsNeverFall}
+use Rattle.archive_store.specs.Calls.{IsFailure, IsIngestRefusal, IsRowsRefusal, IsStoreReopened, IsStoreReopenRefusal, IsStoreOpenRefusal, IsStoreCreateRefusal, IsDecidedByImage}
+use Rattle.archive_store.specs.Stands.{StandsFor}
+use Rattle.archive_store.specs.StoreView.{StoreView, AddsFault, archive_of}
+use Rattle.archive_store.proofs.Exact.{stands_once, stands_not_damaged, damaged_once, none_not_damaged, none_not_stands}
+
+-- what holds of the refusal that a `?` hands on
+pub passed_on : {T E : Type 0} (r : Result T E) (refusal : E) (P : E → Type 0) → IsErrAnd r (λ e. e ≡ refusal) → P refusal → IfErr r P
+passed_on (Ok x) refusal P is p = absurd is
+passed_on (Err e) refusal P is p = subst P (sym is) p
+
+-- the count in a NeedsReopen
+abbrev pub store_asks_reopen : {T : Type 0} → Result T Refusal → Option ℕ
+store_asks_reopen (Err (NeedsReopen faults)) = Some faults
+store_asks_reopen _ = None
+
+module _ {D : Type 0} (device : Device D) where
+  -- ---- ingests
+
+  -- rows that were not appended are those of a batch
+  pub rows_refused : (old new : StoreView D) (rows fresh : List Row) (e : Refusal) → fresh ≡ fresh_of old.history rows → pending_fault_of old.fills ≡ None → fresh_of old.history rows ≢ []
+      → IsBelowLimits 22 old.records old.history rows → IsRowsRefusal device old new fresh e → IsIngestRefusal device old new rows e
+  rows_refused old new rows fresh DiskFault is healed some_new below refusal = record { healed = healed; some_new = some_new; below = below; fault = subst (AddsFault device old new) is refusal }
+  rows_refused old new rows fresh OutOfMemory is healed some_new below refusal = (healed, refusal)
+  rows_refused old new rows fresh _ is healed some_new below refusal = absurd refusal
+
+  -- an ingest is refused by one of four
+  pub ingest_cases : (old new : StoreView D) (rows : List Row) (P : Refusal → Type 0) (e : Refusal) → IsIngestRefusal device old new rows e
+      → ((faults : ℕ) → IsIngestRefusal device old new rows (NeedsReopen faults) → P (NeedsReopen faults))
+      → ((which : Which) (number : ℕ) → IsIngestRefusal device old new rows (Limit which number) → P (Limit which number))
+      → (IsIngestRefusal device old new rows DiskFault → P DiskFault)
+      → (IsIngestRefusal device old new rows OutOfMemory → P OutOfMemory) → P e
+  ingest_cases old new rows P Usage is reopen limit fault memory = absurd is
+  ingest_cases old new rows P (Missing name) is reopen limit fault memory = absurd is
+  ingest_cases old new rows P ReadFault is reopen limit fault memory = absurd is
+  ingest_cases old new rows P WriteFault is reopen limit fault memory = absurd is
+  ingest_cases old new rows P (BadPacket at kind) is reopen limit fault memory = absurd is
+  ingest_cases old new rows P (BadSheet sheet row rule) is reopen limit fault memory = absurd is
+  ingest_cases old new rows P (BadSql at rule) is reopen limit fault memory = absurd is
+  ingest_cases old new rows P NoArchive is reopen limit fault memory = absurd is
+  ingest_cases old new rows P Exists is reopen limit fault memory = absurd is
+  ingest_cases old new rows P (Damaged file at) is reopen limit fault memory = absurd is
+  ingest_cases old new rows P DiskFault is reopen limit fault memory = fault is
+  ingest_cases old new rows P (NeedsReopen faults) is reopen limit fault memory = reopen faults is
+  ingest_cases old new rows P UnknownParameter is reopen limit fault memory = absurd is
+  ingest_cases old new rows P (BadRange from to) is reopen limit fault memory = absurd is
+  ingest_cases old new rows P (UnknownTable name) is reopen limit fault memory = absurd is
+  ingest_cases old new rows P (Limit which number) is reopen limit fault memory = limit which number is
+  ingest_cases old new rows P (Mismatch interval parameter key stored replayed) is reopen limit fault memory = absurd is
+  ingest_cases old new rows P (Late interval) is reopen limit fault memory = absurd is
+  ingest_cases old new rows P OutOfMemory is reopen limit fault memory = memory is
+
+  -- it leaves the history
+  pub ingest_history : (old new : StoreView D) (rows : List Row) (e : Refusal) → IsIngestRefusal device old new rows e → new.history ≡ old.history
+  ingest_history old new rows e is =
+      ingest_cases old new rows (λ _. new.history ≡ old.history) e is (λ faults r. ap (λ (s : StoreView D). s.history) r.1) (λ which number r. ap (λ (s : StoreView D). s.history) r.1) (λ r. r.fault.history)
+      (λ r. ap (λ (s : StoreView D). s.history) r.1)
+
+  -- and the number of records,
+  pub ingest_records : (old new : StoreView D) (rows : List Row) (e : Refusal) → IsIngestRefusal device old new rows e → new.records ≡ old.records
+  ingest_records old new rows e is =
+      ingest_cases old new rows (λ _. new.records ≡ old.records) e is (λ faults r. ap (λ (s : StoreView D). s.records) r.1) (λ which number r. ap (λ (s : StoreView D). s.records) r.1) (λ r. r.fault.records)
+      (λ r. ap (λ (s : StoreView D). s.records) r.1)
+
+  -- all else too but where the disk failed,
+  pub ingest_untouched : (old new : StoreView D) (rows : List Row) (e : Refusal) → IsIngestRefusal device old new rows e → (e ≡ DiskFault) ⊎ (new ≡ old)
+  ingest_untouched old new rows e is = ingest_cases old new rows (λ r. (r ≡ DiskFault) ⊎ (new ≡ old)) e is (λ faults r. inr r.1) (λ which number r. inr r.1) (λ r. inl refl) (λ r. inr r.1)
+
+  -- which then leaves the new rows in a fault
+  pub ingest_fault : (old new : StoreView D) (rows : List Row) (e : Refusal) → IsIngestRefusal device old new rows e → e ≡ DiskFault → AddsFault device old new (fresh_of old.history rows)
+  ingest_fault old new rows e is fault = (subst (IsIngestRefusal device old new rows) fault is).fault
+
+  -- a limit is named rightly, and only where rows are new
+  pub ingest_limit : (old new : StoreView D) (rows : List Row) (e : Refusal) (which : Which) (number : ℕ) → IsIngestRefusal device old new rows e → e ≡ Limit which number
+      → (number ≡ limit_of which) × IsLimit 22 which old.records (ingested old.history rows)
+  ingest_limit old new rows e which number is limit = let passes = (subst (IsIngestRefusal device old new rows) limit is).0 in (passes.number_is, passes.first)
+
+  pub ingest_some : (old new : StoreView D) (rows : List Row) (e : Refusal) (which : Which) (number : ℕ) → IsIngestRefusal device old new rows e → e ≡ Limit which number → fresh_of old.history rows ≢ []
+  ingest_some old new rows e which number is limit = (subst (IsIngestRefusal device old new rows) limit is).0.some_new
+
+  -- where the disk was asked no limit is passed
+  pub ingest_below : (old new : StoreView D) (rows : List Row) (e : Refusal) → IsIngestRefusal device old new rows e → e ≡ DiskFault → IsBelowLimits 22 old.records old.history rows
+  ingest_below old new rows e is fault = (subst (IsIngestRefusal device old new rows) fault is).below
+
+  -- a batch without new rows changes nothing
+  pub ingest_no_call : (old new : StoreView D) (rows : List Row) (e : Refusal) → IsIngestRefusal device old new rows e → fresh_of old.history rows ≡ [] → new ≡ old
+  ingest_no_call old new rows e is none = ingest_cases old new rows (λ _. new ≡ old) e is (λ faults r. r.1) (λ which number r. r.1) (λ r. absurd (r.some_new none)) (λ r. r.1)
+
+  -- a reopen is asked for exactly where a failed write is pending
+  pub ingest_asks : (T : Type 0) (old new : StoreView D) (rows : List Row) (e : Refusal) → IsIngestRefusal device old new rows e → store_asks_reopen {T = T} (Err e) ≡ pending_fault_of old.fills
+  ingest_asks T old new rows e is =
+      ingest_cases old new rows (λ r. store_asks_reopen {T = T} (Err r) ≡ pending_fault_of old.fills) e is (λ faults r. sym r.0) (λ which number r. sym r.0.healed) (λ r. sym r.healed) (λ r. sym r.0)
+
+  -- each answer comes exactly where its cause is: a failed write that is pending,
+  pub ingest_asks_exactly : {T : Type 0} (old new : StoreView D) (rows : List Row) (result : Result T Refusal) → OnOk result (pending_fault_of old.fills ≡ None) → IfErr result (IsIngestRefusal device old new rows)
+      → store_asks_reopen result ≡ pending_fault_of old.fills
+  ingest_asks_exactly old new rows (Ok x) ok err = sym ok
+  ingest_asks_exactly {T = T} old new rows (Err e) ok err = ingest_asks T old new rows e err
+
+  -- or a limit that is passed: else none is, or memory was wanting before it was looked for
+  pub ingest_below_exactly : {T : Type 0} (old new : StoreView D) (rows : List Row) (result : Result T Refusal) → OnOk result (IsBelowLimits 22 old.records old.history rows) → IfErr result (IsIngestRefusal device old new rows)
+      → MatchResult result (λ _. IsBelowLimits 22 old.records old.history rows) (λ e. e ≡ DiskFault → IsBelowLimits 22 old.records old.history rows)
+  ingest_below_exactly old new rows (Ok x) ok err = ok
+  ingest_below_exactly old new rows (Err e) ok err = λ fault. ingest_below old new rows e err fault
+
+  -- ---- reopens
+
+  -- a reopen is refused only where the disk failed
+  pub reopen_failed : (old new : StoreView D) (e : Refusal) → IsStoreReopenRefusal device old new e → e ≡ DiskFault
+  reopen_failed old new DiskFault is = refl
+  reopen_failed old new _ is = absurd is
+
+  -- it leaves the history, the head, the disk of the opening and the number of records
+  pub reopen_same : (old new : StoreView D) (result : Result Unit Refusal) → OnOk result (IsStoreReopened device old new) → IfErr result (IsStoreReopenRefusal device old new)
+      → (new.history ≡ old.history) × (new.head ≡ old.head) × (new.opened ≡ old.opened) × (new.records ≡ old.records)
+  reopen_same old new (Ok x) ok err =
+      (ap (λ (s : StoreView D). s.history) ok.store, ap (λ (s : StoreView D). s.head) ok.store, ap (λ (s : StoreView D). s.opened) ok.store, ap (λ (s : StoreView D). s.records) ok.store)
+  reopen_same old new (Err e) ok err =
+      let is = (subst (IsStoreReopenRefusal device old new) (reopen_failed old new e err) err).store in
+      (ap (λ (s : StoreView D). s.history) is, ap (λ (s : StoreView D). s.head) is, ap (λ (s : StoreView D). s.opened) is, ap (λ (s : StoreView D). s.records) is)
+
+  -- and where it is refused the fill list
+  pub reopen_fills : (old new : StoreView D) (e : Refusal) → IsStoreReopenRefusal device old new e → new.fills ≡ old.fills
+  reopen_fills old new e is = ap (λ (s : StoreView D). s.fills) (subst (IsStoreReopenRefusal device old new) (reopen_failed old new e is) is).store
+
+  -- where nothing was pending it makes no call of the disk
+  pub reopen_no_call : (old new : StoreView D) (result : Result Unit Refusal) → OnOk result (IsStoreReopened device old new) → IfErr result (IsStoreReopenRefusal device old new)
+      → pending_fault_of old.fills ≡ None → new.disk ≡ old.disk
+  reopen_no_call old new (Ok x) ok err none = ok.no_call none
+  reopen_no_call old new (Err e) ok err none = absurd ((subst (IsStoreReopenRefusal device old new) (reopen_failed old new e err) err).unhealed none)
+
+  -- faults and failed writes are counted
+  pub reopen_counted : (old new : StoreView D) (result : Result Unit Refusal) → OnOk result (IsStoreReopened device old new) → IfErr result (IsStoreReopenRefusal device old new)
+      → CountsNeverFall device old.disk new.disk → CountsFailure device old.disk new.disk result × HasCause device old.disk new.disk result
+  reopen_counted old new (Ok x) ok err counts = (ok.no_failed_write, record { later = counts.faults; failed = tt })
+  reopen_counted old new (Err e) ok err counts =
+      let failed = subst (IsStoreReopenRefusal device old new) (reopen_failed old new e err) err in
+      (failed.wrote, record { later = counts.faults; failed = failed.rose })
+
+  -- ---- openings
+
+  -- an opening is refused by one of four
+  pub open_cases : (before after : D) (P : Refusal → Type 0) (e : Refusal) → IsStoreOpenRefusal device before after e
+      → (IsStoreOpenRefusal device before after NoArchive → P NoArchive)
+      → ((file at : ℕ) → IsStoreOpenRefusal device before after (Damaged file at) → P (Damaged file at))
+      → (IsStoreOpenRefusal device before after DiskFault → P DiskFault)
+      → (IsStoreOpenRefusal device before after OutOfMemory → P OutOfMemory) → P e
+  open_cases before after P Usage is none damaged fault memory = absurd is
+  open_cases before after P (Missing name) is none damaged fault memory = absurd is
+  open_cases before after P ReadFault is none damaged fault memory = absurd is
+  open_cases before after P WriteFault is none damaged fault memory = absurd is
+  open_cases before after P (BadPacket at kind) is none damaged fault memory = absurd is
+  open_cases before after P (BadSheet sheet row rule) is none damaged fault memory = absurd is
+  open_cases before after P (BadSql at rule) is none damaged fault memory = absurd is
+  open_cases before after P NoArchive is none damaged fault memory = none is
+  open_cases before after P Exists is none damaged fault memory = absurd is
+  open_cases before after P (Damaged file at) is none damaged fault memory = damaged file at is
+  open_cases before after P DiskFault is none damaged fault memory = fault is
+  open_cases before after P (NeedsReopen faults) is none damaged fault memory = absurd is
+  open_cases before after P UnknownParameter is none damaged fault memory = absurd is
+  open_cases before after P (BadRange from to) is none damaged fault memory = absurd is
+  open_cases before after P (UnknownTable name) is none damaged fault memory = absurd is
+  open_cases before after P (Limit which number) is none damaged fault memory = absurd is
+  open_cases before after P (Mismatch interval parameter key stored replayed) is none damaged fault memory = absurd is
+  open_cases before after P (Late interval) is none damaged fault memory = absurd is
+  open_cases before after P OutOfMemory is none damaged fault memory = memory is
+
+  -- a write failed only at a fault of the disk
+  pub open_counted : (before after : D) (e : Refusal) → IsStoreOpenRefusal device before after e
+      → (device.failed_writes after ≡ device.failed_writes before) ⊎ ((e ≡ DiskFault) × (device.failed_writes after ≡ raised (device.failed_writes before)))
+  open_counted before after e is =
+      open_cases before after (λ r. (device.failed_writes after ≡ device.failed_writes before) ⊎ ((r ≡ DiskFault) × (device.failed_writes after ≡ raised (device.failed_writes before)))) e is
+      (λ r. inl r.1) (λ file at r. inl r.1) (λ r. ⊎_elim (λ same. inl same) (λ rose. inr (refl, rose)) r.wrote_most) (λ r. inl r)
+
+  -- which was counted
+  pub open_cause : (before after : D) (e : Refusal) → IsStoreOpenRefusal device before after e → e ≡ DiskFault → raised (device.fault_count before) ≤ device.fault_count after
+  open_cause before after e is fault = (subst (IsStoreOpenRefusal device before after) fault is).rose
+
+  -- the disk decides
+  pub decided_refused : (before after : D) (e : Refusal) → IsTrue device.is_transparent → IsStoreOpenRefusal device before after e → IsDecidedByImage (device.reads before) (Err (after, e))
+  decided_refused before after e transparent is = let reads = device.reads before in record {
+    none = λ none. open_cases before after (λ r. (r ≡ NoArchive) ⊎ IsFailure r) e is (λ r. inl refl) (λ file at r. absurd (none_not_damaged reads at none (r.0 transparent).1)) (λ r. inr (inl refl)) (λ r. inr (inr refl));
+    damaged = λ at there. open_cases before after (λ r. (r ≡ Damaged 0 at) ⊎ IsFailure r) e is (λ r. absurd (none_not_damaged reads at (r.0 transparent) there))
+        (λ file other r. inl (ap (λ (f : ℕ). Damaged f other) (r.0 transparent).0 ∙ ap (λ (n : ℕ). Damaged 0 n) (damaged_once reads other at (r.0 transparent).1 there))) (λ r. inr (inl refl)) (λ r. inr (inr refl));
+    stands = λ x there. open_cases before after IsFailure e is (λ r. absurd (none_not_stands reads x (r.0 transparent) there)) (λ file other r. absurd (stands_not_damaged reads x other there (r.0 transparent).1))
+        (λ r. inl refl) (λ r. inr refl);
+  }
+
+  pub decided_opened : (image : Image) (store : StoreView D) → StandsFor image (archive_of store) → IsDecidedByImage image (Ok store)
+  decided_opened image store stands = record {
+    none = λ none. absurd (none_not_stands image (archive_of store) none stands);
+    damaged = λ at there. absurd (stands_not_damaged image (archive_of store) at stands there);
+    stands = λ x there. stands_once image (archive_of store) x stands there;
+  }
+
+  -- ---- creations
+
+  -- a creation is refused by one of three
+  pub create_cases : (before after : D) (P : Refusal → Type 0) (e : Refusal) → IsStoreCreateRefusal device before after e
+      → (IsStoreCreateRefusal device before after Exists → P Exists) → (IsStoreCreateRefusal device before after DiskFault → P DiskFault) → (IsStoreCreateRefusal device before after OutOfMemory → P OutOfMemory) → P e
+  create_cases before after P Usage is exists fault memory = absurd is
+  create_cases before after P (Missing name) is exists fault memory = absurd is
+  create_cases before after P ReadFault is exists fault memory = absurd is
+  create_cases before after P WriteFault is exists fault memory = absurd is
+  create_cases before after P (BadPacket at kind) is exists fault memory = absurd is
+  create_cases before after P (BadSheet sheet row rule) is exists fault memory = absurd is
+  create_cases before after P (BadSql at rule) is exists fault memory = absurd is
+  create_cases before after P NoArchive is exists fault memory = absurd is
+  create_cases before after P Exists is exists fault memory = exists is
+  create_cases before after P (Damaged file at) is exists fault memory = absurd is
+  create_cases before after P DiskFault is exists fault memory = fault is
+  create_cases before after P (NeedsReopen faults) is exists fault memory = absurd is
+  create_cases before after P UnknownParameter is exists fault memory = absurd is
+  create_cases before after P (BadRange from to) is exists fault memory = absurd is
+  create_cases before after P (UnknownTable name) is exists fault memory = absurd is
+  create_cases before after P (Limit which number) is exists fault memory = absurd is
+  create_cases before after P (Mismatch interval parameter key stored replayed) is exists fault memory = absurd is
+  create_cases before after P (Late interval) is exists fault memory = absurd is
+  create_cases before after P OutOfMemory is exists fault memory = memory is
+
+  -- want of memory leaves the very disk
+  pub create_memory : (before after : D) (e : Refusal) → IsStoreCreateRefusal device before after e → e ≡ OutOfMemory → after ≡ before
+  create_memory before after e is memory = subst (IsStoreCreateRefusal device before after) memory is
+
+  -- what a fault of the disk leaves: it was counted, and after one alone a crash leaves no archive, or what it could have left before
+  pub create_failed : (before after : D) (e : Refusal) → IsStoreCreateRefusal device before after e → e ≡ DiskFault → IsJournalCreateFailed device 0 before after
+  create_failed before after e is fault = subst (IsStoreCreateRefusal device before after) fault is
+
+  -- a write failed only then, and two at most
+  pub store_create_counted : (before after : D) (e : Refusal) → IsStoreCreateRefusal device before after e → device.failed_writes after ≢ device.failed_writes before → e ≡ DiskFault
+  store_create_counted before after e is differs = create_cases before after (λ r. r ≡ DiskFault) e is (λ r. absurd (differs r.1)) (λ r. refl) (λ r. absurd (differs (ap device.failed_writes r)))
+
+  pub store_create_most : (before after : D) (e : Refusal) → IsStoreCreateRefusal device before after e → device.failed_writes after ≤ raised (raised (device.failed_writes before))
+  store_create_most before after e is =
+      create_cases before after (λ _. device.failed_writes after ≤ raised (raised (device.failed_writes before))) e is (λ r. omega (arith, r.1)) (λ r. r.wrote_most) (λ r. omega (arith, ap device.failed_writes r))

@@ -1,0 +1,9 @@
+pub mod Families
+pub mod FirstOfKey
+pub mod NamesInOrder
+pub mod SortedNames
+pub mod ItemEquality
+pub mod SortedKeys
+pub mod LabelsInOrder
+pub mod LabelOrders
+pub mod PathPlaces

@@ -1,0 +1,6 @@
+pub mod Children
+pub mod NameOrder
+pub mod Lookups
+pub mod SortedKeys
+pub mod LabelOrder
+pub mod PlacedConditions
