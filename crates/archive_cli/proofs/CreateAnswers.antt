@@ -6,6 +6,7 @@ use Rattle.arch_disk.specs.Disk.{Device}
 use Rattle.arch_types.specs.declared.refusal.Refusal.{Refusal}
 use Rattle.arch_types.specs.declared.refusal.Refusal.TheVariants.{Missing, WriteFault, Exists, DiskFault, OutOfMemory}
 use Rattle.arch_types.specs.declared.refusal.Which.TheVariants.{SheetOctets}
+use Rattle.disk_journal.specs.Calls.{BeginsOpen}
 use Rattle.disk_journal.specs.Format.{HoldsNone}
 use Rattle.mdb_items.specs.declared.sheet.RawMdb.{RawMdb}
 use Rattle.mdb_items.specs.Checks.{or_else}
@@ -14,7 +15,7 @@ use Rattle.outer_traits.specs.Outside.{Files}
 use Rattle.archive_cli.specs.declared.report.Report.{Report}
 use Rattle.archive_cli.specs.ArchiveExpected.{IsCreateExpected, NoDiskFault, create_refusal, known_raw}
 use Rattle.archive_cli.specs.Call.{Call}
-use Rattle.archive_cli.specs.CreateEnding.{AreGood, AreRefused, HoldsOne, IsCreateEnding}
+use Rattle.archive_cli.specs.CreateEnding.{AreGood, AreRefused, IsCreateEnding}
 use Rattle.archive_cli.specs.Expecting.{IsOrMemory, NoFault}
 use Rattle.command_words.specs.Job.{SheetWords}
 use Rattle.retrieval.specs.Parameter.{sheets_refusal}
@@ -110,7 +111,7 @@ module _ {D : Type 0} (device : Device D) (call : Call) (all : Files) (words : S
       same-refusal (create_refusal all words) other refusal (refused-first call.files all words call.read_faults call.read_faults' other e no_failed_write h.0) f
 
   pub there-or : (ending : Option Refusal) (report : Report) → call.files ≡ Some all → IsCreateEnding device call words old new ending report →
-      NoFault call.read_faults call.read_faults' → create_refusal all words ≡ None → NoDiskFault device old new → HoldsOne (device.reads old) → IsOrMemory ending (Some Exists)
+      NoFault call.read_faults call.read_faults' → create_refusal all words ≡ None → NoDiskFault device old new → BeginsOpen (device.reads old 0) → IsOrMemory ending (Some Exists)
   there-or None report e h no_failed_write none whole one = absurd (one-not-none (device.reads old 0) one.0 one.1 h.made.none)
   there-or (Some WriteFault) report e h no_failed_write none whole one = absurd (one-not-none (device.reads old 0) one.0 one.1 h.1.made.none)
   there-or (Some Exists) report e h no_failed_write none whole one = inl refl

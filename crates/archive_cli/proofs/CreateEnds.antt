@@ -9,7 +9,7 @@ use Rattle.arch_types.specs.declared.refusal.Refusal.TheVariants.{Missing, ReadF
 use Rattle.arch_types.specs.declared.refusal.Which.{Which}
 use Rattle.arch_types.specs.declared.refusal.Which.TheVariants.{SheetOctets}
 use Rattle.arch_types.specs.Limits.{limit_of}
-use Rattle.disk_journal.specs.Calls.{IsJournalCreateFailed}
+use Rattle.disk_journal.specs.Calls.{BeginsOpen, IsJournalCreateFailed}
 use Rattle.disk_journal.specs.Format.{HoldsNone}
 use Rattle.mdb_items.specs.declared.fault.MdbLimit.{MdbLimit}
 use Rattle.mdb_items.specs.declared.sheet.RawMdb.{RawMdb}
@@ -17,27 +17,27 @@ use Rattle.mdb_items.specs.Checks.{or_else}
 use Rattle.mdb_items.specs.Database.{Broken, limit_passed}
 use Rattle.mdb_model.specs.Sheets.{sheets_database, sheets_fault}
 use Rattle.mdb_sheets.proofs.Sheets.{has_sheet}
-use Rattle.mdb_sheets.specs.Plans.{gives_sheets, reads_second, reads_sheet, reads_third}
+use Rattle.mdb_sheets.specs.Plans.{giving_plan, second_sheet_plan, sheet_plan, third_sheet_plan}
 use Rattle.mdb_sheets.specs.Sheets.{AreSheets, Fields, HasSheet, IsRefusal, IsSheet, IsSheetRefused, ReadsCounted, sheet_of}
 use Rattle.outer_traits.specs.Outside.{Files, HasRisen, IsOneMoreAtMost, one_more}
 use Rattle.outer_traits.specs.Whole.{IsThere}
 use Rattle.archive_store.specs.declared.head.Head.{Head}
 use Rattle.archive_store.specs.Calls.{IsCreateImage, IsStoreCreateRefusal}
 use Rattle.archive_store.proofs.Calls.{store_create_counted, store_create_most}
-use Rattle.command_plans.specs.Plan.{OfMemory, OfInputs, OfDisk, Plan, Return, Stop, May, Ask, Choose, Way, Ended, Cut, Allows, and_then, fault_refusal, map_done}
+use Rattle.command_plans.specs.Plan.{OfMemory, OfInputs, OfDisk, CommandPlan, Return, Stop, May, Question, Choose, Way, Stopped, Interrupted, Allows, and_then, interruption_refusal, map_done}
 use Rattle.command_plans.proofs.Plans.{end_of}
 use Rattle.command_words.specs.Job.{SheetWords}
 use Rattle.dump_lines.specs.Output.{WritesCounted}
-use Rattle.input_plans.specs.Inputs.{InputRead, OverLimit, WithinLimit, IsInputAs, IsThereAs, input_read, input_there, reading_fault, reads}
+use Rattle.input_plans.specs.Inputs.{InputRead, OverLimit, WithinLimit, IsInputAs, IsThereAs, input_read, input_there, reading_fault, input_plan}
 use Rattle.outer_ledgers.specs.Ledger.{Counted, InputsState, UsedDisk, UsedInputs, given_more, raised_by}
 use Rattle.outer_ledgers.proofs.Ledgers.{counted_later, counted_risen, no_failed_write, rose_later}
 use Rattle.retrieval.specs.Parameter.{broken_rule, passed_limit, sheets_refusal}
 use Rattle.archive_cli.specs.declared.report.Report.{Report}
 use Rattle.archive_cli.specs.Call.{Call, call_of}
 use Rattle.archive_cli.specs.Caused.{IsCreateCaused}
-use Rattle.archive_cli.specs.Command.{SoFar, Did, Effects, RanOver, failed_at, looked, nothing_done, sources_at}
-use Rattle.archive_cli.specs.Create.{HoldsAs, checks_head, create_plan, head_checked, made, made_where, makes, making_failed}
-use Rattle.archive_cli.specs.CreateEnding.{AreGood, AreRefused, HoldsOne, IsCreateEnding, IsMakingFailed, create_line, new_head}
+use Rattle.archive_cli.specs.Command.{Progress, HasEffects, Effects, RanOver, failed_at, looked, nothing_done, sources_at}
+use Rattle.archive_cli.specs.Create.{HasArchiveAs, checking_plan, create_plan, head_checked, made, after_making, making_plan, making_failed}
+use Rattle.archive_cli.specs.CreateEnding.{AreGood, AreRefused, IsCreateEnding, IsMakingFailed, create_line, new_head}
 use Rattle.archive_cli.specs.DiskWrites.{TwoAtMost}
 use Rattle.archive_cli.specs.Durable.{FailedAtMostOnce}
 use Rattle.archive_cli.specs.HandedBack.{IsCreateBack, SameWithoutSource}
@@ -68,8 +68,8 @@ IsUnread files which name s OutOfMemory n failed = ((n ≡ s) ⊎ (n ≡ s + 1))
 IsUnread files which name s other n failed = ⊥
 
 -- the sheets gave no head
-abbrev IsHeadless : Option Files → SheetWords → Refusal → ℕ → Bool → Type 0
-IsHeadless files words refusal n failed =
+abbrev HasNoHead : Option Files → SheetWords → Refusal → ℕ → Bool → Type 0
+HasNoHead files words refusal n failed =
     IsUnread files SheetOctets words.parameters 0 refusal n failed
     ⊎ ((HasSheet files words.parameters × IsUnread files SheetOctets words.calibrations 1 refusal n failed)
     ⊎ ((HasSheet files words.parameters × HasSheet files words.calibrations × IsUnread files SheetOctets words.containers 2 refusal n failed)
@@ -77,13 +77,13 @@ IsHeadless files words refusal n failed =
     × ((sheets_refusal raw ≡ Some refusal) ⊎ (refusal ≡ OutOfMemory)) × (n ≡ 3) × (failed ≡ false))))
 
 -- three plans, one behind the other
-behind : {X Y Z : Type 0} (p : Plan ℕ X) (f : X → Plan ℕ Y) (g : Y → Plan ℕ Z) (k : Z → Plan SoFar ⊥) (way : Way SoFar ⊥) →
+behind : {X Y Z : Type 0} (p : CommandPlan ℕ X) (f : X → CommandPlan ℕ Y) (g : Y → CommandPlan ℕ Z) (k : Z → CommandPlan Progress ⊥) (way : Way Progress ⊥) →
     Allows (and_then (map_done nothing_done (and_then (and_then p f) g)) k) way → Allows (and_then (map_done nothing_done (and_then p (λ x. and_then (f x) g))) k) way
 behind (Return x) f g k way goes = goes
 behind (Stop s refusal) f g k way goes = goes
 behind (May fault s p) f g k way (inl goes) = inl goes
 behind (May fault s p) f g k way (inr goes) = inr (behind p f g k way goes)
-behind (Ask is next) f g k way goes = (goes.0, goes.1, behind (next goes.0) f g k way goes.2)
+behind (Question is next) f g k way goes = (goes.0, goes.1, behind (next goes.0) f g k way goes.2)
 behind (Choose is next) f g k way goes = (goes.0, goes.1, behind (next goes.0) f g k way goes.2)
 
 -- nothing was asked of the disk
@@ -96,12 +96,12 @@ pub record NotBegun {D : Type 0} (device : Device D) (e : Effects D) (a b : Inpu
 
 module _ {D : Type 0} (device : Device D) (e : Effects D) (a b : InputsState) where
   -- it ended on this way, and used the inputs so
-  abbrev pub DidOver : Way SoFar ⊥ → Type 0
-  DidOver way = Did device e way × UsedInputs a b (sources_at way) (failed_at way OfInputs)
+  abbrev pub DidOver : Way Progress ⊥ → Type 0
+  DidOver way = HasEffects device e way × UsedInputs a b (sources_at way) (failed_at way OfInputs)
 
-  ended_before : (way : Way SoFar ⊥) (n : ℕ) (refusal : Refusal) → way ≡ Ended (nothing_done n) (Some refusal) → DidOver way → NotBegun device e a b refusal n false
+  ended_before : (way : Way Progress ⊥) (n : ℕ) (refusal : Refusal) → way ≡ Stopped (nothing_done n) (Some refusal) → DidOver way → NotBegun device e a b refusal n false
   ended_before way n refusal is did =
-      let here : DidOver (Ended (nothing_done n) (Some refusal)) = subst DidOver is did in record {
+      let here : DidOver (Stopped (nothing_done n) (Some refusal)) = subst DidOver is did in record {
         report = here.0.report;
         silent = silent_all e.output.written e.output'.written here.0.printed;
         faults = here.0.output.counted;
@@ -109,9 +109,9 @@ module _ {D : Type 0} (device : Device D) (e : Effects D) (a b : InputsState) wh
         inputs = here.1;
       }
 
-  cut_before : (way : Way SoFar ⊥) (n : ℕ) (failed : Bool) → way ≡ Cut (nothing_done n) (reading_fault failed) → DidOver way → NotBegun device e a b (fault_refusal (reading_fault failed)) n failed
+  cut_before : (way : Way Progress ⊥) (n : ℕ) (failed : Bool) → way ≡ Interrupted (nothing_done n) (reading_fault failed) → DidOver way → NotBegun device e a b (interruption_refusal (reading_fault failed)) n failed
   cut_before way n true is did =
-      let here : DidOver (Cut (nothing_done n) OfInputs) = subst DidOver is did in record {
+      let here : DidOver (Interrupted (nothing_done n) OfInputs) = subst DidOver is did in record {
         report = here.0.report;
         silent = silent_all e.output.written e.output'.written here.0.printed;
         faults = here.0.output.counted;
@@ -119,7 +119,7 @@ module _ {D : Type 0} (device : Device D) (e : Effects D) (a b : InputsState) wh
         inputs = here.1;
       }
   cut_before way n false is did =
-      let here : DidOver (Cut (nothing_done n) OfMemory) = subst DidOver is did in record {
+      let here : DidOver (Interrupted (nothing_done n) OfMemory) = subst DidOver is did in record {
         report = here.0.report;
         silent = silent_all e.output.written e.output'.written here.0.printed;
         faults = here.0.output.counted;
@@ -131,7 +131,7 @@ module _ {D : Type 0} (device : Device D) (e : Effects D) (a b : InputsState) wh
   abbrev pub EndsBefore : (Refusal → ℕ → Bool → Type 0) → Type 0
   EndsBefore P = (refusal : Refusal) × (n : ℕ) × (failed : Bool) × P refusal n failed × NotBegun device e a b refusal n failed
 
-  module _ {X Y : Type 0} (files : Option Files) (which : Which) (of : List ℕ → X) (name : List ℕ) (s : ℕ) (k : X → Plan ℕ Y) (f : Y → Plan SoFar ⊥) (way : Way SoFar ⊥) (did : DidOver way) where
+  module _ {X Y : Type 0} (files : Option Files) (which : Which) (of : List ℕ → X) (name : List ℕ) (s : ℕ) (k : X → CommandPlan ℕ Y) (f : Y → CommandPlan Progress ⊥) (way : Way Progress ⊥) (did : DidOver way) where
     -- what the reading of an input leads to: it wasn't read, or it was and the way went on
     abbrev pub ReadsOn : Type 0
     ReadsOn = EndsBefore (IsUnread files which name s) ⊎ ((x : X) × IsInputAs files which of name (WithinLimit x) × Allows (and_then (map_done nothing_done (k x)) f) way)
@@ -148,47 +148,47 @@ module _ {D : Type 0} (device : Device D) (e : Effects D) (a b : InputsState) wh
     there_end true there (inr (inr (inl goes))) = inl (ReadFault, s + 1, true, (there, inr refl, refl), cut_before way (s + 1) true goes did)
     there_end true there (inr (inr (inr h))) = read_end h.0 h.1 h.2
 
-    pub reads_end : Allows (and_then (map_done nothing_done (and_then (reads files which of name s) k)) f) way → ReadsOn
+    pub reads_end : Allows (and_then (map_done nothing_done (and_then (input_plan files which of name s) k)) f) way → ReadsOn
     reads_end (inl goes) = inl (OutOfMemory, s, false, (inl refl, refl), cut_before way s false goes did)
     reads_end (inr h) = there_end h.0 h.1 h.2
 
-  module _ (files : Option Files) (words : SheetWords) (way : Way SoFar ⊥) (did : DidOver way) where
+  module _ (files : Option Files) (words : SheetWords) (way : Way Progress ⊥) (did : DidOver way) where
     -- the sheets gave no head, or one with which it went on
     abbrev HeadsOn : Type 0
-    HeadsOn = EndsBefore (IsHeadless files words) ⊎ ((raw : RawMdb) × AreGood files words raw × Allows (makes device e.disk (new_head raw)) way)
+    HeadsOn = EndsBefore (HasNoHead files words) ⊎ ((raw : RawMdb) × AreGood files words raw × Allows (making_plan device e.disk (new_head raw)) way)
 
     checked_end : (raw : RawMdb) (found : Option Refusal) → AreSheets files words.parameters words.calibrations words.containers raw → found ≡ sheets_refusal raw →
-        Allows (and_then (map_done nothing_done (head_checked 3 raw found)) (makes device e.disk)) way → HeadsOn
+        Allows (and_then (map_done nothing_done (head_checked 3 raw found)) (making_plan device e.disk)) way → HeadsOn
     checked_end raw None are is goes = inr (raw, record { sheets = are; admitted = sym is }, goes)
     checked_end raw (Some refusal) are is goes = inl (refusal, 3, false, inr (inr (inr (raw, are, inl (sym is), refl, refl))), ended_before way 3 refusal goes did)
 
     checks_end : (raw : RawMdb) → AreSheets files words.parameters words.calibrations words.containers raw →
-        Allows (and_then (map_done nothing_done (checks_head 3 raw)) (makes device e.disk)) way → HeadsOn
+        Allows (and_then (map_done nothing_done (checking_plan 3 raw)) (making_plan device e.disk)) way → HeadsOn
     checks_end raw are (inl goes) = inl (OutOfMemory, 3, false, inr (inr (inr (raw, are, inr refl, refl, refl))), cut_before way 3 false goes did)
     checks_end raw are (inr h) = checked_end raw h.0 are h.1 h.2
 
     third_end : (ps cs : List Fields) → IsSheet files words.parameters ps → IsSheet files words.calibrations cs →
-        Allows (and_then (map_done nothing_done (and_then (reads_third files words.containers ps 2 cs) (checks_head 3))) (makes device e.disk)) way → HeadsOn
+        Allows (and_then (map_done nothing_done (and_then (third_sheet_plan files words.containers ps 2 cs) (checking_plan 3))) (making_plan device e.disk)) way → HeadsOn
     third_end ps cs p c goes =
-        elim (reads_end files SheetOctets (λ octets. sheet_of octets) words.containers 2 (λ ks. and_then (gives_sheets ps cs ks) (checks_head 3)) (makes device e.disk) way did
-        (behind (reads_sheet files words.containers 2) (gives_sheets ps cs) (checks_head 3) (makes device e.disk) way goes)) [
+        elim (reads_end files SheetOctets (λ octets. sheet_of octets) words.containers 2 (λ ks. and_then (giving_plan ps cs ks) (checking_plan 3)) (making_plan device e.disk) way did
+        (behind (sheet_plan files words.containers 2) (giving_plan ps cs) (checking_plan 3) (making_plan device e.disk) way goes)) [
           | inl n ↦ inl (n.0, n.1, n.2, inr (inr (inl (has_sheet files words.parameters ps p, has_sheet files words.calibrations cs c, n.3))), n.4)
           | inr h ↦ checks_end (record { parameters = ps; calibrations = cs; containers = h.0 }) (record { parameters_sheet = p; calibrations_sheet = c; containers_sheet = h.1 }) h.2
         ]
 
     second_end : (ps : List Fields) → IsSheet files words.parameters ps →
-        Allows (and_then (map_done nothing_done (and_then (reads_second files words.calibrations words.containers 1 ps) (checks_head 3))) (makes device e.disk)) way → HeadsOn
+        Allows (and_then (map_done nothing_done (and_then (second_sheet_plan files words.calibrations words.containers 1 ps) (checking_plan 3))) (making_plan device e.disk)) way → HeadsOn
     second_end ps p goes =
-        elim (reads_end files SheetOctets (λ octets. sheet_of octets) words.calibrations 1 (λ cs. and_then (reads_third files words.containers ps 2 cs) (checks_head 3)) (makes device e.disk) way did
-        (behind (reads_sheet files words.calibrations 1) (reads_third files words.containers ps 2) (checks_head 3) (makes device e.disk) way goes)) [
+        elim (reads_end files SheetOctets (λ octets. sheet_of octets) words.calibrations 1 (λ cs. and_then (third_sheet_plan files words.containers ps 2 cs) (checking_plan 3)) (making_plan device e.disk) way did
+        (behind (sheet_plan files words.calibrations 1) (third_sheet_plan files words.containers ps 2) (checking_plan 3) (making_plan device e.disk) way goes)) [
           | inl n ↦ inl (n.0, n.1, n.2, inr (inl (has_sheet files words.parameters ps p, n.3)), n.4)
           | inr h ↦ third_end ps h.0 p h.1 h.2
         ]
 
     pub heads_end : Allows (create_plan device e.disk files words) way → HeadsOn
     heads_end goes =
-        elim (reads_end files SheetOctets (λ octets. sheet_of octets) words.parameters 0 (λ ps. and_then (reads_second files words.calibrations words.containers 1 ps) (checks_head 3)) (makes device e.disk) way did
-        (behind (reads_sheet files words.parameters 0) (reads_second files words.calibrations words.containers 1) (checks_head 3) (makes device e.disk) way goes)) [
+        elim (reads_end files SheetOctets (λ octets. sheet_of octets) words.parameters 0 (λ ps. and_then (second_sheet_plan files words.calibrations words.containers 1 ps) (checking_plan 3)) (making_plan device e.disk) way did
+        (behind (sheet_plan files words.parameters 0) (second_sheet_plan files words.calibrations words.containers 1) (checking_plan 3) (making_plan device e.disk) way goes)) [
           | inl n ↦ inl (n.0, n.1, n.2, inl n.3, n.4)
           | inr h ↦ second_end h.0 h.1 h.2
         ]
@@ -251,16 +251,16 @@ unfolding sheets_refusal
 bad_counted raw refusal before now same e = bad_cases (sheets_fault raw) (limit_passed (sheets_database raw)) refusal before now same e
 
 -- why the sheets gave no head, and what that did to the inputs
-pub record Headless (files : Option Files) (words : SheetWords) (a b : InputsState) (refusal : Refusal) : Type 0 where
+pub record IsWithoutHead (files : Option Files) (words : SheetWords) (a b : InputsState) (refusal : Refusal) : Type 0 where
   pub refused : AreRefused files words a.faults b.faults refusal
   pub order : AreInOrder files (create_inputs words) a.given b.given (Some refusal)
   pub counted : ReadsCounted (Some refusal) a.faults b.faults
   pub few : b.given ≤ a.given + 3
 
 module _ (files : Option Files) (words : SheetWords) (a b : InputsState) where
-  unread_headless : (refusal : Refusal) → ReadsCounted (Some refusal) a.faults b.faults →
-      IsRefusal files words.parameters words.calibrations words.containers a.faults b.faults a.given b.given refusal → Headless files words a b refusal
-  unread_headless refusal counted r = record {
+  unread_without_head : (refusal : Refusal) → ReadsCounted (Some refusal) a.faults b.faults →
+      IsRefusal files words.parameters words.calibrations words.containers a.faults b.faults a.given b.given refusal → IsWithoutHead files words a b refusal
+  unread_without_head refusal counted r = record {
     refused = inl (sheets_unread files words.parameters words.calibrations words.containers a.faults b.faults a.given b.given refusal r);
     order = sheets_in_order files words.parameters words.calibrations words.containers [] a.faults b.faults a.given b.given refusal r;
     counted = counted;
@@ -270,29 +270,29 @@ module _ (files : Option Files) (words : SheetWords) (a b : InputsState) where
   few_more : b.given ≡ min (a.given + 3) (2 ^ 64 - 1) → b.given ≤ a.given + 3
   few_more is = omega (arith, is)
 
-  bad_headless : (refusal : Refusal) (raw : RawMdb) → AreSheets files words.parameters words.calibrations words.containers raw → b.faults ≡ a.faults → b.given ≡ given_more 3 a.given →
-      (sheets_refusal raw ≡ Some refusal) ⊎ (refusal ≡ OutOfMemory) → Headless files words a b refusal
-  bad_headless refusal raw are same gave (inl is) = record {
+  bad_without_head : (refusal : Refusal) (raw : RawMdb) → AreSheets files words.parameters words.calibrations words.containers raw → b.faults ≡ a.faults → b.given ≡ given_more 3 a.given →
+      (sheets_refusal raw ≡ Some refusal) ⊎ (refusal ≡ OutOfMemory) → IsWithoutHead files words a b refusal
+  bad_without_head refusal raw are same gave (inl is) = record {
     refused = inr (raw, are, is);
     order = created_in_order files words a.given b.given (Some refusal) raw are;
     counted = bad_counted raw refusal a.faults b.faults same is;
     few = few_more gave;
   }
-  bad_headless refusal raw are same gave (inr is) = subst (λ (r : Refusal). Headless files words a b r) (sym is) (record {
+  bad_without_head refusal raw are same gave (inr is) = subst (λ (r : Refusal). IsWithoutHead files words a b r) (sym is) (record {
     refused = inl (inl tt);
     order = created_in_order files words a.given b.given (Some OutOfMemory) raw are;
     counted = same;
     few = few_more gave;
   })
 
-  headless : (refusal : Refusal) (n : ℕ) (failed : Bool) → UsedInputs a b n failed → IsHeadless files words refusal n failed → Headless files words a b refusal
-  headless refusal n failed used (inl h) =
-      unread_headless refusal (unread_counted files SheetOctets words.parameters 0 a b refusal n failed used h) (inl (sheet_refused files words.parameters 0 a b refusal n failed used h))
-  headless refusal n failed used (inr (inl h)) =
-      unread_headless refusal (unread_counted files SheetOctets words.calibrations 1 a b refusal n failed used h.1) (inr (inl (h.0, sheet_refused files words.calibrations 1 a b refusal n failed used h.1)))
-  headless refusal n failed used (inr (inr (inl h))) =
-      unread_headless refusal (unread_counted files SheetOctets words.containers 2 a b refusal n failed used h.2) (inr (inr (h.0, h.1, sheet_refused files words.containers 2 a b refusal n failed used h.2)))
-  headless refusal n failed used (inr (inr (inr h))) = bad_headless refusal h.0 h.1 (still a b refusal n failed used h.4) (gave_so a b refusal n failed used 3 h.3) h.2
+  without_head : (refusal : Refusal) (n : ℕ) (failed : Bool) → UsedInputs a b n failed → HasNoHead files words refusal n failed → IsWithoutHead files words a b refusal
+  without_head refusal n failed used (inl h) =
+      unread_without_head refusal (unread_counted files SheetOctets words.parameters 0 a b refusal n failed used h) (inl (sheet_refused files words.parameters 0 a b refusal n failed used h))
+  without_head refusal n failed used (inr (inl h)) =
+      unread_without_head refusal (unread_counted files SheetOctets words.calibrations 1 a b refusal n failed used h.1) (inr (inl (h.0, sheet_refused files words.calibrations 1 a b refusal n failed used h.1)))
+  without_head refusal n failed used (inr (inr (inl h))) =
+      unread_without_head refusal (unread_counted files SheetOctets words.containers 2 a b refusal n failed used h.2) (inr (inr (h.0, h.1, sheet_refused files words.containers 2 a b refusal n failed used h.2)))
+  without_head refusal n failed used (inr (inr (inr h))) = bad_without_head refusal h.0 h.1 (still a b refusal n failed used h.4) (gave_so a b refusal n failed used 3 h.3) h.2
 
 -- ---- once the disk was asked
 
@@ -300,7 +300,7 @@ module _ (files : Option Files) (words : SheetWords) (a b : InputsState) where
 pub record NotMade {D : Type 0} (device : Device D) (e : Effects D) (head : Head) : Type 0 where
   pub refusal : Refusal
   pub refused : IsStoreCreateRefusal device e.disk e.disk' refusal
-  pub kept : IsTrue device.is_transparent → HoldsOne (device.reads e.disk) → IsReadAsBefore device e.disk e.disk'
+  pub kept : IsTrue device.is_transparent → BeginsOpen (device.reads e.disk 0) → IsReadAsBefore device e.disk e.disk'
   pub images : IsTrue device.is_transparent → HoldsNone (device.reads e.disk 0) → LeavesOnly device e.disk e.disk' (IsCreateImage (device.images e.disk) head)
   pub report : e.report ≡ unopened (Some refusal)
   pub silent : e.output'.written ≡ e.output.written
@@ -327,13 +327,13 @@ module _ {D : Type 0} (device : Device D) (e : Effects D) where
     closed = λ few known none. (left known).closed none (failed_once used.faults few);
   }
 
-  module _ (head : Head) (way : Way SoFar ⊥) (did : Did device e way) where
+  module _ (head : Head) (way : Way Progress ⊥) (did : HasEffects device e way) where
     abbrev MakesOn : Type 0
     MakesOn = NotMade device e head ⊎ WasPrinted device e (made head) (create_line head.mdb)
 
-    where_end : (there : Bool) → (IsTrue device.is_transparent → HoldsAs (device.reads e.disk) there) → Allows (made_where head there) way → MakesOn
+    where_end : (there : Bool) → (IsTrue device.is_transparent → HasArchiveAs (device.reads e.disk) there) → Allows (after_making head there) way → MakesOn
     where_end true is goes =
-        let did : Did device e (Ended (looked 3) (Some Exists)) = subst (λ (w : Way SoFar ⊥). Did device e w) goes did in
+        let did : HasEffects device e (Stopped (looked 3) (Some Exists)) = subst (λ (w : Way Progress ⊥). HasEffects device e w) goes did in
         let same = no_failed_write device e.disk e.disk' false did.disk.0 in
         inl (record {
           refusal = Exists;
@@ -348,9 +348,9 @@ module _ {D : Type 0} (device : Device D) (e : Effects D) where
         })
     where_end false is goes = inr (prints_end device e (made head) (create_line head.mdb) way refl goes did)
 
-    pub makes_end : Allows (makes device e.disk head) way → MakesOn
+    pub makes_end : Allows (making_plan device e.disk head) way → MakesOn
     makes_end (inl goes) =
-        let did : Did device e (Cut (nothing_done 3) OfMemory) = subst (λ (w : Way SoFar ⊥). Did device e w) goes did in
+        let did : HasEffects device e (Interrupted (nothing_done 3) OfMemory) = subst (λ (w : Way Progress ⊥). HasEffects device e w) goes did in
         inl (record {
           refusal = OutOfMemory;
           refused = did.disk;
@@ -364,7 +364,7 @@ module _ {D : Type 0} (device : Device D) (e : Effects D) where
           wrote = omega (arith, ap (λ (d : D). device.failed_writes d) did.disk);
         })
     makes_end (inr (inl goes)) =
-        let did : Did device e (Cut (making_failed head) OfDisk) = subst (λ (w : Way SoFar ⊥). Did device e w) goes did in
+        let did : HasEffects device e (Interrupted (making_failed head) OfDisk) = subst (λ (w : Way Progress ⊥). HasEffects device e w) goes did in
         let used = did.disk.0 in
         inl (record {
           refusal = DiskFault;
@@ -382,9 +382,9 @@ module _ {D : Type 0} (device : Device D) (e : Effects D) where
 -- ---- what was said by cases follows
 
 -- the sheets gave no head
-pub record WasHeadless {D : Type 0} (device : Device D) (e : Effects D) (files : Option Files) (words : SheetWords) (a b : InputsState) : Type 0 where
+pub record EndedWithoutHead {D : Type 0} (device : Device D) (e : Effects D) (files : Option Files) (words : SheetWords) (a b : InputsState) : Type 0 where
   pub refusal : Refusal
-  pub head : Headless files words a b refusal
+  pub head : IsWithoutHead files words a b refusal
   pub report : e.report ≡ unopened (Some refusal)
   pub silent : e.output'.written ≡ e.output.written
   pub faults : e.output'.faults ≡ e.output.faults
@@ -398,18 +398,18 @@ pub record WasHeaded {D : Type 0} (device : Device D) (e : Effects D) (files : O
   pub came : NotMade device e (new_head raw) ⊎ WasPrinted device e (made (new_head raw)) (create_line (sheets_database raw))
 
 module _ {D : Type 0} (device : Device D) (e : Effects D) (files : Option Files) (words : SheetWords) (a b : InputsState) (ran : RanOver device (create_plan device e.disk files words) e a b) where
-  at_end : WasHeadless device e files words a b ⊎ WasHeaded device e files words a b
+  at_end : EndedWithoutHead device e files words a b ⊎ WasHeaded device e files words a b
   at_end = elim (heads_end device e a b files words ran.way (ran.did, ran.inputs) ran.allows) [
     | inl h ↦ inl (record {
       refusal = h.0;
-      head = headless files words a b h.0 h.1 h.2 h.4.inputs h.3;
+      head = without_head files words a b h.0 h.1 h.2 h.4.inputs h.3;
       report = h.4.report;
       silent = h.4.silent;
       faults = h.4.faults;
       disk = h.4.disk;
     })
     | inr h ↦
-        let each = end_of ReadThree (makes device e.disk (new_head h.0)) ran.way (makes_after device e.disk (new_head h.0)) h.2 in
+        let each = end_of ReadThree (making_plan device e.disk (new_head h.0)) ran.way (makes_after device e.disk (new_head h.0)) h.2 in
         inr (record { raw = h.0; good = h.1; inputs = rw (each.0, each.1) at ran.inputs; came = makes_end device e (new_head h.0) ran.way ran.did h.2 })
   ]
 

@@ -15,16 +15,16 @@ use Rattle.mdb_sheets.specs.Plans.{sheets_plan}
 use Rattle.outer_traits.specs.Outside.{Files}
 use Rattle.archive_store.specs.declared.head.Head.{Head}
 use Rattle.archive_store.specs.Calls.{CrashLeavesHead, IsStoreCreateRefusal}
-use Rattle.command_plans.specs.Plan.{OfMemory, OfInputs, OfDisk, Plan, Way, Gave, Ended, Cut, Allows, EachEnd, IsDetermined, fault_refusal, map_done}
+use Rattle.command_plans.specs.Plan.{OfMemory, OfInputs, OfDisk, CommandPlan, Way, Returned, Stopped, Interrupted, Allows, EachEnd, IsDetermined, interruption_refusal, map_done}
 use Rattle.command_plans.proofs.Plans.{allows_map_done, cut, determined, determined_map_done, end_of, ended, gave}
 use Rattle.command_words.specs.Job.{SheetWords}
-use Rattle.input_plans.specs.Inputs.{ReadAs, WasRead, reading_fault}
+use Rattle.input_plans.specs.Inputs.{AnsweredByPlan, WasRead, reading_fault}
 use Rattle.input_plans.proofs.Readings.{first_not_read, then_not_read, then_read}
 use Rattle.outer_ledgers.proofs.Ledgers.{inputs_unused}
 use Rattle.outer_ledgers.specs.Ledger.{InputsState, UsedInputs, raised_by}
 use Rattle.retrieval.specs.Parameter.{sheets_refusal}
-use Rattle.archive_cli.specs.Command.{SoFar, Effects, Ran, RanOver, failed_at, looked, nothing_done, prints, sources_at}
-use Rattle.archive_cli.specs.Create.{HoldsAs, checks_head, create_plan, head_checked, head_plan, made, made_where, makes, making_failed}
+use Rattle.archive_cli.specs.Command.{Progress, Effects, Ran, RanOver, failed_at, looked, nothing_done, printing_plan, sources_at}
+use Rattle.archive_cli.specs.Create.{HasArchiveAs, checking_plan, create_plan, head_checked, head_plan, made, after_making, making_plan, making_failed}
 use Rattle.archive_cli.specs.CreateEnding.{create_line, new_head}
 use Rattle.archive_cli.specs.Report.{unopened}
 use Rattle.archive_cli.proofs.Commands.{looked_only, no_text}
@@ -37,36 +37,36 @@ none_behind : (before : ℕ) → before ≡ before + 0
 none_behind before = omega arith
 
 module _ (files : Option Files) (words : SheetWords) (a b : InputsState) where
-  abbrev sheets : ℕ → Plan ℕ RawMdb
+  abbrev sheets : ℕ → CommandPlan ℕ RawMdb
   sheets = sheets_plan files words.parameters words.calibrations words.containers
 
   -- the sheets weren't read
-  pub head_unread : (refusal : Refusal) → ReadAs {X = RawMdb} 3 sheets (Err refusal) a b → ReadAs {X = Head} 3 (head_plan files words) (Err refusal) a b
-  head_unread refusal read = first_not_read sheets (λ before. checks_head (before + 3)) refusal 3 3 a b read
+  pub head_unread : (refusal : Refusal) → AnsweredByPlan {X = RawMdb} 3 sheets (Err refusal) a b → AnsweredByPlan {X = Head} 3 (head_plan files words) (Err refusal) a b
+  head_unread refusal read = first_not_read sheets (λ before. checking_plan (before + 3)) refusal 3 3 a b read
 
   module _ (raw : RawMdb) (read : WasRead sheets raw 3 a b) where
     -- there was no memory for the head,
-    pub head_unmade : ReadAs {X = Head} 3 (head_plan files words) (Err OutOfMemory) a b
-    head_unmade = then_not_read sheets checks_head 3 raw a b b read OutOfMemory 0 (inr (record {
+    pub head_unmade : AnsweredByPlan {X = Head} 3 (head_plan files words) (Err OutOfMemory) a b
+    head_unmade = then_not_read sheets checking_plan 3 raw a b b read OutOfMemory 0 (inr (record {
       failed = false;
       sources = 0;
       refusal_is = refl;
-      allows = λ before. subst (λ (s : ℕ). Allows (checks_head before raw) (Cut s OfMemory)) (none_behind before) (inl refl);
+      allows = λ before. subst (λ (s : ℕ). Allows (checking_plan before raw) (Interrupted s OfMemory)) (none_behind before) (inl refl);
       used = inputs_unused b;
     }))
 
     -- the sheets are refused,
-    pub head_bad : (refusal : Refusal) → (sheets_refusal raw ≡ Some refusal) ⊎ (refusal ≡ OutOfMemory) → ReadAs {X = Head} 3 (head_plan files words) (Err refusal) a b
-    head_bad refusal (inl is) = then_not_read sheets checks_head 3 raw a b b read refusal 0 (inl (record {
+    pub head_bad : (refusal : Refusal) → (sheets_refusal raw ≡ Some refusal) ⊎ (refusal ≡ OutOfMemory) → AnsweredByPlan {X = Head} 3 (head_plan files words) (Err refusal) a b
+    head_bad refusal (inl is) = then_not_read sheets checking_plan 3 raw a b b read refusal 0 (inl (record {
       sources = 0;
-      allows = λ before. subst (λ (s : ℕ). Allows (checks_head before raw) (Ended s (Some refusal))) (none_behind before) (inr (Some refusal, sym is, refl));
+      allows = λ before. subst (λ (s : ℕ). Allows (checking_plan before raw) (Stopped s (Some refusal))) (none_behind before) (inr (Some refusal, sym is, refl));
       used = inputs_unused b;
     }))
-    head_bad refusal (inr is) = subst (λ (r : Refusal). ReadAs {X = Head} 3 (head_plan files words) (Err r) a b) (sym is) head_unmade
+    head_bad refusal (inr is) = subst (λ (r : Refusal). AnsweredByPlan {X = Head} 3 (head_plan files words) (Err r) a b) (sym is) head_unmade
 
     -- or they give a head
     pub head_was_read : (head : Head) → sheets_refusal raw ≡ None → head ≡ new_head raw → WasRead (head_plan files words) head 3 a b
-    head_was_read head good is = then_read sheets checks_head 3 raw a b b read head 0 (record { allows = λ before. inr (None, sym good, ap (λ (h : Head). Gave h) is); used = inputs_unused b })
+    head_was_read head good is = then_read sheets checking_plan 3 raw a b b read head 0 (record { allows = λ before. inr (None, sym good, ap (λ (h : Head). Returned h) is); used = inputs_unused b })
 
 -- ---- an archive is made
 
@@ -84,9 +84,9 @@ module _ {D : Type 0} (device : Device D) (e : Effects D) (head : Head) where
   -- no archive was made
   pub ran_unmade : (refusal : Refusal) → IsStoreCreateRefusal device e.disk e.disk' refusal →
       (IsTrue device.is_transparent → BeginsOpen (device.reads e.disk 0) → JournalLeft device e.disk e.disk') → CrashLeavesHead device e.disk e.disk' head → CountsNeverFall device e.disk e.disk' →
-      e.report ≡ unopened (Some refusal) → e.output' ≡ e.output → Ran device (makes device e.disk head) e
+      e.report ≡ unopened (Some refusal) → e.output' ≡ e.output → Ran device (making_plan device e.disk head) e
   ran_unmade Exists refused kept crash counts report silent = record {
-    way = Ended (looked 3) (Some Exists);
+    way = Stopped (looked 3) (Some Exists);
     allows = inr (inr (true, λ known. (refused.0 known).0, refl));
     did = record {
       report = report;
@@ -96,7 +96,7 @@ module _ {D : Type 0} (device : Device D) (e : Effects D) (head : Head) where
     };
   }
   ran_unmade DiskFault refused kept crash counts report silent = record {
-    way = Cut (making_failed head) OfDisk;
+    way = Interrupted (making_failed head) OfDisk;
     allows = inr (inl refl);
     did = record {
       report = report;
@@ -113,26 +113,26 @@ module _ {D : Type 0} (device : Device D) (e : Effects D) (head : Head) where
     };
   }
   ran_unmade OutOfMemory refused kept crash counts report silent = record {
-    way = Cut (nothing_done 3) OfMemory;
+    way = Interrupted (nothing_done 3) OfMemory;
     allows = inl refl;
     did = record { report = report; printed = rw silent (no_text e.output.written); output = record { counted = rw silent refl }; disk = refused };
   }
   ran_unmade other refused kept crash counts report silent = absurd refused
 
   -- one was made, and its line printed
-  pub ran_made : (IsTrue device.is_transparent → HoldsNone (device.reads e.disk 0)) → Ran device (prints (made head) (create_line head.mdb)) e → Ran device (makes device e.disk head) e
+  pub ran_made : (IsTrue device.is_transparent → HoldsNone (device.reads e.disk 0)) → Ran device (printing_plan (made head) (create_line head.mdb)) e → Ran device (making_plan device e.disk head) e
   ran_made none ran = record { way = ran.way; allows = inr (inr (false, none, ran.allows)); did = ran.did }
 
 -- ---- over inputs
 
 -- three sources were given, and no call of the inputs failed
-abbrev pub ReadThree : Way SoFar ⊥ → Type 0
+abbrev pub ReadThree : Way Progress ⊥ → Type 0
 ReadThree way = (sources_at way ≡ 3) × (failed_at way OfInputs ≡ false)
 
-pub makes_after : {D : Type 0} (device : Device D) (disk : D) (head : Head) → EachEnd ReadThree (makes device disk head)
+pub makes_after : {D : Type 0} (device : Device D) (disk : D) (head : Head) → EachEnd ReadThree (making_plan device disk head)
 makes_after device disk head = ((refl, refl), ((refl, refl), λ there h. each there))
   where
-    each : (there : Bool) → EachEnd ReadThree (made_where head there)
+    each : (there : Bool) → EachEnd ReadThree (after_making head there)
     each true = (refl, refl)
     each false = ((refl, refl), (refl, refl))
 
@@ -140,24 +140,24 @@ none_before : (n : ℕ) → n ≡ 0 + n
 none_before n = omega arith
 
 module _ {D : Type 0} (device : Device D) (e : Effects D) (files : Option Files) (words : SheetWords) (a b : InputsState) where
-  abbrev heads : Plan SoFar Head
+  abbrev heads : CommandPlan Progress Head
   heads = map_done nothing_done (head_plan files words 0)
 
   -- the sheets gave a head, and its archive was made or wasn't
-  pub ran_headed : (head : Head) → WasRead (head_plan files words) head 3 a b → Ran device (makes device e.disk head) e → RanOver device (create_plan device e.disk files words) e a b
+  pub ran_headed : (head : Head) → WasRead (head_plan files words) head 3 a b → Ran device (making_plan device e.disk head) e → RanOver device (create_plan device e.disk files words) e a b
   ran_headed head read ran =
-      let each = end_of ReadThree (makes device e.disk head) ran.way (makes_after device e.disk head) ran.allows in record {
+      let each = end_of ReadThree (making_plan device e.disk head) ran.way (makes_after device e.disk head) ran.allows in record {
         way = ran.way;
-        allows = gave heads (makes device e.disk) head ran.way (allows_map_done nothing_done (head_plan files words 0) (Gave head) (read.allows 0)) ran.allows;
+        allows = gave heads (making_plan device e.disk) head ran.way (allows_map_done nothing_done (head_plan files words 0) (Returned head) (read.allows 0)) ran.allows;
         did = ran.did;
         inputs = rw (each.0, each.1) read.used;
       }
 
-  cut_off : (failed : Bool) (n : ℕ) (refusal : Refusal) → refusal ≡ fault_refusal (reading_fault failed) → Allows (head_plan files words 0) (Cut (0 + n) (reading_fault failed)) →
+  cut_off : (failed : Bool) (n : ℕ) (refusal : Refusal) → refusal ≡ interruption_refusal (reading_fault failed) → Allows (head_plan files words 0) (Interrupted (0 + n) (reading_fault failed)) →
       UsedInputs a b n failed → e.report ≡ unopened (Some refusal) → e.disk' ≡ e.disk → e.output' ≡ e.output → RanOver device (create_plan device e.disk files words) e a b
   cut_off true n refusal is allows used report same silent = record {
-    way = Cut (nothing_done (0 + n)) OfInputs;
-    allows = cut heads (makes device e.disk) (nothing_done (0 + n)) OfInputs (allows_map_done nothing_done (head_plan files words 0) (Cut (0 + n) OfInputs) allows);
+    way = Interrupted (nothing_done (0 + n)) OfInputs;
+    allows = cut heads (making_plan device e.disk) (nothing_done (0 + n)) OfInputs (allows_map_done nothing_done (head_plan files words 0) (Interrupted (0 + n) OfInputs) allows);
     did = record {
       report = report ∙ ap (λ (r : Refusal). unopened (Some r)) is;
       printed = rw silent (no_text e.output.written);
@@ -167,8 +167,8 @@ module _ {D : Type 0} (device : Device D) (e : Effects D) (files : Option Files)
     inputs = subst (λ (s : ℕ). UsedInputs a b s true) (none_before n) used;
   }
   cut_off false n refusal is allows used report same silent = record {
-    way = Cut (nothing_done (0 + n)) OfMemory;
-    allows = cut heads (makes device e.disk) (nothing_done (0 + n)) OfMemory (allows_map_done nothing_done (head_plan files words 0) (Cut (0 + n) OfMemory) allows);
+    way = Interrupted (nothing_done (0 + n)) OfMemory;
+    allows = cut heads (making_plan device e.disk) (nothing_done (0 + n)) OfMemory (allows_map_done nothing_done (head_plan files words 0) (Interrupted (0 + n) OfMemory) allows);
     did = record {
       report = report ∙ ap (λ (r : Refusal). unopened (Some r)) is;
       printed = rw silent (no_text e.output.written);
@@ -179,12 +179,12 @@ module _ {D : Type 0} (device : Device D) (e : Effects D) (files : Option Files)
   }
 
   -- they were refused
-  pub ran_headless : (refusal : Refusal) → ReadAs {X = Head} 3 (head_plan files words) (Err refusal) a b → e.report ≡ unopened (Some refusal) → e.disk' ≡ e.disk → e.output' ≡ e.output →
+  pub ran_headless : (refusal : Refusal) → AnsweredByPlan {X = Head} 3 (head_plan files words) (Err refusal) a b → e.report ≡ unopened (Some refusal) → e.disk' ≡ e.disk → e.output' ≡ e.output →
       RanOver device (create_plan device e.disk files words) e a b
   ran_headless refusal (inl r) report same silent = record {
-    way = Ended (nothing_done (0 + r.sources)) (Some refusal);
-    allows = ended heads (makes device e.disk) (nothing_done (0 + r.sources)) (Some refusal)
-        (allows_map_done nothing_done (head_plan files words 0) (Ended (0 + r.sources) (Some refusal)) (r.allows 0));
+    way = Stopped (nothing_done (0 + r.sources)) (Some refusal);
+    allows = ended heads (making_plan device e.disk) (nothing_done (0 + r.sources)) (Some refusal)
+        (allows_map_done nothing_done (head_plan files words 0) (Stopped (0 + r.sources) (Some refusal)) (r.allows 0));
     did = record { report = report; printed = rw silent (no_text e.output.written); output = record { counted = rw silent refl }; disk = same };
     inputs = subst (λ (s : ℕ). UsedInputs a b s false) (none_before r.sources) r.used;
   }
@@ -192,23 +192,23 @@ module _ {D : Type 0} (device : Device D) (e : Effects D) (files : Option Files)
 
 -- ---- which answer is due
 
-checks_determined : (sources : ℕ) (raw : RawMdb) → IsDetermined (checks_head sources raw)
+checks_determined : (sources : ℕ) (raw : RawMdb) → IsDetermined (checking_plan sources raw)
 checks_determined sources raw = (λ a b h k. h ∙ sym k, λ found h. each found)
   where
     each : (found : Option Refusal) → IsDetermined (head_checked sources raw found)
     each None = tt
     each (Some refusal) = tt
 
-holds_once : (image : Image) (a b : Bool) → HoldsAs image a → HoldsAs image b → a ≡ b
+holds_once : (image : Image) (a b : Bool) → HasArchiveAs image a → HasArchiveAs image b → a ≡ b
 holds_once image true true h k = refl
 holds_once image false false h k = refl
 holds_once image true false h k = absurd (one-not-none (image 0) h.0 h.1 k)
 holds_once image false true h k = absurd (one-not-none (image 0) k.0 k.1 h)
 
-makes_determined : {D : Type 0} (device : Device D) (disk : D) (head : Head) → IsTrue device.is_transparent → IsDetermined (makes device disk head)
+makes_determined : {D : Type 0} (device : Device D) (disk : D) (head : Head) → IsTrue device.is_transparent → IsDetermined (making_plan device disk head)
 makes_determined device disk head known = (λ a b h k. holds_once (device.reads disk) a b (h known) (k known), λ there h. each there)
   where
-    each : (there : Bool) → IsDetermined (made_where head there)
+    each : (there : Bool) → IsDetermined (after_making head there)
     each true = tt
     each false = tt
 
@@ -216,8 +216,8 @@ pub create_determined : {D : Type 0} (device : Device D) (disk : D) (files : Opt
     IsDetermined (create_plan device disk files words)
 create_determined device disk None words known some = absurd (cc (some))
 create_determined device disk (Some all) words known some =
-    determined (map_done nothing_done (head_plan (Some all) words 0)) (makes device disk)
+    determined (map_done nothing_done (head_plan (Some all) words 0)) (making_plan device disk)
     (determined_map_done nothing_done (head_plan (Some all) words 0)
-    (determined (sheets_plan (Some all) words.parameters words.calibrations words.containers 0) (checks_head (0 + 3))
+    (determined (sheets_plan (Some all) words.parameters words.calibrations words.containers 0) (checking_plan (0 + 3))
     (sheets_determined all words.parameters words.calibrations words.containers 0) (checks_determined (0 + 3))))
     (λ head. makes_determined device disk head known)

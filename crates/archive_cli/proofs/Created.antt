@@ -8,6 +8,7 @@ use Rattle.arch_types.specs.declared.refusal.Refusal.{Refusal}
 use Rattle.arch_types.specs.declared.refusal.Refusal.TheVariants.{Missing, ReadFault, Limit, BadSheet, Exists, DiskFault, OutOfMemory, WriteFault}
 use Rattle.archive_core.specs.declared.fills.Fill.{Fill}
 use Rattle.archive_core.specs.Items.{Item}
+use Rattle.disk_journal.specs.Calls.{BeginsOpen}
 use Rattle.disk_journal.specs.Format.{HoldsNone}
 use Rattle.disk_journal.specs.State.{IsUntouched as JournalLeft}
 use Rattle.mdb_items.specs.declared.fault.MdbFault.{MdbFault}
@@ -28,7 +29,7 @@ use Rattle.archive_cli.specs.declared.report.Report.{Report}
 use Rattle.archive_cli.specs.Call.{Call, WritesNothing}
 use Rattle.dump_lines.specs.Output.{WritesCounted, IsFinished}
 use Rattle.archive_cli.specs.ReadOnly.{IsReadAsBefore}
-use Rattle.archive_cli.specs.CreateEnding.{AreGood, AreRefused, create_line, HoldsOne, IsCreateEnding, IsMade, new_head}
+use Rattle.archive_cli.specs.CreateEnding.{AreGood, AreRefused, create_line, IsCreateEnding, IsMade, new_head}
 use Rattle.command_words.specs.Job.{SheetWords}
 use Rattle.retrieval.specs.Parameter.{broken_rule, passed_limit, refusal_of_sheets, sheets_refusal}
 use Rattle.archive_cli.specs.Durable.{FailedAtMostOnce}
@@ -132,7 +133,7 @@ fewer_than_two device old new one = few (device.fault_count old) (device.fault_c
     few before now most below = omega (arith, most, below)
 
 unmade_cases : {D : Type 0} (device : Device D) (call : Call) (words : SheetWords) (old new : D) (raw : RawMdb) (refusal : Refusal) → AreGood call.files words raw → WritesNothing call →
-    IsTrue device.is_transparent → IsStoreCreateRefusal device old new refusal → (HoldsOne (device.reads old) → IsReadAsBefore device old new) →
+    IsTrue device.is_transparent → IsStoreCreateRefusal device old new refusal → (BeginsOpen (device.reads old 0) → IsReadAsBefore device old new) →
     (HoldsNone (device.reads old 0) → LeavesOnly device old new (IsCreateImage (device.images old) (new_head raw))) → IsCreateEnding device call words old new (Some refusal) (unopened (Some refusal))
 unmade_cases device call words old new raw Exists good silent known refused kept images =
     let held = (refused.0 known).0 in record { raw = raw; good = good; there = held; disk = kept held; silent = silent; report_is = refl }
@@ -154,7 +155,7 @@ unmade_cases device call words old new raw other good silent known refused kept 
 
 -- no archive was made
 pub create_unmade : {D : Type 0} (device : Device D) (call : Call) (words : SheetWords) (old new : D) (raw : RawMdb) (refusal : Refusal) (report : Report) → report ≡ unopened (Some refusal) →
-    AreGood call.files words raw → WritesNothing call → IsTrue device.is_transparent → IsStoreCreateRefusal device old new refusal → (HoldsOne (device.reads old) → IsReadAsBefore device old new) →
+    AreGood call.files words raw → WritesNothing call → IsTrue device.is_transparent → IsStoreCreateRefusal device old new refusal → (BeginsOpen (device.reads old 0) → IsReadAsBefore device old new) →
     (HoldsNone (device.reads old 0) → LeavesOnly device old new (IsCreateImage (device.images old) (new_head raw))) → IsCreateEnding device call words old new report.refusal report
 create_unmade device call words old new raw refusal report is good silent known refused kept images =
     subst (λ (r : Report). IsCreateEnding device call words old new r.refusal r) (sym is) (unmade_cases device call words old new raw refusal good silent known refused kept images)

@@ -8,11 +8,11 @@ use Rattle.disk_journal.specs.Calls.{IsJournalOpenFailed}
 use Rattle.archive_store.specs.Calls.{IsStoreOpenRefusal}
 use Rattle.archive_store.specs.Entries.{Archive}
 use Rattle.archive_store.specs.Stands.{StandsFor}
-use Rattle.command_plans.specs.Plan.{OfMemory, OfDisk, OfOutput, Plan, Way, Ended, Cut, Allows, and_then}
+use Rattle.command_plans.specs.Plan.{OfMemory, OfDisk, OfOutput, CommandPlan, Way, Stopped, Interrupted, Allows, and_then}
 use Rattle.dump_lines.specs.Output.{Appends, IsFinished, WritesCounted}
 use Rattle.outer_ledgers.specs.Ledger.{Counted, UsedDisk}
 use Rattle.outer_ledgers.proofs.Ledgers.{counted_risen, counted_later, no_failed_write, one_write, rose_later}
-use Rattle.archive_cli.specs.Command.{SoFar, Became, looked, look_failed, Effects, Did, Held, NoneHeld, DamageHeld, ArchiveHeld, IsHeld, opens, opens_held, prints}
+use Rattle.archive_cli.specs.Command.{Progress, HasOutcome, looked, look_failed, Effects, HasEffects, OpeningResult, NoneFound, DamageFound, ArchiveFound, IsOpeningResult, opening_plan, after_opening, printing_plan}
 use Rattle.archive_cli.specs.ReadOnly.{IsReadAsBefore}
 use Rattle.archive_cli.specs.Report.{unopened}
 
@@ -27,13 +27,13 @@ pub record NotOpened {D : Type 0} (device : Device D) (e : Effects D) : Type 0 w
   pub later : device.fault_count e.disk ≤ device.fault_count e.disk'
 
 -- a text was printed, or some of it
-pub record WasPrinted {D : Type 0} (device : Device D) (e : Effects D) (s : SoFar) (text : List ℕ) : Type 0 where
+pub record WasPrinted {D : Type 0} (device : Device D) (e : Effects D) (s : Progress) (text : List ℕ) : Type 0 where
   pub refusal : Option Refusal
   pub report : e.report ≡ record s.report { refusal = refusal }
   pub finished : IsFinished refusal e.output.written e.output'.written text
   pub later : e.output.faults ≤ e.output'.faults
   pub counted : WritesCounted refusal e.output.faults e.output'.faults
-  pub disk : Became device e.disk e.disk' (s.failed OfDisk) s.disk
+  pub disk : HasOutcome device e.disk e.disk' (s.failed OfDisk) s.disk
 
 -- a text of no octets was printed
 pub silent_all : (old new : Option (List ℕ)) → Appends old new [] → new ≡ old
@@ -47,11 +47,11 @@ module _ {D : Type 0} (device : Device D) (e : Effects D) where
     wrote_most = one_write used.writes.0 (device.failed_writes e.disk) (device.failed_writes e.disk') used.writes.2 used.writes.3;
   }
 
-  module _ (sources : ℕ) (f : Archive → Plan SoFar ⊥) (way : Way SoFar ⊥) where
-    held_end : (held : Held) → (IsTrue device.is_transparent → IsHeld (device.reads e.disk) held) → Allows (and_then (opens_held sources held) f) way → Did device e way →
+  module _ (sources : ℕ) (f : Archive → CommandPlan Progress ⊥) (way : Way Progress ⊥) where
+    held_end : (held : OpeningResult) → (IsTrue device.is_transparent → IsOpeningResult (device.reads e.disk) held) → Allows (and_then (after_opening sources held) f) way → HasEffects device e way →
         NotOpened device e ⊎ ((archive : Archive) × (IsTrue device.is_transparent → StandsFor (device.reads e.disk) archive) × Allows (f archive) way)
-    held_end NoneHeld is goes did =
-        let did : Did device e (Ended (looked sources) (Some NoArchive)) = subst (λ (w : Way SoFar ⊥). Did device e w) goes did in
+    held_end NoneFound is goes did =
+        let did : HasEffects device e (Stopped (looked sources) (Some NoArchive)) = subst (λ (w : Way Progress ⊥). HasEffects device e w) goes did in
         inl (record {
           refusal = NoArchive;
           refused = (is, no_failed_write device e.disk e.disk' false did.disk.0);
@@ -61,8 +61,8 @@ module _ {D : Type 0} (device : Device D) (e : Effects D) where
           disk = did.disk.1;
           later = did.disk.0.faults;
         })
-    held_end (DamageHeld file at) is goes did =
-        let did : Did device e (Ended (looked sources) (Some (Damaged file at))) = subst (λ (w : Way SoFar ⊥). Did device e w) goes did in
+    held_end (DamageFound file at) is goes did =
+        let did : HasEffects device e (Stopped (looked sources) (Some (Damaged file at))) = subst (λ (w : Way Progress ⊥). HasEffects device e w) goes did in
         inl (record {
           refusal = Damaged file at;
           refused = (is, no_failed_write device e.disk e.disk' false did.disk.0);
@@ -72,13 +72,13 @@ module _ {D : Type 0} (device : Device D) (e : Effects D) where
           disk = did.disk.1;
           later = did.disk.0.faults;
         })
-    held_end (ArchiveHeld archive) is goes did = inr (archive, is, goes)
+    held_end (ArchiveFound archive) is goes did = inr (archive, is, goes)
 
     -- an opening was refused, or an archive was opened and it went on
-    pub opens_end : Allows (and_then (opens sources device e.disk) f) way → Did device e way →
+    pub opens_end : Allows (and_then (opening_plan sources device e.disk) f) way → HasEffects device e way →
         NotOpened device e ⊎ ((archive : Archive) × (IsTrue device.is_transparent → StandsFor (device.reads e.disk) archive) × Allows (f archive) way)
     opens_end (inl goes) did =
-        let did : Did device e (Cut (looked sources) OfMemory) = subst (λ (w : Way SoFar ⊥). Did device e w) goes did in
+        let did : HasEffects device e (Interrupted (looked sources) OfMemory) = subst (λ (w : Way Progress ⊥). HasEffects device e w) goes did in
         inl (record {
           refusal = OutOfMemory;
           refused = no_failed_write device e.disk e.disk' false did.disk.0;
@@ -89,7 +89,7 @@ module _ {D : Type 0} (device : Device D) (e : Effects D) where
           later = did.disk.0.faults;
         })
     opens_end (inr (inl goes)) did =
-        let did : Did device e (Cut (look_failed sources) OfDisk) = subst (λ (w : Way SoFar ⊥). Did device e w) goes did in
+        let did : HasEffects device e (Interrupted (look_failed sources) OfDisk) = subst (λ (w : Way Progress ⊥). HasEffects device e w) goes did in
         inl (record {
           refusal = DiskFault;
           refused = look_failed_is did.disk.0;
@@ -102,9 +102,9 @@ module _ {D : Type 0} (device : Device D) (e : Effects D) where
     opens_end (inr (inr h)) did = held_end h.0 h.1 h.2 did
 
   -- a text was printed whole, or a write failed in it
-  pub prints_end : (s : SoFar) (text : List ℕ) (way : Way SoFar ⊥) → s.failed OfOutput ≡ false → Allows (prints s text) way → Did device e way → WasPrinted device e s text
+  pub prints_end : (s : Progress) (text : List ℕ) (way : Way Progress ⊥) → s.failed OfOutput ≡ false → Allows (printing_plan s text) way → HasEffects device e way → WasPrinted device e s text
   prints_end s text way none (inl goes) did =
-      let did : Did device e (Cut (record s { text = text; is_whole = false }) OfOutput) = subst (λ (w : Way SoFar ⊥). Did device e w) goes did in record {
+      let did : HasEffects device e (Interrupted (record s { text = text; is_whole = false }) OfOutput) = subst (λ (w : Way Progress ⊥). HasEffects device e w) goes did in record {
         refusal = Some WriteFault;
         report = did.report;
         finished = did.printed;
@@ -113,7 +113,7 @@ module _ {D : Type 0} (device : Device D) (e : Effects D) where
         disk = did.disk;
       }
   prints_end s text way none (inr goes) did =
-      let did : Did device e (Ended (record s { text = text; is_whole = true }) None) = subst (λ (w : Way SoFar ⊥). Did device e w) goes did in
+      let did : HasEffects device e (Stopped (record s { text = text; is_whole = true }) None) = subst (λ (w : Way Progress ⊥). HasEffects device e w) goes did in
       let still : Counted false e.output.faults e.output'.faults = subst (λ (b : Bool). Counted b e.output.faults e.output'.faults) none did.output.counted in record {
         refusal = None;
         report = did.report;

@@ -6,7 +6,7 @@ use Rattle.arch_types.specs.declared.refusal.Refusal.TheVariants.{DiskFault, Out
 use Rattle.archive_store.specs.Entries.{Archive}
 use Rattle.archive_store.proofs.Calls.{open_counted}
 use Rattle.archive_store.proofs.Exact.{stands_once, stands_not_damaged, damaged_once, none_not_damaged, none_not_stands}
-use Rattle.command_plans.specs.Plan.{OfMemory, OfInputs, Way, Cut, Allows, EachEnd, IsDetermined}
+use Rattle.command_plans.specs.Plan.{OfMemory, OfInputs, Way, Interrupted, Allows, EachEnd, IsDetermined}
 use Rattle.command_plans.proofs.Plans.{determined, each_end, end_of}
 use Rattle.dump_lines.specs.Output.{WritesCounted}
 use Rattle.mdb_sheets.specs.Sheets.{ReadsCounted}
@@ -15,10 +15,10 @@ use Rattle.outer_ledgers.proofs.Ledgers.{inputs_unused, no_failed_write}
 use Rattle.archive_cli.specs.declared.report.Report.{Report}
 use Rattle.archive_cli.specs.Call.{Call}
 use Rattle.archive_cli.specs.Caused.{IsRecoverCaused}
-use Rattle.archive_cli.specs.Command.{SoFar, nothing_done, opened_so_far, Effects, Ran, RanOver, Did, failed_at, sources_at, Held, NoneHeld, DamageHeld, ArchiveHeld, IsHeld, opens, opens_held}
+use Rattle.archive_cli.specs.Command.{Progress, nothing_done, archive_opened, Effects, Ran, RanOver, HasEffects, failed_at, sources_at, OpeningResult, NoneFound, DamageFound, ArchiveFound, IsOpeningResult, opening_plan, after_opening}
 use Rattle.archive_cli.specs.DiskWrites.{OneAtMost}
 use Rattle.archive_cli.specs.ReadOnly.{IsReadAsBefore}
-use Rattle.archive_cli.specs.Recover.{recover_plan, recovers}
+use Rattle.archive_cli.specs.Recover.{recover_plan, recovering_plan}
 use Rattle.archive_cli.specs.RecoverEnding.{IsRecoverEnding, recover_line}
 use Rattle.archive_cli.specs.Report.{IsReadOnlyReport}
 use Rattle.archive_cli.proofs.Caused.{not_recovered_cause, recovered_cause}
@@ -31,10 +31,10 @@ use Rattle.archive_cli.proofs.Recovered.{finished_disk, finished_reads, not_read
 
 module _ {D : Type 0} (device : Device D) (e : Effects D) where
   -- it opened no archive, or printed the line of one
-  recover_end : (way : Way SoFar ⊥) → Allows (recover_plan device e.disk) way → Did device e way →
-      NotOpened device e ⊎ ((archive : Archive) × WasPrinted device e (opened_so_far 0 archive) (recover_line (length archive.history)))
+  recover_end : (way : Way Progress ⊥) → Allows (recover_plan device e.disk) way → HasEffects device e way →
+      NotOpened device e ⊎ ((archive : Archive) × WasPrinted device e (archive_opened 0 archive) (recover_line (length archive.history)))
   recover_end way (inl goes) did =
-      let did : Did device e (Cut (nothing_done 0) OfMemory) = subst (λ (w : Way SoFar ⊥). Did device e w) goes did in
+      let did : HasEffects device e (Interrupted (nothing_done 0) OfMemory) = subst (λ (w : Way Progress ⊥). HasEffects device e w) goes did in
       inl (record {
         refusal = OutOfMemory;
         refused = ap (λ (d : D). device.failed_writes d) did.disk;
@@ -44,15 +44,15 @@ module _ {D : Type 0} (device : Device D) (e : Effects D) where
         disk = λ known. subst (λ (d : D). IsReadAsBefore device e.disk d) (sym did.disk) (untouched device e.disk);
         later = omega (arith, ap (λ (d : D). device.fault_count d) did.disk);
       })
-  recover_end way (inr goes) did = elim (opens_end device e 0 recovers way goes did) [
+  recover_end way (inr goes) did = elim (opens_end device e 0 recovering_plan way goes did) [
     | inl n ↦ inl n
-    | inr h ↦ inr (h.0, prints_end device e (opened_so_far 0 h.0) (recover_line (length h.0.history)) way refl h.2 did)
+    | inr h ↦ inr (h.0, prints_end device e (archive_opened 0 h.0) (recover_line (length h.0.history)) way refl h.2 did)
   ]
 
 -- ---- what was said by cases follows
 
 module _ {D : Type 0} (device : Device D) (e : Effects D) (ran : Ran device (recover_plan device e.disk) e) where
-  at_end : NotOpened device e ⊎ ((archive : Archive) × WasPrinted device e (opened_so_far 0 archive) (recover_line (length archive.history)))
+  at_end : NotOpened device e ⊎ ((archive : Archive) × WasPrinted device e (archive_opened 0 archive) (recover_line (length archive.history)))
   at_end = recover_end device e ran.way ran.allows ran.did
 
   -- for each answer its cause, what was written and what became of the disk
@@ -117,44 +117,44 @@ module _ {D : Type 0} (device : Device D) (e : Effects D) (ran : Ran device (rec
 
 -- ---- which answer is due
 
-pub held_once : {D : Type 0} (device : Device D) (disk : D) (a b : Held) → IsHeld (device.reads disk) a → IsHeld (device.reads disk) b → a ≡ b
-held_once device disk NoneHeld NoneHeld h k = refl
-held_once device disk NoneHeld (DamageHeld file at) h k = absurd (none_not_damaged (device.reads disk) at h k.1)
-held_once device disk NoneHeld (ArchiveHeld archive) h k = absurd (none_not_stands (device.reads disk) archive h k)
-held_once device disk (DamageHeld file at) NoneHeld h k = absurd (none_not_damaged (device.reads disk) at k h.1)
-held_once device disk (DamageHeld file at) (DamageHeld other there) h k =
+pub held_once : {D : Type 0} (device : Device D) (disk : D) (a b : OpeningResult) → IsOpeningResult (device.reads disk) a → IsOpeningResult (device.reads disk) b → a ≡ b
+held_once device disk NoneFound NoneFound h k = refl
+held_once device disk NoneFound (DamageFound file at) h k = absurd (none_not_damaged (device.reads disk) at h k.1)
+held_once device disk NoneFound (ArchiveFound archive) h k = absurd (none_not_stands (device.reads disk) archive h k)
+held_once device disk (DamageFound file at) NoneFound h k = absurd (none_not_damaged (device.reads disk) at k h.1)
+held_once device disk (DamageFound file at) (DamageFound other there) h k =
     let one : file ≡ other = h.0 ∙ sym k.0 in let two : at ≡ there = damaged_once (device.reads disk) at there h.1 k.1 in cc
-held_once device disk (DamageHeld file at) (ArchiveHeld archive) h k = absurd (stands_not_damaged (device.reads disk) archive at k h.1)
-held_once device disk (ArchiveHeld archive) NoneHeld h k = absurd (none_not_stands (device.reads disk) archive k h)
-held_once device disk (ArchiveHeld archive) (DamageHeld file at) h k = absurd (stands_not_damaged (device.reads disk) archive at h k.1)
-held_once device disk (ArchiveHeld archive) (ArchiveHeld other) h k = ap ArchiveHeld (stands_once (device.reads disk) archive other h k)
+held_once device disk (DamageFound file at) (ArchiveFound archive) h k = absurd (stands_not_damaged (device.reads disk) archive at k h.1)
+held_once device disk (ArchiveFound archive) NoneFound h k = absurd (none_not_stands (device.reads disk) archive k h)
+held_once device disk (ArchiveFound archive) (DamageFound file at) h k = absurd (stands_not_damaged (device.reads disk) archive at h k.1)
+held_once device disk (ArchiveFound archive) (ArchiveFound other) h k = ap ArchiveFound (stands_once (device.reads disk) archive other h k)
 
 -- an opening is determined where the disk is transparent
-pub opens_determined : {D : Type 0} (sources : ℕ) (device : Device D) (disk : D) → IsTrue device.is_transparent → IsDetermined (opens sources device disk)
+pub opens_determined : {D : Type 0} (sources : ℕ) (device : Device D) (disk : D) → IsTrue device.is_transparent → IsDetermined (opening_plan sources device disk)
 opens_determined sources device disk known = (λ a b h k. held_once device disk a b (h known) (k known), λ held h. each held)
   where
-    each : (held : Held) → IsDetermined (opens_held sources held)
-    each NoneHeld = tt
-    each (DamageHeld file at) = tt
-    each (ArchiveHeld archive) = tt
+    each : (held : OpeningResult) → IsDetermined (after_opening sources held)
+    each NoneFound = tt
+    each (DamageFound file at) = tt
+    each (ArchiveFound archive) = tt
 
 pub recover_determined : {D : Type 0} (device : Device D) (disk : D) → IsTrue device.is_transparent → IsDetermined (recover_plan device disk)
-recover_determined device disk known = determined (opens 0 device disk) recovers (opens_determined 0 device disk known) (λ archive. tt)
+recover_determined device disk known = determined (opening_plan 0 device disk) recovering_plan (opens_determined 0 device disk known) (λ archive. tt)
 
 -- ---- inputs
 
 -- no source was given, and no call of the inputs failed
-abbrev AsksNoInputs : Way SoFar ⊥ → Type 0
+abbrev AsksNoInputs : Way Progress ⊥ → Type 0
 AsksNoInputs way = (sources_at way ≡ 0) × (failed_at way OfInputs ≡ false)
 
 recover_asks_none : {D : Type 0} (device : Device D) (disk : D) → EachEnd AsksNoInputs (recover_plan device disk)
 recover_asks_none device disk =
-    ((refl, refl), each_end AsksNoInputs (opens 0 device disk) recovers ((refl, refl), ((refl, refl), λ held h. each held)) (λ archive. ((refl, refl), (refl, refl))))
+    ((refl, refl), each_end AsksNoInputs (opening_plan 0 device disk) recovering_plan ((refl, refl), ((refl, refl), λ held h. each held)) (λ archive. ((refl, refl), (refl, refl))))
   where
-    each : (held : Held) → EachEnd AsksNoInputs (opens_held 0 held)
-    each NoneHeld = (refl, refl)
-    each (DamageHeld file at) = (refl, refl)
-    each (ArchiveHeld archive) = tt
+    each : (held : OpeningResult) → EachEnd AsksNoInputs (after_opening 0 held)
+    each NoneFound = (refl, refl)
+    each (DamageFound file at) = (refl, refl)
+    each (ArchiveFound archive) = tt
 
 -- it went so over any inputs, of which it asks nothing
 pub recover_over : {D : Type 0} (device : Device D) (e : Effects D) → Ran device (recover_plan device e.disk) e → (state : InputsState) →

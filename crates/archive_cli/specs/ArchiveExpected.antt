@@ -8,6 +8,7 @@ use Rattle.arch_types.specs.declared.refusal.Sheet.TheVariants as sheet
 use Rattle.arch_types.specs.declared.refusal.Which.TheVariants.{SheetOctets}
 use Rattle.arch_types.specs.declared.refusal.Which.TheVariants as which
 use Rattle.arch_types.specs.Limits.{limit_of}
+use Rattle.disk_journal.specs.Calls.{BeginsOpen}
 use Rattle.disk_journal.specs.Format.{HoldsNone}
 use Rattle.mdb_items.specs.declared.sheet.RawMdb.{RawMdb}
 use Rattle.mdb_items.specs.Checks.{or_else}
@@ -19,7 +20,6 @@ use Rattle.archive_store.specs.Entries.{Archive}
 use Rattle.archive_store.specs.Stands.{StandsFor, IsArchiveDamagedAt}
 use Rattle.retrieval.specs.AnswerText.{asks_refusal}
 use Rattle.archive_cli.specs.Call.{Call}
-use Rattle.archive_cli.specs.CreateEnding.{HoldsOne}
 use Rattle.archive_cli.specs.Expecting.{IsOrMemory, NoFault}
 use Rattle.command_words.specs.Job.{SheetWords}
 use Rattle.retrieval.specs.Parameter.{sheets_refusal}
@@ -58,7 +58,7 @@ create_refusal all words =
 pub record IsCreateExpected {D : Type 0} (device : Device D) (call : Call) (all : Files) (words : SheetWords) (old new : D) (ending : Option Refusal) : Type 0 where
   pub missing : IsNone (get all words.parameters) → IsOrMemory ending (Some (Missing words.parameters))
   pub refused : (refusal : Refusal) → NoFault call.read_faults call.read_faults' → create_refusal all words ≡ Some refusal → IsOrMemory ending (Some refusal)
-  pub there : NoFault call.read_faults call.read_faults' → create_refusal all words ≡ None → NoDiskFault device old new → HoldsOne (device.reads old) →
+  pub there : NoFault call.read_faults call.read_faults' → create_refusal all words ≡ None → NoDiskFault device old new → BeginsOpen (device.reads old 0) →
       IsOrMemory ending (Some Exists)
   pub none : NoFault call.read_faults call.read_faults' → create_refusal all words ≡ None → NoDiskFault device old new →
       NoFault call.write_faults call.write_faults' → HoldsNone (device.reads old 0) → IsOrMemory ending None

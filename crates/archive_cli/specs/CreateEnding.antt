@@ -9,6 +9,7 @@ use Rattle.mdb_items.specs.Database.{Database}
 use Rattle.mdb_model.specs.Sheets.{sheets_database}
 use Rattle.mdb_sheets.specs.Sheets.{AreSheets}
 use Rattle.outer_traits.specs.Outside.{Files}
+use Rattle.disk_journal.specs.Calls.{BeginsOpen}
 use Rattle.disk_journal.specs.Format.{HoldsNone}
 use Rattle.archive_store.specs.declared.head.Head.{Head}
 use Rattle.archive_store.specs.Calls.{IsCreateImage}
@@ -43,10 +44,6 @@ AreRefused files words faults faults' refusal =
     IsSheetsRefusal files words.parameters words.calibrations words.containers faults faults' refusal
     ⊎ ((raw : RawMdb) × AreSheets files words.parameters words.calibrations words.containers raw × (sheets_refusal raw ≡ Some refusal))
 
--- the disk holds an archive: file 0 has two octets at least, and the first is 1
-abbrev pub HoldsOne : Image → Type 0
-HoldsOne image = (2 ≤ length (image 0)) × (get_or (image 0) 0 0 ≡ 1)
-
 -- An archive was made where there was none: the disk stands for the head without rows, and so does each image that a crash now leaves; a crash
 -- during the call leaves no archive or the head, or what it could have left before.
 pub record IsMade {D : Type 0} (device : Device D) (old new : D) (head : Head) : Type 0 where
@@ -62,7 +59,7 @@ IsStillNone device old new = (c : Image) → device.images new c → device.imag
 -- The making of an archive of this head failed: a disk that holds one is left as it was, and on one that holds none a crash leaves what a making leaves.
 -- Where it failed once a crash now leaves no archive, or what it could have left before.
 pub record IsMakingFailed {D : Type 0} (device : Device D) (old new : D) (head : Head) : Type 0 where
-  pub kept : HoldsOne (device.reads old) → IsReadAsBefore device old new
+  pub kept : BeginsOpen (device.reads old 0) → IsReadAsBefore device old new
   pub images : HoldsNone (device.reads old 0) → LeavesOnly device old new (IsCreateImage (device.images old) head)
   pub closed : HoldsNone (device.reads old 0) → FailedAtMostOnce device old new → IsStillNone device old new
 
@@ -76,7 +73,7 @@ pub record IsCreateNotBegun {D : Type 0} (device : Device D) (call : Call) (old 
 pub record IsArchiveThere {D : Type 0} (device : Device D) (call : Call) (words : SheetWords) (old new : D) (report : Report) : Type 0 where
   pub raw : RawMdb
   pub good : AreGood call.files words raw
-  pub there : HoldsOne (device.reads old)
+  pub there : BeginsOpen (device.reads old 0)
   pub disk : IsReadAsBefore device old new
   pub silent : WritesNothing call
   pub report_is : report ≡ unopened (Some Exists)
@@ -87,7 +84,7 @@ pub record IsNotMade {D : Type 0} (device : Device D) (call : Call) (words : She
   pub raw : RawMdb
   pub good : AreGood call.files words raw
   pub silent : WritesNothing call
-  pub kept : HoldsOne (device.reads old) → IsReadAsBefore device old new
+  pub kept : BeginsOpen (device.reads old 0) → IsReadAsBefore device old new
   pub images : HoldsNone (device.reads old 0) → LeavesOnly device old new (IsCreateImage (device.images old) (new_head raw))
   pub closed : HoldsNone (device.reads old 0) → FailedAtMostOnce device old new → IsStillNone device old new
   pub report_is : report ≡ unopened report.refusal

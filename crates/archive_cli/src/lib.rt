@@ -2,7 +2,8 @@
 //!
 //! `run` is the top call. Its contract has for each job one equation per answer: the cause, what was written, and what became of the disk
 //! (specs/Ending.antt), and which answer has to come, where the contents of inputs and disk are known (specs/Expected.antt). Which words are a job
-//! says command_words. A later command adds its case to each of these.
+//! says command_words. What a command does, in which order, is its plan (specs/Command.antt), so far of `create` and `recover`: there the cases of
+//! `run` follow from the plan (proofs/CreateEnds.antt, proofs/RecoverPlan.antt). A later command adds its plan.
 //!
 //! The way of a dump: for `scan` and `values` `read_scan_input` takes it in, and dump_lines keeps its rows; for `load` `batches` hands its packets to
 //! the archive's store. The way of an ask: `ask_sheet` reads it, and retrieval extracts the cells of the store's plan and prints them.

@@ -1,6 +1,6 @@
 //! The order in which a command looks, as a plan: what it asks of the outside, what each answer leads to, and with which refusal it ends there.
 //!
-//! Stands for: `Plan` (specs/Plan.antt), a tree of questions that is written once for each command. A plan says at each place that it may end at what
+//! Stands for: `CommandPlan` (specs/Plan.antt), a tree of questions that is written once for each command. A plan says at each place that it may end at what
 //! was done by then. All that a contract promises of a command is read from its plan: `Allows` is why an answer came (the path from the root to its
 //! place), `Requires` which answer has to come, but for a fault of the outside. An answer that isn't known is a question that nothing but the call
 //! answers, so an opaque disk needs no second plan.
@@ -13,13 +13,13 @@
 #![tactic(auto)]
 
 ghost use Rattle.std.specs.Prelude.{◌≡◌};
-ghost use Rattle.command_plans.specs.Plan.{is_of_fault};
+ghost use Rattle.command_plans.specs.Plan.{is_interruption};
 
 use arch_types::refusal::Refusal;
 
 /// Whether a refusal is that of a fault: want of memory, or a call of the outside that failed. No plan says that it has to come.
 pub fn is_of_fault(refusal: &Refusal) -> bool
-    ensures { result ≡ is_of_fault refusal.now }
+    ensures { result ≡ is_interruption refusal.now }
 {
     matches!(
         refusal,

@@ -7,26 +7,26 @@ use Rattle.arch_types.specs.declared.refusal.Which.{Which}
 use Rattle.arch_types.specs.Limits.{limit_of}
 use Rattle.outer_traits.specs.Outside.{Files}
 use Rattle.outer_traits.specs.Whole.{IsInput, IsThere}
-use Rattle.command_plans.specs.Plan.{OfMemory, OfInputs, Gave, Ended, Cut, Allows, IsDetermined}
-use Rattle.input_plans.specs.Inputs.{InputRead, OverLimit, WithinLimit, IsInputAs, IsThereAs, input_read, input_there, reads}
+use Rattle.command_plans.specs.Plan.{OfMemory, OfInputs, Returned, Stopped, Interrupted, Allows, IsDetermined}
+use Rattle.input_plans.specs.Inputs.{InputRead, OverLimit, WithinLimit, IsInputAs, IsThereAs, input_read, input_there, input_plan}
 
 module _ {X : Type 0} (files : Option Files) (which : Which) (of : List ℕ → X) (name : List ℕ) (sources : ℕ) where
   -- no memory, before a source was given or after,
-  pub no_memory : Allows (reads files which of name sources) (Cut sources OfMemory)
+  pub no_memory : Allows (input_plan files which of name sources) (Interrupted sources OfMemory)
   no_memory = inl refl
 
-  pub no_memory_then : IsThere files name → Allows (reads files which of name sources) (Cut (sources + 1) OfMemory)
+  pub no_memory_then : IsThere files name → Allows (input_plan files which of name sources) (Interrupted (sources + 1) OfMemory)
   no_memory_then there = inr (true, there, inr (inl refl))
 
   -- none of the name,
-  pub input_missing : IfSome files (λ all. IsNone (get all name)) → Allows (reads files which of name sources) (Ended sources (Some (refused.Missing name)))
+  pub input_missing : IfSome files (λ all. IsNone (get all name)) → Allows (input_plan files which of name sources) (Stopped sources (Some (refused.Missing name)))
   input_missing none = inr (false, none, refl)
 
   -- a call that failed: that of the opening, or a read,
-  pub opening_failed : IsThere files name → Allows (reads files which of name sources) (Cut sources OfInputs)
+  pub opening_failed : IsThere files name → Allows (input_plan files which of name sources) (Interrupted sources OfInputs)
   opening_failed there = inr (true, there, inl refl)
 
-  pub read_failed : IsThere files name → Allows (reads files which of name sources) (Cut (sources + 1) OfInputs)
+  pub read_failed : IsThere files name → Allows (input_plan files which of name sources) (Interrupted (sources + 1) OfInputs)
   read_failed there = inr (true, there, inr (inr (inl refl)))
 
 some_long : (most : ℕ) (o : Option (List ℕ)) → IsSomeAnd o (λ octets. most < length octets) → IsSome o
@@ -48,12 +48,12 @@ has_some (Some all) which of name octets h short = rw h (short, refl)
 
 -- one that is too long,
 pub input_long : {X : Type 0} (files : Option Files) (which : Which) (of : List ℕ → X) (name : List ℕ) (sources : ℕ) →
-    IfSome files (λ all. IsSomeAnd (get all name) (λ octets. limit_of which < length octets)) → Allows (reads files which of name sources) (Ended (sources + 1) (Some (refused.Limit which (limit_of which))))
+    IfSome files (λ all. IsSomeAnd (get all name) (λ octets. limit_of which < length octets)) → Allows (input_plan files which of name sources) (Stopped (sources + 1) (Some (refused.Limit which (limit_of which))))
 input_long files which of name sources long = inr (true, there_long files name (limit_of which) long, inr (inr (inr (OverLimit, long, refl))))
 
 -- and one that was read
 pub input_was_read : {X : Type 0} (files : Option Files) (which : Which) (of : List ℕ → X) (name octets : List ℕ) (sources : ℕ) → IsInput files name octets → length octets ≤ limit_of which →
-    Allows (reads files which of name sources) (Gave (of octets))
+    Allows (input_plan files which of name sources) (Returned (of octets))
 input_was_read files which of name octets sources h short =
     inr (true, there_some files name octets h, inr (inr (inr (WithinLimit (of octets), has_some files which of name octets h short, refl))))
 
@@ -94,5 +94,5 @@ module _ {X : Type 0} (which : Which) (of : List ℕ → X) where
   each_there all name sources false = tt
 
   -- a known input is read in one way
-  pub reads_determined : (all : Files) (name : List ℕ) (sources : ℕ) → IsDetermined (reads (Some all) which of name sources)
+  pub reads_determined : (all : Files) (name : List ℕ) (sources : ℕ) → IsDetermined (input_plan (Some all) which of name sources)
   reads_determined all name sources = (there_once all name, λ b h. each_there all name sources b)
