@@ -18,7 +18,7 @@ ghost use Rattle.command_plans.specs.Plan.{is_interruption};
 use arch_types::refusal::Refusal;
 
 /// Whether a refusal is that of a fault: want of memory, or a call of the outside that failed. No plan says that it has to come.
-pub fn is_of_fault(refusal: &Refusal) -> bool
+pub fn is_interruption(refusal: &Refusal) -> bool
     ensures { result ≡ is_interruption refusal.now }
 {
     matches!(
