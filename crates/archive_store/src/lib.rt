@@ -11,7 +11,7 @@
 // faults stand to the disk's counts (`FaultInvariant`), of the value alone. So `front` and `into_disk` hand both out, and each call proves one step:
 // a record more, an unacknowledged record, a record taken back (proofs/Kept.antt, proofs/Healing.antt).
 //
-// In memory the rows stand in a `Table` for each table; their order is kept for contracts alone (archive_history).
+// In memory the rows stand in a `Table` for each table, and a list of places names them in the order of the history (archive_history).
 // To be changed together: `Applies` in specs/Entries.antt, src/reading.rt and `IsBatch`; the limits, in archive_history.
 #![tactic(auto)]
 
