@@ -36,21 +36,9 @@ are_plain words = are_filled words && are_whole words
 abbrev pub plain_shape : Shape → Shape
 plain_shape shape = record shape { no_binary_name = true; disable_help_flag = true; disable_version_flag = true }
 
--- a command as clap knows it, before its words are added: without help and version
+-- a command as clap knows it, before its arguments are added: without help and version
 abbrev pub plain_app : Text → App
 plain_app name = on_top plain_shape (new_app name)
-
--- a word that has to come
-abbrev pub word_rule : Text → Rule
-word_rule id = record (new_rule id) { action = Some Set; required = true }
-
--- an option `--name value` or `--name=value`, which may have to come
-abbrev pub option_rule : Text → Bool → Rule
-option_rule id wanted = record (new_rule id) { action = Some Set; long = Some id; required = wanted }
-
--- a command that wants these words, and has no options
-abbrev pub words_app : Text → List Text → App
-words_app name ids = fold (λ app id. with_rule app (word_rule id)) (plain_app name) ids
 
 -- clap found no fault in the words
 abbrev pub has_no_fault : Kinds → Bool
