@@ -10,7 +10,8 @@ use Rattle.archive_store.specs.Calls.{IsStoreReopened, IsStoreReopenRefusal}
 use Rattle.archive_store.specs.StoreView.{AddsFault, StoreView}
 use Rattle.archive_store.proofs.Calls.{reopen_failed}
 use Rattle.archive_cli.specs.declared.report.Report.{Report}
-use Rattle.archive_cli.specs.DiskWrites.{DiskWritesCounted, ExactlyOne, IsLoadWrites, NoneFailed, OneAtMost, OneFailed, OneOrTwo, TwoAtMost}
+use Rattle.load_session.specs.Batches.{ExactlyOne}
+use Rattle.archive_cli.specs.DiskWrites.{DiskWritesCounted, IsLoadWrites, NoneFailed, OneAtMost, OneFailed, OneOrTwo, TwoAtMost}
 use Rattle.command_words.specs.Job.{Job, Scan, Values, Create, Load, Query, Recover}
 use Rattle.archive_cli.specs.Loading.{IsDumpRefusal, printed_report}
 use Rattle.archive_cli.specs.ReadDump.{ending_of}
@@ -80,16 +81,6 @@ pub unmade_writes : (refusal : Refusal) (report : Report) (before now : ℕ) →
     → (now ≢ before → refusal ≡ DiskFault) → TwoAtMost report.refusal before now
 unmade_writes refusal report before now is least most fault =
     subst (λ (r : Report). TwoAtMost r.refusal before now) (sym is) (unmade_cases refusal before now least most fault)
-
--- ---- the batches of a dump
-
--- a batch was refused
-pub refused_writes : {D : Type 0} (device : Device D) (old new : StoreView D) (rows : List Row) (refusal : Refusal) (before : ℕ) → device.failed_writes old.disk ≡ before
-    → (refusal ≡ DiskFault → AddsFault device old new rows) → (refusal ≡ DiskFault) ⊎ (new ≡ old)
-    → ExactlyOne (Some refusal) before (device.failed_writes new.disk)
-refused_writes device old new rows DiskFault before same fault untouched = (fault refl).wrote ∙ ap raised same
-refused_writes device old new rows other before same fault (inl is) = absurd (cc (is))
-refused_writes {D = D} device old new rows other before same fault (inr is) = ap (λ (s : StoreView D). device.failed_writes s.disk) is ∙ same
 
 -- ---- the taking back of a failed write
 

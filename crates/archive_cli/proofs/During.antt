@@ -21,7 +21,7 @@ use Rattle.archive_store.specs.Entries.{Archive, archive, Replays}
 use Rattle.archive_store.specs.StoreView.{StoreView, archive_of, IsNow, IsSince, FaultInvariant, CrashInvariant, unacknowledged_rows}
 use Rattle.archive_store.specs.Stands.{StandsFor}
 use Rattle.archive_store.proofs.Exact.{stands_once}
-use Rattle.archive_cli.specs.Batches.{HasIngested}
+use Rattle.load_session.specs.Batches.{HasIngested}
 use Rattle.archive_cli.specs.ReadOnly.{IsOpenedThen}
 use Rattle.archive_cli.specs.LoadEnding.{IsDuring}
 use Rattle.archive_cli.specs.Durable.{FailedAtMostOnce, IsDurableAs}

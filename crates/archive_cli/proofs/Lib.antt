@@ -25,10 +25,7 @@ pub mod QueryAnswers
 pub mod LoadAnswers
 pub mod Jobless
 pub mod Answers
-pub mod Arrived
 pub mod LoadReports
-pub mod Taking
-pub mod Batching
 pub mod During
 pub mod Closing
 pub mod Sessions

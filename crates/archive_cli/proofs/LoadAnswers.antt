@@ -31,7 +31,7 @@ use Rattle.archive_store.proofs.Exact.{damaged_once, none_not_damaged, none_not_
 use Rattle.archive_history.proofs.Sums.{within_less}
 use Rattle.archive_cli.specs.declared.report.Report.{Report}
 use Rattle.archive_cli.specs.ArchiveExpected.{NoDiskFault}
-use Rattle.archive_cli.specs.Batches.{batch_at}
+use Rattle.load_session.specs.Batches.{batch_at}
 use Rattle.archive_cli.specs.Call.{Call}
 use Rattle.archive_cli.specs.Expecting.{IsOrEarlier, IsOrMemory, NoFault, ending_of_rest}
 use Rattle.command_words.specs.Job.{LoadWords}
@@ -39,7 +39,7 @@ use Rattle.archive_cli.specs.LoadEnding.{link_rows, history_with, nothing_left, 
 use Rattle.archive_cli.specs.LoadExpected.{IsLoadExpected, HasRoomFor}
 use Rattle.archive_cli.specs.Order.{IsLoadFault}
 use Rattle.archive_cli.specs.ReadDump.{dump_limit, ReadDump}
-use Rattle.archive_cli.proofs.Arrived.{kept-append}
+use Rattle.load_session.proofs.Arrived.{kept-append}
 use Rattle.archive_cli.proofs.Recovered.{not_raised}
 use Rattle.archive_cli.proofs.Durable.{not_opened}
 use Rattle.archive_cli.proofs.Known.{bad_ending, none_some, not_risen, same_rest, same_some, some_and, some_none, known_input, too_long}

@@ -9,15 +9,15 @@ use Rattle.archive_core.proofs.Outcomes.{fresh_added, length-ingested}
 use Rattle.space_packet.specs.declared.dump.Why.{Why}
 use Rattle.space_packet.specs.declared.dump.Why.TheVariants as why
 use Rattle.archive_store.specs.StoreView.{StoreView}
-use Rattle.archive_cli.specs.declared.batches.DumpSummary.{DumpSummary}
+use Rattle.load_session.specs.declared.batches.DumpSummary.{DumpSummary}
 use Rattle.archive_cli.specs.declared.report.Report.{Report}
-use Rattle.archive_cli.specs.Batches.{arrived, rows_of_link, HasIngested, IsIngested, IsStoppedAt}
+use Rattle.load_session.specs.Batches.{arrived, rows_of_link, HasIngested, IsIngested, IsStoppedAt}
 use Rattle.archive_cli.specs.LoadEnding.{load_line, line_of_load}
 use Rattle.archive_cli.specs.Loading.{printed_report, IsLoadOutcome}
 use Rattle.dump_lines.specs.Output.{IsFinished}
 use Rattle.archive_cli.specs.ReadDump.{ending_of}
 use Rattle.archive_cli.specs.Report.{loaded}
-use Rattle.archive_cli.proofs.Arrived.{few_rows}
+use Rattle.load_session.proofs.Arrived.{few_rows}
 use Rattle.archive_cli.proofs.Scanned.{bad_rest, end_is, rest_is_none, why_bad}
 
 -- the six pieces of a line, put one behind the other

@@ -1,12 +1,13 @@
 -- From what went into a store to the ending of a load.
-use Rattle.std.proofs.Common.{◌≡◌, inl, inr, ℕ, ℤ, ◌+◌, ◌≤◌, ◌<◌, Bool, true, false, List, [], ◌∷◌, ◌++◌, length, take, drop, Some, None, Option, refl, sym, ap, subst, ◌∙◌, arith, length-append}
-use Rattle.std.specs.Prelude.{IsTrue}
+use Rattle.std.proofs.Common.{◌≡◌, inl, inr, ℕ, ℤ, ◌+◌, ◌≤◌, ◌<◌, Bool, true, false, List, [], ◌∷◌, ◌++◌, length, map, take, drop, Some, None, Option, refl, sym, ap, subst, ◌∙◌, arith, length-append}
+use Rattle.std.specs.Prelude.{IsTrue, flat_map}
 use Rattle.std.proofs.lemmas.List.{take_all}
 use Rattle.arch_disk.specs.Disk.{Device}
 use Rattle.arch_types.specs.declared.refusal.Refusal.{Refusal}
 use Rattle.arch_types.specs.declared.refusal.Refusal.TheVariants.{WriteFault, BadPacket, DiskFault, Limit, OutOfMemory}
 use Rattle.arch_types.specs.declared.refusal.Which.TheVariants.{DumpOctets, Links}
 use Rattle.arch_types.specs.declared.row.Row.{Row}
+use Rattle.arch_types.specs.Arrivals.{row_of, kept}
 use Rattle.arch_types.specs.Dump.{IsDump}
 use Rattle.arch_types.specs.History.{ingested}
 use Rattle.archive_core.specs.declared.fills.Fill.TheVariants.{Fault}
@@ -14,6 +15,7 @@ use Rattle.archive_core.specs.Fills.{rows_of_faults, reopened}
 use Rattle.archive_core.specs.Items.{Item, items_of}
 use Rattle.archive_core.specs.Outcomes.{fresh_of}
 use Rattle.archive_core.proofs.Outcomes.{fresh_added}
+use Rattle.container_extract.specs.Chain.{packet_name_of}
 use Rattle.outer_traits.specs.Whole.{IsInput}
 use Rattle.archive_store.specs.declared.head.Head.{Head}
 use Rattle.archive_store.specs.Entries.{archive}
@@ -21,7 +23,7 @@ use Rattle.archive_history.specs.Limits.{IsLimit}
 use Rattle.archive_store.specs.StoreView.{StoreView, archive_of, FaultInvariant, CrashInvariant}
 use Rattle.archive_store.specs.Stands.{StandsFor}
 use Rattle.archive_cli.specs.declared.report.Report.{Report}
-use Rattle.archive_cli.specs.Batches.{batch_at, rows_of_link, HasIngested, IsStoppedAt}
+use Rattle.load_session.specs.Batches.{batch_at, first_table, rows_of_link, HasIngested, IsStoppedAt}
 use Rattle.archive_cli.specs.Call.{Call, IsMomentOf}
 use Rattle.dump_lines.specs.Output.{WritesCounted}
 use Rattle.command_words.specs.Job.{LoadWords}
@@ -31,8 +33,15 @@ use Rattle.archive_cli.specs.Loading.{IsStoreAtEnd, IsDone, IsReopened, IsLoadRu
 use Rattle.archive_cli.specs.ReadDump.{dump_limit, ReadDump}
 use Rattle.archive_cli.specs.Report.{loaded, IsLoadReport}
 use Rattle.archive_cli.specs.Durable.{FailedAtMostOnce, IsDurableAs}
-use Rattle.archive_cli.proofs.Arrived.{rows_are}
 use Rattle.archive_cli.proofs.During.{failed_again, has_table, load_images, durable, durable_again, left, more_faults, IsOpened}
+
+-- where there's a table, it is table `tm`
+rows_are : (head : Head) (link : ℕ) (moment : ℤ) (packets : List (List ℕ)) → 0 < length head.tables → rows_of_link head link moment packets ≡ link_rows head.mdb link moment packets
+rows_are head link moment packets some = ap (λ (tables : List ℕ). flat_map (λ p. map (row_of link moment (packet_name_of head.mdb) p) tables) (kept packets)) (first_is head.tables some)
+  where
+    first_is : (tables : List (List ℕ)) → 0 < length tables → first_table tables ≡ 0 ∷ []
+    first_is [] some = absurd (omega (arith, some))
+    first_is (table ∷ tables) some = refl
 
 -- a store that was opened for the words, and the dump that was read for it
 pub record IsReady {D : Type 0} (device : Device D) (call : Call) (words : LoadWords) (disk : D) (store : StoreView D) (dump : List ℕ) (moment : ℤ) : Type 0 where

@@ -28,11 +28,6 @@ abbrev pub TwoAtMost : Option Refusal → ℕ → ℕ → Type 0
 TwoAtMost (Some DiskFault) before now = NoneFailed before now ⊎ (OneFailed before now ⊎ TwoFailed before now)
 TwoAtMost other before now = NoneFailed before now
 
--- where the answer is DiskFault exactly one, and else none: of the batches of a dump
-abbrev pub ExactlyOne : Option Refusal → ℕ → ℕ → Type 0
-ExactlyOne (Some DiskFault) before now = OneFailed before now
-ExactlyOne other before now = NoneFailed before now
-
 -- where the answer is DiskFault one or two, and else none: of the batches of a dump, where the second is that of the one attempt to take the first back
 abbrev pub OneOrTwo : Option Refusal → ℕ → ℕ → Type 0
 OneOrTwo (Some DiskFault) before now = OneFailed before now ⊎ TwoFailed before now

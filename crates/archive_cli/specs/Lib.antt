@@ -1,4 +1,3 @@
-pub mod Batches
 pub mod Durable
 pub mod LoadEnding
 pub mod LoadCaused

@@ -21,7 +21,7 @@ use Rattle.archive_store.specs.Entries.{Archive, archive}
 use Rattle.archive_history.specs.Limits.{IsLimit}
 use Rattle.archive_store.specs.Stands.{StandsFor}
 use Rattle.archive_cli.specs.declared.report.Report.{Report}
-use Rattle.archive_cli.specs.Batches.{arrived, batch_at}
+use Rattle.load_session.specs.Batches.{arrived, batch_at}
 use Rattle.archive_cli.specs.Call.{Call, WritesNothing, Prints, PrintsSome, ReadsFailed, WritesFailed}
 use Rattle.archive_cli.specs.ReadOnly.{IsReadAsBefore, IsReadOnly, IsOpenedThen, IsOpeningRefusal, DiskFailed}
 use Rattle.command_words.specs.Job.{LoadWords}

@@ -10,9 +10,9 @@ use Rattle.outer_traits.specs.declared.whole.ReadFault.TheVariants as faulted
 use Rattle.outer_traits.specs.Outside.{WritesSome}
 use Rattle.archive_core.specs.Fills.{reopened}
 use Rattle.archive_store.specs.StoreView.{StoreView, FaultInvariant, CrashInvariant}
-use Rattle.archive_cli.specs.declared.batches.DumpSummary.{DumpSummary}
+use Rattle.load_session.specs.declared.batches.DumpSummary.{DumpSummary}
 use Rattle.archive_cli.specs.declared.report.Report.{Report}
-use Rattle.archive_cli.specs.Batches.{IsIngested, IsStoppedAt}
+use Rattle.load_session.specs.Batches.{IsIngested, IsStoppedAt}
 use Rattle.dump_lines.specs.Output.{Appends}
 use Rattle.archive_cli.specs.LoadEnding.{line_of_load, whole_report}
 pub use Rattle.archive_cli.specs.Reading.{IsOpeningFault}

@@ -13,7 +13,6 @@
 #![tactic(auto)]
 
 mod ask_sheet;
-mod batches;
 mod create;
 mod load;
 mod query;

@@ -16,7 +16,6 @@ ghost use Rattle.archive_cli.specs.Order.{IsLoadFault};
 ghost use Rattle.archive_cli.specs.ReadDump.{dump_limit, ending_of};
 ghost use Rattle.archive_cli.specs.Report.{read_only, loaded, status_at, IsLoadReport};
 
-use crate::batches::{DumpSummary, ingest_dump};
 use crate::read::refusal_of_opening;
 use crate::report::{Ended, LoadCounts, Report};
 use crate::scan_input::bad_packet;
@@ -26,6 +25,7 @@ use arch_types::refusal::{BadKind, Refusal, Which};
 use archive_store::Store;
 use command_words::job::LoadWords;
 use dump_lines::line_buffer::LineBuffer;
+use load_session::{DumpSummary, ingest_dump};
 use outer_traits::clock::Clock;
 use outer_traits::inputs::Inputs;
 use outer_traits::sink::Sink;

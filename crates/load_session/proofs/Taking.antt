@@ -12,7 +12,7 @@ use Rattle.arch_types.specs.Packet.{IsPacket, packet_length}
 use Rattle.arch_types.proofs.Parts.{part_length}
 use Rattle.space_packet.specs.Cut.{IsCut, IsPart}
 use Rattle.space_packet.proofs.Cuts.{cut_more}
-use Rattle.archive_cli.specs.Batches.{IsRun}
+use Rattle.load_session.specs.Batches.{IsRun}
 
 -- ---- each dump has packets and a rest
 

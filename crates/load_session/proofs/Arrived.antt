@@ -18,35 +18,8 @@ use Rattle.archive_store.specs.declared.batch.Batch.{Batch}
 use Rattle.archive_store.specs.declared.head.Head.{Head}
 use Rattle.archive_store.specs.Batches.{arrival_rows, IsArrival}
 use Rattle.archive_history.proofs.Steps.{few_filter}
-use Rattle.archive_cli.specs.Batches.{arrival_from, arrivals_with, arrived, first_table, rows_of_link, IsBatchOf}
-use Rattle.archive_cli.specs.LoadEnding.{link_rows}
-
--- ---- packet names
-
-there : (containers : List Container) (n : ℕ) → has_archive (slice_get containers n) ≡ true → n < length containers
-there [] n is = absurd cc
-there (c ∷ containers) zero is = omega arith
-there (c ∷ containers) (suc n) is = let less = there containers n is in omega (arith, less)
-
-all_flagged : (containers : List Container) (chain : List ℕ) → AllByRecursion (λ n. has_archive (slice_get containers n) ≡ true) (filter (λ n. has_archive (slice_get containers n)) chain)
-all_flagged containers [] = tt
-all_flagged containers (n ∷ chain) = go (has_archive (slice_get containers n)) refl (all_flagged containers chain)
-  where
-    go : (b : Bool) → has_archive (slice_get containers n) ≡ b → AllByRecursion (λ n. has_archive (slice_get containers n) ≡ true) (filter (λ n. has_archive (slice_get containers n)) chain)
-        → AllByRecursion (λ n. has_archive (slice_get containers n) ≡ true) (cond b (n ∷ filter (λ n. has_archive (slice_get containers n)) chain) (filter (λ n. has_archive (slice_get containers n)) chain))
-    go true is all = (is, all)
-    go false is all = all
-
-at_within : (containers : List Container) (numbers : List ℕ) (i : ℕ) → 0 < length containers → AllByRecursion (λ n. has_archive (slice_get containers n) ≡ true) numbers → unwrap_or (slice_get numbers i) 0 < length containers
-at_within containers [] i some all = some
-at_within containers (n ∷ numbers) zero some all = there containers n all.0
-at_within containers (n ∷ numbers) (suc i) some all = at_within containers numbers i some all.1
-
--- a packet name is the number of a container
-pub name_within : (db : Database) (packet : List ℕ) → IsDatabase db → packet_name_of db packet < length db.containers
-name_within db packet is =
-    at_within db.containers (filter (λ n. has_archive (slice_get db.containers n)) (chain_of db packet)) (length (filter (λ n. has_archive (slice_get db.containers n)) (chain_of db packet)) - 1)
-    (structured db is).root (all_flagged db.containers (chain_of db packet))
+use Rattle.container_extract.proofs.Known.{packet_name_is_known}
+use Rattle.load_session.specs.Batches.{arrival_from, arrivals_with, arrived, first_table, rows_of_link, IsBatchOf}
 
 -- ---- rows
 
@@ -85,14 +58,6 @@ few_rows head link moment packets = each (kept packets)
         let others = each ps in
         omega (arith, here, one, most, others)
 
--- where there's a table, it is table `tm`
-pub rows_are : (head : Head) (link : ℕ) (moment : ℤ) (packets : List (List ℕ)) → 0 < length head.tables → rows_of_link head link moment packets ≡ link_rows head.mdb link moment packets
-rows_are head link moment packets some = ap (λ (tables : List ℕ). flat_map (λ p. map (row_of link moment (packet_name_of head.mdb) p) tables) (kept packets)) (first_is head.tables some)
-  where
-    first_is : (tables : List (List ℕ)) → 0 < length tables → first_table tables ≡ 0 ∷ []
-    first_is [] some = absurd (omega (arith, some))
-    first_is (table ∷ tables) some = refl
-
 -- ---- a batch
 
 pub all_push : {X : Type 0} (P : X → Type 0) (xs : List X) (x : X) → AllByRecursion P xs → P x → AllByRecursion P (xs ++ x ∷ [])
@@ -110,7 +75,7 @@ arrival_fits head link packet is low high whole carries =
       link_high = high;
       packet = whole;
       carries = carries;
-      pname = name_within head.mdb packet is;
+      pname = packet_name_is_known head.mdb packet is;
       few_tables = omega (arith, few);
       tables = tables_there head.tables;
     }

@@ -4,10 +4,9 @@ use Rattle.std.proofs.lemmas.Result.{err_from_is_err_and}
 use Rattle.archive_store.specs.Batches.{batch_rows}
 use Rattle.archive_store.proofs.Calls.{ingest_fault, ingest_history, ingest_records, ingest_untouched}
 use Rattle.space_packet.specs.Rest.{why_of}
-use Rattle.archive_cli.proofs.Arrived.{few_arrived}
-use Rattle.archive_cli.proofs.DiskWrites.{refused_writes}
-use Rattle.archive_cli.proofs.Batching.{so_far_more, so_far_end, so_far_memory, so_far_none, so_far_refused, refused_for, IsSoFar}
-use Rattle.archive_cli.proofs.batches.ingest_dump.Goals as goal
+use Rattle.load_session.proofs.Arrived.{few_arrived}
+use Rattle.load_session.proofs.Batching.{so_far_more, so_far_end, so_far_memory, so_far_none, so_far_refused, refused_for, refused_writes, IsSoFar}
+use Rattle.load_session.proofs.batches.ingest_dump.Goals as goal
 
 pub returns-in_err-extractor-clause-stopped : goal.returns-in_err-extractor-clause-stopped
 returns-in_err-extractor-clause-stopped g c =

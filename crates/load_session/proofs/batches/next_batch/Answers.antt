@@ -1,9 +1,9 @@
 use Rattle.std.proofs.Common.{◌≡◌, ◌∙◌, w64, slice_range}
 use Rattle.std.proofs.lemmas.Int.{to_z-of_z}
 use Rattle.space_packet.specs.Cut.{IsPart}
-use Rattle.archive_cli.specs.Batches.{arrivals_with, IsNextBatch}
-use Rattle.archive_cli.proofs.Batching.{taken_more}
-use Rattle.archive_cli.proofs.batches.next_batch.Goals as goal
+use Rattle.load_session.specs.Batches.{arrivals_with, IsNextBatch}
+use Rattle.load_session.proofs.Batching.{taken_more}
+use Rattle.load_session.proofs.batches.next_batch.Goals as goal
 
 pub loop-taken-preserved : goal.loop-taken-preserved
 loop-taken-preserved c =

@@ -1,5 +1,6 @@
 -- The packets of a dump, ingested in batches.
-use Rattle.std.specs.Prelude.{◌≡◌, ℕ, ℤ, ◌+◌, ◌≤◌, true, List, [], ◌∷◌, ◌++◌, length, take, drop, if◌then◌else◌}
+use Rattle.std.specs.Prelude.{◌≡◌, ℕ, ℤ, ◌+◌, ◌≤◌, true, Option, Some, List, [], ◌∷◌, ◌++◌, length, take, drop, if◌then◌else◌}
+use Rattle.arch_disk.specs.Disk.{raised}
 use Rattle.arch_types.specs.declared.refusal.Refusal.{Refusal}
 use Rattle.arch_types.specs.declared.refusal.Refusal.TheVariants.{DiskFault, Limit, OutOfMemory}
 use Rattle.arch_types.specs.declared.row.Row.{Row}
@@ -19,8 +20,8 @@ use Rattle.archive_store.specs.declared.head.Head.{Head}
 use Rattle.archive_store.specs.Batches.{batch_rows, IsBatch}
 use Rattle.archive_history.specs.Limits.{IsLimit}
 use Rattle.archive_store.specs.StoreView.{StoreView}
-use Rattle.archive_cli.specs.declared.batches.NextBatch.{NextBatch}
-use Rattle.archive_cli.specs.declared.batches.DumpSummary.{DumpSummary}
+use Rattle.load_session.specs.declared.batches.NextBatch.{NextBatch}
+use Rattle.load_session.specs.declared.batches.DumpSummary.{DumpSummary}
 
 -- the table that packets go into: the first, `tm`, which each archive has
 abbrev pub first_table : List (List ℕ) → List ℕ
@@ -105,3 +106,10 @@ pub record IsStoppedAt {D : Type 0} (old new : StoreView D) (dump : List ℕ) (l
   pub within : place ≤ length packets
   pub done : HasIngested old new link moment (take place packets)
   pub cause : IsRefusedFor new (rows_of_link old.head link moment (batch_at place packets)) refusal
+
+-- ---- writes of the disk that failed
+
+-- where the answer is DiskFault exactly one more, up to the count's last value, and else none
+abbrev pub ExactlyOne : Option Refusal → ℕ → ℕ → Type 0
+ExactlyOne (Some DiskFault) before now = now ≡ raised before
+ExactlyOne other before now = now ≡ before

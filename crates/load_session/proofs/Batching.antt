@@ -30,10 +30,10 @@ use Rattle.archive_store.specs.Calls.{IsIngestRefusal}
 use Rattle.archive_store.specs.Batches.{batch_rows}
 use Rattle.archive_history.specs.Limits.{IsLimit}
 use Rattle.archive_store.specs.StoreView.{StoreView}
-use Rattle.archive_cli.specs.declared.batches.NextBatch.{NextBatch}
-use Rattle.archive_cli.specs.Batches.{arrivals_with, arrived, batch_at, rows_of_link, IsNextBatch, HasIngested, IsIngested, IsStoppedAt, IsRefusedFor}
-use Rattle.archive_cli.proofs.Arrived.{batch_none, batch_more, rows-append, arrived-append, few_arrived}
-use Rattle.archive_cli.proofs.Taking.{run_none, run_more, completes}
+use Rattle.load_session.specs.declared.batches.NextBatch.{NextBatch}
+use Rattle.load_session.specs.Batches.{arrivals_with, arrived, batch_at, rows_of_link, IsNextBatch, HasIngested, IsIngested, IsStoppedAt, IsRefusedFor}
+use Rattle.load_session.proofs.Arrived.{batch_none, batch_more, rows-append, arrived-append, few_arrived}
+use Rattle.load_session.proofs.Taking.{run_none, run_more, completes}
 
 -- ---- one batch
 
@@ -229,3 +229,13 @@ refused_for device mid new rows DiskFault none refused =
 refused_for {D = D} device mid new rows OutOfMemory none refused = ap (λ (s : StoreView D). s.fills) refused.1 ∙ none
 refused_for device mid new rows (NeedsReopen faults) none refused = absurd (let calm = ap pending_fault_of none in cc (refused.0, calm))
 refused_for device mid new rows other none refused = absurd refused
+
+-- ---- writes of the disk that failed
+
+-- a batch was refused
+pub refused_writes : {D : Type 0} (device : Device D) (old new : StoreView D) (rows : List Row) (refusal : Refusal) (before : ℕ) → device.failed_writes old.disk ≡ before
+    → (refusal ≡ DiskFault → AddsFault device old new rows) → (refusal ≡ DiskFault) ⊎ (new ≡ old)
+    → ExactlyOne (Some refusal) before (device.failed_writes new.disk)
+refused_writes device old new rows DiskFault before same fault untouched = (fault refl).wrote ∙ ap raised same
+refused_writes device old new rows other before same fault (inl is) = absurd (cc (is))
+refused_writes {D = D} device old new rows other before same fault (inr is) = ap (λ (s : StoreView D). device.failed_writes s.disk) is ∙ same

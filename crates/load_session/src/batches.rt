@@ -5,8 +5,7 @@ ghost use Rattle.arch_types.specs.Dump.{BeginsWithNoPacket};
 ghost use Rattle.arch_types.specs.Packet.{IsPacket};
 ghost use Rattle.text_forms.specs.ClockTime.{IsClockTime};
 ghost use Rattle.std.specs.Result.{result_err};
-ghost use Rattle.archive_cli.specs.DiskWrites.{ExactlyOne};
-ghost use Rattle.archive_cli.specs.Batches.{arrival_from, arrivals_with, first_table, IsIngested, IsStoppedAt, IsNextBatch};
+ghost use Rattle.load_session.specs.Batches.{arrival_from, arrivals_with, first_table, ExactlyOne, IsIngested, IsStoppedAt, IsNextBatch};
 
 use arch_disk::Disk;
 use arch_types::octets::Octets;
@@ -23,9 +22,9 @@ const BATCH: u64 = 64;
 
 /// Packets that were taken from a dump for a batch, from which idle ones are left out.
 #[derive(Drop)]
-pub struct NextBatch {
-    pub batch: Batch,
-    pub packets: u64,
+struct NextBatch {
+    batch: Batch,
+    packets: u64,
 }
 
 /// What a dump had whose packets were all ingested.

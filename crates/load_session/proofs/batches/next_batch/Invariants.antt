@@ -1,6 +1,6 @@
 use Rattle.std.proofs.Common.{◌≡◌, ◌-◌}
-use Rattle.archive_cli.specs.Batches.{IsNextBatch}
-use Rattle.archive_cli.proofs.batches.next_batch.Given as goal
+use Rattle.load_session.specs.Batches.{IsNextBatch}
+use Rattle.load_session.proofs.batches.next_batch.Given as goal
 
 abbrev pub invariant-loop-taken : goal.invariant-loop-taken
 invariant-loop-taken l = record {
