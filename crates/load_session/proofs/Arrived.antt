@@ -1,6 +1,6 @@
 -- The rows of packets that come in, with one packet more.
-use Rattle.std.proofs.Common.{◌≡◌, ℕ, zero, suc, ℤ, ◌+◌, ◌-◌, ◌<◌, ◌≤◌, List, [], ◌∷◌, ◌++◌, length, map, Bool, true, false, not, cond, refl, sym, ap, subst, ◌∙◌, arith, append-nil, length-append}
-use Rattle.std.specs.Prelude.{flat_map, filter, slice_get, unwrap_or, if◌then◌else◌}
+use Rattle.std.proofs.Common.{◌≡◌, ℕ, ℤ, ◌+◌, ◌<◌, ◌≤◌, List, [], ◌∷◌, ◌++◌, length, map, Bool, true, false, not, cond, refl, sym, ap, subst, ◌∙◌, arith, append-nil, length-append}
+use Rattle.std.specs.Prelude.{flat_map, if◌then◌else◌}
 use Rattle.std.specs.List.{AllByRecursion}
 use Rattle.std.proofs.lemmas.Grind.{flat_map-append}
 use Rattle.std.proofs.lemmas.List.{length-map}
@@ -8,10 +8,8 @@ use Rattle.std.proofs.lemmas.List.Elements.{filter-append}
 use Rattle.arch_types.specs.declared.row.Row.{Row}
 use Rattle.arch_types.specs.Arrivals.{row_of, kept}
 use Rattle.arch_types.specs.Packet.{IsPacket, is_idle}
-use Rattle.mdb_items.specs.declared.container.Container.{Container}
-use Rattle.mdb_items.specs.Database.{Database, IsDatabase}
-use Rattle.mdb_model.proofs.Structure.{structured}
-use Rattle.container_extract.specs.Chain.{has_archive, packet_name_of, chain_of}
+use Rattle.mdb_items.specs.Database.{IsDatabase}
+use Rattle.container_extract.specs.Chain.{packet_name_of}
 use Rattle.text_forms.specs.ClockTime.{IsClockTime}
 use Rattle.archive_store.specs.declared.batch.Arrival.{Arrival}
 use Rattle.archive_store.specs.declared.batch.Batch.{Batch}

@@ -1,11 +1,11 @@
 -- The batches of a dump, one after the other.
-use Rattle.std.proofs.Common.{◌≡◌, ◌⊎◌, inl, inr, ℕ, ℤ, ◌+◌, ◌-◌, ◌<◌, ◌≤◌, true, false, Bool, List, [], ◌∷◌, ◌++◌, length, take, drop, refl, sym, ap, subst, ◌∙◌, arith, append-nil, append_assoc, length-append, ltb}
+use Rattle.std.proofs.Common.{Some, ◌≡◌, ◌⊎◌, inl, inr, ℕ, ℤ, ◌+◌, ◌-◌, ◌<◌, ◌≤◌, true, false, Bool, List, [], ◌∷◌, ◌++◌, length, take, drop, refl, sym, ap, subst, ◌∙◌, arith, append-nil, append_assoc, length-append, ltb}
 use Rattle.std.specs.Prelude.{◌≢◌, slice_range}
 use Rattle.std.proofs.Math.Seq.{take-append_seam, drop-append_seam}
 use Rattle.std.proofs.lemmas.Bool.{ltb-true, ltb-false}
 use Rattle.std.proofs.lemmas.List.{take_all}
 use Rattle.std.proofs.lemmas.List.Elements.{All-nil}
-use Rattle.arch_disk.specs.Disk.{Device}
+use Rattle.arch_disk.specs.Disk.{Device, raised}
 use Rattle.arch_types.specs.declared.refusal.Refusal.{Refusal}
 use Rattle.arch_types.specs.declared.refusal.Refusal.TheVariants.{DiskFault, Limit, OutOfMemory, NeedsReopen}
 use Rattle.arch_types.specs.declared.row.Row.{Row}
@@ -29,9 +29,9 @@ use Rattle.archive_store.specs.declared.head.Head.{Head}
 use Rattle.archive_store.specs.Calls.{IsIngestRefusal}
 use Rattle.archive_store.specs.Batches.{batch_rows}
 use Rattle.archive_history.specs.Limits.{IsLimit}
-use Rattle.archive_store.specs.StoreView.{StoreView}
+use Rattle.archive_store.specs.StoreView.{AddsFault, StoreView}
 use Rattle.load_session.specs.declared.batches.NextBatch.{NextBatch}
-use Rattle.load_session.specs.Batches.{arrivals_with, arrived, batch_at, rows_of_link, IsNextBatch, HasIngested, IsIngested, IsStoppedAt, IsRefusedFor}
+use Rattle.load_session.specs.Batches.{ExactlyOne, arrivals_with, arrived, batch_at, rows_of_link, IsNextBatch, HasIngested, IsIngested, IsStoppedAt, IsRefusedFor}
 use Rattle.load_session.proofs.Arrived.{batch_none, batch_more, rows-append, arrived-append, few_arrived}
 use Rattle.load_session.proofs.Taking.{run_none, run_more, completes}
 
