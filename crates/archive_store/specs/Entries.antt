@@ -8,6 +8,7 @@ use Rattle.field_codec.specs.declared.entry.Entry.{Entry}
 use Rattle.field_codec.specs.declared.entry.Entry.TheVariants as entries
 use Rattle.field_codec.specs.Entries.{IsArchiveEntry}
 use Rattle.archive_store.specs.declared.head.Head.{Head}
+use Rattle.archive_store.specs.Images.{ReplaysBy}
 use Rattle.archive_history.specs.Limits.{IsWithin}
 
 -- what a disk stands for: the head of its archive, and the history
@@ -40,5 +41,4 @@ Applies (Some old) (entries.Rows rows) new = AreAdmitted old rows × (new ≡ ar
 
 -- these entries, one after the other
 abbrev pub Replays : Option Archive → List Entry → Option Archive → Type 0
-Replays old [] new = new ≡ old
-Replays old (entry ∷ entries) new = (mid : Archive) × Applies old entry mid × Replays (Some mid) entries new
+Replays old entries new = ReplaysBy Applies old entries new
