@@ -32,7 +32,7 @@ PlainSince head before history in_faults c = StandsForSome entry_octets Applies 
 
 -- nothing below the log is said by other files
 pub plain_lower : ReadsLower {A = Archive} IsPlainLog
-plain_lower c d log first base same below = below
+plain_lower = λ c d log first base same below. below
 
 -- an image stands for an archive in either form
 pub stands_over : (c : Image) (a : Archive) → StandsFor c a → StandsPlain c a

@@ -68,5 +68,5 @@ module _ {A E : Type 0} (spell : E → List ℕ) (Applies : Option A → E → A
     pub log : IsTrue device.is_transparent → LogInvariant device disk journal archive Unacknowledged
 
 -- without seals file 0 is the log, and nothing stands below it
-abbrev pub IsPlainLog : {A : Type 0} → Belows A
+abbrev pub IsPlainLog : {A : Type 0} → Image → ℕ → List (List ℕ) → Option A → Type 0
 IsPlainLog image log first base = (log ≡ 0) × (first ≡ []) × (base ≡ None)
