@@ -56,17 +56,17 @@ module _ {A E : Type 0} (spell : E → List ℕ) (Applies : Option A → E → A
     since_on W V on c s = record { found = s.found; stands = s.stands; holds = on s.found s.holds }
 
     since_now : (a : A) (Unacknowledged W : A → Type 0) → W a → ((b : A) → Unacknowledged b → W b) → (c : Image) → StandsNow spell Applies Below a Unacknowledged c → StandsForSome spell Applies Below W c
-    since_now a Unacknowledged W here hand c (inl now) = record { found = a; stands = now; holds = here }
-    since_now a Unacknowledged W here hand c (inr now) = record { found = now.found; stands = now.stands; holds = hand now.found now.holds }
+    since_now a Unacknowledged W here also c (inl now) = record { found = a; stands = now; holds = here }
+    since_now a Unacknowledged W here also c (inr now) = record { found = now.found; stands = now.stands; holds = also now.found now.holds }
 
     -- ---- images: a run of calls each of whose images is one of now
 
     -- the images of a run that leaves only what now may stand for
     pub images_on : (disk new opened : D) (a : A) (Unacknowledged W : A → Type 0) → ImageInvariant spell Applies Below device disk opened a Unacknowledged W → LeavesOnly device disk new (StandsNow spell Applies Below a Unacknowledged)
         → W a → ((b : A) → Unacknowledged b → W b) → ImageInvariant spell Applies Below device new opened a Unacknowledged W
-    images_on disk new opened a Unacknowledged W k moments here hand = record {
+    images_on disk new opened a Unacknowledged W k moments here also = record {
       now = λ c left. at_end device disk new _ moments c left;
-      since = joins device opened disk new _ _ k.since moments (since_now a Unacknowledged W here hand);
+      since = joins device opened disk new _ _ k.since moments (since_now a Unacknowledged W here also);
     }
 
     -- the images of a run that leaves the archive or the next one, after which the next one stands
@@ -120,7 +120,7 @@ module _ {A E : Type 0} (spell : E → List ℕ) (Applies : Option A → E → A
       unacknowledged = λ faults is. absurd (cc (is, no_pending_fault));
     }
 
-    -- what a no_pending_fault log's images stand for
+    -- what a healed log's images stand for
     pub healed_now : (disk : D) (journal : Journal) (a : A) (Unacknowledged : A → Type 0) → LogInvariant spell Applies Below device disk journal a Unacknowledged → unhealed_fault journal ≡ None
         → (c : Image) → device.images disk c → StandsOver spell Applies Below c a
     healed_now disk journal a Unacknowledged e no_pending_fault c left =
@@ -151,13 +151,13 @@ module _ {A E : Type 0} (spell : E → List ℕ) (Applies : Option A → E → A
     pub after_entry : (disk : D) (journal : Journal) (a b : A) (entry : E) (Unacknowledged Next : A → Type 0)
         → (e : LogInvariant spell Applies Below device disk journal a Unacknowledged) → Applies (Some a) entry b → Next b
         → (c : Image) → IsOldBut device (file_of journal) disk c → HasRecords (c (file_of journal)) ((e.first ++ map spell e.entries) ++ spell entry ∷ []) → StandsNow spell Applies Below a Next c
-    after_entry disk journal a b entry Unacknowledged Next e applies hand c from has = inr (record {
+    after_entry disk journal a b entry Unacknowledged Next e applies also c from has = inr (record {
       found = b;
       stands = stands_after a b entry (file_of journal) e.first e.base e.entries c (below_on disk (file_of journal) (file_of journal) e.first e.base (omega arith) e.below c from) e.replays applies has;
-      holds = hand;
+      holds = also;
     })
 
-    -- what the images of a log stand for, no_pending_fault or not
+    -- what the images of a log stand for, healed or not
     pub entries_now : (disk : D) (journal : Journal) (a : A) (Unacknowledged : A → Type 0) → (e : LogInvariant spell Applies Below device disk journal a Unacknowledged)
         → (faults : ℕ) → unhealed_fault journal ≡ Some faults → (c : Image) → IsOldBut device (file_of journal) disk c → IsBeforeOrAfter (e.first ++ map spell e.entries) e.pending (c (file_of journal))
         → StandsNow spell Applies Below a Unacknowledged c

@@ -88,15 +88,15 @@ module _ {A E : Type 0} (spell : E → List ℕ) (Applies : Option A → E → A
       → ((x : A) → W x → V x) → V a → V b
       → Next b
       → ArchiveInvariant spell Applies Below device new opened next a Next V
-  kept_err disk new opened journal next a b entry Unacknowledged Next W V count k applies file no_pending_fault unhealed_is keeps moments elsewhere on here there hand = record {
+  kept_err disk new opened journal next a b entry Unacknowledged Next W V count k applies file no_pending_fault unhealed_is keeps moments elsewhere on here there also = record {
     none_unacknowledged = λ is. absurd (cc (is, unhealed_is));
     images = λ transparent. let i = k.images transparent in record {
-      now = λ c left. ⊎_elim (λ old. inl old) (λ more. inr (record { found = b; stands = more; holds = hand })) (at_end device disk new _ (moments transparent) c left);
+      now = λ c left. ⊎_elim (λ old. inl old) (λ more. inr (record { found = b; stands = more; holds = also })) (at_end device disk new _ (moments transparent) c left);
       since = joins device opened disk new _ _ (weakens device opened disk _ _ i.since (λ c s. record { found = s.found; stands = s.stands; holds = on s.found s.holds })) (moments transparent)
           (λ c either. ⊎_elim (λ old. record { found = a; stands = old; holds = here }) (λ more. record { found = b; stands = more; holds = there }) either);
     };
     log = λ transparent. kept.entries_err spell Applies Below lower device disk new journal next a (spell entry) Unacknowledged Next (k.log transparent) file (keeps transparent) elsewhere
-        (kept.after_entry spell Applies Below lower device disk journal a b entry Unacknowledged Next (k.log transparent) applies hand);
+        (kept.after_entry spell Applies Below lower device disk journal a b entry Unacknowledged Next (k.log transparent) applies also);
   }
 
   -- a reopen of a journal that wants one
@@ -126,9 +126,9 @@ module _ {A E : Type 0} (spell : E → List ℕ) (Applies : Option A → E → A
       → W a → ((b : A) → Unacknowledged b → W b)
       → ((after : A) → Next after → ⊥)
       → ArchiveInvariant spell Applies Below device new opened next a Next W
-  kept_healed disk new opened journal next a Unacknowledged Next W k moments keeps elsewhere file no_pending_fault here hand none = record {
+  kept_healed disk new opened journal next a Unacknowledged Next W k moments keeps elsewhere file no_pending_fault here also none = record {
     none_unacknowledged = λ is. none;
-    images = λ transparent. let i = kept.images_on spell Applies Below lower device disk new opened a Unacknowledged W (k.images transparent) (moments transparent) here hand in record {
+    images = λ transparent. let i = kept.images_on spell Applies Below lower device disk new opened a Unacknowledged W (k.images transparent) (moments transparent) here also in record {
       now = λ c left. inl (kept.healed_now spell Applies Below lower device new next a Next (log transparent) no_pending_fault c left);
       since = i.since;
     };
@@ -157,8 +157,8 @@ module _ {A E : Type 0} (spell : E → List ℕ) (Applies : Option A → E → A
       → unhealed_fault next ≡ unhealed_fault journal
       → W a → ((b : A) → Unacknowledged b → W b)
       → ArchiveInvariant spell Applies Below device new opened next a Unacknowledged W
-  kept_unhealed disk new opened journal next a Unacknowledged W k moments keeps elsewhere file same here hand = record {
+  kept_unhealed disk new opened journal next a Unacknowledged W k moments keeps elsewhere file same here also = record {
     none_unacknowledged = λ is. k.none_unacknowledged (sym same ∙ is);
-    images = λ transparent. kept.images_on spell Applies Below lower device disk new opened a Unacknowledged W (k.images transparent) (moments transparent) here hand;
+    images = λ transparent. kept.images_on spell Applies Below lower device disk new opened a Unacknowledged W (k.images transparent) (moments transparent) here also;
     log = λ transparent. kept.entries_healed spell Applies Below lower device disk new journal next a Unacknowledged (k.log transparent) file (λ faults is. sym same ∙ is) (keeps transparent) elsewhere;
   }
