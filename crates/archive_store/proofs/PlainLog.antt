@@ -1,30 +1,30 @@
--- What the store keeps of images today is the general form over one file.
-use Rattle.std.proofs.Common.{◌≡◌, ◌⊎◌, inl, inr, ⊎_elim, ℕ, List, [], ◌∷◌, ◌++◌, map, Option, Some, None, refl, sym, subst}
-use Rattle.std.specs.Prelude.{IsTrue}
+-- What the store keeps of images is the general form over one file.
+use Rattle.std.proofs.Common.{◌≡◌, ◌⊎◌, inl, inr, ⊎_elim, ℕ, List, [], ◌++◌, map, Option, Some, None, refl, sym, subst}
+use Rattle.std.specs.Prelude.{IsTrue, Contains}
+use mathlib.Core.List.{IsPrefix}
 use Rattle.arch_disk.specs.Image.{Image}
-use Rattle.arch_disk.specs.Disk.{Device}
+use Rattle.arch_disk.specs.Disk.{Device, LeavesOnly}
 use Rattle.arch_disk.proofs.Moments.{weakens}
 use Rattle.archive_core.specs.declared.fills.Fill.{Fill}
 use Rattle.archive_core.specs.Fills.{rows_of_faults}
-use Rattle.archive_core.specs.Items.{Item, items_of}
+use Rattle.archive_core.specs.Items.{Item}
 use Rattle.disk_journal.specs.Format.{HasRecords}
-use Rattle.disk_journal.specs.State.{file_of}
 use Rattle.disk_journal.specs.declared.journal.Journal.{Journal}
 use Rattle.field_codec.specs.Spelling.{entry_octets}
 use Rattle.archive_store.specs.declared.head.Head.{Head}
 use Rattle.archive_store.specs.Entries.{Archive, archive, Applies, Replays}
-use Rattle.archive_store.specs.Images.{ReadsLower, StandsOver, StandsForSome, StandsNow, ImageInvariant, LogInvariant, IsPlainLog}
-use Rattle.archive_store.specs.Inside.{EntryInvariant}
+use Rattle.archive_store.specs.Images.{ReadsLower, StandsOver, StandsForSome, StandsNow, IsPlainLog}
+use Rattle.archive_store.specs.Inside.{StoreInvariant, view_of}
 use Rattle.archive_store.specs.PlainLog.{IsUnacknowledged, IsFound}
 use Rattle.archive_store.specs.Stands.{StandsFor}
-use Rattle.archive_store.specs.StoreView.{StoreView, CrashInvariant, IsNow, IsSince, archive_of, unacknowledged_rows}
-use Rattle.archive_store.proofs.PendingFaults.{stands_after}
+use Rattle.archive_store.specs.StoreView.{CrashInvariant, IsNow, IsSince, unacknowledged_rows}
+use Rattle.archive_store.proofs.PendingFaults.{prefix_self}
 
 -- the form over one file
-abbrev StandsPlain : Image → Archive → Type 0
+abbrev pub StandsPlain : Image → Archive → Type 0
 StandsPlain c a = StandsOver entry_octets Applies IsPlainLog c a
 
-abbrev PlainNow : Head → List Item → Option (List Item) → Image → Type 0
+abbrev pub PlainNow : Head → List Item → Option (List Item) → Image → Type 0
 PlainNow head history o c = StandsNow entry_octets Applies IsPlainLog (archive head history) (IsUnacknowledged head history o) c
 
 abbrev PlainSince : Head → List Item → List Item → List (List Item) → Image → Type 0
@@ -77,33 +77,48 @@ since_for head before history in_faults c s = let f = s.holds in record {
       (λ more. inr (more.0, more.1, stands_for c (archive head (f.front ++ more.0)) (subst (StandsPlain c) more.2 s.stands))) f.found_is;
 }
 
-module _ {D : Type 0} (device : Device D) where
-  -- what a store keeps of images
-  pub images_over : (store : StoreView D) → (k : CrashInvariant device store)
-      → ImageInvariant entry_octets Applies IsPlainLog device store.disk store.opened (archive_of store) (IsUnacknowledged store.head store.history (unacknowledged_rows store.fills))
-      (IsFound store.head k.before store.history (rows_of_faults store.fills))
-  images_over store k = record {
-    now = λ c left. now_over store.head store.history (unacknowledged_rows store.fills) c (k.now c left);
-    since = weakens device store.opened store.disk _ _ k.since (λ c s. since_over store.head k.before store.history (rows_of_faults store.fills) c s);
-  }
+-- an archive that was found, as history and faults grow
+pub found_whole : (head : Head) (before history : List Item) (in_faults : List (List Item)) → IsPrefix before history → IsFound head before history in_faults (archive head history)
+found_whole head before history in_faults begins = record { front = history; holds = begins; begins = prefix_self history; found_is = inl refl }
 
-  -- and of the log's entries: what an append left half done is said of images, and no more of its entry
-  pub entries_over : (disk : D) (journal : Journal) (head : Head) (history : List Item) (fills : List Fill) → EntryInvariant device disk journal head history fills → file_of journal ≡ 0
-      → LogInvariant entry_octets Applies IsPlainLog device disk journal (archive head history) (IsUnacknowledged head history (unacknowledged_rows fills))
-  entries_over disk journal head history fills e file = record {
-    first = [];
-    base = None;
-    entries = e.entries;
-    pending = e.pending;
-    below = λ c left. (file, refl, refl);
-    replays = e.replays;
-    keeps = e.keeps;
-    unacknowledged = λ faults is c from has.
-        let h = e.unacknowledged faults is in
-        let there : HasRecords (c 0) (map entry_octets e.entries ++ e.pending ∷ []) = subst (λ (f : ℕ). HasRecords (c f) (map entry_octets e.entries ++ e.pending ∷ [])) file has in
-        inr (record {
-          found = archive head (history ++ items_of h.0);
-          stands = stands_over c (archive head (history ++ items_of h.0)) (stands_after head history h.0 e.entries c e.replays h.2 (subst (λ (b : List ℕ). HasRecords (c 0) (map entry_octets e.entries ++ b ∷ [])) h.3 there));
-          holds = subst (λ (o : Option (List Item)). IsUnacknowledged head history o (archive head (history ++ items_of h.0))) (sym h.1) refl;
-        });
+pub found_with : (head : Head) (before history more : List Item) (in_faults : List (List Item)) → IsPrefix before history → Contains in_faults more → IsFound head before history in_faults (archive head (history ++ more))
+found_with head before history more in_faults begins there = record { front = history; holds = begins; begins = prefix_self history; found_is = inr (more, there, refl) }
+
+pub found_on : (head : Head) (before old new : List Item) (had has : List (List Item)) → ((xs : List Item) → IsPrefix xs old → IsPrefix xs new) → ((more : List Item) → Contains had more → Contains has more)
+    → (a : Archive) → IsFound head before old had a → IsFound head before new has a
+found_on head before old new had has grows keeps a f = record {
+  front = f.front;
+  holds = f.holds;
+  begins = grows f.front f.begins;
+  found_is = ⊎_elim (λ whole. inl whole) (λ more. inr (more.0, keeps more.0 more.1, more.2)) f.found_is;
+}
+
+-- the unacknowledged rows are those of a fault
+pub found_unacknowledged : (head : Head) (before history : List Item) (in_faults : List (List Item)) (o : Option (List Item)) → ((more : List Item) → o ≡ Some more → Contains in_faults more) → IsPrefix before history
+    → (a : Archive) → IsUnacknowledged head history o a → IsFound head before history in_faults a
+found_unacknowledged head before history in_faults None there begins a is = absurd is
+found_unacknowledged head before history in_faults (Some more) there begins a is =
+    subst (IsFound head before history in_faults) (sym is) (found_with head before history more in_faults begins (there more refl))
+
+-- without them no other archive is
+pub nothing_unacknowledged : (head : Head) (history : List Item) (o : Option (List Item)) → o ≡ None → (a : Archive) → IsUnacknowledged head history o a → ⊥
+nothing_unacknowledged head history o none a is = subst (λ (p : Option (List Item)). IsUnacknowledged head history p a) none is
+
+module _ {D : Type 0} (device : Device D) where
+  -- a run's images, in either form
+  pub either_over : (disk new : D) (a b : Archive) → LeavesOnly device disk new (λ c. StandsFor c a ⊎ StandsFor c b) → LeavesOnly device disk new (λ c. StandsPlain c a ⊎ StandsPlain c b)
+  either_over disk new a b moments = weakens device disk new _ _ moments (λ c either. ⊎_elim (λ old. inl (stands_over c a old)) (λ more. inr (stands_over c b more)) either)
+
+  pub either_for : (disk new : D) (a b : Archive) → LeavesOnly device disk new (λ c. StandsPlain c a ⊎ StandsPlain c b) → LeavesOnly device disk new (λ c. StandsFor c a ⊎ StandsFor c b)
+  either_for disk new a b moments = weakens device disk new _ _ moments (λ c either. ⊎_elim (λ old. inl (stands_for c a old)) (λ more. inr (stands_for c b more)) either)
+
+  -- what contracts say of it
+  pub crash_of : (disk opened : D) (journal : Journal) (head : Head) (history : List Item) (fills : List Fill) (pending_fault : Option ℕ)
+      → StoreInvariant device disk opened journal head history fills pending_fault → IsTrue device.is_transparent → CrashInvariant device (view_of disk opened journal head history fills)
+  crash_of disk opened journal head history fills pending_fault k transparent = let i = k.archives.images transparent in record {
+    before = k.before;
+    opening = k.opening transparent;
+    begins = k.begins;
+    now = λ c left. now_for head history (unacknowledged_rows fills) c (i.now c left);
+    since = weakens device opened disk _ _ i.since (λ c s. since_for head k.before history (rows_of_faults fills) c s);
   }
