@@ -1,7 +1,8 @@
 -- What holds of outcomes, late intervals and fill lists.
 use mathlib.Core.List.{Sublist}
 use Rattle.std.specs.Prelude.{◌≡◌, ◌↔◌, ℕ, ◌≤◌, List, [], ◌∷◌, ◌++◌, length, take, slice_get, Some, None, IsTrue, if◌then◌else◌}
-use Rattle.std.specs.Option.{option_or}
+use Rattle.std.specs.List.{list_any}
+use Rattle.std.specs.Option.{option_or, is_some}
 use Rattle.arch_types.specs.declared.interval.Interval.{Interval}
 use Rattle.arch_types.specs.declared.inserted.Inserted.{Inserted}
 use Rattle.arch_types.specs.declared.row.Row.{Row}
@@ -10,7 +11,8 @@ use Rattle.archive_core.specs.declared.fills.Fill.{Fill}
 use Rattle.archive_core.specs.declared.fills.Fill.TheVariants.{Done}
 use Rattle.archive_core.specs.Items.{Item, is_row_of_interval}
 use Rattle.archive_core.specs.Outcomes.{outcomes_of, fresh_of, Says}
-use Rattle.archive_core.specs.Fills.{base_in, base_after, in_flight, flight_after, IsLastDone, IsBegunLast, rows_of_faults, pending_fault_of, reopened, above, Rising}
+use Rattle.archive_core.specs.FillList.{flights_of}
+use Rattle.archive_core.specs.Fills.{is_same, base_in, base_after, in_flight, flight_after, IsLastDone, IsBegunLast, rows_of_faults, pending_fault_of, reopened, above, Rising}
 use Rattle.archive_core.specs.Late.{IsLate, IsLastIn, last_in, is_late_in}
 
 -- ---- outcomes
@@ -70,6 +72,10 @@ BaseIsOfLastDone = (interval : Interval) (fills : List Fill) →
 abbrev pub FlightIsBegunLast : Type 0
 FlightIsBegunLast = (interval : Interval) (base : ℕ) (fills : List Fill) →
     (in_flight interval fills ≡ Some base) ↔ IsBegunLast interval base fills
+
+-- the list of flights has an interval exactly where it is in flight
+abbrev pub FlightsAreInFlight : Type 0
+FlightsAreInFlight = (interval : Interval) (fills : List Fill) → list_any (is_same interval) (flights_of fills) ≡ is_some (in_flight interval fills)
 
 -- one item more
 abbrev pub BasesAfterItem : Type 0
