@@ -13,6 +13,7 @@ use Rattle.arch_types.specs.Dump.{IsDump, BeginsWithNoPacket}
 use Rattle.arch_types.specs.History.{ingested}
 use Rattle.arch_types.specs.Limits.{limit_of}
 use Rattle.arch_types.specs.Packet.{IsPacket}
+use Rattle.archive_core.specs.declared.fills.Addition.TheVariants.{Rows}
 use Rattle.archive_core.specs.declared.fills.Fill.{Fill}
 use Rattle.archive_core.specs.declared.fills.Fill.TheVariants.{Fault}
 use Rattle.archive_core.specs.Fills.{pending_fault_of}
@@ -224,7 +225,7 @@ refused_for {D = D} device mid new rows (Limit which number) none refused =
 refused_for device mid new rows DiskFault none refused =
     let f = refused.fault in (
       f.count,
-      f.fills ∙ ap (λ (l : List Fill). l ++ Fault f.count true (fresh_of mid.history rows) ∷ []) none ∙ ap (λ (h : List Item). Fault f.count true (fresh_of h rows) ∷ []) (sym f.history),
+      f.fills ∙ ap (λ (l : List Fill). l ++ Fault f.count true (Rows (fresh_of mid.history rows)) ∷ []) none ∙ ap (λ (h : List Item). Fault f.count true (Rows (fresh_of h rows)) ∷ []) (sym f.history),
     )
 refused_for {D = D} device mid new rows OutOfMemory none refused = ap (λ (s : StoreView D). s.fills) refused.1 ∙ none
 refused_for device mid new rows (NeedsReopen faults) none refused = absurd (let calm = ap pending_fault_of none in cc (refused.0, calm))

@@ -6,6 +6,7 @@ use Rattle.arch_disk.specs.Disk.{Device, raised}
 use Rattle.arch_types.specs.declared.refusal.Refusal.{Refusal}
 use Rattle.arch_types.specs.declared.refusal.Refusal.TheVariants.{DiskFault, WriteFault}
 use Rattle.arch_types.specs.declared.row.Row.{Row}
+use Rattle.archive_core.specs.declared.fills.Addition.TheVariants.{Rows}
 use Rattle.archive_store.specs.Calls.{IsStoreReopened, IsStoreReopenRefusal}
 use Rattle.archive_store.specs.StoreView.{AddsFault, StoreView}
 use Rattle.archive_store.proofs.Calls.{reopen_failed}
@@ -85,7 +86,7 @@ unmade_writes refusal report before now is least most fault =
 
 -- a batch was refused
 pub refused_writes : {D : Type 0} (device : Device D) (old new : StoreView D) (rows : List Row) (refusal : Refusal) (before : ℕ) → device.failed_writes old.disk ≡ before
-    → (refusal ≡ DiskFault → AddsFault device old new rows) → (refusal ≡ DiskFault) ⊎ (new ≡ old)
+    → (refusal ≡ DiskFault → AddsFault device old new (Rows rows)) → (refusal ≡ DiskFault) ⊎ (new ≡ old)
     → ExactlyOne (Some refusal) before (device.failed_writes new.disk)
 refused_writes device old new rows DiskFault before same fault untouched = (fault refl).wrote ∙ ap raised same
 refused_writes device old new rows other before same fault (inl is) = absurd (cc (is))

@@ -5,7 +5,7 @@ use Rattle.arch_disk.specs.Disk.{Device, LeavesOnly}
 use Rattle.arch_disk.proofs.Moments.{weakens}
 use Rattle.archive_core.specs.declared.fills.Fill.{Fill}
 use Rattle.archive_core.specs.Items.{Item}
-use Rattle.archive_core.specs.Fills.{rows_of_faults, pending_fault_of, reopened, above}
+use Rattle.archive_core.specs.Fills.{rows_of_faults, pending_fault_of, reopened, above, unacknowledged_rows}
 use Rattle.archive_core.proofs.FillLists.{pending_fault_of-reopened, rows_of_faults-reopened, Rising-reopened, Rising-later}
 use Rattle.disk_journal.specs.Format.{IsBeforeOrAfter}
 use Rattle.disk_journal.specs.State.{HasOnDisk as JournalHasOnDisk}
@@ -17,7 +17,7 @@ use Rattle.archive_store.specs.Entries.{archive, Applies}
 use Rattle.archive_store.specs.Images.{ArchiveInvariant, IsPlainLog}
 use Rattle.archive_store.specs.Inside.{StoreInvariant}
 use Rattle.archive_store.specs.PlainLog.{IsUnacknowledged, IsFound}
-use Rattle.archive_store.specs.StoreView.{IsNow, unacknowledged_rows}
+use Rattle.archive_store.specs.StoreView.{IsNow}
 use Rattle.archive_store.proofs.Kept.{unacknowledged_in_faults, hand-reopened}
 use Rattle.archive_store.proofs.OneJournal as one
 use Rattle.archive_store.proofs.PlainLog.{PlainNow, plain_lower, now_over, now_for, found_whole, found_unacknowledged, nothing_unacknowledged}

@@ -8,10 +8,11 @@ use Rattle.arch_disk.specs.Image.{Image}
 use Rattle.arch_disk.specs.Disk.{Device, LeavesOnly, raised}
 use Rattle.arch_disk.proofs.Moments.{started}
 use Rattle.arch_types.specs.declared.row.Row.{Row}
+use Rattle.archive_core.specs.declared.fills.Addition.TheVariants.{Nothing, Rows}
 use Rattle.archive_core.specs.declared.fills.Fill.{Fill}
 use Rattle.archive_core.specs.declared.fills.Fill.TheVariants.{Begun, Done, Freed, Fault}
 use Rattle.archive_core.specs.Items.{Item, items_of}
-use Rattle.archive_core.specs.Fills.{rows_of_faults, pending_fault_of, reopened, above}
+use Rattle.archive_core.specs.Fills.{rows_of_faults, pending_fault_of, unacknowledged_rows, reopened, above}
 use Rattle.archive_core.proofs.FillLists.{rows_of_faults-append, pending_fault_of-reopened, pending_fault_of-append, Rising-later, Rising-append}
 use Rattle.disk_journal.specs.Format.{IsBeforeOrAfter}
 use Rattle.disk_journal.specs.State.{HasOnDisk as JournalHasOnDisk}
@@ -25,14 +26,14 @@ use Rattle.archive_store.specs.Images.{IsPlainLog}
 use Rattle.archive_store.specs.Inside.{StoreInvariant}
 use Rattle.archive_store.specs.PlainLog.{IsUnacknowledged, IsFound}
 use Rattle.archive_store.specs.Stands.{StandsFor}
-use Rattle.archive_store.specs.StoreView.{StoreView, archive_of, IsNow, CrashInvariant, unacknowledged_rows}
+use Rattle.archive_store.specs.StoreView.{StoreView, archive_of, IsNow, CrashInvariant}
 use Rattle.archive_store.proofs.OneJournal as one
 use Rattle.archive_store.proofs.PendingFaults.{prefix_self, prefix_more}
 use Rattle.archive_store.proofs.PlainLog.{plain_lower, found_whole, found_with, found_on, nothing_unacknowledged, either_over, either_for}
 
 -- one fault more
 abbrev pub fault : ℕ → List Row → Fill
-fault count rows = Fault count true rows
+fault count rows = Fault count true (Rows rows)
 
 pub rows_of_faults-fault : (fills : List Fill) (count : ℕ) (rows : List Row) → rows_of_faults (fills ++ fault count rows ∷ []) ≡ rows_of_faults fills ++ items_of rows ∷ []
 rows_of_faults-fault fills count rows = rows_of_faults-append fills (fault count rows ∷ [])
@@ -43,25 +44,25 @@ pending_fault_of-fault fills count rows none = pending_fault_of-append fills (fa
 pub rows_of_faults_last : (fills : List Fill) (count : ℕ) (rows : List Row) → Contains (rows_of_faults (fills ++ fault count rows ∷ [])) (items_of rows)
 rows_of_faults_last fills count rows = subst (λ (l : List (List Item)). Contains l (items_of rows)) (sym (rows_of_faults-fault fills count rows)) (Contains-append_right (rows_of_faults fills) (items_of rows ∷ []) (items_of rows) (0, omega arith, refl))
 
--- the unacknowledged rows
-pub hand-append : (fills more : List Fill) → unacknowledged_rows (fills ++ more) ≡ option_or (unacknowledged_rows fills) (unacknowledged_rows more)
-hand-append [] more = refl
-hand-append (Begun i b ∷ fills) more = hand-append fills more
-hand-append (Done i b ∷ fills) more = hand-append fills more
-hand-append (Freed i ∷ fills) more = hand-append fills more
-hand-append (Fault count true rows ∷ fills) more = refl
-hand-append (Fault count false rows ∷ fills) more = hand-append fills more
+-- the unacknowledged rows, where no fault was pending before
+pub hand-append : (fills more : List Fill) → pending_fault_of fills ≡ None → unacknowledged_rows (fills ++ more) ≡ unacknowledged_rows more
+hand-append [] more healed = refl
+hand-append (Begun i b ∷ fills) more healed = hand-append fills more healed
+hand-append (Done i b ∷ fills) more healed = hand-append fills more healed
+hand-append (Freed i ∷ fills) more healed = hand-append fills more healed
+hand-append (Fault count true unacknowledged ∷ fills) more healed = absurd cc
+hand-append (Fault count false unacknowledged ∷ fills) more healed = hand-append fills more healed
 
 pub none_unacknowledged : (fills : List Fill) → pending_fault_of fills ≡ None → unacknowledged_rows fills ≡ None
-none_unacknowledged [] no_failed_write = refl
-none_unacknowledged (Begun i b ∷ fills) no_failed_write = none_unacknowledged fills no_failed_write
-none_unacknowledged (Done i b ∷ fills) no_failed_write = none_unacknowledged fills no_failed_write
-none_unacknowledged (Freed i ∷ fills) no_failed_write = none_unacknowledged fills no_failed_write
-none_unacknowledged (Fault count true rows ∷ fills) no_failed_write = absurd cc
-none_unacknowledged (Fault count false rows ∷ fills) no_failed_write = none_unacknowledged fills no_failed_write
+none_unacknowledged [] healed = refl
+none_unacknowledged (Begun i b ∷ fills) healed = none_unacknowledged fills healed
+none_unacknowledged (Done i b ∷ fills) healed = none_unacknowledged fills healed
+none_unacknowledged (Freed i ∷ fills) healed = none_unacknowledged fills healed
+none_unacknowledged (Fault count true unacknowledged ∷ fills) healed = absurd cc
+none_unacknowledged (Fault count false unacknowledged ∷ fills) healed = none_unacknowledged fills healed
 
 pub hand-fault : (fills : List Fill) (count : ℕ) (rows : List Row) → pending_fault_of fills ≡ None → unacknowledged_rows (fills ++ fault count rows ∷ []) ≡ Some (items_of rows)
-hand-fault fills count rows no_failed_write = hand-append fills (fault count rows ∷ []) ∙ ap (λ (o : Option (List Item)). option_or o (Some (items_of rows))) (none_unacknowledged fills no_failed_write)
+hand-fault fills count rows healed = hand-append fills (fault count rows ∷ []) healed
 
 pub hand-reopened : (fills : List Fill) → unacknowledged_rows (reopened fills) ≡ None
 hand-reopened fills = none_unacknowledged (reopened fills) (pending_fault_of-reopened fills)
@@ -71,8 +72,10 @@ unacknowledged_in_faults [] more is = absurd cc
 unacknowledged_in_faults (Begun i b ∷ fills) more is = unacknowledged_in_faults fills more is
 unacknowledged_in_faults (Done i b ∷ fills) more is = unacknowledged_in_faults fills more is
 unacknowledged_in_faults (Freed i ∷ fills) more is = unacknowledged_in_faults fills more is
-unacknowledged_in_faults (Fault count true rows ∷ fills) more is = let same : items_of rows ≡ more = cc (is) in (0, omega arith, same)
-unacknowledged_in_faults (Fault count false rows ∷ fills) more is = Contains-append_right (items_of rows ∷ []) (rows_of_faults fills) more (unacknowledged_in_faults fills more is)
+unacknowledged_in_faults (Fault count true Nothing ∷ fills) more is = absurd cc
+unacknowledged_in_faults (Fault count true (Rows rows) ∷ fills) more is = let same : items_of rows ≡ more = cc (is) in (0, omega arith, same)
+unacknowledged_in_faults (Fault count false Nothing ∷ fills) more is = unacknowledged_in_faults fills more is
+unacknowledged_in_faults (Fault count false (Rows rows) ∷ fills) more is = Contains-append_right (items_of rows ∷ []) (rows_of_faults fills) more (unacknowledged_in_faults fills more is)
 
 module _ {D : Type 0} (device : Device D) where
   -- all of it is the same but for room
@@ -103,7 +106,7 @@ module _ {D : Type 0} (device : Device D) where
       → device.fault_count disk ≤ device.fault_count new
       → device.failed_writes new ≡ device.failed_writes disk
       → StoreInvariant device new opened next head (history ++ items_of rows) fills pending_fault
-  kept_ok disk new opened journal next head history rows fills pending_fault k ok no_failed_write file no_pending_fault keeps moments elsewhere later writes =
+  kept_ok disk new opened journal next head history rows fills pending_fault k ok healed file no_pending_fault keeps moments elsewhere later writes =
       let whole : List Item = history ++ items_of rows in
       let in_faults : List (List Item) = rows_of_faults fills in
       let begins : IsPrefix k.before whole = prefix_more k.before history (items_of rows) k.begins in record {
@@ -121,9 +124,9 @@ module _ {D : Type 0} (device : Device D) where
             no_pending_fault keeps (λ transparent. either_over device disk new (archive head history) (archive head whole) (moments transparent)) elsewhere
             (found_on head k.before history whole in_faults in_faults (λ xs p. prefix_more xs history (items_of rows) p) (λ more there. there))
             (record { front = history; holds = k.begins; begins = prefix_more history history (items_of rows) (prefix_self history); found_is = inl refl }) (found_whole head k.before whole in_faults begins)
-            (nothing_unacknowledged head whole (unacknowledged_rows fills) (none_unacknowledged fills no_failed_write));
+            (nothing_unacknowledged head whole (unacknowledged_rows fills) (none_unacknowledged fills healed));
         pending_fault_is = k.pending_fault_is;
-        unhealed_fault_is = no_pending_fault ∙ sym no_failed_write;
+        unhealed_fault_is = no_pending_fault ∙ sym healed;
         head_is = k.head_is;
       }
 
@@ -141,7 +144,7 @@ module _ {D : Type 0} (device : Device D) where
       → raised (device.fault_count disk) ≤ device.fault_count new
       → device.failed_writes new ≡ raised (device.failed_writes disk)
       → StoreInvariant device new opened next head history (fills ++ fault count rows ∷ []) (Some count)
-  kept_err disk new opened journal next head history rows fills pending_fault count k ok no_failed_write file unhealed_fault_is count_is keeps moments elsewhere rose writes = let more : List Fill = fills ++ fault count rows ∷ [] in record {
+  kept_err disk new opened journal next head history rows fills pending_fault count k ok healed file unhealed_fault_is count_is keeps moments elsewhere rose writes = let more : List Fill = fills ++ fault count rows ∷ [] in record {
     faults = record {
       rising = Rising-append (above (device.fault_count opened)) (device.fault_count disk) (device.fault_count new) fills (fault count rows ∷ []) (omega (arith, k.faults.later)) (omega (arith, rose)) k.faults.rising
           (omega (arith, rose, count_is), omega (arith, count_is), tt);
@@ -154,18 +157,18 @@ module _ {D : Type 0} (device : Device D) where
     opening = k.opening;
     archives = one.kept_err entry_octets Applies IsPlainLog plain_lower device disk new opened journal next (archive head history) (archive head (history ++ items_of rows)) (entries.Rows rows)
         (IsUnacknowledged head history (unacknowledged_rows fills)) (IsUnacknowledged head history (unacknowledged_rows more)) (IsFound head k.before history (rows_of_faults fills)) (IsFound head k.before history (rows_of_faults more))
-        (min (device.fault_count new) (2 ^ 64 - 1)) k.archives (ok, refl) file (k.unhealed_fault_is ∙ no_failed_write) unhealed_fault_is keeps
+        (min (device.fault_count new) (2 ^ 64 - 1)) k.archives (ok, refl) file (k.unhealed_fault_is ∙ healed) unhealed_fault_is keeps
         (λ transparent. either_over device disk new (archive head history) (archive head (history ++ items_of rows)) (moments transparent)) elsewhere
         (found_on head k.before history history (rows_of_faults fills) (rows_of_faults more) (λ xs p. p) (λ r there. subst (λ (l : List (List Item)). Contains l r) (sym (rows_of_faults-fault fills count rows)) (Contains-append_left (rows_of_faults fills) (items_of rows ∷ []) r there)))
         (found_whole head k.before history (rows_of_faults more) k.begins) (found_with head k.before history (items_of rows) (rows_of_faults more) k.begins (rows_of_faults_last fills count rows))
-        (subst (λ (o : Option (List Item)). IsUnacknowledged head history o (archive head (history ++ items_of rows))) (sym (hand-fault fills count rows no_failed_write)) refl);
+        (subst (λ (o : Option (List Item)). IsUnacknowledged head history o (archive head (history ++ items_of rows))) (sym (hand-fault fills count rows healed)) refl);
     pending_fault_is = sym pending_fault_now;
     unhealed_fault_is = unhealed_fault_is ∙ ap Some (sym count_is) ∙ sym pending_fault_now;
     head_is = k.head_is;
   }
     where
       pending_fault_now : pending_fault_of (fills ++ fault count rows ∷ []) ≡ Some count
-      pending_fault_now = pending_fault_of-fault fills count rows no_failed_write
+      pending_fault_now = pending_fault_of-fault fills count rows healed
 
   -- the images of an append, as what they stand for
   pub moments_of : (disk new opened : D) (journal mid : Journal) (head : Head) (history : List Item) (rows : List Row) (fills : List Fill) (pending_fault : Option ℕ)
@@ -177,12 +180,12 @@ module _ {D : Type 0} (device : Device D) where
       → LeavesOnly device disk new (λ c. IsBeforeOrAfter bodies (entry_octets (entries.Rows rows)) (c (file_of mid))))
       → LeavesOnly device disk new (IsOldBut device (file_of mid) disk)
       → IsTrue device.is_transparent → LeavesOnly device disk new (λ c. StandsFor c (archive head history) ⊎ StandsFor c (archive head (history ++ items_of rows)))
-  moments_of disk new opened journal mid head history rows fills pending_fault k ok no_failed_write same run elsewhere transparent =
+  moments_of disk new opened journal mid head history rows fills pending_fault k ok healed same run elsewhere transparent =
       either_for device disk new (archive head history) (archive head (history ++ items_of rows))
       (one.moments_of entry_octets Applies IsPlainLog plain_lower device disk new opened journal mid (archive head history) (archive head (history ++ items_of rows)) (entries.Rows rows)
-      (IsUnacknowledged head history (unacknowledged_rows fills)) (IsFound head k.before history (rows_of_faults fills)) k.archives (ok, refl) (k.unhealed_fault_is ∙ no_failed_write) same run elsewhere transparent)
+      (IsUnacknowledged head history (unacknowledged_rows fills)) (IsFound head k.before history (rows_of_faults fills)) k.archives (ok, refl) (k.unhealed_fault_is ∙ healed) same run elsewhere transparent)
 
 -- while no failed write stands, a crash leaves what stands for the history
 pub stands_now : {D : Type 0} (device : Device D) (store : StoreView D) (P : Image → Type 0) → CrashInvariant device store → pending_fault_of store.fills ≡ None → ((c : Image) → StandsFor c (archive_of store) → P c) → LeavesOnly device store.disk store.disk P
-stands_now device store P keeps no_failed_write here =
-    started device store.disk P (λ c left. here c (subst (λ (o : Option (List Item)). IsNow store.head store.history o c) (none_unacknowledged store.fills no_failed_write) (keeps.now c left)))
+stands_now device store P keeps healed here =
+    started device store.disk P (λ c left. here c (subst (λ (o : Option (List Item)). IsNow store.head store.history o c) (none_unacknowledged store.fills healed) (keeps.now c left)))

@@ -6,7 +6,7 @@ use Rattle.arch_disk.specs.Image.{Image}
 use Rattle.arch_disk.specs.Disk.{Device, LeavesOnly}
 use Rattle.arch_disk.proofs.Moments.{weakens}
 use Rattle.archive_core.specs.declared.fills.Fill.{Fill}
-use Rattle.archive_core.specs.Fills.{rows_of_faults}
+use Rattle.archive_core.specs.Fills.{rows_of_faults, unacknowledged_rows}
 use Rattle.archive_core.specs.Items.{Item}
 use Rattle.disk_journal.specs.Format.{HasRecords}
 use Rattle.disk_journal.specs.declared.journal.Journal.{Journal}
@@ -17,7 +17,7 @@ use Rattle.archive_store.specs.Images.{ReadsLower, StandsOver, StandsForSome, St
 use Rattle.archive_store.specs.Inside.{StoreInvariant, view_of}
 use Rattle.archive_store.specs.PlainLog.{IsUnacknowledged, IsFound}
 use Rattle.archive_store.specs.Stands.{StandsFor}
-use Rattle.archive_store.specs.StoreView.{CrashInvariant, IsNow, IsSince, unacknowledged_rows}
+use Rattle.archive_store.specs.StoreView.{CrashInvariant, IsNow, IsSince}
 use Rattle.archive_store.proofs.PendingFaults.{prefix_self}
 
 -- the form over one file

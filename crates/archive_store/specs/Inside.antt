@@ -4,7 +4,7 @@ use mathlib.Core.List.{IsPrefix}
 use Rattle.arch_disk.specs.Disk.{Device}
 use Rattle.archive_core.specs.declared.fills.Fill.{Fill}
 use Rattle.archive_core.specs.Items.{Item}
-use Rattle.archive_core.specs.Fills.{pending_fault_of, rows_of_faults}
+use Rattle.archive_core.specs.Fills.{pending_fault_of, rows_of_faults, unacknowledged_rows}
 use Rattle.disk_journal.specs.State.{unhealed_fault, count_of}
 use Rattle.disk_journal.specs.declared.journal.Journal.{Journal}
 use Rattle.field_codec.specs.declared.entry.Entry.TheVariants as kinds
@@ -15,11 +15,18 @@ use Rattle.archive_store.specs.Entries.{archive, Applies}
 use Rattle.archive_store.specs.Images.{ArchiveInvariant, IsPlainLog}
 use Rattle.archive_store.specs.PlainLog.{IsUnacknowledged, IsFound}
 use Rattle.archive_store.specs.Stands.{StandsFor}
-use Rattle.archive_store.specs.StoreView.{StoreView, FaultInvariant, unacknowledged_rows}
+use Rattle.archive_store.specs.StoreView.{StoreView, FaultInvariant}
 
 -- what contracts see of a store: the disk now and as it was opened, the journal's records, the head, the history, the fills
 abbrev pub view_of : {D : Type 0} → D → D → Journal → Head → List Item → List Fill → StoreView D
-view_of disk opened journal head history fills = record { history = history; fills = fills; head = head; records = count_of journal; disk = disk; opened = opened }
+view_of disk opened journal head history fills = record {
+  history = history;
+  fills = fills;
+  head = head;
+  records = count_of journal;
+  disk = disk;
+  opened = opened;
+}
 
 -- what a crash leaves and what the log holds, by the archive of the opening, and how journal, head and faults go together
 pub record StoreInvariant {D : Type 0} (device : Device D) (disk opened : D) (journal : Journal) (head : Head) (history : List Item) (fills : List Fill) (pending_fault : Option ℕ) : Type 0 where
@@ -27,8 +34,8 @@ pub record StoreInvariant {D : Type 0} (device : Device D) (disk opened : D) (jo
   pub before : List Item
   pub begins : IsPrefix before history
   pub opening : IsTrue device.is_transparent → StandsFor (device.reads opened) (archive head before)
-  pub archives : ArchiveInvariant entry_octets Applies IsPlainLog device disk opened journal (archive head history) (IsUnacknowledged head history (unacknowledged_rows fills))
-      (IsFound head before history (rows_of_faults fills))
+  pub archives : ArchiveInvariant entry_octets Applies IsPlainLog device disk opened journal (archive head history)
+      (IsUnacknowledged head history (unacknowledged_rows fills)) (IsFound head before history (rows_of_faults fills))
   pub pending_fault_is : pending_fault ≡ pending_fault_of fills
   pub unhealed_fault_is : unhealed_fault journal ≡ pending_fault_of fills
   pub head_is : IsArchiveEntry (kinds.Head head.tables head.mdb)

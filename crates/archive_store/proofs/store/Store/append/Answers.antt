@@ -51,7 +51,7 @@ invariant_of-self-in-Ok-append g c =
     let grown = all_added c.add_all.result (c.add_all.new.self.items ≡ c.prepare-prepared.new.history.items ++ fresh) (λ is. (c.add_all.ensures.all is).1) (λ is. c.add_all.ensures.some is new) in
     let items : c.add_all.new.self.items ≡ s.history.items ++ fresh = grown ∙ ap (λ (l : List Item). l ++ fresh) prepared.0 in (
       subst (λ (r : List Item). StoreInvariant device c.append.new.disk s.opened.value c.append.new.self s.head r c.prepare-prepared.new.fills.items s.pending_fault) (sym items)
-          (subst (λ (f : List Fill). StoreInvariant device c.append.new.disk s.opened.value c.append.new.self s.head (s.history.items ++ fresh) f s.pending_fault) (sym c.prepare-prepared.ensures.fills.0) done),
+          (subst (λ (f : List Fill). StoreInvariant device c.append.new.disk s.opened.value c.append.new.self s.head (s.history.items ++ fresh) f s.pending_fault) (sym c.prepare-prepared.ensures.fills) done),
       c.add_all.ensures.tables ∙ prepared.1 ∙ c.self.invariant.1,
       c.self.invariant.2,
     )
@@ -95,9 +95,9 @@ invariant_of-self-in-Err g c =
     let keeps = λ (transparent : IsTrue device.is_transparent) (bodies : List (List ℕ)) (pending : List ℕ) (keeps : JournalHasOnDisk device mid bodies pending s.disk).
     subst (λ (b : List ℕ). JournalHasOnDisk device c.append.new.self bodies b c.append.new.disk) frame (append_failed_on device mid bodies pending s.disk transparent keeps c.append.new.self c.append.new.disk c.in-Ok.frame failed) in
     let done = kept_err device s.disk c.append.new.disk s.opened.value mid c.append.new.self s.head s.history.items fresh s.fills.items s.pending_fault c.faults-count.result k_mid ok no_failed_write c.append.ensures.file failed.pending_fault c.faults-count.ensures keeps moments elsewhere failed.rose failed.wrote in
-    let fills : c.push_reserved.new.self.items ≡ s.fills.items ++ fault c.faults-count.result fresh ∷ [] =
-    c.push_reserved.ensures.items ∙ ap (λ (l : List Fill). l ++ fault c.faults-count.result fresh ∷ []) c.prepare-prepared.ensures.fills.0 in (
-      subst (λ (r : List Item). StoreInvariant device c.append.new.disk s.opened.value c.append.new.self s.head r c.push_reserved.new.self.items (Some c.faults-count.result)) (sym c.prepare-prepared.ensures.history.0)
+    let fills : c.note_fault.new.self.items ≡ s.fills.items ++ fault c.faults-count.result fresh ∷ [] =
+    c.note_fault.ensures.items ∙ ap (λ (l : List Fill). l ++ fault c.faults-count.result fresh ∷ []) c.prepare-prepared.ensures.fills in (
+      subst (λ (r : List Item). StoreInvariant device c.append.new.disk s.opened.value c.append.new.self s.head r c.note_fault.new.self.items (Some c.faults-count.result)) (sym c.prepare-prepared.ensures.history.0)
           (subst (λ (f : List Fill). StoreInvariant device c.append.new.disk s.opened.value c.append.new.self s.head s.history.items f (Some c.faults-count.result)) (sym fills) done),
       c.prepare-prepared.ensures.history.1 ∙ c.self.invariant.1,
       c.self.invariant.2,
