@@ -6,6 +6,7 @@ use Rattle.arch_disk.specs.Image.{Image}
 use Rattle.arch_disk.specs.Disk.{Device, LeavesOnly, raised}
 use Rattle.arch_types.specs.declared.refusal.Refusal.{Refusal}
 use Rattle.arch_types.specs.declared.refusal.Refusal.TheVariants.{Missing, ReadFault, Limit, BadSheet, Exists, DiskFault, OutOfMemory, WriteFault}
+use Rattle.archive_core.specs.Fills.{unacknowledged_rows}
 use Rattle.archive_core.specs.declared.fills.Fill.{Fill}
 use Rattle.archive_core.specs.Items.{Item}
 use Rattle.disk_journal.specs.Calls.{BeginsOpen}
@@ -23,7 +24,7 @@ use Rattle.outer_traits.specs.Outside.{Files}
 use Rattle.archive_store.specs.declared.head.Head.{Head}
 use Rattle.archive_store.specs.Calls.{IsCreateImage, IsStoreCreateRefusal}
 use Rattle.archive_store.specs.Entries.{archive}
-use Rattle.archive_store.specs.StoreView.{StoreView, IsNow, CrashInvariant, unacknowledged_rows}
+use Rattle.archive_store.specs.StoreView.{StoreView, IsNow, CrashInvariant}
 use Rattle.archive_store.specs.Stands.{StandsFor}
 use Rattle.archive_cli.specs.declared.report.Report.{Report}
 use Rattle.archive_cli.specs.Call.{Call, WritesNothing}

@@ -6,6 +6,7 @@ use Rattle.arch_disk.specs.Disk.{Device, raised}
 use Rattle.arch_types.specs.declared.refusal.Refusal.{Refusal}
 use Rattle.arch_types.specs.declared.refusal.Refusal.TheVariants.{DiskFault, WriteFault}
 use Rattle.arch_types.specs.declared.row.Row.{Row}
+use Rattle.archive_core.specs.declared.fills.Addition.TheVariants.{Rows}
 use Rattle.archive_store.specs.Calls.{IsStoreReopened, IsStoreReopenRefusal}
 use Rattle.archive_store.specs.StoreView.{AddsFault, StoreView}
 use Rattle.archive_store.proofs.Calls.{reopen_failed}

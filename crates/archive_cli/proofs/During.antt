@@ -7,9 +7,10 @@ use Rattle.arch_disk.specs.Image.{Image}
 use Rattle.arch_disk.specs.Disk.{Device, LeavesOnly, raised}
 use Rattle.arch_disk.proofs.Moments.{weakens}
 use Rattle.arch_types.specs.declared.row.Row.{Row}
+use Rattle.archive_core.specs.declared.fills.Addition.TheVariants.{Rows}
 use Rattle.archive_core.specs.declared.fills.Fill.{Fill}
 use Rattle.archive_core.specs.declared.fills.Fill.TheVariants.{Fault}
-use Rattle.archive_core.specs.Fills.{rows_of_faults, above, Rising}
+use Rattle.archive_core.specs.Fills.{rows_of_faults, above, Rising, unacknowledged_rows}
 use Rattle.archive_core.specs.Items.{Item, items_of}
 use Rattle.archive_store.specs.declared.head.Head.{Head}
 use Rattle.disk_journal.specs.Format.{HasRecords}
@@ -18,7 +19,7 @@ use Rattle.field_codec.specs.declared.entry.Entry.{Entry}
 use Rattle.field_codec.specs.declared.entry.Entry.TheVariants as kinds
 use Rattle.field_codec.specs.Spelling.{entry_octets}
 use Rattle.archive_store.specs.Entries.{Archive, archive, Replays}
-use Rattle.archive_store.specs.StoreView.{StoreView, archive_of, IsNow, IsSince, FaultInvariant, CrashInvariant, unacknowledged_rows}
+use Rattle.archive_store.specs.StoreView.{StoreView, archive_of, IsNow, IsSince, FaultInvariant, CrashInvariant}
 use Rattle.archive_store.specs.Stands.{StandsFor}
 use Rattle.archive_store.proofs.Exact.{stands_once}
 use Rattle.load_session.specs.Batches.{HasIngested}
@@ -131,13 +132,13 @@ durable device store is_transparent keeps none =
     record { reads = now (device.reads store.disk) (device.reads_as_image store.disk is_transparent); now = now }
 
 -- and after a fault whose write stands it may also leave the rows that the fault holds
-pub left : {D : Type 0} (device : Device D) (store : StoreView D) (count : ℕ) (wrote : Bool) (rows : List Row) → CrashInvariant device store → store.fills ≡ Fault count wrote rows ∷ [] → (c : Image) → device.images store.disk c
+pub left : {D : Type 0} (device : Device D) (store : StoreView D) (count : ℕ) (wrote : Bool) (rows : List Row) → CrashInvariant device store → store.fills ≡ Fault count wrote (Rows rows) ∷ [] → (c : Image) → device.images store.disk c
     → StandsFor c (archive store.head store.history) ⊎ StandsFor c (archive store.head (store.history ++ items_of rows))
 left device store count true rows keeps one c leaves = subst (λ (fills : List Fill). IsNow store.head store.history (unacknowledged_rows fills) c) one (keeps.now c leaves)
 left device store count false rows keeps one c leaves = inl (subst (λ (fills : List Fill). IsNow store.head store.history (unacknowledged_rows fills) c) one (keeps.now c leaves))
 
 -- but not after one whose write was healed
-pub durable_again : {D : Type 0} (device : Device D) (store : StoreView D) (count : ℕ) (rows : List Row) → IsTrue device.is_transparent → CrashInvariant device store → store.fills ≡ Fault count false rows ∷ []
+pub durable_again : {D : Type 0} (device : Device D) (store : StoreView D) (count : ℕ) (rows : List Row) → IsTrue device.is_transparent → CrashInvariant device store → store.fills ≡ Fault count false (Rows rows) ∷ []
     → IsDurableAs device store.disk store.head store.history
 durable_again device store count rows is_transparent keeps one =
     let now : (c : Image) → device.images store.disk c → StandsFor c (archive store.head store.history) =
@@ -148,7 +149,7 @@ durable_again device store count rows is_transparent keeps one =
 
 -- a store that was closed with a fault has more faults than at its opening
 pub more_faults : {D : Type 0} (device : Device D) (disk : D) (old new : StoreView D) (count : ℕ) (wrote : Bool) (rows : List Row) → device.fault_count disk ≤ device.fault_count old.opened → new.opened ≡ old.opened
-    → FaultInvariant device new → new.fills ≡ Fault count wrote rows ∷ [] → raised (device.fault_count disk) ≤ device.fault_count new.disk
+    → FaultInvariant device new → new.fills ≡ Fault count wrote (Rows rows) ∷ [] → raised (device.fault_count disk) ≤ device.fault_count new.disk
 more_faults device disk old new count wrote rows first same keeps one =
     let rising = subst (λ (fills : List Fill). Rising (above (device.fault_count new.opened)) (device.fault_count new.disk) fills) one keeps.rising in
     let later = keeps.later in

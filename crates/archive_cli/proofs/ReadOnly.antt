@@ -8,12 +8,12 @@ use Rattle.arch_disk.proofs.Moments.{started, weakens}
 use Rattle.arch_types.specs.declared.refusal.Refusal.{Refusal}
 use Rattle.arch_types.specs.declared.refusal.Refusal.TheVariants.{NoArchive, Damaged, DiskFault, OutOfMemory}
 use Rattle.archive_core.specs.declared.fills.Fill.{Fill}
-use Rattle.archive_core.specs.Fills.{rows_of_faults}
+use Rattle.archive_core.specs.Fills.{rows_of_faults, unacknowledged_rows}
 use Rattle.archive_core.specs.Items.{Item}
 use Rattle.archive_store.specs.declared.head.Head.{Head}
 use Rattle.archive_store.specs.Calls.{IsStoreOpenRefusal}
 use Rattle.archive_store.specs.Entries.{Archive, archive}
-use Rattle.archive_store.specs.StoreView.{StoreView, archive_of, IsNow, IsSince, CrashInvariant, unacknowledged_rows}
+use Rattle.archive_store.specs.StoreView.{StoreView, archive_of, IsNow, IsSince, CrashInvariant}
 use Rattle.archive_store.specs.Stands.{StandsFor}
 use Rattle.archive_store.proofs.Exact.{stands_once}
 use Rattle.mdb_sheets.specs.Sheets.{ReadsCounted}

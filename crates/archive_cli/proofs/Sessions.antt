@@ -10,6 +10,7 @@ use Rattle.arch_types.specs.declared.row.Row.{Row}
 use Rattle.arch_types.specs.Arrivals.{row_of, kept}
 use Rattle.arch_types.specs.Dump.{IsDump}
 use Rattle.arch_types.specs.History.{ingested}
+use Rattle.archive_core.specs.declared.fills.Addition.TheVariants.{Rows}
 use Rattle.archive_core.specs.declared.fills.Fill.TheVariants.{Fault}
 use Rattle.archive_core.specs.Fills.{rows_of_faults, reopened}
 use Rattle.archive_core.specs.Items.{Item, items_of}
@@ -126,7 +127,7 @@ module _ {D : Type 0} (device : Device D) (is_transparent : IsTrue device.is_tra
 
   -- the disk failed in a batch, after these packets
   failed_now : (report : Report) (wrote : Bool) (s : Failing dump) → HasIngested old new words.link moment (take s.place s.packets)
-      → new.fills ≡ Fault s.count wrote (fresh_of new.history (rows_of_link old.head words.link moment (batch_at s.place s.packets))) ∷ []
+      → new.fills ≡ Fault s.count wrote (Rows (fresh_of new.history (rows_of_link old.head words.link moment (batch_at s.place s.packets)))) ∷ []
       → (FailedAtMostOnce device disk new.disk → wrote ≡ false) → call.written' ≡ call.written
       → report ≡ loaded (Some DiskFault) None (length old.history) (length new.history) 0 0 0 → ending.IsFailed device call words disk new.disk report
   failed_now report wrote s done fills once silent is =
@@ -147,7 +148,7 @@ module _ {D : Type 0} (device : Device D) (is_transparent : IsTrue device.is_tra
         ];
         durable = λ one.
             subst (λ (h : Head). IsDurableAs device new.disk h new.history) done.head
-            (durable_again device new s.count rows is_transparent keeps (subst (λ (b : Bool). new.fills ≡ Fault s.count b rows ∷ []) (once one) fills));
+            (durable_again device new s.count rows is_transparent keeps (subst (λ (b : Bool). new.fills ≡ Fault s.count b (Rows rows) ∷ []) (once one) fills));
       }
 
   -- no call of the disk failed in a batch
@@ -185,14 +186,14 @@ module _ {D : Type 0} (device : Device D) (is_transparent : IsTrue device.is_tra
     (ready : IsReady device call words disk old dump moment) (keeps : CrashInvariant device last) (faults : FaultInvariant device last) where
   -- with this fault
   failed_with : (report : Report) (s : IsStoppedAt old new dump words.link moment DiskFault) (again : IsReopened device new last) (wrote : Bool)
-      → last.fills ≡ Fault s.cause.0 wrote (fresh_of new.history (rows_of_link old.head words.link moment (batch_at s.place s.packets))) ∷ []
+      → last.fills ≡ Fault s.cause.0 wrote (Rows (fresh_of new.history (rows_of_link old.head words.link moment (batch_at s.place s.packets)))) ∷ []
       → (FailedAtMostOnce device disk last.disk → wrote ≡ false) → call.written' ≡ call.written
       → report ≡ loaded (Some DiskFault) None (length old.history) (length new.history) 0 0 0 → IsLoadEnding device call words disk last.disk (Some DiskFault) report
   failed_with report s again wrote fills once silent is =
       let rows : List Item → List Row = λ h. fresh_of h (rows_of_link old.head words.link moment (batch_at s.place s.packets)) in
       let some : last.fills ≡ [] → ⊥ = λ none. (let e = sym none ∙ fills in cc) in
       let done = ingested_again device old new last words.link moment (take s.place s.packets) s.done again some in
-      let now : last.fills ≡ Fault s.cause.0 wrote (rows last.history) ∷ [] = fills ∙ ap (λ (h : List Item). Fault s.cause.0 wrote (rows h) ∷ []) (sym again.history) in
+      let now : last.fills ≡ Fault s.cause.0 wrote (Rows (rows last.history)) ∷ [] = fills ∙ ap (λ (h : List Item). Fault s.cause.0 wrote (Rows (rows h)) ∷ []) (sym again.history) in
       let failing : Failing dump = record {
         packets = s.packets;
         rest = s.rest;

@@ -12,5 +12,8 @@
 // mark. What holds of the definitions is in specs/Laws.antt, and `laws` carries the proofs.
 #![tactic(auto)]
 
+mod fill_list;
 pub mod fills;
 pub mod laws;
+
+pub use fill_list::FillList;

@@ -9,6 +9,7 @@ use Rattle.arch_types.specs.declared.refusal.Which.{Which}
 use Rattle.arch_types.specs.declared.row.Row.{Row}
 use Rattle.arch_types.specs.History.{ingested}
 use Rattle.arch_types.specs.Limits.{limit_of}
+use Rattle.archive_core.specs.declared.fills.Addition.TheVariants.{Rows}
 use Rattle.archive_core.specs.Fills.{pending_fault_of}
 use Rattle.archive_core.specs.Outcomes.{fresh_of}
 use Rattle.archive_history.specs.Limits.{IsLimit, IsBelowLimits}
@@ -34,7 +35,7 @@ module _ {D : Type 0} (device : Device D) where
   -- rows that were not appended are those of a batch
   pub rows_refused : (old new : StoreView D) (rows fresh : List Row) (e : Refusal) → fresh ≡ fresh_of old.history rows → pending_fault_of old.fills ≡ None → fresh_of old.history rows ≢ []
       → IsBelowLimits 22 old.records old.history rows → IsRowsRefusal device old new fresh e → IsIngestRefusal device old new rows e
-  rows_refused old new rows fresh DiskFault is healed some_new below refusal = record { healed = healed; some_new = some_new; below = below; fault = subst (AddsFault device old new) is refusal }
+  rows_refused old new rows fresh DiskFault is healed some_new below refusal = record { healed = healed; some_new = some_new; below = below; fault = subst (λ (l : List Row). AddsFault device old new (Rows l)) is refusal }
   rows_refused old new rows fresh OutOfMemory is healed some_new below refusal = (healed, refusal)
   rows_refused old new rows fresh _ is healed some_new below refusal = absurd refusal
 
@@ -81,7 +82,7 @@ module _ {D : Type 0} (device : Device D) where
   ingest_untouched old new rows e is = ingest_cases old new rows (λ r. (r ≡ DiskFault) ⊎ (new ≡ old)) e is (λ faults r. inr r.1) (λ which number r. inr r.1) (λ r. inl refl) (λ r. inr r.1)
 
   -- which then leaves the new rows in a fault
-  pub ingest_fault : (old new : StoreView D) (rows : List Row) (e : Refusal) → IsIngestRefusal device old new rows e → e ≡ DiskFault → AddsFault device old new (fresh_of old.history rows)
+  pub ingest_fault : (old new : StoreView D) (rows : List Row) (e : Refusal) → IsIngestRefusal device old new rows e → e ≡ DiskFault → AddsFault device old new (Rows (fresh_of old.history rows))
   ingest_fault old new rows e is fault = (subst (IsIngestRefusal device old new rows) fault is).fault
 
   -- a limit is named rightly, and only where rows are new

@@ -5,10 +5,13 @@ pub mod Calls
 pub mod Exact
 pub mod Going
 pub mod Healing
+pub mod Images
 pub mod Ingesting
 pub mod Kept
+pub mod OneJournal
 pub mod Opened
 pub mod Outcomes
+pub mod PlainLog
 pub mod Planning
 pub mod Refusals
 pub mod Sending

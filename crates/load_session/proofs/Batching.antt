@@ -13,6 +13,7 @@ use Rattle.arch_types.specs.Dump.{IsDump, BeginsWithNoPacket}
 use Rattle.arch_types.specs.History.{ingested}
 use Rattle.arch_types.specs.Limits.{limit_of}
 use Rattle.arch_types.specs.Packet.{IsPacket}
+use Rattle.archive_core.specs.declared.fills.Addition.TheVariants.{Rows}
 use Rattle.archive_core.specs.declared.fills.Fill.{Fill}
 use Rattle.archive_core.specs.declared.fills.Fill.TheVariants.{Fault}
 use Rattle.archive_core.specs.Fills.{pending_fault_of}
@@ -224,7 +225,7 @@ refused_for {D = D} device mid new rows (Limit which number) none refused =
 refused_for device mid new rows DiskFault none refused =
     let f = refused.fault in (
       f.count,
-      f.fills ∙ ap (λ (l : List Fill). l ++ Fault f.count true (fresh_of mid.history rows) ∷ []) none ∙ ap (λ (h : List Item). Fault f.count true (fresh_of h rows) ∷ []) (sym f.history),
+      f.fills ∙ ap (λ (l : List Fill). l ++ Fault f.count true (Rows (fresh_of mid.history rows)) ∷ []) none ∙ ap (λ (h : List Item). Fault f.count true (Rows (fresh_of h rows)) ∷ []) (sym f.history),
     )
 refused_for {D = D} device mid new rows OutOfMemory none refused = ap (λ (s : StoreView D). s.fills) refused.1 ∙ none
 refused_for device mid new rows (NeedsReopen faults) none refused = absurd (let calm = ap pending_fault_of none in cc (refused.0, calm))
@@ -234,7 +235,7 @@ refused_for device mid new rows other none refused = absurd refused
 
 -- a batch was refused
 pub refused_writes : {D : Type 0} (device : Device D) (old new : StoreView D) (rows : List Row) (refusal : Refusal) (before : ℕ) → device.failed_writes old.disk ≡ before
-    → (refusal ≡ DiskFault → AddsFault device old new rows) → (refusal ≡ DiskFault) ⊎ (new ≡ old)
+    → (refusal ≡ DiskFault → AddsFault device old new (Rows rows)) → (refusal ≡ DiskFault) ⊎ (new ≡ old)
     → ExactlyOne (Some refusal) before (device.failed_writes new.disk)
 refused_writes device old new rows DiskFault before same fault untouched = (fault refl).wrote ∙ ap raised same
 refused_writes device old new rows other before same fault (inl is) = absurd (cc (is))

@@ -9,6 +9,7 @@ use Rattle.arch_types.specs.Dump.{IsDump}
 use Rattle.arch_types.specs.History.{ingested}
 use Rattle.arch_types.specs.Packet.{is_idle}
 use Rattle.arch_types.specs.Limits.{limit_of}
+use Rattle.archive_core.specs.declared.fills.Addition.TheVariants.{Rows}
 use Rattle.archive_core.specs.declared.fills.Fill.TheVariants.{Fault}
 use Rattle.archive_core.specs.Outcomes.{fresh_of}
 use Rattle.container_extract.specs.Chain.{packet_name_of}
@@ -93,7 +94,7 @@ pub record IsIngested {D : Type 0} (old new : StoreView D) (dump : List ℕ) (li
 -- why the rows of a batch were refused: they pass a limit, the disk failed, which then holds the new ones in a fault, or there was no memory
 abbrev pub IsRefusedFor : {D : Type 0} → StoreView D → List Row → Refusal → Type 0
 IsRefusedFor store rows (Limit which number) = (store.fills ≡ []) × (number ≡ limit_of which) × IsLimit 22 which store.records (ingested store.history rows)
-IsRefusedFor store rows DiskFault = (count : ℕ) × (store.fills ≡ Fault count true (fresh_of store.history rows) ∷ [])
+IsRefusedFor store rows DiskFault = (count : ℕ) × (store.fills ≡ Fault count true (Rows (fresh_of store.history rows)) ∷ [])
 IsRefusedFor store rows OutOfMemory = store.fills ≡ []
 IsRefusedFor store rows other = ⊥
 
