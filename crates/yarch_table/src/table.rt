@@ -9,7 +9,7 @@ use crate::rows::{TableRows, Window};
 use arch_types::inserted::Inserted;
 use arch_types::key::Key;
 use arch_types::row::Row;
-use block_map::index::Index;
+use block_map::growing_index::GrowingIndex;
 use std::alloc::{AllocError, Global};
 use std::marker::Model;
 
@@ -26,7 +26,7 @@ pub struct Table {
     /// The rows in the order of their insertion.
     stored: Vec<Stored>,
     /// The place of each row in `stored`, by its key.
-    index: Index<Key, usize>,
+    index: GrowingIndex<Key, usize>,
 }
 
 impl Model for Table {
@@ -47,7 +47,7 @@ impl Table {
     {
         Ok(Table {
             stored: Vec::new(alloc),
-            index: Index::new(alloc),
+            index: GrowingIndex::new(alloc),
         })
     }
 
