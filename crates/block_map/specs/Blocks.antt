@@ -34,7 +34,7 @@ abbrev pub IsSized : {K V : Type 0} → Vec (K × V) → Type 0
 IsSized b = (length b.items ≤ CAPACITY) × (CAPACITY ≤ vec_capacity b)
 
 -- blocks in the order of their keys, each but the first with an entry
-pub record AreInOrder {K V : Type 0} (cmp : K → K → Ordering) (blocks : List (Vec (K × V))) : Type 0 where
+pub record AreRisingBlocks {K V : Type 0} (cmp : K → K → Ordering) (blocks : List (Vec (K × V))) : Type 0 where
   pub some : 0 < length blocks
   pub rising : IsRising cmp (entries_of blocks)
   pub begun : HaveFirsts blocks

@@ -4,7 +4,7 @@ ghost use Rattle.std.specs.Prelude.{◌≡◌, ◌+◌, ◌-◌, ◌*◌, ◌<�
 ghost use Rattle.std.specs.Global.{Vec};
 ghost use Rattle.std.specs.BTreeMap.{insert_entry};
 ghost use Rattle.block_map.specs.Rising.{IsRising, IsPlaceIn};
-ghost use Rattle.block_map.specs.Blocks.{entries_of, excess_of, AreFilled, AreInOrder, IsBlockFor, AreReady};
+ghost use Rattle.block_map.specs.Blocks.{entries_of, excess_of, AreFilled, AreRisingBlocks, IsBlockFor, AreReady};
 
 use crate::search::{block_for, is_above};
 
@@ -48,14 +48,14 @@ fn split<K: Ord + Copy, V: Copy>(
     b: usize,
     at: usize,
 )
-    requires blocks { AreInOrder K.cmp blocks.old.items }
+    requires blocks { AreRisingBlocks K.cmp blocks.old.items }
     requires ready { AreReady spare.old.items }
     requires within { b < length blocks.old.items }
     requires full { (d : Vec (K × V)) → vec_len (slice_index_or blocks.old.items b d) ≡ CAPACITY }
     requires at { (0 < at) × (at < CAPACITY) }
     requires spare { 0 < vec_len spare.old }
     requires room { vec_len blocks.old + vec_len spare.old ≤ vec_capacity blocks.old }
-    ensures blocks { AreInOrder K.cmp blocks.new.items }
+    ensures blocks { AreRisingBlocks K.cmp blocks.new.items }
     ensures filled { (fill : ℕ) → fill ≤ at → fill + at ≤ CAPACITY → AreFilled fill blocks.old.items →
         AreFilled fill blocks.new.items }
     ensures excess { (keep : ℕ) → at ≤ keep → CAPACITY ≤ at + keep → keep ≤ CAPACITY →
@@ -94,12 +94,12 @@ pub(crate) fn open_block<K: Ord + Copy, V: Copy>(
     key: K,
     keep: usize,
 ) -> usize
-    requires blocks { AreInOrder K.cmp blocks.old.items }
+    requires blocks { AreRisingBlocks K.cmp blocks.old.items }
     requires ready { AreReady spare.old.items }
     requires fits { vec_len blocks.old + vec_len spare.old ≤ vec_capacity blocks.old }
     requires keep { (HALF ≤ keep) × (keep < CAPACITY) }
     requires room { excess_of keep blocks.old.items < (CAPACITY - keep) + vec_len spare.old * (CAPACITY - keep) }
-    ensures blocks { AreInOrder K.cmp blocks.new.items }
+    ensures blocks { AreRisingBlocks K.cmp blocks.new.items }
     ensures filled { (fill : ℕ) → fill + keep ≤ CAPACITY → AreFilled fill blocks.old.items →
         AreFilled fill blocks.new.items }
     ensures excess { excess_of keep blocks.new.items + vec_len spare.old * (CAPACITY - keep) ≡
@@ -130,11 +130,11 @@ pub(crate) fn put<K: Ord + Copy, V: Copy>(
     key: K,
     value: V,
 )
-    requires blocks { AreInOrder K.cmp blocks.old.items }
+    requires blocks { AreRisingBlocks K.cmp blocks.old.items }
     requires place { IsBlockFor K.cmp key blocks.old.items b }
     requires at { (d : Vec (K × V)) → IsPlaceIn K.cmp key (slice_index_or blocks.old.items b d).items (Err at) }
     requires open { (d : Vec (K × V)) → vec_len (slice_index_or blocks.old.items b d) < CAPACITY }
-    ensures blocks { AreInOrder K.cmp blocks.new.items }
+    ensures blocks { AreRisingBlocks K.cmp blocks.new.items }
     ensures filled { (fill : ℕ) → AreFilled fill blocks.old.items → AreFilled fill blocks.new.items }
     ensures excess { (keep : ℕ) (d : Vec (K × V)) →
         excess_of keep blocks.new.items + (vec_len (slice_index_or blocks.old.items b d) - keep) ≡
@@ -155,10 +155,10 @@ pub(crate) fn set_value<K: Ord + Copy, V: Copy>(
     key: K,
     value: V,
 )
-    requires blocks { AreInOrder K.cmp blocks.old.items }
+    requires blocks { AreRisingBlocks K.cmp blocks.old.items }
     requires place { IsBlockFor K.cmp key blocks.old.items b }
     requires at { (d : Vec (K × V)) → IsPlaceIn K.cmp key (slice_index_or blocks.old.items b d).items (Ok at) }
-    ensures blocks { AreInOrder K.cmp blocks.new.items }
+    ensures blocks { AreRisingBlocks K.cmp blocks.new.items }
     ensures filled { (fill : ℕ) → AreFilled fill blocks.old.items → AreFilled fill blocks.new.items }
     ensures excess { (keep : ℕ) → excess_of keep blocks.new.items ≡ excess_of keep blocks.old.items }
     ensures entries { entries_of blocks.new.items ≡ insert_entry K.cmp (entries_of blocks.old.items) key value }

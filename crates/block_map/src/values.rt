@@ -5,7 +5,7 @@ ghost use Rattle.std.specs.Map.{lookup};
 ghost use Rattle.std.specs.BTreeMap.{is_at, insert_entry};
 ghost use Rattle.std.specs.BTreeMap.Range.{entries_from};
 ghost use Rattle.block_map.specs.Rising.{IsRising};
-ghost use Rattle.block_map.specs.Blocks.{entries_of, excess_of, AreFilled, AreInOrder};
+ghost use Rattle.block_map.specs.Blocks.{entries_of, excess_of, AreFilled, AreRisingBlocks};
 
 use crate::blocks::{Block, set_value};
 use crate::entries::Entries;
@@ -13,7 +13,7 @@ use crate::search::{block_for, place_in};
 
 /// The value of a key.
 pub(crate) fn value_of<K: Ord + Copy, V: Copy>(blocks: &[Block<K, V>], key: K) -> Option<V>
-    requires { AreInOrder K.cmp blocks.now }
+    requires { AreRisingBlocks K.cmp blocks.now }
     ensures { result ≡ lookup (is_at (K.cmp key)) (entries_of blocks.now) }
 {
     let b = block_for(blocks, key);
@@ -30,8 +30,8 @@ pub(crate) fn replace_value<K: Ord + Copy, V: Copy>(
     key: K,
     value: V,
 ) -> Option<V>
-    requires { AreInOrder K.cmp blocks.old.items }
-    ensures blocks { AreInOrder K.cmp blocks.new.items }
+    requires { AreRisingBlocks K.cmp blocks.old.items }
+    ensures blocks { AreRisingBlocks K.cmp blocks.new.items }
     ensures filled { (fill : ℕ) → AreFilled fill blocks.old.items → AreFilled fill blocks.new.items }
     ensures excess { (keep : ℕ) → excess_of keep blocks.new.items ≡ excess_of keep blocks.old.items }
     ensures found { result ≡ lookup (is_at (K.cmp key)) (entries_of blocks.old.items) }
@@ -59,7 +59,7 @@ pub(crate) fn entries_from_key<K: Ord + Copy, V: Copy>(
     blocks: &[Block<K, V>],
     key: K,
 ) -> Entries<'_, K, V>
-    requires { AreInOrder K.cmp blocks.now }
+    requires { AreRisingBlocks K.cmp blocks.now }
     ensures entries { result ≡ entries_from (K.cmp key) (entries_of blocks.now) }
     ensures rising { IsRising K.cmp result }
 {
