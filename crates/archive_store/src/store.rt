@@ -7,7 +7,10 @@ ghost use Rattle.field_codec.specs.declared.entry.Entry.TheVariants as entries;
 ghost use Rattle.field_codec.specs.Entries.{IsArchiveEntry};
 ghost use Rattle.field_codec.specs.Spelling.{entry_octets};
 ghost use Rattle.arch_types.specs.History.{IsHistory};
+ghost use Rattle.archive_core.specs.Items.{rows_in};
 ghost use Rattle.archive_history.specs.Limits.{IsWithin};
+ghost use Rattle.archive_store.specs.Entries.{IsArchivedRow};
+ghost use Rattle.std.specs.List.{AllByRecursion};
 ghost use Rattle.archive_store.specs.PartialArchive.{refusal_of_create};
 ghost use Rattle.std.specs.Arc.{arc_value};
 
@@ -224,6 +227,7 @@ impl<D: Disk> Store<D> {
     pub fn front(&self) -> u64
         ensures front { result ≡ length self.now.history }
         ensures history { IsHistory self.now.history × IsWithin 22 self.now.history }
+        ensures rows { AllByRecursion (IsArchivedRow self.now.head) (rows_in self.now.history) }
         ensures images { IsTrue D.device.is_transparent → CrashInvariant D.device self.now }
         ensures faults { FaultInvariant D.device self.now }
     {

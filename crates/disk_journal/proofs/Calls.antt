@@ -9,7 +9,7 @@ use Rattle.arch_disk.proofs.Moments.{weakens, at_end}
 use Rattle.disk_journal.specs.Format.{framed, written, HasRecords, HasStaged, HoldsNone, IsBeforeOrAfter, IsDamagedAt}
 use Rattle.disk_journal.specs.Reading.{IsAt, IsCutShortAt, gate_of, file_read}
 use Rattle.disk_journal.specs.State.{HasOnDisk, IsOnDisk, HasRoom, IsReadFault, StateIs, extents_from, faults_of, file_of, count_of, unhealed_fault}
-use Rattle.disk_journal.specs.Calls.{BeginsOpen, body_of, records_of, body_behind, next_body_of, if_gate_written, unhealed_records_of, CrashLeavesRecords, LeavesOthers, IsAppended, IsAppendFailed, IsAppendRefusal, IsHealed, IsHealFailed, IsHealRefusal, IsJournalCreateRefusal, IsJournalOpenRefusal, IsOpeningBegun, IsBeginRefusal, IsNextRefusal, IsReadWholeRefusal, content_read, read_so_far}
+use Rattle.disk_journal.specs.Calls.{BeginsOpen, body_of, records_of, body_behind, next_body_of, if_gate_written, unhealed_records_of, CrashLeavesRecords, LeavesOthers, IsAppended, IsAppendFailed, IsAppendRefusal, IsHealed, IsHealFailed, IsHealRefusal, IsJournalCreateRefusal, IsJournalOpenRefusal, IsOpeningBegun, IsBeginRefusal, IsNextRefusal, IsReadWholeRefusal, StandsAtGate, content_read, read_so_far}
 use Rattle.disk_journal.specs.declared.journal.Extent.{Extent}
 use Rattle.disk_journal.specs.declared.journal.Journal.{Journal}
 use Rattle.disk_journal.specs.declared.opening.Opening.{Opening}
@@ -234,6 +234,14 @@ module _ {D : Type 0} (device : Device D) where
     reads = λ transparent g ne. second.reads transparent g ne ∙ first.reads transparent g ne;
     crash = elsewhere_on device old mid new file first.crash second.crash;
   }
+
+  -- an opening that has read some records of its file stands at the gate behind them
+  pub stands_at_gate : (old new : Opening) (before after : D) (bodies : List (List ℕ)) → file_read new ≡ file_read old → device.reads after ≡ device.reads before
+      → (IsTrue device.is_transparent → IsAt new (content_read device old before) bodies) → StandsAtGate device new after
+  stands_at_gate old new before after bodies file reads at transparent =
+      let same : content_read device new after ≡ content_read device old before = ap (λ (x : Image). x (file_read new)) reads ∙ ap (device.reads before) file in
+      let there : IsAt new (content_read device new after) bodies = subst (λ (l : List ℕ). IsAt new l bodies) (sym same) (at transparent) in
+      subst (IsAt new (content_read device new after)) (sym (read_are (content_read device new after) new bodies there)) there
 
   -- a reading that couldn't begin opens no journal
   pub not_begun : (file : ℕ) (before after : D) (fault : JournalFault) → IsBeginRefusal device file before after fault → IsJournalOpenRefusal device file before after fault

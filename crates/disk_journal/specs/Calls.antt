@@ -191,6 +191,7 @@ pub record IsOpeningBegun {D : Type 0} (device : Device D) (file : ℕ) (before 
   pub in_file : file_read opening ≡ file
   pub first : IsTrue device.is_transparent → IsAt opening (device.reads before file) []
   pub open_gate : IsTrue device.is_transparent → BeginsOpen (device.reads before file)
+  pub at_gate : StandsAtGate device opening after
   pub durable : IsDurable device file (device.reads after file) after
   pub no_failed_write : device.failed_writes after ≡ device.failed_writes before
 
@@ -212,9 +213,9 @@ pub record IsLastGate {D : Type 0} (device : Device D) (old new : Opening) (disk
   pub stays : IsTrue device.is_transparent → IsAt new (content_read device old disk) (read_so_far device old disk)
 
 -- the body of the next record, or that there is none
-abbrev pub IsNext : {D : Type 0} → Device D → Opening → Opening → D → Option (List ℕ) → Type 0
-IsNext device old new disk (Some body) = IsNextRecord device old new disk body
-IsNext device old new disk None = IsLastGate device old new disk
+abbrev pub IsNextAnswer : {D : Type 0} → Device D → Opening → Opening → D → Option (List ℕ) → Type 0
+IsNextAnswer device old new disk (Some body) = IsNextRecord device old new disk body
+IsNextAnswer device old new disk None = IsLastGate device old new disk
 
 -- why the next record was not read: it passes the file's end, a read failed, or memory is wanting
 abbrev pub IsNextRefusal : {D : Type 0} → Device D → Opening → D → D → JournalFault → Type 0

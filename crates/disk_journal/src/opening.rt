@@ -22,7 +22,7 @@ pub struct Opening {
 
 impl Opening {
     ghost use Rattle.disk_journal.specs.Reading.{IsAt, IsWholeAt, IsCutShortAt, gate_of, file_read, IsReadJournal};
-    ghost use Rattle.disk_journal.specs.Calls.{CountsNeverFall, IsBeginRefusal, IsNext, IsNextRefusal, IsOpeningBegun, IsReadWhole, IsReadWholeRefusal, StandsAtGate, content_read};
+    ghost use Rattle.disk_journal.specs.Calls.{CountsNeverFall, IsBeginRefusal, IsNextAnswer, IsNextRefusal, IsOpeningBegun, IsReadWhole, IsReadWholeRefusal, StandsAtGate, content_read};
 
     /// Begins at the first record, with a sync.
     pub fn begin<D: Disk>(alloc: Global, disk: &mut D, file: u32) -> Result<Opening, JournalFault>
@@ -108,7 +108,9 @@ impl Opening {
         requires at_gate { StandsAtGate D.device self.old disk.old }
 
         // Some: it stands at the gate behind one record more. None: the file has just the records that were read.
-        ensures next { IfOk result (IsNext D.device self.old self.new disk.old) }
+        ensures next { IfOk result (IsNextAnswer D.device self.old self.new disk.old) }
+
+        ensures at_gate { OnOk result (StandsAtGate D.device self.new disk.new) }
 
         // Refused: the next record, with the gate octet after it, passes the file's end; a read failed; or memory is wanting.
         ensures refused { IfErr result (IsNextRefusal D.device self.old disk.old disk.new) }

@@ -1,9 +1,8 @@
 use Rattle.std.proofs.Common.{◌≡◌, ◌++◌, [], ◌∷◌, ℕ, List, None, Some, map, refl, sym, ◌∙◌, ap, subst}
-use Rattle.std.specs.Prelude.{IsTrue}
 use Rattle.arch_disk.specs.Image.{Image}
 use Rattle.arch_disk.proofs.Moments.{looked_on}
 use Rattle.arch_types.specs.declared.refusal.Refusal.TheVariants.{Damaged}
-use Rattle.disk_journal.specs.Calls.{content_read, read_so_far}
+use Rattle.disk_journal.specs.Calls.{content_read}
 use Rattle.disk_journal.specs.Format.{HasRecords}
 use Rattle.disk_journal.specs.Reading.{IsAt, IsCutShortAt, IsReadJournal, file_read}
 use Rattle.disk_journal.proofs.Calls.{read_are}
@@ -25,6 +24,19 @@ same_file now was file reads is = ap (λ (x : Image). x file) reads ∙ ap was i
 -- what was read so far, where the bodies of the entries were read
 these : (P : List ℕ → List (List ℕ) → Type 0) (now was : List ℕ) (so_far bodies : List (List ℕ)) → now ≡ was → so_far ≡ bodies → P now so_far → P was bodies
 these P now was so_far bodies same are p = subst (λ (l : List ℕ). P l bodies) same (subst (P now) are p)
+
+pub next-requires : goal.next-requires
+next-requires g c = record {
+  at_gate = λ transparent.
+      let device = g.D.Disk.device in
+      let reads = device.reads in
+      let inv = c.entries.invariant in
+      let old = c.entries.opening in
+      let s = inv.so_far transparent in
+      let same = same_file (reads c.entries.disk) (reads c.args.disk.now) (file_read old) inv.looked.reads_same inv.file in
+      let there : IsAt old (content_read device old c.entries.disk) (map entry_octets s.0) = subst (λ (l : List ℕ). IsAt old l (map entry_octets s.0)) (sym same) s.1 in
+      subst (IsAt old (content_read device old c.entries.disk)) (sym (read_are (content_read device old c.entries.disk) old (map entry_octets s.0) there)) there;
+}
 
 pub returns-in-Ok-None-clause-read : goal.returns-in-Ok-None-clause-read
 returns-in-Ok-None-clause-read g c =

@@ -1,4 +1,4 @@
-use Rattle.std.proofs.Common.{◌≡◌, List, None, sym, subst, ap, ◌∙◌, length, map}
+use Rattle.std.proofs.Common.{List, None, sym, subst, ap, ◌∙◌, length, map}
 use Rattle.arch_disk.specs.Image.{Image}
 use Rattle.archive_core.specs.declared.fills.Fill.{Fill}
 use Rattle.disk_journal.specs.Format.{HasRecords}
