@@ -69,6 +69,7 @@ module _ {D : Type 0} (device : Device D) where
     pending_fault_is = sym (pending_fault_of-reopened fills);
     unhealed_fault_is = no_pending_fault ∙ sym (pending_fault_of-reopened fills);
     head_is = k.head_is;
+    rows = k.rows;
   }
     where
       none_stands : (faults : ℕ) → pending_fault_of (reopened fills) ≡ Some faults → ⊥
@@ -101,4 +102,5 @@ module _ {D : Type 0} (device : Device D) where
     pending_fault_is = k.pending_fault_is;
     unhealed_fault_is = same ∙ k.unhealed_fault_is;
     head_is = k.head_is;
+    rows = k.rows;
   }

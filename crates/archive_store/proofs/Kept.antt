@@ -27,6 +27,7 @@ use Rattle.archive_store.specs.Inside.{StoreInvariant}
 use Rattle.archive_store.specs.PlainLog.{IsUnacknowledged, IsFound}
 use Rattle.archive_store.specs.Stands.{StandsFor}
 use Rattle.archive_store.specs.StoreView.{StoreView, archive_of, IsNow, CrashInvariant}
+use Rattle.archive_store.proofs.Archived.{more_archived}
 use Rattle.archive_store.proofs.OneJournal as one
 use Rattle.archive_store.proofs.PendingFaults.{prefix_self, prefix_more}
 use Rattle.archive_store.proofs.PlainLog.{plain_lower, found_whole, found_with, found_on, nothing_unacknowledged, either_over, either_for}
@@ -91,6 +92,7 @@ module _ {D : Type 0} (device : Device D) where
     pending_fault_is = k.pending_fault_is;
     unhealed_fault_is = ap faults_of same.pending_fault ∙ k.unhealed_fault_is;
     head_is = k.head_is;
+    rows = k.rows;
   }
 
   -- rows were appended
@@ -128,6 +130,7 @@ module _ {D : Type 0} (device : Device D) where
         pending_fault_is = k.pending_fault_is;
         unhealed_fault_is = no_pending_fault ∙ sym healed;
         head_is = k.head_is;
+        rows = more_archived head history rows k.rows ok;
       }
 
   -- an append failed
@@ -165,6 +168,7 @@ module _ {D : Type 0} (device : Device D) where
     pending_fault_is = sym pending_fault_now;
     unhealed_fault_is = unhealed_fault_is ∙ ap Some (sym count_is) ∙ sym pending_fault_now;
     head_is = k.head_is;
+    rows = k.rows;
   }
     where
       pending_fault_now : pending_fault_of (fills ++ fault count rows ∷ []) ≡ Some count

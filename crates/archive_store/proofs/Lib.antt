@@ -1,4 +1,5 @@
 pub mod Admitting
+pub mod Archived
 pub mod Archives
 pub mod Batching
 pub mod Calls

@@ -15,7 +15,7 @@ use Rattle.field_codec.specs.declared.entry.Entry.TheVariants as entries
 use Rattle.field_codec.specs.Entries.{IsArchiveEntry}
 use Rattle.field_codec.specs.Spelling.{entry_octets}
 use Rattle.archive_store.specs.declared.head.Head.{Head}
-use Rattle.archive_store.specs.Entries.{Archive, archive, Replays}
+use Rattle.archive_store.specs.Entries.{Archive, archive, HasArchivedRows, Replays}
 use Rattle.archive_store.specs.Stands.{StandsFor}
 use Rattle.archive_store.specs.Calls.{IsCreateImage}
 use Rattle.archive_store.specs.PartialArchive.{IsReadArchive}
@@ -47,13 +47,14 @@ module _ {D : Type 0} (device : Device D) where
 
   pub kept_open : (disk opened : D) (journal : Journal) (head : Head) (history : List Item)
       → IsArchiveEntry (entries.Head head.tables head.mdb)
+      → HasArchivedRows (Some (archive head history))
       → (IsTrue device.is_transparent → IsReadArchive (device.reads opened 0) journal (archive head history))
       → unhealed_fault journal ≡ None
       → file_of journal ≡ 0
       → IsDurable device 0 (device.reads opened 0) opened
       → OnlyReads device opened disk
       → StoreInvariant device disk opened journal head history [] None
-  kept_open disk opened journal head history fits found no_pending_fault file only looked = record {
+  kept_open disk opened journal head history fits rows found no_pending_fault file only looked = record {
     faults = record { rising = tt; later = looked.later; writes_later = omega (arith, looked.no_write); wrote = λ faults is. absurd (cc (is)) };
     before = history;
     begins = prefix_self history;
@@ -85,6 +86,7 @@ module _ {D : Type 0} (device : Device D) where
     pending_fault_is = refl;
     unhealed_fault_is = no_pending_fault;
     head_is = fits;
+    rows = rows;
   }
     where
       same_file : (f : ℕ) → device.reads disk f ≡ device.reads opened f
@@ -125,6 +127,7 @@ module _ {D : Type 0} (device : Device D) where
     pending_fault_is = refl;
     unhealed_fault_is = no_pending_fault;
     head_is = fits;
+    rows = tt;
   }
     where
       in_file : (c : Image) → IsTrue device.is_transparent → device.images disk c → HasRecords (c (file_of journal)) (head_octets head ∷ [])

@@ -2,10 +2,10 @@
 use Rattle.std.specs.Prelude.{◌≡◌, ◌<◌, List, [], ◌++◌, length, Option, Some, None}
 use Rattle.std.specs.List.{AllByRecursion}
 use Rattle.arch_types.specs.declared.row.Row.{Row}
-use Rattle.archive_core.specs.Items.{Item, after_rows, items_of}
+use Rattle.archive_core.specs.Items.{Item, after_rows, items_of, rows_in}
 use Rattle.field_codec.specs.declared.entry.Entry.{Entry}
 use Rattle.field_codec.specs.declared.entry.Entry.TheVariants as entries
-use Rattle.field_codec.specs.Entries.{IsArchiveEntry}
+use Rattle.field_codec.specs.Entries.{IsArchiveEntry, IsStored}
 use Rattle.archive_store.specs.declared.head.Head.{Head}
 use Rattle.archive_store.specs.Images.{ReplaysBy}
 use Rattle.archive_history.specs.Limits.{IsWithin}
@@ -23,6 +23,17 @@ archive head history = record { head = head; history = history }
 pub record IsPlaced (head : Head) (row : Row) : Type 0 where
   pub table : row.table < length head.tables
   pub pname : row.pname < length head.mdb.containers
+
+-- A row that a store gives: a whole packet that isn't idle, received within the clock's range, with the key that it gives then,
+-- in a table that the head has, and of a container that its database names
+pub record IsArchivedRow (head : Head) (row : Row) : Type 0 where
+  pub stored : IsStored row
+  pub placed : IsPlaced head row
+
+-- all rows of an archive are such rows, if there is an archive
+abbrev pub HasArchivedRows : Option Archive → Type 0
+HasArchivedRows None = Unit {0}
+HasArchivedRows (Some archive) = AllByRecursion (IsArchivedRow archive.head) (rows_in archive.history)
 
 -- Rows that a record may add: they have a spelling, their tables and names are there, no table has one of the keys, and no limit is passed.
 pub record AreAdmitted (old : Archive) (rows : List Row) : Type 0 where

@@ -1,9 +1,10 @@
 -- What a store keeps of its fields.
 use Rattle.std.specs.Prelude.{◌≡◌, ℕ, IsTrue, List, Option}
+use Rattle.std.specs.List.{AllByRecursion}
 use mathlib.Core.List.{IsPrefix}
 use Rattle.arch_disk.specs.Disk.{Device}
 use Rattle.archive_core.specs.declared.fills.Fill.{Fill}
-use Rattle.archive_core.specs.Items.{Item}
+use Rattle.archive_core.specs.Items.{Item, rows_in}
 use Rattle.archive_core.specs.Fills.{pending_fault_of, rows_of_faults, unacknowledged_rows}
 use Rattle.disk_journal.specs.State.{unhealed_fault, count_of}
 use Rattle.disk_journal.specs.declared.journal.Journal.{Journal}
@@ -11,7 +12,7 @@ use Rattle.field_codec.specs.declared.entry.Entry.TheVariants as kinds
 use Rattle.field_codec.specs.Entries.{IsArchiveEntry}
 use Rattle.field_codec.specs.Spelling.{entry_octets}
 use Rattle.archive_store.specs.declared.head.Head.{Head}
-use Rattle.archive_store.specs.Entries.{archive, Applies}
+use Rattle.archive_store.specs.Entries.{archive, Applies, IsArchivedRow}
 use Rattle.archive_store.specs.Images.{ArchiveInvariant, IsPlainLog}
 use Rattle.archive_store.specs.PlainLog.{IsUnacknowledged, IsFound}
 use Rattle.archive_store.specs.Stands.{StandsFor}
@@ -39,3 +40,4 @@ pub record StoreInvariant {D : Type 0} (device : Device D) (disk opened : D) (jo
   pub pending_fault_is : pending_fault ≡ pending_fault_of fills
   pub unhealed_fault_is : unhealed_fault journal ≡ pending_fault_of fills
   pub head_is : IsArchiveEntry (kinds.Head head.tables head.mdb)
+  pub rows : AllByRecursion (IsArchivedRow head) (rows_in history)

@@ -9,6 +9,8 @@ ghost use Rattle.field_codec.specs.Spelling.{entry_octets};
 ghost use Rattle.arch_types.specs.History.{IsHistory};
 ghost use Rattle.archive_core.specs.Items.{rows_in};
 ghost use Rattle.archive_history.specs.Limits.{IsWithin};
+ghost use Rattle.archive_store.specs.Entries.{IsArchivedRow};
+ghost use Rattle.std.specs.List.{AllByRecursion};
 ghost use Rattle.archive_store.specs.PartialArchive.{refusal_of_create};
 ghost use Rattle.std.specs.Arc.{arc_value};
 
@@ -225,6 +227,7 @@ impl<D: Disk> Store<D> {
     pub fn front(&self) -> u64
         ensures front { result ≡ length self.now.history }
         ensures history { IsHistory (rows_in self.now.history) × IsWithin 22 self.now.history }
+        ensures rows { AllByRecursion (IsArchivedRow self.now.head) (rows_in self.now.history) }
         ensures images { IsTrue D.device.is_transparent → CrashInvariant D.device self.now }
         ensures faults { FaultInvariant D.device self.now }
     {
