@@ -87,22 +87,22 @@ module _ {D : Type 0} (device : Device D) (e : Effects D) (f : Archive → Comma
       Ran device (and_then (opening_plan sources device e.disk) f) e
   ran_unopened NoArchive refused reads images counts report silent = record {
     way = Stopped (looked sources) (Some NoArchive);
-    allows = inr (inr (NoneFound, refused.0, refl));
+    allows = inr (inr (NoneFound, refused.none, refl));
     did = record {
       report = report;
       printed = rw silent (no_text e.output.written);
       output = record { counted = rw silent refl };
-      disk = (looked_only device e.disk e.disk' counts refused.1, λ known. record { reads = reads; images = images });
+      disk = (looked_only device e.disk e.disk' counts refused.no_failed_write, λ known. record { reads = reads; images = images });
     };
   }
   ran_unopened (Damaged file at) refused reads images counts report silent = record {
     way = Stopped (looked sources) (Some (Damaged file at));
-    allows = inr (inr (DamageFound file at, refused.0, refl));
+    allows = inr (inr (DamageFound file at, refused.damaged, refl));
     did = record {
       report = report;
       printed = rw silent (no_text e.output.written);
       output = record { counted = rw silent refl };
-      disk = (looked_only device e.disk e.disk' counts refused.1, λ known. record { reads = reads; images = images });
+      disk = (looked_only device e.disk e.disk' counts refused.no_failed_write, λ known. record { reads = reads; images = images });
     };
   }
   ran_unopened DiskFault refused reads images counts report silent = record {

@@ -87,12 +87,12 @@ module _ {D : Type 0} (device : Device D) (e : Effects D) (head : Head) where
       e.report ≡ unopened (Some refusal) → e.output' ≡ e.output → Ran device (making_plan device e.disk head) e
   ran_unmade Exists refused kept crash counts report silent = record {
     way = Stopped (looked 3) (Some Exists);
-    allows = inr (inr (true, λ known. (refused.0 known).0, refl));
+    allows = inr (inr (true, refused.held, refl));
     did = record {
       report = report;
       printed = rw silent (no_text e.output.written);
       output = record { counted = rw silent refl };
-      disk = (looked_only device e.disk e.disk' counts refused.1, λ known. left_alone device e.disk e.disk' (kept known (refused.0 known).0));
+      disk = (looked_only device e.disk e.disk' counts refused.no_failed_write, λ known. left_alone device e.disk e.disk' (kept known (refused.held known)));
     };
   }
   ran_unmade DiskFault refused kept crash counts report silent = record {

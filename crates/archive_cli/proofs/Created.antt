@@ -137,7 +137,7 @@ unmade_cases : {D : Type 0} (device : Device D) (call : Call) (words : SheetWord
     IsTrue device.is_transparent → IsStoreCreateRefusal device old new refusal → (BeginsOpen (device.reads old 0) → IsReadAsBefore device old new) →
     (HoldsNone (device.reads old 0) → LeavesOnly device old new (IsCreateImage (device.images old) (new_head raw))) → IsCreateEnding device call words old new (Some refusal) (unopened (Some refusal))
 unmade_cases device call words old new raw Exists good silent known refused kept images =
-    let held = (refused.0 known).0 in record { raw = raw; good = good; there = held; disk = kept held; silent = silent; report_is = refl }
+    let held = refused.held known in record { raw = raw; good = good; there = held; disk = kept held; silent = silent; report_is = refl }
 unmade_cases device call words old new raw DiskFault good silent known refused kept images = (
   refused.rose,
   record {

@@ -65,8 +65,8 @@ read_only_store device disk s stands same opening fills handed_in keeps =
 
 -- why an archive wasn't opened
 pub opening_cause : {D : Type 0} (device : Device D) (old new : D) (refusal : Refusal) → IsTrue device.is_transparent → IsStoreOpenRefusal device old new refusal → IsOpeningRefusal device old new refusal
-opening_cause device old new NoArchive known h = h.0 known
-opening_cause device old new (Damaged file at) known h = h.0 known
+opening_cause device old new NoArchive known h = h.none known
+opening_cause device old new (Damaged file at) known h = h.damaged known
 opening_cause device old new DiskFault known h = h.rose
 opening_cause device old new OutOfMemory known h = tt
 opening_cause device old new other known h = absurd h

@@ -35,7 +35,7 @@ module _ {D : Type 0} (device : Device D) where
   -- why no archive was read is why none was opened,
   pub read_refused : (old before after : D) (e : Refusal) → IsArchiveReadRefusal device before after e → device.reads before ≡ device.reads old → device.fault_count old ≤ device.fault_count before → device.failed_writes after ≡ device.failed_writes old
       → IsStoreOpenRefusal device old after e
-  read_refused old before after (refused.Damaged file at) refusal reads later writes = (λ transparent. subst (λ (x : Image). (file ≡ 0) × IsArchiveDamagedAt x at) reads (refusal transparent), writes)
+  read_refused old before after (refused.Damaged file at) refusal reads later writes = record { damaged = λ transparent. subst (λ (x : Image). (file ≡ 0) × IsArchiveDamagedAt x at) reads (refusal transparent); no_failed_write = writes }
   read_refused old before after refused.DiskFault refusal reads later writes = record { rose = omega (arith, refusal, later); wrote_most = inl writes }
   read_refused old before after refused.OutOfMemory refusal reads later writes = writes
   read_refused old before after _ refusal reads later writes = absurd refusal
@@ -43,7 +43,7 @@ module _ {D : Type 0} (device : Device D) where
   -- and so is why no reading began
   pub begin_refused : (before after : D) (fault : JournalFault) → IsBeginRefusal device 0 before after fault → IsStoreOpenRefusal device before after (read_refusal fault)
   begin_refused before after Exists refusal = absurd refusal
-  begin_refused before after NoArchive refusal = refusal
+  begin_refused before after NoArchive refusal = record { none = refusal.0; no_failed_write = refusal.1 }
   begin_refused before after (Damaged at) refusal = absurd refusal
   begin_refused before after (NeedsReopen faults) refusal = absurd refusal
   begin_refused before after Limit refusal = absurd refusal
@@ -52,7 +52,7 @@ module _ {D : Type 0} (device : Device D) where
 
   -- the refusals of a journal that is made are a creation's
   pub making_refused : (before after : D) (fault : JournalFault) → IsJournalCreateRefusal device 0 before after fault → IsStoreCreateRefusal device before after (refusal_of_create fault)
-  making_refused before after Exists refusal = refusal
+  making_refused before after Exists refusal = record { held = λ transparent. (refusal.0 transparent).0; reads = λ transparent. (refusal.0 transparent).1; no_failed_write = refusal.1 }
   making_refused before after NoArchive refusal = absurd refusal
   making_refused before after (Damaged at) refusal = absurd refusal
   making_refused before after (NeedsReopen faults) refusal = absurd refusal

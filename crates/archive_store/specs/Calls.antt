@@ -147,13 +147,20 @@ pub record IsStoreOpened {D : Type 0} (device : Device D) (disk : D) (store : St
   pub opening : device.reads store.opened ≡ device.reads disk
   pub no_failed_write : NoWriteFailed device disk store.disk
 
+-- the disk holds no archive
+pub record FindsNoArchive {D : Type 0} (device : Device D) (before after : D) : Type 0 where
+  pub none : IsTrue device.is_transparent → HoldsNone (device.reads before 0)
+  pub no_failed_write : NoWriteFailed device before after
+
+-- the archive is damaged in file 0, at this gate
+pub record FindsDamage {D : Type 0} (device : Device D) (before after : D) (file at : ℕ) : Type 0 where
+  pub damaged : IsTrue device.is_transparent → (file ≡ 0) × IsArchiveDamagedAt (device.reads before) at
+  pub no_failed_write : NoWriteFailed device before after
+
 -- why an archive is not opened: none is there, it is damaged at a gate of file 0, the disk failed, or memory is wanting
 abbrev pub IsStoreOpenRefusal : {D : Type 0} → Device D → D → D → Refusal → Type 0
-IsStoreOpenRefusal device before after NoArchive =
-    (IsTrue device.is_transparent → HoldsNone (device.reads before 0)) × NoWriteFailed device before after
-IsStoreOpenRefusal device before after (Damaged file at) =
-    (IsTrue device.is_transparent → (file ≡ 0) × IsArchiveDamagedAt (device.reads before) at)
-    × NoWriteFailed device before after
+IsStoreOpenRefusal device before after NoArchive = FindsNoArchive device before after
+IsStoreOpenRefusal device before after (Damaged file at) = FindsDamage device before after file at
 IsStoreOpenRefusal device before after DiskFault = IsJournalOpenFailed device before after
 IsStoreOpenRefusal device before after OutOfMemory = NoWriteFailed device before after
 IsStoreOpenRefusal device before after _ = ⊥
@@ -178,11 +185,15 @@ pub record IsStoreCreated {D : Type 0} (device : Device D) (disk : D) (head : He
   pub opened : store.opened ≡ store.disk
   pub no_failed_write : NoWriteFailed device disk store.disk
 
--- why no archive is made, and what that leaves: Exists where file 0 begins with an open gate
+-- file 0 begins with an open gate, and the disk reads as before
+pub record FindsArchive {D : Type 0} (device : Device D) (before after : D) : Type 0 where
+  pub held : IsTrue device.is_transparent → BeginsOpen (device.reads before 0)
+  pub reads : IsTrue device.is_transparent → device.reads after ≡ device.reads before
+  pub no_failed_write : NoWriteFailed device before after
+
+-- why no archive is made, and what that leaves
 abbrev pub IsStoreCreateRefusal : {D : Type 0} → Device D → D → D → Refusal → Type 0
-IsStoreCreateRefusal device before after Exists =
-    (IsTrue device.is_transparent → BeginsOpen (device.reads before 0) × (device.reads after ≡ device.reads before))
-    × NoWriteFailed device before after
+IsStoreCreateRefusal device before after Exists = FindsArchive device before after
 IsStoreCreateRefusal device before after DiskFault = IsJournalCreateFailed device 0 before after
 IsStoreCreateRefusal device before after OutOfMemory = after ≡ before
 IsStoreCreateRefusal device before after _ = ⊥
