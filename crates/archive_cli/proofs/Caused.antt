@@ -1,5 +1,6 @@
 -- Why a command on an archive ended as it did, from what its steps say of their answers.
 use Rattle.std.proofs.Common.{◌≡◌, ℕ, List, Option, Some, None, sym, subst}
+use Rattle.std.specs.Prelude.{Result, Ok, Err}
 use Rattle.arch_disk.specs.Disk.{Device}
 use Rattle.arch_types.specs.declared.ask.Ask.{Ask}
 use Rattle.arch_types.specs.declared.refusal.Refusal.{Refusal}
@@ -9,8 +10,6 @@ use Rattle.archive_core.specs.Items.{Item}
 use Rattle.mdb_items.specs.Database.{Database}
 use Rattle.mdb_sheets.specs.Sheets.{HasSheet}
 use Rattle.archive_store.specs.Calls.{IsStoreCreateRefusal, IsStoreOpenRefusal}
-use Rattle.archive_cli.specs.declared.ask_sheet.AskSheet.{AskSheet}
-use Rattle.archive_cli.specs.declared.ask_sheet.AskSheet.TheVariants.{Read, Refused}
 use Rattle.archive_cli.specs.declared.report.Report.{Report}
 use Rattle.archive_cli.specs.Call.{Call}
 use Rattle.archive_cli.specs.Caused.{HasGoodSheets, IsCreateCaused, IsQueryCaused, IsRecoverCaused}
@@ -90,7 +89,7 @@ unopened_cause device old new call name OutOfMemory h there = tt
 unopened_cause device old new call name other h there = absurd h
 
 -- no archive was opened
-pub query_unopened_cause : {D : Type 0} (device : Device D) (old new : D) (call : Call) (name : List ℕ) (sheet : AskSheet) (refusal : Refusal) (report : Report) →
+pub query_unopened_cause : {D : Type 0} (device : Device D) (old new : D) (call : Call) (name : List ℕ) (sheet : Result (List Ask) Refusal) (refusal : Refusal) (report : Report) →
     report ≡ unopened (Some refusal) → IsStoreOpenRefusal device old new refusal →
     IsAskSheet call.files name sheet → IsQueryCaused call name report.refusal
 query_unopened_cause device old new call name sheet refusal report is h asked =
@@ -110,13 +109,13 @@ deferred_cause call name (BadSheet sheet row rule) h = h
 deferred_cause call name (Limit Asks number) h = h
 deferred_cause call name other h = absurd (let e = h.0 in cc)
 
-sheet_cause : (call : Call) (name : List ℕ) (db : Database) (history : List Item) (sheet : AskSheet) (refusal : Option Refusal) (before now : Option (List ℕ)) (faults faults' : ℕ) →
+sheet_cause : (call : Call) (name : List ℕ) (db : Database) (history : List Item) (sheet : Result (List Ask) Refusal) (refusal : Option Refusal) (before now : Option (List ℕ)) (faults faults' : ℕ) →
     IsAskSheet call.files name sheet → IsSheetReply db history sheet refusal before now faults faults' → IsQueryCaused call name refusal
-sheet_cause call name db history (Read asks) refusal before now faults faults' asked h = reply_cause call name db history asks refusal before now faults faults' asked h
-sheet_cause call name db history (Refused refused) refusal before now faults faults' asked h = rw h.0 (deferred_cause call name refused asked)
+sheet_cause call name db history (Ok asks) refusal before now faults faults' asked h = reply_cause call name db history asks refusal before now faults faults' asked h
+sheet_cause call name db history (Err refused) refusal before now faults faults' asked h = rw h.0 (deferred_cause call name refused asked)
 
 -- the asks were answered, or refused
-pub query_replied_cause : (call : Call) (name : List ℕ) (db : Database) (history : List Item) (sheet : AskSheet) (refusal : Option Refusal) (report : Report) (rows : ℕ)
+pub query_replied_cause : (call : Call) (name : List ℕ) (db : Database) (history : List Item) (sheet : Result (List Ask) Refusal) (refusal : Option Refusal) (report : Report) (rows : ℕ)
     (before now : Option (List ℕ)) (faults faults' : ℕ) → report ≡ read_only refusal rows → IsAskSheet call.files name sheet →
     IsSheetReply db history sheet refusal before now faults faults' → IsQueryCaused call name report.refusal
 query_replied_cause call name db history sheet refusal report rows before now faults faults' is asked h =

@@ -64,7 +64,7 @@ module _ {D : Type 0} (device : Device D) (e : Effects D) where
 
   -- over inputs too
   pub is_due_over : (plan : CommandPlan Progress ⊥) (old new : InputsState) → IsDetermined plan → RanOver device plan e old new → IsDue plan e.report.refusal
-  is_due_over plan old new d ran = is_due plan d (record { way = ran.way; allows = ran.allows; did = ran.did })
+  is_due_over plan old new d went = is_due plan d went.ran
 
 -- ---- an opening
 

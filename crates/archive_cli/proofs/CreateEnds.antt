@@ -16,7 +16,7 @@ use Rattle.mdb_items.specs.declared.sheet.RawMdb.{RawMdb}
 use Rattle.mdb_items.specs.Checks.{or_else}
 use Rattle.mdb_items.specs.Database.{Broken, limit_passed}
 use Rattle.mdb_model.specs.Sheets.{sheets_database, sheets_fault}
-use Rattle.mdb_sheets.proofs.Sheets.{has_sheet}
+use Rattle.mdb_sheets.proofs.Sheets.{has_sheet, sheet_was_read}
 use Rattle.mdb_sheets.specs.Plans.{giving_plan, second_sheet_plan, sheet_plan, third_sheet_plan}
 use Rattle.mdb_sheets.specs.Sheets.{AreSheets, Fields, HasSheet, IsRefusal, IsSheet, IsSheetRefused, ReadsCounted, sheet_of}
 use Rattle.outer_traits.specs.Outside.{Files, HasRisen, IsOneMoreAtMost, one_more}
@@ -24,13 +24,12 @@ use Rattle.outer_traits.specs.Whole.{IsThere}
 use Rattle.archive_store.specs.declared.head.Head.{Head}
 use Rattle.archive_store.specs.Calls.{IsCreateImage, IsStoreCreateRefusal}
 use Rattle.archive_store.proofs.Calls.{store_create_counted, store_create_most}
-use Rattle.command_plans.specs.Plan.{OfMemory, OfInputs, OfDisk, CommandPlan, Return, Stop, May, Question, Choose, Way, Stopped, Interrupted, Allows, and_then, interruption_refusal, map_done}
+use Rattle.command_plans.specs.Plan.{OfMemory, OfInputs, OfDisk, Way, Stopped, Interrupted, Allows, and_then, map_done}
 use Rattle.command_plans.proofs.Plans.{end_of}
 use Rattle.command_words.specs.Job.{SheetWords}
 use Rattle.dump_lines.specs.Output.{WritesCounted}
-use Rattle.input_plans.specs.Inputs.{InputRead, OverLimit, WithinLimit, IsInputAs, IsThereAs, input_read, input_there, reading_fault, input_plan}
-use Rattle.outer_ledgers.specs.Ledger.{Counted, InputsState, UsedDisk, UsedInputs, given_more, raised_by}
-use Rattle.outer_ledgers.proofs.Ledgers.{counted_later, counted_risen, no_failed_write, rose_later}
+use Rattle.outer_ledgers.specs.Ledger.{InputsState, UsedDisk, UsedInputs, given_more, raised_by}
+use Rattle.outer_ledgers.proofs.Ledgers.{counted_later, no_failed_write, rose_later}
 use Rattle.retrieval.specs.Parameter.{broken_rule, passed_limit, sheets_refusal}
 use Rattle.archive_cli.specs.declared.report.Report.{Report}
 use Rattle.archive_cli.specs.Call.{Call, call_of}
@@ -46,7 +45,8 @@ use Rattle.archive_cli.specs.ReadOnly.{IsReadAsBefore}
 use Rattle.archive_cli.specs.Report.{IsReadOnlyReport, unopened}
 use Rattle.archive_cli.proofs.Caused.{create_made_cause, create_refused_cause, create_unmade_cause}
 use Rattle.archive_cli.proofs.CreateAnswers.{one-not-none}
-use Rattle.archive_cli.proofs.CreatePlan.{ReadThree, makes_after}
+use Rattle.archive_cli.proofs.CreatePlan.{makes_after}
+use Rattle.archive_cli.proofs.OverInputs.{DidOver, EndsBefore, HasRead, IsUnread, cut_before, ended_before, first_of, gave_next, gave_so, one_at_most, reads_end, risen, still, unread_counted}
 use Rattle.archive_cli.proofs.Created.{create_reads, create_refused, create_unmade, create_writes, created, refused_kind, sheet_disk, sheet_writes, unmade_fault}
 use Rattle.archive_cli.proofs.DiskWrites.{none_of_two, unmade_writes}
 use Rattle.archive_cli.proofs.Ends.{WasPrinted, prints_end, silent_all}
@@ -58,15 +58,6 @@ use Rattle.archive_cli.proofs.Recovered.{finished_disk, finished_reads, not_read
 
 -- ---- before the disk was asked
 
--- why an input wasn't read, how many sources were given by then, and whether a call failed
-abbrev pub IsUnread : Option Files → Which → List ℕ → ℕ → Refusal → ℕ → Bool → Type 0
-IsUnread files which name s (Missing lacking) n failed = (lacking ≡ name) × IfSome files (λ all. IsNone (get all name)) × (n ≡ s) × (failed ≡ false)
-IsUnread files which name s ReadFault n failed = IsThere files name × ((n ≡ s) ⊎ (n ≡ s + 1)) × (failed ≡ true)
-IsUnread files which name s (Limit passed number) n failed =
-    (passed ≡ which) × (number ≡ limit_of which) × IfSome files (λ all. IsSomeAnd (get all name) (λ octets. limit_of which < length octets)) × (n ≡ s + 1) × (failed ≡ false)
-IsUnread files which name s OutOfMemory n failed = ((n ≡ s) ⊎ (n ≡ s + 1)) × (failed ≡ false)
-IsUnread files which name s other n failed = ⊥
-
 -- the sheets gave no head
 abbrev HasNoHead : Option Files → SheetWords → Refusal → ℕ → Bool → Type 0
 HasNoHead files words refusal n failed =
@@ -76,165 +67,58 @@ HasNoHead files words refusal n failed =
     ⊎ ((raw : RawMdb) × AreSheets files words.parameters words.calibrations words.containers raw
     × ((sheets_refusal raw ≡ Some refusal) ⊎ (refusal ≡ OutOfMemory)) × (n ≡ 3) × (failed ≡ false))))
 
--- three plans, one behind the other
-behind : {X Y Z : Type 0} (p : CommandPlan ℕ X) (f : X → CommandPlan ℕ Y) (g : Y → CommandPlan ℕ Z) (k : Z → CommandPlan Progress ⊥) (way : Way Progress ⊥) →
-    Allows (and_then (map_done nothing_done (and_then (and_then p f) g)) k) way → Allows (and_then (map_done nothing_done (and_then p (λ x. and_then (f x) g))) k) way
-behind (Return x) f g k way goes = goes
-behind (Stop s refusal) f g k way goes = goes
-behind (May fault s p) f g k way (inl goes) = inl goes
-behind (May fault s p) f g k way (inr goes) = inr (behind p f g k way goes)
-behind (Question is next) f g k way goes = (goes.0, goes.1, behind (next goes.0) f g k way goes.2)
-behind (Choose is next) f g k way goes = (goes.0, goes.1, behind (next goes.0) f g k way goes.2)
-
--- nothing was asked of the disk
-pub record NotBegun {D : Type 0} (device : Device D) (e : Effects D) (a b : InputsState) (refusal : Refusal) (sources : ℕ) (failed : Bool) : Type 0 where
-  pub report : e.report ≡ unopened (Some refusal)
-  pub silent : e.output'.written ≡ e.output.written
-  pub faults : e.output'.faults ≡ e.output.faults
-  pub disk : e.disk' ≡ e.disk
-  pub inputs : UsedInputs a b sources failed
-
 module _ {D : Type 0} (device : Device D) (e : Effects D) (a b : InputsState) where
-  -- it ended on this way, and used the inputs so
-  abbrev pub DidOver : Way Progress ⊥ → Type 0
-  DidOver way = HasEffects device e way × UsedInputs a b (sources_at way) (failed_at way OfInputs)
-
-  ended_before : (way : Way Progress ⊥) (n : ℕ) (refusal : Refusal) → way ≡ Stopped (nothing_done n) (Some refusal) → DidOver way → NotBegun device e a b refusal n false
-  ended_before way n refusal is did =
-      let here : DidOver (Stopped (nothing_done n) (Some refusal)) = subst DidOver is did in record {
-        report = here.0.report;
-        silent = silent_all e.output.written e.output'.written here.0.printed;
-        faults = here.0.output.counted;
-        disk = here.0.disk;
-        inputs = here.1;
-      }
-
-  cut_before : (way : Way Progress ⊥) (n : ℕ) (failed : Bool) → way ≡ Interrupted (nothing_done n) (reading_fault failed) → DidOver way → NotBegun device e a b (interruption_refusal (reading_fault failed)) n failed
-  cut_before way n true is did =
-      let here : DidOver (Interrupted (nothing_done n) OfInputs) = subst DidOver is did in record {
-        report = here.0.report;
-        silent = silent_all e.output.written e.output'.written here.0.printed;
-        faults = here.0.output.counted;
-        disk = here.0.disk;
-        inputs = here.1;
-      }
-  cut_before way n false is did =
-      let here : DidOver (Interrupted (nothing_done n) OfMemory) = subst DidOver is did in record {
-        report = here.0.report;
-        silent = silent_all e.output.written e.output'.written here.0.printed;
-        faults = here.0.output.counted;
-        disk = here.0.disk;
-        inputs = here.1;
-      }
-
-  -- it ended before the disk was asked, for a cause P
-  abbrev pub EndsBefore : (Refusal → ℕ → Bool → Type 0) → Type 0
-  EndsBefore P = (refusal : Refusal) × (n : ℕ) × (failed : Bool) × P refusal n failed × NotBegun device e a b refusal n failed
-
-  module _ {X Y : Type 0} (files : Option Files) (which : Which) (of : List ℕ → X) (name : List ℕ) (s : ℕ) (k : X → CommandPlan ℕ Y) (f : Y → CommandPlan Progress ⊥) (way : Way Progress ⊥) (did : DidOver way) where
-    -- what the reading of an input leads to: it wasn't read, or it was and the way went on
-    abbrev pub ReadsOn : Type 0
-    ReadsOn = EndsBefore (IsUnread files which name s) ⊎ ((x : X) × IsInputAs files which of name (WithinLimit x) × Allows (and_then (map_done nothing_done (k x)) f) way)
-
-    read_end : (found : InputRead X) → IsInputAs files which of name found → Allows (and_then (map_done nothing_done (and_then (input_read which (s + 1) found) k)) f) way → ReadsOn
-    read_end OverLimit long goes =
-        inl (Limit which (limit_of which), s + 1, false, (refl, refl, long, refl, refl), ended_before way (s + 1) (Limit which (limit_of which)) goes did)
-    read_end (WithinLimit x) is goes = inr (x, is, goes)
-
-    there_end : (there : Bool) → IsThereAs files name there → Allows (and_then (map_done nothing_done (and_then (input_there files which of name s there) k)) f) way → ReadsOn
-    there_end false none goes = inl (Missing name, s, false, (refl, none, refl, refl), ended_before way s (Missing name) goes did)
-    there_end true there (inl goes) = inl (ReadFault, s, true, (there, inl refl, refl), cut_before way s true goes did)
-    there_end true there (inr (inl goes)) = inl (OutOfMemory, s + 1, false, (inr refl, refl), cut_before way (s + 1) false goes did)
-    there_end true there (inr (inr (inl goes))) = inl (ReadFault, s + 1, true, (there, inr refl, refl), cut_before way (s + 1) true goes did)
-    there_end true there (inr (inr (inr h))) = read_end h.0 h.1 h.2
-
-    pub reads_end : Allows (and_then (map_done nothing_done (and_then (input_plan files which of name s) k)) f) way → ReadsOn
-    reads_end (inl goes) = inl (OutOfMemory, s, false, (inl refl, refl), cut_before way s false goes did)
-    reads_end (inr h) = there_end h.0 h.1 h.2
-
-  module _ (files : Option Files) (words : SheetWords) (way : Way Progress ⊥) (did : DidOver way) where
+  module _ (files : Option Files) (words : SheetWords) (way : Way Progress ⊥) (did : DidOver device e a b way) where
     -- the sheets gave no head, or one with which it went on
     abbrev HeadsOn : Type 0
-    HeadsOn = EndsBefore (HasNoHead files words) ⊎ ((raw : RawMdb) × AreGood files words raw × Allows (making_plan device e.disk (new_head raw)) way)
+    HeadsOn = EndsBefore device e a b (HasNoHead files words) ⊎ ((raw : RawMdb) × AreGood files words raw × Allows (making_plan device e.disk (new_head raw)) way)
 
     checked_end : (raw : RawMdb) (found : Option Refusal) → AreSheets files words.parameters words.calibrations words.containers raw → found ≡ sheets_refusal raw →
         Allows (and_then (map_done nothing_done (head_checked 3 raw found)) (making_plan device e.disk)) way → HeadsOn
     checked_end raw None are is goes = inr (raw, record { sheets = are; admitted = sym is }, goes)
-    checked_end raw (Some refusal) are is goes = inl (refusal, 3, false, inr (inr (inr (raw, are, inl (sym is), refl, refl))), ended_before way 3 refusal goes did)
+    checked_end raw (Some refusal) are is goes = inl (refusal, 3, false, inr (inr (inr (raw, are, inl (sym is), refl, refl))), ended_before device e a b way 3 refusal goes did)
 
     checks_end : (raw : RawMdb) → AreSheets files words.parameters words.calibrations words.containers raw →
         Allows (and_then (map_done nothing_done (checking_plan 3 raw)) (making_plan device e.disk)) way → HeadsOn
-    checks_end raw are (inl goes) = inl (OutOfMemory, 3, false, inr (inr (inr (raw, are, inr refl, refl, refl))), cut_before way 3 false goes did)
+    checks_end raw are (inl goes) = inl (OutOfMemory, 3, false, inr (inr (inr (raw, are, inr refl, refl, refl))), cut_before device e a b way 3 false goes did)
     checks_end raw are (inr h) = checked_end raw h.0 are h.1 h.2
 
     third_end : (ps cs : List Fields) → IsSheet files words.parameters ps → IsSheet files words.calibrations cs →
         Allows (and_then (map_done nothing_done (and_then (third_sheet_plan files words.containers ps 2 cs) (checking_plan 3))) (making_plan device e.disk)) way → HeadsOn
     third_end ps cs p c goes =
-        elim (reads_end files SheetOctets (λ octets. sheet_of octets) words.containers 2 (λ ks. and_then (giving_plan ps cs ks) (checking_plan 3)) (making_plan device e.disk) way did
-        (behind (sheet_plan files words.containers 2) (giving_plan ps cs) (checking_plan 3) (making_plan device e.disk) way goes)) [
+        elim (reads_end device e a b files SheetOctets (λ octets. sheet_of octets) words.containers 2 (λ ks. and_then (map_done nothing_done (and_then (giving_plan ps cs ks) (checking_plan 3))) (making_plan device e.disk)) way did
+        (first_of (sheet_plan files words.containers 2) (giving_plan ps cs) (checking_plan 3) (making_plan device e.disk) way goes)) [
           | inl n ↦ inl (n.0, n.1, n.2, inr (inr (inl (has_sheet files words.parameters ps p, has_sheet files words.calibrations cs c, n.3))), n.4)
-          | inr h ↦ checks_end (record { parameters = ps; calibrations = cs; containers = h.0 }) (record { parameters_sheet = p; calibrations_sheet = c; containers_sheet = h.1 }) h.2
+          | inr h ↦ checks_end (record { parameters = ps; calibrations = cs; containers = h.0 }) (record { parameters_sheet = p; calibrations_sheet = c; containers_sheet = sheet_was_read files words.containers h.0 h.1 }) h.2
         ]
 
     second_end : (ps : List Fields) → IsSheet files words.parameters ps →
         Allows (and_then (map_done nothing_done (and_then (second_sheet_plan files words.calibrations words.containers 1 ps) (checking_plan 3))) (making_plan device e.disk)) way → HeadsOn
     second_end ps p goes =
-        elim (reads_end files SheetOctets (λ octets. sheet_of octets) words.calibrations 1 (λ cs. and_then (third_sheet_plan files words.containers ps 2 cs) (checking_plan 3)) (making_plan device e.disk) way did
-        (behind (sheet_plan files words.calibrations 1) (third_sheet_plan files words.containers ps 2) (checking_plan 3) (making_plan device e.disk) way goes)) [
+        elim (reads_end device e a b files SheetOctets (λ octets. sheet_of octets) words.calibrations 1 (λ cs. and_then (map_done nothing_done (and_then (third_sheet_plan files words.containers ps 2 cs) (checking_plan 3))) (making_plan device e.disk)) way did
+        (first_of (sheet_plan files words.calibrations 1) (third_sheet_plan files words.containers ps 2) (checking_plan 3) (making_plan device e.disk) way goes)) [
           | inl n ↦ inl (n.0, n.1, n.2, inr (inl (has_sheet files words.parameters ps p, n.3)), n.4)
-          | inr h ↦ third_end ps h.0 p h.1 h.2
+          | inr h ↦ third_end ps h.0 p (sheet_was_read files words.calibrations h.0 h.1) h.2
         ]
 
     pub heads_end : Allows (create_plan device e.disk files words) way → HeadsOn
     heads_end goes =
-        elim (reads_end files SheetOctets (λ octets. sheet_of octets) words.parameters 0 (λ ps. and_then (second_sheet_plan files words.calibrations words.containers 1 ps) (checking_plan 3)) (making_plan device e.disk) way did
-        (behind (sheet_plan files words.parameters 0) (second_sheet_plan files words.calibrations words.containers 1) (checking_plan 3) (making_plan device e.disk) way goes)) [
+        elim (reads_end device e a b files SheetOctets (λ octets. sheet_of octets) words.parameters 0 (λ ps. and_then (map_done nothing_done (and_then (second_sheet_plan files words.calibrations words.containers 1 ps) (checking_plan 3))) (making_plan device e.disk)) way did
+        (first_of (sheet_plan files words.parameters 0) (second_sheet_plan files words.calibrations words.containers 1) (checking_plan 3) (making_plan device e.disk) way goes)) [
           | inl n ↦ inl (n.0, n.1, n.2, inl n.3, n.4)
-          | inr h ↦ second_end h.0 h.1 h.2
+          | inr h ↦ second_end h.0 (sheet_was_read files words.parameters h.0 h.1) h.2
         ]
 
 -- ---- what is known of sheets that gave no head
 
-more_is : (s g : ℕ) → given_more (s + 1) g ≡ one_more (given_more s g)
-more_is zero g = refl
-more_is (suc s) g =
-    let next : suc s + 1 ≡ suc (suc s) = omega arith in
-    let step : min (g + suc (suc s)) (2 ^ 64 - 1) ≡ min (min (g + suc s) (2 ^ 64 - 1) + 1) (2 ^ 64 - 1) = omega arith in
-    subst (λ (n : ℕ). given_more n g ≡ one_more (given_more (suc s) g)) (sym next) step
-
-module _ (a b : InputsState) (refusal : Refusal) (n : ℕ) (failed : Bool) (used : UsedInputs a b n failed) where
-  gave_so : (s : ℕ) → n ≡ s → b.given ≡ given_more s a.given
-  gave_so s is = subst (λ (m : ℕ). b.given ≡ given_more m a.given) is used.gave
-
-  gave_next : (s : ℕ) → n ≡ s + 1 → b.given ≡ one_more (given_more s a.given)
-  gave_next s is = gave_so (s + 1) is ∙ more_is s a.given
-
-  one_at_most : (s : ℕ) → (n ≡ s) ⊎ (n ≡ s + 1) → IsOneMoreAtMost (given_more s a.given) b.given
-  one_at_most s (inl is) = inl (gave_so s is)
-  one_at_most s (inr is) = inr (gave_next s is)
-
-  still : failed ≡ false → b.faults ≡ a.faults
-  still is = subst (λ (f : Bool). Counted f a.faults b.faults) is used.counted
-
-  risen : failed ≡ true → HasRisen a.faults b.faults
-  risen is = counted_risen a.faults b.faults (subst (λ (f : Bool). Counted f a.faults b.faults) is used.counted)
-
 -- a sheet that wasn't read, after so many others
 sheet_refused : (files : Option Files) (name : List ℕ) (s : ℕ) (a b : InputsState) (refusal : Refusal) (n : ℕ) (failed : Bool) → UsedInputs a b n failed →
     IsUnread files SheetOctets name s refusal n failed → IsSheetRefused files name a.faults b.faults (given_more s a.given) b.given refusal
-sheet_refused files name s a b (Missing lacking) n failed used h = ((h.0, h.1), gave_so a b (Missing lacking) n failed used s h.2)
-sheet_refused files name s a b ReadFault n failed used h = ((risen a b ReadFault n failed used h.2, h.0), one_at_most a b ReadFault n failed used s h.1)
-sheet_refused files name s a b (Limit which number) n failed used h = ((h.0, h.1, h.2), gave_next a b (Limit which number) n failed used s h.3)
-sheet_refused files name s a b OutOfMemory n failed used h = (tt, one_at_most a b OutOfMemory n failed used s h.0)
+sheet_refused files name s a b (Missing lacking) n failed used h = ((h.0, h.1), gave_so a b n failed used s h.2)
+sheet_refused files name s a b ReadFault n failed used h = ((risen a b n failed used h.2, h.0), one_at_most a b n failed used s h.1)
+sheet_refused files name s a b (Limit which number) n failed used h = ((h.0, h.1, h.2), gave_next a b n failed used s h.3)
+sheet_refused files name s a b OutOfMemory n failed used h = (tt, one_at_most a b n failed used s h.0)
 sheet_refused files name s a b other n failed used h = absurd h
-
-unread_counted : (files : Option Files) (which : Which) (name : List ℕ) (s : ℕ) (a b : InputsState) (refusal : Refusal) (n : ℕ) (failed : Bool) → UsedInputs a b n failed →
-    IsUnread files which name s refusal n failed → ReadsCounted (Some refusal) a.faults b.faults
-unread_counted files which name s a b (Missing lacking) n failed used h = still a b (Missing lacking) n failed used h.3
-unread_counted files which name s a b ReadFault n failed used h = risen a b ReadFault n failed used h.2
-unread_counted files which name s a b (Limit passed number) n failed used h = still a b (Limit passed number) n failed used h.4
-unread_counted files which name s a b OutOfMemory n failed used h = still a b OutOfMemory n failed used h.1
-unread_counted files which name s a b other n failed used h = absurd h
 
 some_counted : (r refusal : Refusal) (before now : ℕ) → ◌≡◌ {A = Option Refusal} (Some r) (Some refusal) → ReadsCounted (Some r) before now → ReadsCounted (Some refusal) before now
 some_counted r refusal before now e h = let same : r ≡ refusal = cc in subst (λ (x : Refusal). ReadsCounted (Some x) before now) same h
@@ -292,7 +176,7 @@ module _ (files : Option Files) (words : SheetWords) (a b : InputsState) where
       unread_without_head refusal (unread_counted files SheetOctets words.calibrations 1 a b refusal n failed used h.1) (inr (inl (h.0, sheet_refused files words.calibrations 1 a b refusal n failed used h.1)))
   without_head refusal n failed used (inr (inr (inl h))) =
       unread_without_head refusal (unread_counted files SheetOctets words.containers 2 a b refusal n failed used h.2) (inr (inr (h.0, h.1, sheet_refused files words.containers 2 a b refusal n failed used h.2)))
-  without_head refusal n failed used (inr (inr (inr h))) = bad_without_head refusal h.0 h.1 (still a b refusal n failed used h.4) (gave_so a b refusal n failed used 3 h.3) h.2
+  without_head refusal n failed used (inr (inr (inr h))) = bad_without_head refusal h.0 h.1 (still a b n failed used h.4) (gave_so a b n failed used 3 h.3) h.2
 
 -- ---- once the disk was asked
 
@@ -397,9 +281,9 @@ pub record WasHeaded {D : Type 0} (device : Device D) (e : Effects D) (files : O
   pub inputs : UsedInputs a b 3 false
   pub came : NotMade device e (new_head raw) ⊎ WasPrinted device e (made (new_head raw)) (create_line (sheets_database raw))
 
-module _ {D : Type 0} (device : Device D) (e : Effects D) (files : Option Files) (words : SheetWords) (a b : InputsState) (ran : RanOver device (create_plan device e.disk files words) e a b) where
+module _ {D : Type 0} (device : Device D) (e : Effects D) (files : Option Files) (words : SheetWords) (a b : InputsState) (went : RanOver device (create_plan device e.disk files words) e a b) where
   at_end : EndedWithoutHead device e files words a b ⊎ WasHeaded device e files words a b
-  at_end = elim (heads_end device e a b files words ran.way (ran.did, ran.inputs) ran.allows) [
+  at_end = elim (heads_end device e a b files words went.ran.way (went.ran.did, went.inputs) went.ran.allows) [
     | inl h ↦ inl (record {
       refusal = h.0;
       head = without_head files words a b h.0 h.1 h.2 h.4.inputs h.3;
@@ -409,8 +293,8 @@ module _ {D : Type 0} (device : Device D) (e : Effects D) (files : Option Files)
       disk = h.4.disk;
     })
     | inr h ↦
-        let each = end_of ReadThree (making_plan device e.disk (new_head h.0)) ran.way (makes_after device e.disk (new_head h.0)) h.2 in
-        inr (record { raw = h.0; good = h.1; inputs = rw (each.0, each.1) at ran.inputs; came = makes_end device e (new_head h.0) ran.way ran.did h.2 })
+        let each = end_of (HasRead 3) (making_plan device e.disk (new_head h.0)) went.ran.way (makes_after device e.disk (new_head h.0)) h.2 in
+        inr (record { raw = h.0; good = h.1; inputs = rw (each.0, each.1) at went.inputs; came = makes_end device e (new_head h.0) went.ran.way went.ran.did h.2 })
   ]
 
   abbrev call : List (List ℕ) → Option ℤ → Call
@@ -467,7 +351,7 @@ module _ {D : Type 0} (device : Device D) (e : Effects D) (files : Option Files)
 
   -- counts of the inputs, of the output and of the disk
   pub create_later : a.faults ≤ b.faults
-  create_later = counted_later (failed_at ran.way OfInputs) a.faults b.faults ran.inputs.counted
+  create_later = counted_later (failed_at went.ran.way OfInputs) a.faults b.faults went.inputs.counted
 
   pub create_reads_counted : ReadsCounted e.report.refusal a.faults b.faults
   create_reads_counted = elim at_end [

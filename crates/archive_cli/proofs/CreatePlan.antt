@@ -15,21 +15,22 @@ use Rattle.mdb_sheets.specs.Plans.{sheets_plan}
 use Rattle.outer_traits.specs.Outside.{Files}
 use Rattle.archive_store.specs.declared.head.Head.{Head}
 use Rattle.archive_store.specs.Calls.{CrashLeavesHead, IsStoreCreateRefusal}
-use Rattle.command_plans.specs.Plan.{OfMemory, OfInputs, OfDisk, CommandPlan, Way, Returned, Stopped, Interrupted, Allows, EachEnd, IsDetermined, interruption_refusal, map_done}
-use Rattle.command_plans.proofs.Plans.{allows_map_done, cut, determined, determined_map_done, end_of, ended, gave}
+use Rattle.command_plans.specs.Plan.{OfMemory, OfDisk, CommandPlan, Returned, Stopped, Interrupted, Allows, EachEnd, IsDetermined, map_done}
+use Rattle.command_plans.proofs.Plans.{determined, determined_map_done}
 use Rattle.command_words.specs.Job.{SheetWords}
-use Rattle.input_plans.specs.Inputs.{AnsweredByPlan, WasRead, reading_fault}
+use Rattle.input_plans.specs.Inputs.{AnsweredByPlan, WasRead}
 use Rattle.input_plans.proofs.Readings.{first_not_read, then_not_read, then_read}
 use Rattle.outer_ledgers.proofs.Ledgers.{inputs_unused}
-use Rattle.outer_ledgers.specs.Ledger.{InputsState, UsedInputs, raised_by}
+use Rattle.outer_ledgers.specs.Ledger.{InputsState, raised_by}
 use Rattle.retrieval.specs.Parameter.{sheets_refusal}
-use Rattle.archive_cli.specs.Command.{Progress, Effects, Ran, RanOver, failed_at, looked, nothing_done, printing_plan, sources_at}
+use Rattle.archive_cli.specs.Command.{Effects, Ran, RanOver, looked, nothing_done, printing_plan}
 use Rattle.archive_cli.specs.Create.{HasArchiveAs, checking_plan, create_plan, head_checked, head_plan, made, after_making, making_plan, making_failed}
 use Rattle.archive_cli.specs.CreateEnding.{create_line, new_head}
 use Rattle.archive_cli.specs.Report.{unopened}
 use Rattle.archive_cli.proofs.Commands.{looked_only, no_text}
 use Rattle.archive_cli.proofs.CreateAnswers.{one-not-none}
 use Rattle.archive_cli.proofs.Created.{fewer_than_two, left_alone}
+use Rattle.archive_cli.proofs.OverInputs.{HasRead, ran_read, ran_unread}
 
 -- ---- the head
 
@@ -126,69 +127,22 @@ module _ {D : Type 0} (device : Device D) (e : Effects D) (head : Head) where
 -- ---- over inputs
 
 -- three sources were given, and no call of the inputs failed
-abbrev pub ReadThree : Way Progress ⊥ → Type 0
-ReadThree way = (sources_at way ≡ 3) × (failed_at way OfInputs ≡ false)
-
-pub makes_after : {D : Type 0} (device : Device D) (disk : D) (head : Head) → EachEnd ReadThree (making_plan device disk head)
+pub makes_after : {D : Type 0} (device : Device D) (disk : D) (head : Head) → EachEnd (HasRead 3) (making_plan device disk head)
 makes_after device disk head = ((refl, refl), ((refl, refl), λ there h. each there))
   where
-    each : (there : Bool) → EachEnd ReadThree (after_making head there)
+    each : (there : Bool) → EachEnd (HasRead 3) (after_making head there)
     each true = (refl, refl)
     each false = ((refl, refl), (refl, refl))
 
-none_before : (n : ℕ) → n ≡ 0 + n
-none_before n = omega arith
-
 module _ {D : Type 0} (device : Device D) (e : Effects D) (files : Option Files) (words : SheetWords) (a b : InputsState) where
-  abbrev heads : CommandPlan Progress Head
-  heads = map_done nothing_done (head_plan files words 0)
-
   -- the sheets gave a head, and its archive was made or wasn't
   pub ran_headed : (head : Head) → WasRead (head_plan files words) head 3 a b → Ran device (making_plan device e.disk head) e → RanOver device (create_plan device e.disk files words) e a b
-  ran_headed head read ran =
-      let each = end_of ReadThree (making_plan device e.disk head) ran.way (makes_after device e.disk head) ran.allows in record {
-        way = ran.way;
-        allows = gave heads (making_plan device e.disk) head ran.way (allows_map_done nothing_done (head_plan files words 0) (Returned head) (read.allows 0)) ran.allows;
-        did = ran.did;
-        inputs = rw (each.0, each.1) read.used;
-      }
-
-  cut_off : (failed : Bool) (n : ℕ) (refusal : Refusal) → refusal ≡ interruption_refusal (reading_fault failed) → Allows (head_plan files words 0) (Interrupted (0 + n) (reading_fault failed)) →
-      UsedInputs a b n failed → e.report ≡ unopened (Some refusal) → e.disk' ≡ e.disk → e.output' ≡ e.output → RanOver device (create_plan device e.disk files words) e a b
-  cut_off true n refusal is allows used report same silent = record {
-    way = Interrupted (nothing_done (0 + n)) OfInputs;
-    allows = cut heads (making_plan device e.disk) (nothing_done (0 + n)) OfInputs (allows_map_done nothing_done (head_plan files words 0) (Interrupted (0 + n) OfInputs) allows);
-    did = record {
-      report = report ∙ ap (λ (r : Refusal). unopened (Some r)) is;
-      printed = rw silent (no_text e.output.written);
-      output = record { counted = rw silent refl };
-      disk = same;
-    };
-    inputs = subst (λ (s : ℕ). UsedInputs a b s true) (none_before n) used;
-  }
-  cut_off false n refusal is allows used report same silent = record {
-    way = Interrupted (nothing_done (0 + n)) OfMemory;
-    allows = cut heads (making_plan device e.disk) (nothing_done (0 + n)) OfMemory (allows_map_done nothing_done (head_plan files words 0) (Interrupted (0 + n) OfMemory) allows);
-    did = record {
-      report = report ∙ ap (λ (r : Refusal). unopened (Some r)) is;
-      printed = rw silent (no_text e.output.written);
-      output = record { counted = rw silent refl };
-      disk = same;
-    };
-    inputs = subst (λ (s : ℕ). UsedInputs a b s false) (none_before n) used;
-  }
+  ran_headed head read ran = ran_read device e (head_plan files words) (making_plan device e.disk) a b 3 head read (makes_after device e.disk head) ran
 
   -- they were refused
   pub ran_headless : (refusal : Refusal) → AnsweredByPlan {X = Head} 3 (head_plan files words) (Err refusal) a b → e.report ≡ unopened (Some refusal) → e.disk' ≡ e.disk → e.output' ≡ e.output →
       RanOver device (create_plan device e.disk files words) e a b
-  ran_headless refusal (inl r) report same silent = record {
-    way = Stopped (nothing_done (0 + r.sources)) (Some refusal);
-    allows = ended heads (making_plan device e.disk) (nothing_done (0 + r.sources)) (Some refusal)
-        (allows_map_done nothing_done (head_plan files words 0) (Stopped (0 + r.sources) (Some refusal)) (r.allows 0));
-    did = record { report = report; printed = rw silent (no_text e.output.written); output = record { counted = rw silent refl }; disk = same };
-    inputs = subst (λ (s : ℕ). UsedInputs a b s false) (none_before r.sources) r.used;
-  }
-  ran_headless refusal (inr r) report same silent = cut_off r.failed r.sources refusal r.refusal_is (r.allows 0) r.used report same silent
+  ran_headless refusal read report same silent = ran_unread device e (head_plan files words) (making_plan device e.disk) a b 3 refusal read report same silent
 
 -- ---- which answer is due
 

@@ -1,7 +1,9 @@
 -- Disks that are handed back unasked.
 use Rattle.std.proofs.Common.{◌≡◌, ◌≤◌, ℕ, ℤ, arith, List, Bool, true, Option, Some, None, sym, subst}
+use Rattle.std.specs.Prelude.{Result, Ok, Err}
 use Rattle.std.proofs.lemmas.Bool.{false≢true}
 use Rattle.arch_disk.specs.Disk.{Device}
+use Rattle.arch_types.specs.declared.ask.Ask.{Ask}
 use Rattle.arch_types.specs.declared.refusal.Refusal.{Refusal}
 use Rattle.arch_types.specs.declared.refusal.Refusal.TheVariants.{Missing, ReadFault, WriteFault, NoArchive, Exists, Damaged, DiskFault, Limit, OutOfMemory}
 use Rattle.arch_types.specs.declared.refusal.Which.TheVariants.{SheetOctets}
@@ -10,15 +12,14 @@ use Rattle.mdb_items.specs.Database.{Database}
 use Rattle.mdb_sheets.specs.Sheets.{more}
 use Rattle.archive_store.specs.Calls.{IsStoreCreateRefusal, IsStoreOpenRefusal}
 use Rattle.archive_store.specs.StoreView.{StoreView}
-use Rattle.archive_cli.specs.declared.ask_sheet.AskSheet.{AskSheet}
-use Rattle.archive_cli.specs.declared.ask_sheet.AskSheet.TheVariants.{Read, Refused}
 use Rattle.archive_cli.specs.declared.report.Report.{Report}
 use Rattle.archive_cli.specs.HandedBack.{IsCreateBack, IsHandedBack, IsLoadBack, IsQueryBack, IsUnasked, SameWithoutSource}
 use Rattle.command_words.specs.Job.{Job, Scan, Values, Create, Load, Query, Recover}
 use Rattle.archive_cli.specs.Loading.{IsLoadRun, IsDumpRefusal, IsLoadOutcome}
 use Rattle.dump_lines.specs.Output.{IsFinished}
-use Rattle.archive_cli.specs.QueryEnding.{IsSheetReply, IsDeferred}
+use Rattle.archive_cli.specs.QueryEnding.{IsSheetReply}
 use Rattle.archive_cli.specs.Report.{unopened, read_only}
+use Rattle.archive_cli.proofs.Queried.{IsDeferred}
 
 -- ---- the same disk
 
@@ -115,23 +116,23 @@ pub ask_unopened_back : {D : Type 0} (device : Device D) (old new : D) (refusal 
 ask_unopened_back device old new refusal report is refused =
     subst (λ (r : Report). IsQueryBack old new r.refusal) (sym is) (ask_unopened_cases device old new refusal refused)
 
-reply_cases : {D : Type 0} (first last : D) (db : Database) (history : List Item) (sheet : AskSheet) (refusal : Option Refusal) (before now : Option (List ℕ)) (faults faults' : ℕ)
+reply_cases : {D : Type 0} (first last : D) (db : Database) (history : List Item) (sheet : Result (List Ask) Refusal) (refusal : Option Refusal) (before now : Option (List ℕ)) (faults faults' : ℕ)
     → IsDeferred sheet → IsSheetReply db history sheet refusal before now faults faults' → IsQueryBack first last refusal
-reply_cases first last db history (Read asks) (Some (Missing name)) before now faults faults' deferred reply = absurd reply
-reply_cases first last db history (Read asks) (Some ReadFault) before now faults faults' deferred reply = absurd reply
-reply_cases first last db history (Read asks) (Some (Limit SheetOctets number)) before now faults faults' deferred reply = absurd reply
-reply_cases first last db history (Read asks) other before now faults faults' deferred reply = tt
-reply_cases first last db history (Refused refused) refusal before now faults faults' deferred reply =
+reply_cases first last db history (Ok asks) (Some (Missing name)) before now faults faults' deferred reply = absurd reply
+reply_cases first last db history (Ok asks) (Some ReadFault) before now faults faults' deferred reply = absurd reply
+reply_cases first last db history (Ok asks) (Some (Limit SheetOctets number)) before now faults faults' deferred reply = absurd reply
+reply_cases first last db history (Ok asks) other before now faults faults' deferred reply = tt
+reply_cases first last db history (Err refused) refusal before now faults faults' deferred reply =
     subst (λ (o : Option Refusal). IsQueryBack first last o) (sym reply.0) (deferred_cases refused deferred)
   where
-    deferred_cases : (refused : Refusal) → IsDeferred (Refused refused) → IsQueryBack first last (Some refused)
+    deferred_cases : (refused : Refusal) → IsDeferred (Err refused) → IsQueryBack first last (Some refused)
     deferred_cases (Missing name) is_deferred = absurd (false≢true is_deferred)
     deferred_cases ReadFault is_deferred = absurd (false≢true is_deferred)
     deferred_cases (Limit SheetOctets number) is_deferred = absurd (false≢true is_deferred)
     deferred_cases other is_deferred = tt
 
 -- the asks were answered, or refused
-pub replied_back : {D : Type 0} (first last : D) (db : Database) (history : List Item) (sheet : AskSheet) (refusal : Option Refusal) (report : Report) (rows : ℕ)
+pub replied_back : {D : Type 0} (first last : D) (db : Database) (history : List Item) (sheet : Result (List Ask) Refusal) (refusal : Option Refusal) (report : Report) (rows : ℕ)
     (before now : Option (List ℕ)) (faults faults' : ℕ) → report ≡ read_only refusal rows → IsDeferred sheet → IsSheetReply db history sheet refusal before now faults faults'
     → IsQueryBack first last report.refusal
 replied_back first last db history sheet refusal report rows before now faults faults' is deferred reply =

@@ -11,6 +11,7 @@ pub mod ReadOnly
 pub mod Recovered
 pub mod Commands
 pub mod Ends
+pub mod OverInputs
 pub mod RecoverPlan
 pub mod CreatePlan
 pub mod CreateEnds
@@ -19,9 +20,10 @@ pub mod CreateAnswers
 pub mod Requests
 pub mod Replies
 pub mod Diskless
-pub mod AskSheets
 pub mod Queried
 pub mod QueryAnswers
+pub mod QueryPlan
+pub mod QueryEnds
 pub mod LoadAnswers
 pub mod Jobless
 pub mod Answers

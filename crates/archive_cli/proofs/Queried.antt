@@ -1,6 +1,6 @@
 -- How `query` ends.
 use Rattle.std.proofs.Common.{◌≡◌, ◌≤◌, inl, inr, ℕ, List, length, true, Option, Some, None, refl, sym, subst}
-use Rattle.std.specs.Prelude.{IfSome, IsSomeAnd}
+use Rattle.std.specs.Prelude.{IfSome, IsSomeAnd, Result, Ok, Err}
 use Rattle.std.specs.FinMap.{get}
 use Rattle.arch_disk.specs.Disk.{Device}
 use Rattle.arch_types.specs.declared.ask.Ask.{Ask}
@@ -10,28 +10,22 @@ use Rattle.arch_types.specs.declared.refusal.Which.TheVariants.{SheetOctets, Ask
 use Rattle.arch_types.specs.Limits.{limit_of}
 use Rattle.archive_core.specs.Items.{Item}
 use Rattle.mdb_items.specs.Database.{Database}
-use Rattle.mdb_sheets.specs.Asks.{AreAsks, IsAsksRefusal}
-use Rattle.mdb_sheets.specs.Sheets.{HasSheet, ReadsCounted}
+use Rattle.mdb_sheets.specs.Asks.{AreAsks, IsAsksRefusal, asks_of}
+use Rattle.mdb_sheets.specs.Sheets.{Fields, HasSheet, ReadsCounted, sheet_of}
+use Rattle.mdb_sheets.proofs.AskSheets.{IsSheetCause, asks_given, asks_refused}
 use Rattle.outer_traits.specs.Outside.{Files}
+use Rattle.input_plans.specs.Inputs.{IsInputAs, WithinLimit}
+use Rattle.input_plans.proofs.Inputs.{read_as}
 use Rattle.archive_store.specs.Entries.{Archive}
-use Rattle.archive_cli.specs.declared.ask_sheet.AskSheet.{AskSheet}
-use Rattle.archive_cli.specs.declared.ask_sheet.AskSheet.TheVariants.{Read, Refused}
 use Rattle.archive_cli.specs.declared.report.Report.{Report}
 use Rattle.archive_cli.specs.Call.{Call, WritesNothing}
 use Rattle.dump_lines.specs.Output.{WritesCounted}
 use Rattle.archive_cli.specs.ReadOnly.{IsReadOnly, IsOpeningRefusal, IsReadAsBefore}
-use Rattle.archive_cli.specs.QueryEnding.{AreRefusedAsks, IsAskSheet, IsQueryEnding, IsReply, IsSheetReply, IsDeferred, is_deferred}
+use Rattle.archive_cli.specs.QueryEnding.{AreRefusedAsks, IsAskSheet, IsQueryEnding, IsReply, IsSheetReply, is_deferred}
 use Rattle.archive_cli.specs.Reading.{IsInputRefusal}
 use Rattle.archive_cli.specs.Report.{unopened, read_only}
 
 -- ---- the sheet wasn't read
-
-abbrev pub IsInputAnswer : Refusal → Type 0
-IsInputAnswer (Missing name) = Unit {0}
-IsInputAnswer ReadFault = Unit {0}
-IsInputAnswer (Limit SheetOctets number) = Unit {0}
-IsInputAnswer OutOfMemory = Unit {0}
-IsInputAnswer other = ⊥
 
 unread_cases : {D : Type 0} (device : Device D) (call : Call) (name : List ℕ) (old new : D) (refusal : Refusal) →
     IsInputRefusal call.files name SheetOctets call.read_faults call.read_faults' refusal → WritesNothing call → IsReadAsBefore device old new →
@@ -80,29 +74,29 @@ query_unopened device call name old new refusal report is input cause silent dis
 
 -- ---- the asks were answered, or refused
 
-replied_cases : {D : Type 0} (device : Device D) (call : Call) (name : List ℕ) (old new : D) (archive : Archive) (sheet : AskSheet) (refusal : Option Refusal) →
+replied_cases : {D : Type 0} (device : Device D) (call : Call) (name : List ℕ) (old new : D) (archive : Archive) (sheet : Result (List Ask) Refusal) (refusal : Option Refusal) →
     IsAskSheet call.files name sheet → IsReadOnly device old new archive →
     IsSheetReply archive.head.mdb archive.history sheet refusal call.written call.written' call.write_faults call.write_faults' →
     IsQueryEnding device call name old new refusal (read_only refusal (length archive.history))
-replied_cases device call name old new archive (Read asks) None is disk h =
+replied_cases device call name old new archive (Ok asks) None is disk h =
     record { archive = archive; asks = asks; disk = disk; asks_are = is; known = h.0; printed = h.1; report_is = refl }
-replied_cases device call name old new archive (Read asks) (Some WriteFault) is disk h =
+replied_cases device call name old new archive (Ok asks) (Some WriteFault) is disk h =
     (h.2, record { archive = archive; asks = asks; disk = disk; asks_are = is; known = h.0; printed = h.1; report_is = refl })
-replied_cases device call name old new archive (Read asks) (Some OutOfMemory) is disk h =
+replied_cases device call name old new archive (Ok asks) (Some OutOfMemory) is disk h =
     inr (record { archive = archive; asks = asks; disk = disk; asks_are = is; known = h.0; printed = h.1; report_is = refl })
-replied_cases device call name old new archive (Read asks) (Some UnknownParameter) is disk h =
+replied_cases device call name old new archive (Ok asks) (Some UnknownParameter) is disk h =
     record { archive = archive; disk = disk; cause = inr (asks, is, h.0); silent = h.1; report_is = refl }
-replied_cases device call name old new archive (Read asks) (Some (BadRange from to)) is disk h =
+replied_cases device call name old new archive (Ok asks) (Some (BadRange from to)) is disk h =
     record { archive = archive; disk = disk; cause = inr (asks, is, h.0); silent = h.1; report_is = refl }
-replied_cases device call name old new archive (Read asks) (Some other) is disk h = absurd h
-replied_cases device call name old new archive (Refused refused) refusal is disk h = rw h.0 (refused_there refused is h.1)
+replied_cases device call name old new archive (Ok asks) (Some other) is disk h = absurd h
+replied_cases device call name old new archive (Err refused) refusal is disk h = rw h.0 (refused_there refused is h.1)
   where
     refused_there : (r : Refusal) → AreRefusedAsks call.files name r → WritesNothing call → IsQueryEnding device call name old new (Some r) (read_only (Some r) (length archive.history))
     refused_there (BadSheet sheet row rule) bad silent = record { archive = archive; disk = disk; cause = inl bad; silent = silent; report_is = refl }
     refused_there (Limit Asks number) bad silent = record { archive = archive; disk = disk; cause = inl bad; silent = silent; report_is = refl }
     refused_there other bad silent = absurd (let e = bad.0 in cc)
 
-pub query_replied : {D : Type 0} (device : Device D) (call : Call) (name : List ℕ) (old new : D) (archive : Archive) (sheet : AskSheet) (refusal : Option Refusal) (report : Report) →
+pub query_replied : {D : Type 0} (device : Device D) (call : Call) (name : List ℕ) (old new : D) (archive : Archive) (sheet : Result (List Ask) Refusal) (refusal : Option Refusal) (report : Report) →
     report ≡ read_only refusal (length archive.history) → IsAskSheet call.files name sheet → IsReadOnly device old new archive →
     IsSheetReply archive.head.mdb archive.history sheet refusal call.written call.written' call.write_faults call.write_faults' →
     IsQueryEnding device call name old new report.refusal report
@@ -143,10 +137,15 @@ deferred_counts : (refusal : Refusal) (faults faults' : ℕ) → is_deferred ref
 deferred_counts WriteFault faults faults' e same = absurd (cc (e))
 deferred_counts other faults faults' e same = same
 
-pub sheet_counts : (db : Database) (history : List Item) (sheet : AskSheet) (refusal : Option Refusal) (before now : Option (List ℕ)) (faults faults' : ℕ) → IsDeferred sheet →
+-- a sheet that is refused is refused for what it says
+abbrev pub IsDeferred : Result (List Ask) Refusal → Type 0
+IsDeferred (Ok asks) = Unit {0}
+IsDeferred (Err refusal) = is_deferred refusal ≡ true
+
+pub sheet_counts : (db : Database) (history : List Item) (sheet : Result (List Ask) Refusal) (refusal : Option Refusal) (before now : Option (List ℕ)) (faults faults' : ℕ) → IsDeferred sheet →
     IsSheetReply db history sheet refusal before now faults faults' → IsReplyAnswer refusal × WritesCounted refusal faults faults'
-sheet_counts db history (Read asks) refusal before now faults faults' w h = reply_counts db history asks refusal before now faults faults' h
-sheet_counts db history (Refused refused) refusal before now faults faults' w h = rw h.0 (deferred_answer refused w, deferred_counts refused faults faults' w h.2)
+sheet_counts db history (Ok asks) refusal before now faults faults' w h = reply_counts db history asks refusal before now faults faults' h
+sheet_counts db history (Err refused) refusal before now faults faults' w h = rw h.0 (deferred_answer refused w, deferred_counts refused faults faults' w h.2)
 
 pub reply_reads : (refusal : Option Refusal) → IsReplyAnswer refusal → (faults : ℕ) → ReadsCounted refusal faults faults
 reply_reads None h faults = refl
@@ -172,6 +171,33 @@ there_files : (files : Option Files) (name : List ℕ) (P : List ℕ → Type 0)
 there_files None name P f h = tt
 there_files (Some all) name P f h = there_read (get all name) P f h
 
-pub sheet_there : (files : Option Files) (name : List ℕ) (sheet : AskSheet) → IsAskSheet files name sheet → HasSheet files name
-sheet_there files name (Read asks) h = there_files files name (λ (octets : List ℕ). AreAsks (Some octets) asks) (λ octets are. are.0) h
-sheet_there files name (Refused refusal) h = there_files files name (λ (octets : List ℕ). IsAsksRefusal (Some octets) 0 0 refusal) (λ octets is. short_refused refusal octets h.0 is) h.1
+pub sheet_there : (files : Option Files) (name : List ℕ) (sheet : Result (List Ask) Refusal) → IsAskSheet files name sheet → HasSheet files name
+sheet_there files name (Ok asks) h = there_files files name (λ (octets : List ℕ). AreAsks (Some octets) asks) (λ octets are. are.0) h
+sheet_there files name (Err refusal) h = there_files files name (λ (octets : List ℕ). IsAsksRefusal (Some octets) 0 0 refusal) (λ octets is. short_refused refusal octets h.0 is) h.1
+
+-- ---- what a sheet was read as
+
+cause_deferred : (records : List Fields) (refusal : Refusal) → IsSheetCause records refusal → is_deferred refusal ≡ true
+cause_deferred records (BadSheet sheet row rule) is = refl
+cause_deferred records (Limit Asks number) is = refl
+cause_deferred records other is = absurd is
+
+cause_refusal : (octets : List ℕ) (refusal : Refusal) → length octets ≤ limit_of SheetOctets → IsSheetCause (sheet_of octets) refusal → IsAsksRefusal (Some octets) 0 0 refusal
+cause_refusal octets (BadSheet sheet row rule) short is = (is.0, (short, is.1))
+cause_refusal octets (Limit Asks number) short is = (is.0, (short, is.1, is.2))
+cause_refusal octets other short is = absurd is
+
+-- the asks that were read are those of the sheet
+pub asks_were_read : (files : Option Files) (name : List ℕ) (sheet : Result (List Ask) Refusal) → IsInputAs files SheetOctets (λ octets. asks_of octets) name (WithinLimit sheet) →
+    IsAskSheet files name sheet
+asks_were_read files name (Ok asks) is =
+    read_as files SheetOctets (λ octets. asks_of octets) name (Ok asks) (λ octets. AreAsks (Some octets) asks) is (λ octets short same. (short, asks_given octets asks (sym same)))
+asks_were_read files name (Err refusal) is = (
+  cause_deferred (sheet_of is.0) refusal (asks_refused is.0 refusal (sym is.3)),
+  read_as files SheetOctets (λ octets. asks_of octets) name (Err refusal) (λ octets. IsAsksRefusal (Some octets) 0 0 refusal) is
+      (λ octets short same. cause_refusal octets refusal short (asks_refused octets refusal (sym same))),
+)
+
+pub sheet_deferred : (files : Option Files) (name : List ℕ) (sheet : Result (List Ask) Refusal) → IsAskSheet files name sheet → IsDeferred sheet
+sheet_deferred files name (Ok asks) is = tt
+sheet_deferred files name (Err refusal) is = is.0

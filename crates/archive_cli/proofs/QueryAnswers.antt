@@ -1,38 +1,36 @@
 -- Which answer of `query` has to come, by the causes of all answers.
 use Rattle.std.proofs.Common.{◌≡◌, ◌∙◌, ◌<◌, ◌≤◌, ℕ, List, length, map, drop, true, Option, Some, None, inl, inr, sym, ap, refl, arith}
-use Rattle.std.specs.Prelude.{◌⊎◌, IsNone, IfSome, option_map, nat_lt, if◌then◌else◌, Bool, Ok}
+use Rattle.std.specs.Prelude.{◌⊎◌, IsNone, IfSome, Ok, Err}
 use Rattle.std.specs.FinMap.{get}
 use Rattle.std.proofs.lemmas.List.{length-map}
 use Rattle.arch_disk.specs.Disk.{Device}
 use Rattle.arch_types.specs.declared.ask.Ask.{Ask}
 use Rattle.arch_types.specs.declared.refusal.Refusal.{Refusal}
 use Rattle.arch_types.specs.declared.refusal.Refusal.TheVariants.{Missing, ReadFault, WriteFault, BadSheet, Limit, NoArchive, Damaged, DiskFault, UnknownParameter, BadRange, OutOfMemory}
-use Rattle.arch_types.specs.declared.refusal.Sheet.{Sheet}
-use Rattle.arch_types.specs.declared.refusal.Sheet.TheVariants as sheet
 use Rattle.arch_types.specs.declared.refusal.Which.TheVariants.{SheetOctets}
 use Rattle.arch_types.specs.declared.refusal.Which.TheVariants as which
 use Rattle.arch_types.specs.Limits.{limit_of}
 use Rattle.disk_journal.specs.Format.{HoldsNone}
 use Rattle.mdb_items.specs.Checks.{or_else}
 use Rattle.mdb_items.specs.Database.{Database}
-use Rattle.mdb_sheets.specs.Asks.{AreAsks, IsAsksResult, IsAsksRefusal, ask_of, ask_sheet_fault}
-use Rattle.mdb_sheets.specs.Sheets.{Fields, HasSheet, sheet_of}
+use Rattle.mdb_sheets.specs.Asks.{AreAsks, IsAsksResult, IsAsksRefusal, ask_of}
+use Rattle.mdb_sheets.specs.Sheets.{HasSheet, sheet_of}
+use Rattle.mdb_sheets.proofs.AskSheets.{broken_refusal, many_refusal, no_refusal}
 use Rattle.outer_traits.specs.Outside.{Files}
 use Rattle.archive_store.specs.Entries.{Archive}
 use Rattle.archive_store.specs.Stands.{StandsFor, IsArchiveDamagedAt}
 use Rattle.archive_store.proofs.Exact.{damaged_once, none_not_damaged, none_not_stands, stands_not_damaged, stands_once}
 use Rattle.archive_cli.specs.declared.report.Report.{Report}
 use Rattle.retrieval.specs.AnswerText.{asks_refusal}
-use Rattle.archive_cli.specs.ArchiveExpected.{IsQueryExpected, NoDiskFault, query_refusal, sheet_refusal}
+use Rattle.archive_cli.specs.ArchiveExpected.{IsQueryExpected, NoDiskFault, query_refusal}
 use Rattle.archive_cli.specs.Call.{Call}
 use Rattle.archive_cli.specs.Expecting.{IsOrMemory, NoFault}
 use Rattle.archive_cli.specs.QueryEnding.{AreAsksOf, AreRefusedAsks, HasInput, IsAnswered, IsQueryEnding, IsRefusedAsk, is_deferred}
 use Rattle.archive_cli.specs.Reading.{IsInputRefusal}
-use Rattle.archive_cli.specs.declared.ask_sheet.AskSheet.TheVariants.{Read, Refused}
 use Rattle.archive_cli.proofs.Queried.{sheet_there}
 use Rattle.archive_cli.proofs.Recovered.{not_raised}
 use Rattle.archive_cli.proofs.Known.{none_some, none_some_and, not_risen, some_and, some_none}
-use Rattle.archive_cli.proofs.ValuesAnswers.{clash, longer, not-longer}
+use Rattle.archive_cli.proofs.ValuesAnswers.{clash}
 
 -- ---- a known sheet
 
@@ -53,41 +51,11 @@ absent files all name P e n h = none_some_and P (get all name) n (rw e at h)
 
 -- ---- the refusal of a sheet that was read
 
-abbrev AskFault : Type 0
-AskFault = Option (ℕ × ℕ)
-
-abbrev too_many : Bool → Option Refusal
-too_many more = if more then Some (Limit which.Asks (limit_of which.Asks)) else None
-
-abbrev by_fault : Bool → Option Refusal → AskFault → Option Refusal
-by_fault more asks o = or_else (or_else (option_map (λ (broken : ℕ × ℕ). BadSheet sheet.Asks broken.0 broken.1) o) (too_many more)) asks
-
-abbrev more_than : List Fields → Bool
-more_than records = nat_lt (limit_of which.Asks) (length (drop 1 records))
-
-same_bad : (name : Sheet) (row rule : ℕ) → name ≡ sheet.Asks → ◌≡◌ {A = Option Refusal} (Some (BadSheet sheet.Asks row rule)) (Some (BadSheet name row rule))
-same_bad name row rule e = cc
-
-same_limit : (number : ℕ) → number ≡ limit_of which.Asks → ◌≡◌ {A = Option Refusal} (Some (Limit which.Asks (limit_of which.Asks))) (Some (Limit which.Asks number))
-same_limit number e = ap (λ (n : ℕ). Some (Limit which.Asks n)) (sym e)
-
-broken_is : (records : List Fields) (asks : Option Refusal) (name : Sheet) (row rule : ℕ) → name ≡ sheet.Asks → ask_sheet_fault records ≡ Some (row, rule) →
-    or_else (sheet_refusal records) asks ≡ Some (BadSheet name row rule)
-broken_is records asks name row rule is e = ap (by_fault (more_than records) asks) e ∙ same_bad name row rule is
-
-many_is : (records : List Fields) (asks : Option Refusal) (number : ℕ) → number ≡ limit_of which.Asks → ask_sheet_fault records ≡ None → limit_of which.Asks < length (drop 1 records) →
-    or_else (sheet_refusal records) asks ≡ Some (Limit which.Asks number)
-many_is records asks number is e h =
-    ap (by_fault (more_than records) asks) e ∙ ap (λ (more : Bool). by_fault more asks None) (longer (limit_of which.Asks) (length (drop 1 records)) h) ∙ same_limit number is
-
-sound_is : (records : List Fields) (asks : Option Refusal) → ask_sheet_fault records ≡ None → length (drop 1 records) ≤ limit_of which.Asks →
-    or_else (sheet_refusal records) asks ≡ asks
-sound_is records asks e h =
-    ap (by_fault (more_than records) asks) e ∙ ap (λ (more : Bool). by_fault more asks None) (not-longer (limit_of which.Asks) (length (drop 1 records)) h)
-
 refused_is : (db : Database) (octets : List ℕ) (refusal : Refusal) → is_deferred refusal ≡ true → IsAsksRefusal (Some octets) 0 0 refusal → query_refusal db (sheet_of octets) ≡ Some refusal
-refused_is db octets (BadSheet name row rule) w h = broken_is (sheet_of octets) (asks_refusal db (map ask_of (drop 1 (sheet_of octets)))) name row rule h.0 h.1.1
-refused_is db octets (Limit which.Asks number) w h = many_is (sheet_of octets) (asks_refusal db (map ask_of (drop 1 (sheet_of octets)))) number h.0 h.1.1 h.1.2
+refused_is db octets (BadSheet name row rule) w h =
+    ap (λ (o : Option Refusal). or_else o (asks_refusal db (map ask_of (drop 1 (sheet_of octets))))) (broken_refusal (sheet_of octets) name row rule h.0 h.1.1)
+refused_is db octets (Limit which.Asks number) w h =
+    ap (λ (o : Option Refusal). or_else o (asks_refusal db (map ask_of (drop 1 (sheet_of octets))))) (many_refusal (sheet_of octets) which.Asks number refl h.0 h.1.1 h.1.2)
 refused_is db octets other w h = absurd (cc (w))
 
 given_is : (db : Database) (octets : List ℕ) (asks : List Ask) (found : Option Refusal) → IsAsksResult (sheet_of octets) (Ok asks) → asks_refusal db asks ≡ found →
@@ -96,7 +64,7 @@ given_is db octets asks found h e =
     let below = drop 1 (sheet_of octets) in
     let len : length asks ≡ length below = ap length h.1 ∙ length-map below ask_of in
     let short : length below ≤ limit_of which.Asks = omega (arith, len, h.2) in
-    sound_is (sheet_of octets) (asks_refusal db (map ask_of below)) h.0 short ∙ ap (asks_refusal db) (sym h.1) ∙ e
+    ap (λ (o : Option Refusal). or_else o (asks_refusal db (map ask_of below))) (no_refusal (sheet_of octets) h.0 short) ∙ ap (asks_refusal db) (sym h.1) ∙ e
 
 module _ {D : Type 0} (device : Device D) (call : Call) (all : Files) (name : List ℕ) (old new : D) where
   -- what a refusal of the asks says of a known sheet
@@ -150,8 +118,8 @@ module _ {D : Type 0} (device : Device D) (call : Call) (all : Files) (name : Li
 
   pub refused_there : (archive : Archive) (refusal : Refusal) →
       AreRefusedAsks call.files name refusal ⊎ ((asks : List Ask) × AreAsksOf call.files name asks × (asks_refusal archive.head.mdb asks ≡ Some refusal)) → HasSheet call.files name
-  refused_there archive refusal (inl bad) = sheet_there call.files name (Refused refusal) bad
-  refused_there archive refusal (inr asked) = sheet_there call.files name (Read asked.0) asked.1
+  refused_there archive refusal (inl bad) = sheet_there call.files name (Err refusal) bad
+  refused_there archive refusal (inr asked) = sheet_there call.files name (Ok asked.0) asked.1
 
   pub too_long : (octets : List ℕ) → call.files ≡ Some all → get all name ≡ Some octets → limit_of SheetOctets < length octets → HasSheet call.files name → ⊥
   too_long octets e d long h = let short : length octets ≤ limit_of SheetOctets = known call.files all name Short octets e d h in omega (arith, long, short)
@@ -172,8 +140,8 @@ module _ {D : Type 0} (device : Device D) (call : Call) (all : Files) (name : Li
   pub long_or : (ending : Option Refusal) (report : Report) → call.files ≡ Some all → IsQueryEnding device call name old new ending report → (octets : List ℕ) →
       get all name ≡ Some octets → NoFault call.read_faults call.read_faults' → limit_of SheetOctets < length octets →
       IsOrMemory ending (Some (Limit SheetOctets (limit_of SheetOctets)))
-  long_or None report e h octets d no_failed_write long = absurd (too_long octets e d long (sheet_there call.files name (Read h.asks) h.asks_are))
-  long_or (Some WriteFault) report e h octets d no_failed_write long = absurd (too_long octets e d long (sheet_there call.files name (Read h.1.asks) h.1.asks_are))
+  long_or None report e h octets d no_failed_write long = absurd (too_long octets e d long (sheet_there call.files name (Ok h.asks) h.asks_are))
+  long_or (Some WriteFault) report e h octets d no_failed_write long = absurd (too_long octets e d long (sheet_there call.files name (Ok h.1.asks) h.1.asks_are))
   long_or (Some NoArchive) report e h octets d no_failed_write long = absurd (too_long octets e d long h.input)
   long_or (Some (Damaged file at)) report e h octets d no_failed_write long = absurd (too_long octets e d long h.input)
   long_or (Some DiskFault) report e h octets d no_failed_write long = absurd (too_long octets e d long h.input)

@@ -159,6 +159,6 @@ recover_asks_none device disk =
 -- it went so over any inputs, of which it asks nothing
 pub recover_over : {D : Type 0} (device : Device D) (e : Effects D) → Ran device (recover_plan device e.disk) e → (state : InputsState) →
     RanOver device (recover_plan device e.disk) e state state
-recover_over device e ran state =
-    let none = end_of AsksNoInputs (recover_plan device e.disk) ran.way (recover_asks_none device e.disk) ran.allows in
-    record { way = ran.way; allows = ran.allows; did = ran.did; inputs = rw (none.0, none.1) (inputs_unused state) }
+recover_over device e went state =
+    let none = end_of AsksNoInputs (recover_plan device e.disk) went.way (recover_asks_none device e.disk) went.allows in
+    record { ran = went; inputs = rw (none.0, none.1) (inputs_unused state) }

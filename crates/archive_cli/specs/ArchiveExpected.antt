@@ -1,19 +1,17 @@
 -- Which ending the commands on an archive have to have, by what is known of the disk and the inputs.
-use Rattle.std.specs.Prelude.{◌≡◌, ◌<◌, ◌≤◌, ℕ, List, Option, Some, None, IsNone, length, drop, map, option_map, nat_lt, if◌then◌else◌}
+use Rattle.std.specs.Prelude.{◌≡◌, ◌<◌, ◌≤◌, ℕ, List, Option, Some, None, IsNone, length, drop, map}
 use Rattle.std.specs.FinMap.{get}
 use Rattle.arch_disk.specs.Disk.{Device}
 use Rattle.arch_types.specs.declared.refusal.Refusal.{Refusal}
-use Rattle.arch_types.specs.declared.refusal.Refusal.TheVariants.{NoArchive, Damaged, Exists, Missing, BadSheet, Limit}
-use Rattle.arch_types.specs.declared.refusal.Sheet.TheVariants as sheet
+use Rattle.arch_types.specs.declared.refusal.Refusal.TheVariants.{NoArchive, Damaged, Exists, Missing, Limit}
 use Rattle.arch_types.specs.declared.refusal.Which.TheVariants.{SheetOctets}
-use Rattle.arch_types.specs.declared.refusal.Which.TheVariants as which
 use Rattle.arch_types.specs.Limits.{limit_of}
 use Rattle.disk_journal.specs.Calls.{BeginsOpen}
 use Rattle.disk_journal.specs.Format.{HoldsNone}
 use Rattle.mdb_items.specs.declared.sheet.RawMdb.{RawMdb}
 use Rattle.mdb_items.specs.Checks.{or_else}
 use Rattle.mdb_items.specs.Database.{Database}
-use Rattle.mdb_sheets.specs.Asks.{ask_of, ask_sheet_fault}
+use Rattle.mdb_sheets.specs.Asks.{ask_of, ask_sheet_refusal}
 use Rattle.mdb_sheets.specs.Sheets.{Fields, sheet_of}
 use Rattle.outer_traits.specs.Outside.{Files}
 use Rattle.archive_store.specs.Entries.{Archive}
@@ -63,15 +61,9 @@ pub record IsCreateExpected {D : Type 0} (device : Device D) (call : Call) (all 
   pub none : NoFault call.read_faults call.read_faults' → create_refusal all words ≡ None → NoDiskFault device old new →
       NoFault call.write_faults call.write_faults' → HoldsNone (device.reads old 0) → IsOrMemory ending None
 
--- why a sheet of asks is refused: the first rule that it breaks, or else too many asks
-abbrev pub sheet_refusal : List Fields → Option Refusal
-sheet_refusal records =
-    or_else (option_map (λ (broken : ℕ × ℕ). BadSheet sheet.Asks broken.0 broken.1) (ask_sheet_fault records))
-    (if nat_lt (limit_of which.Asks) (length (drop 1 records)) then Some (Limit which.Asks (limit_of which.Asks)) else None)
-
--- why its asks aren't answered by an archive with a database: for that, or else the first ask that names no parameter or gives no range
+-- why its asks aren't answered by an archive with a database: the sheet is refused, or else the first ask that names no parameter or gives no range
 abbrev pub query_refusal : Database → List Fields → Option Refusal
-query_refusal db records = or_else (sheet_refusal records) (asks_refusal db (map ask_of (drop 1 records)))
+query_refusal db records = or_else (ask_sheet_refusal records) (asks_refusal db (map ask_of (drop 1 records)))
 
 -- `query --ask` of a known sheet: Missing where there's none of the name; where no read failed Limit where it is longer than a sheet may be; else, where no
 -- call of the disk failed, NoArchive where it holds none and Damaged where it is damaged; where it stands for an archive the first refusal of the

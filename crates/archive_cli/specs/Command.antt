@@ -6,7 +6,7 @@ use Rattle.arch_types.specs.declared.refusal.Refusal.{Refusal}
 use Rattle.arch_types.specs.declared.refusal.Refusal.TheVariants.{NoArchive, Damaged}
 use Rattle.disk_journal.specs.Format.{HoldsNone}
 use Rattle.outer_traits.specs.Outside.{WritesSome}
-use Rattle.outer_ledgers.specs.Ledger.{InputsState, OutputState, UsedDisk, UsedInputs, UsedOutput}
+use Rattle.outer_ledgers.specs.Ledger.{InputsState, NoWriteFailed, OutputState, UsedInputs, UsedOutput, WritesFailedAtMost}
 use Rattle.dump_lines.specs.Output.{Appends}
 use Rattle.command_plans.specs.Plan.{FailedCalls, OfMemory, OfInputs, OfOutput, OfDisk, interruption_refusal, no_failed_calls, with_failed_call, CommandPlan, Return, Stop, May, Question, Way, Returned, Stopped, Interrupted, Allows}
 use Rattle.archive_store.specs.declared.head.Head.{Head}
@@ -23,27 +23,27 @@ use Rattle.archive_cli.specs.Report.{unopened, read_only}
 pub data DiskOutcome : Type 0 where
   -- nothing was asked of it
   NotAsked : DiskOutcome
-  -- an archive was looked for
+  -- an archive was looked for, and none was opened or made
   Looked : DiskOutcome
-  -- and a call of the disk failed in that
+  -- an archive was looked for, and a call of the disk failed
   LookFailed : DiskOutcome
   -- this archive was opened, and left as it was
   Opened : Archive → DiskOutcome
-  -- the making of an archive of this head failed,
+  -- the making of an archive of this head failed
   MakingFailed : Head → DiskOutcome
-  -- or one was made
+  -- an archive of this head was made
   Made : Head → DiskOutcome
 
--- the fate of a disk: what it holds by then is known where it is transparent, its counts of faults on any disk
+-- a disk has this outcome: what it holds by then is known where it is transparent, and its counts on any disk
 abbrev pub HasOutcome : {D : Type 0} → Device D → D → D → Bool → DiskOutcome → Type 0
 HasOutcome device old new failed NotAsked = new ≡ old
-HasOutcome device old new failed Looked = UsedDisk device old new failed 0 0 × (IsTrue device.is_transparent → IsReadAsBefore device old new)
-HasOutcome device old new failed LookFailed = UsedDisk device old new failed 0 1 × (IsTrue device.is_transparent → IsReadAsBefore device old new)
-HasOutcome device old new failed (Opened archive) = UsedDisk device old new failed 0 0 × (IsTrue device.is_transparent → IsReadOnly device old new archive)
-HasOutcome device old new failed (MakingFailed head) = UsedDisk device old new failed 0 2 × (IsTrue device.is_transparent → IsMakingFailed device old new head)
-HasOutcome device old new failed (Made head) = UsedDisk device old new failed 0 0 × (IsTrue device.is_transparent → IsMade device old new head)
+HasOutcome device old new failed Looked = NoWriteFailed device old new failed × (IsTrue device.is_transparent → IsReadAsBefore device old new)
+HasOutcome device old new failed LookFailed = WritesFailedAtMost 1 device old new failed × (IsTrue device.is_transparent → IsReadAsBefore device old new)
+HasOutcome device old new failed (Opened archive) = NoWriteFailed device old new failed × (IsTrue device.is_transparent → IsReadOnly device old new archive)
+HasOutcome device old new failed (MakingFailed head) = WritesFailedAtMost 2 device old new failed × (IsTrue device.is_transparent → IsMakingFailed device old new head)
+HasOutcome device old new failed (Made head) = NoWriteFailed device old new failed × (IsTrue device.is_transparent → IsMade device old new head)
 
--- What a command has done so far: the text that it printed, whole, or that it was printing; the report but for its refusal; the fate of the disk; how
+-- What a command has done so far: the text that it printed, whole, or that it was printing; the report but for its refusal; the outcome of the disk; how
 -- many sources the inputs gave; and which calls of the outside failed before, though it went on.
 pub record Progress : Type 0 where
   pub text : List ℕ
@@ -53,19 +53,19 @@ pub record Progress : Type 0 where
   pub sources : ℕ
   pub failed : FailedCalls
 
--- after so many sources were given: nothing,
+-- nothing was done but that so many sources were given
 abbrev pub nothing_done : ℕ → Progress
 nothing_done sources = record { text = []; is_whole = true; report = unopened None; disk = NotAsked; sources = sources; failed = no_failed_calls }
 
--- an archive was looked for,
+-- an archive was looked for after so many sources were given, and none was opened
 abbrev pub looked : ℕ → Progress
 looked sources = record { text = []; is_whole = true; report = unopened None; disk = Looked; sources = sources; failed = no_failed_calls }
 
--- and a call of the disk failed in that,
+-- an archive was looked for after so many sources were given, and a call of the disk failed
 abbrev pub look_failed : ℕ → Progress
 look_failed sources = record { text = []; is_whole = true; report = unopened None; disk = LookFailed; sources = sources; failed = no_failed_calls }
 
--- or this archive was opened
+-- this archive was opened after so many sources were given
 abbrev pub archive_opened : ℕ → Archive → Progress
 archive_opened sources archive =
     record { text = []; is_whole = true; report = read_only None (length archive.history); disk = Opened archive; sources = sources; failed = no_failed_calls }
@@ -87,49 +87,51 @@ abbrev pub AppendsAs : Bool → Option (List ℕ) → Option (List ℕ) → List
 AppendsAs true old new text = Appends old new text
 AppendsAs false old new text = WritesSome old new text
 
--- it ended here, by this refusal, with what was done so far, and these calls had failed
+-- a call ended by this refusal with this done so far, and these calls of the outside had failed
 pub record EndedAt {D : Type 0} (device : Device D) (e : Effects D) (s : Progress) (refusal : Option Refusal) (failed : FailedCalls) : Type 0 where
   pub report : e.report ≡ record s.report { refusal = refusal }
   pub printed : AppendsAs s.is_whole e.output.written e.output'.written s.text
   pub output : UsedOutput e.output e.output' (failed OfOutput)
   pub disk : HasOutcome device e.disk e.disk' (failed OfDisk) s.disk
 
--- where the way ended
+-- a call did what is said where its way ended
 abbrev pub HasEffects : {D : Type 0} → Device D → Effects D → Way Progress ⊥ → Type 0
 HasEffects device e (Returned x) = ⊥
 HasEffects device e (Stopped s refusal) = EndedAt device e s refusal s.failed
 HasEffects device e (Interrupted s fault) = EndedAt device e s (Some (interruption_refusal fault)) (with_failed_call fault s.failed)
 
--- the call went a way that the plan allows, and did what is said where it ended
+-- a call took a way through its plan, and did what is said where that ended
 pub record Ran {D : Type 0} (device : Device D) (plan : CommandPlan Progress ⊥) (e : Effects D) : Type 0 where
   pub way : Way Progress ⊥
   pub allows : Allows plan way
   pub did : HasEffects device e way
 
--- which calls of the outside had failed at the end of a way,
+-- which calls of the outside had failed at the end of a way
 abbrev pub failed_at : Way Progress ⊥ → FailedCalls
 failed_at (Returned x) = no_failed_calls
 failed_at (Stopped s refusal) = s.failed
 failed_at (Interrupted s fault) = with_failed_call fault s.failed
 
--- and how many sources were given
+-- how many sources were given by the end of a way
 abbrev pub sources_at : Way Progress ⊥ → ℕ
 sources_at (Returned x) = 0
 sources_at (Stopped s refusal) = s.sources
 sources_at (Interrupted s fault) = s.sources
 
--- a call over inputs went such a way, and used the inputs as the way says
+-- a call over inputs took a way through its plan, did what is said where it ended, and used the inputs as far as that place
 pub record RanOver {D : Type 0} (device : Device D) (plan : CommandPlan Progress ⊥) (e : Effects D) (old new : InputsState) : Type 0 where
-  pub way : Way Progress ⊥
-  pub allows : Allows plan way
-  pub did : HasEffects device e way
-  pub inputs : UsedInputs old new (sources_at way) (failed_at way OfInputs)
+  pub ran : Ran device plan e
+  pub inputs : UsedInputs old new (sources_at ran.way) (failed_at ran.way OfInputs)
 
 -- ---- the parts of plans
 
 -- prints a text, for which there's memory
 abbrev pub printing_plan : Progress → List ℕ → CommandPlan Progress ⊥
 printing_plan s text = May OfOutput (record s { text = text; is_whole = false }) (Stop (record s { text = text; is_whole = true }) None)
+
+-- prints a text that is made while it is printed, so that memory may be wanting behind some of it
+abbrev pub stepwise_printing_plan : Progress → List ℕ → CommandPlan Progress ⊥
+stepwise_printing_plan s text = May OfMemory (record s { text = text; is_whole = false }) (printing_plan s text)
 
 -- what an opening finds on a disk
 pub data OpeningResult : Type 0 where

@@ -39,11 +39,11 @@ abbrev pub HasArchiveAs : Image → Bool → Type 0
 HasArchiveAs image true = BeginsOpen (image 0)
 HasArchiveAs image false = HoldsNone (image 0)
 
--- the making of an archive of this head failed,
+-- the three sheets were read, and the making of an archive of this head failed
 abbrev pub making_failed : Head → Progress
 making_failed head = record { text = []; is_whole = true; report = unopened None; disk = MakingFailed head; sources = 3; failed = no_failed_calls }
 
--- or one was made
+-- the three sheets were read, and an archive of this head was made
 abbrev pub made : Head → Progress
 made head = record { text = []; is_whole = true; report = read_only None 0; disk = Made head; sources = 3; failed = no_failed_calls }
 

@@ -6,6 +6,7 @@ pub mod Call
 pub mod Reading
 pub mod Recover
 pub mod Create
+pub mod Query
 pub mod ReadDump
 pub mod ValuesPrinting
 pub mod ScanEnding

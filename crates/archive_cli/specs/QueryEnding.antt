@@ -12,8 +12,6 @@ use Rattle.outer_traits.specs.Outside.{Files, HasRisen, Stays, WritesSome}
 use Rattle.mdb_sheets.specs.Asks.{AreAsks, IsAsksRefusal}
 use Rattle.mdb_sheets.specs.Sheets.{HasSheet}
 use Rattle.archive_store.specs.Entries.{Archive}
-use Rattle.archive_cli.specs.declared.ask_sheet.AskSheet.{AskSheet}
-use Rattle.archive_cli.specs.declared.ask_sheet.AskSheet.TheVariants.{Read, Refused}
 use Rattle.archive_cli.specs.declared.report.Report.{Report}
 use Rattle.retrieval.specs.AnswerText.{asks_text, asks_refusal}
 use Rattle.archive_cli.specs.Call.{Call, WritesNothing, Prints, PrintsSome, WritesFailed}
@@ -40,20 +38,10 @@ AreAsksOf files name asks = HasInput files name (λ octets. AreAsks (Some octets
 abbrev pub AreRefusedAsks : Option Files → List ℕ → Refusal → Type 0
 AreRefusedAsks files name refusal = (is_deferred refusal ≡ true) × HasInput files name (λ octets. IsAsksRefusal (Some octets) 0 0 refusal)
 
--- what a sheet was read as
-abbrev pub IsAskSheet : Option Files → List ℕ → AskSheet → Type 0
-IsAskSheet files name (Read asks) = AreAsksOf files name asks
-IsAskSheet files name (Refused refusal) = AreRefusedAsks files name refusal
-
--- a refusal that is kept until an archive is open is one that is deferred
-abbrev pub IsDeferred : AskSheet → Type 0
-IsDeferred (Read asks) = Unit {0}
-IsDeferred (Refused refusal) = is_deferred refusal ≡ true
-
--- the asks that were read, or a refusal that is deferred, or one that isn't
-abbrev pub IsAskSheetResult : Result (List Ask) Refusal → Result AskSheet Refusal → Type 0
-IsAskSheetResult (Ok asks) sheet = sheet ≡ Ok (Read asks)
-IsAskSheetResult (Err refusal) sheet = ((is_deferred refusal ≡ true) × (sheet ≡ Ok (Refused refusal))) ⊎ ((is_deferred refusal ≡ false) × (sheet ≡ Err refusal))
+-- what a sheet was read as: these are its asks, or it is refused so
+abbrev pub IsAskSheet : Option Files → List ℕ → Result (List Ask) Refusal → Type 0
+IsAskSheet files name (Ok asks) = AreAsksOf files name asks
+IsAskSheet files name (Err refusal) = AreRefusedAsks files name refusal
 
 -- how asks are answered over a database and a history: all of their text was printed, or a prefix of it, or one is refused and nothing was written
 abbrev pub IsReply : Database → List Item → List Ask → Option Refusal → Option (List ℕ) → Option (List ℕ) → ℕ → ℕ → Type 0
@@ -70,9 +58,9 @@ IsReply db history asks (Some (BadRange from to)) before now faults faults' =
 IsReply db history asks (Some other) before now faults faults' = ⊥
 
 -- how a sheet of asks is answered
-abbrev pub IsSheetReply : Database → List Item → AskSheet → Option Refusal → Option (List ℕ) → Option (List ℕ) → ℕ → ℕ → Type 0
-IsSheetReply db history (Read asks) refusal before now faults faults' = IsReply db history asks refusal before now faults faults'
-IsSheetReply db history (Refused refused) refusal before now faults faults' = (refusal ≡ Some refused) × (now ≡ before) × Stays faults faults'
+abbrev pub IsSheetReply : Database → List Item → Result (List Ask) Refusal → Option Refusal → Option (List ℕ) → Option (List ℕ) → ℕ → ℕ → Type 0
+IsSheetReply db history (Ok asks) refusal before now faults faults' = IsReply db history asks refusal before now faults faults'
+IsSheetReply db history (Err refused) refusal before now faults faults' = (refusal ≡ Some refused) × (now ≡ before) × Stays faults faults'
 
 -- nothing was asked of the disk
 pub record IsNotAsked {D : Type 0} (device : Device D) (call : Call) (old new : D) (report : Report) : Type 0 where

@@ -38,7 +38,8 @@ pub fn create<D: Disk, I: Inputs, K: Sink>(
     inputs: &mut I,
     sink: &mut K,
 ) -> Ended<D>
-    // It went as its plan may go, did what the plan says where it ended, and the inputs gave as many sources as it says.
+    // It took a way through its plan: where that ends stands what was printed, what became of the disk, what is reported, how many
+    // sources were given, and which calls failed.
     ensures ran { RanOver D.device (create_plan D.device disk (I.files inputs.old) (sheet_words_of words.entry))
         (effects_of disk result.disk (output_state (K.written sink.old) (K.faults sink.old))
         (output_state (K.written sink.new) (K.faults sink.new)) result.report)
@@ -66,7 +67,7 @@ fn read_head<I: Inputs>(
     words: SheetWords<'_>,
     inputs: &mut I,
 ) -> Result<Head, Refusal>
-    // It went as its plan may go.
+    // It took a way through its plan, and used the inputs as far as that went.
     ensures read { AnsweredByPlan 3 (head_plan (I.files inputs.old) (sheet_words_of words.entry)) result
         (inputs_state (I.files inputs.old) (I.open_sources inputs.old) (I.given inputs.old)
         (I.faults inputs.old) (I.never_fails inputs.old))
@@ -111,7 +112,7 @@ fn tables(alloc: Global) -> Result<Names, AllocError>
 /// Makes the archive, and prints what it has. Room for the line is taken before, so that no archive is made for which there's none.
 fn make<D: Disk, K: Sink>(alloc: Global, disk: D, head: Head, sink: &mut K) -> Ended<D>
     requires { IsArchiveEntry (entries.Head head.tables head.mdb) }
-    // It went as its plan may go, and did what the plan says where it ended.
+    // It took a way through its plan.
     ensures ran { Ran D.device (making_plan D.device disk head) (effects_of disk result.disk
         (output_state (K.written sink.old) (K.faults sink.old)) (output_state (K.written sink.new) (K.faults sink.new))
         result.report) }

@@ -20,7 +20,8 @@ use std::alloc::Global;
 ///
 /// Refuses, in this order: by `DiskFault`, `NoArchive` or `Damaged`; by `WriteFault`. `OutOfMemory` may come anywhere before the line.
 pub fn recover<D: Disk, K: Sink>(alloc: Global, disk: D, sink: &mut K) -> Ended<D>
-    // It went as its plan may go, and did what the plan says where it ended.
+    // It took a way through its plan: where that ends stands what was printed, what became of the disk, what is reported, and which
+    // calls failed.
     ensures ran { Ran D.device (recover_plan D.device disk) (effects_of disk result.disk
         (output_state (K.written sink.old) (K.faults sink.old)) (output_state (K.written sink.new) (K.faults sink.new))
         result.report) }

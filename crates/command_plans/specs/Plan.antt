@@ -25,15 +25,15 @@ is_interruption WriteFault = true
 is_interruption DiskFault = true
 is_interruption other = false
 
--- which faults there were
+-- which kinds of calls failed
 abbrev pub FailedCalls : Type 0
 FailedCalls = Interruption → Bool
 
--- none,
+-- no call failed
 abbrev pub no_failed_calls : FailedCalls
 no_failed_calls fault = false
 
--- or this one, and those
+-- a call of this kind failed, beside those that had failed before
 abbrev pub with_failed_call : Interruption → FailedCalls → FailedCalls
 with_failed_call OfMemory faults OfMemory = true
 with_failed_call OfInputs faults OfInputs = true
@@ -127,7 +127,7 @@ map_done f (May fault s p) = May fault (f s) (map_done f p)
 map_done f (Question is next) = Question is (λ a. map_done f (next a))
 map_done f (Choose is next) = Choose is (λ a. map_done f (next a))
 
--- and the same way
+-- the same way, with other words for what was done
 abbrev pub way_map_done : {S T X : Type 0} → (S → T) → Way S X → Way T X
 way_map_done f (Returned x) = Returned x
 way_map_done f (Stopped s refusal) = Stopped (f s) refusal

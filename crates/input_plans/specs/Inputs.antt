@@ -8,7 +8,7 @@ use Rattle.arch_types.specs.Limits.{limit_of}
 use Rattle.outer_traits.specs.Outside.{Files}
 use Rattle.outer_traits.specs.declared.whole.ReadFault as fault
 use Rattle.outer_traits.specs.declared.whole.ReadFault.TheVariants as faulted
-use Rattle.outer_traits.specs.Whole.{IsThere}
+use Rattle.outer_traits.specs.Whole.{IsInput, IsThere}
 use Rattle.outer_ledgers.specs.Ledger.{InputsState, UsedInputs}
 use Rattle.command_plans.specs.Plan.{Interruption, OfMemory, OfInputs, CommandPlan, Return, Stop, May, Question, Returned, Stopped, Interrupted, Allows, interruption_refusal}
 
@@ -22,10 +22,10 @@ pub data InputRead (X : Type 0) : Type 0 where
   OverLimit : InputRead X
   WithinLimit : X → InputRead X
 
--- where it is known: it is longer than its limit, or it isn't and its octets are read so
+-- what an input was read as: it is longer than its limit, where it is known; or it has such octets within the limit, and was read as they are
 abbrev pub IsInputAs : {X : Type 0} → Option Files → Which → (List ℕ → X) → List ℕ → InputRead X → Type 0
 IsInputAs files which of name OverLimit = IfSome files (λ all. IsSomeAnd (get all name) (λ octets. limit_of which < length octets))
-IsInputAs files which of name (WithinLimit x) = IfSome files (λ all. IsSomeAnd (get all name) (λ octets. (length octets ≤ limit_of which) × (x ≡ of octets)))
+IsInputAs files which of name (WithinLimit x) = (octets : List ℕ) × IsInput files name octets × (length octets ≤ limit_of which) × (x ≡ of octets)
 
 -- what an input leads to, by what it was read as
 abbrev pub input_read : {X : Type 0} → Which → ℕ → InputRead X → CommandPlan ℕ X
@@ -52,18 +52,18 @@ abbrev pub reading_fault : Bool → Interruption
 reading_fault true = OfInputs
 reading_fault false = OfMemory
 
--- A call that reads gave this, whatever was read before it, and the inputs gave so many sources for it;
+-- A call that reads gave what its plan gives, whatever was read before it, and the inputs gave so many sources for it.
 pub record WasRead {X : Type 0} (plan : ℕ → CommandPlan ℕ X) (x : X) (sources : ℕ) (old new : InputsState) : Type 0 where
   pub allows : (before : ℕ) → Allows (plan before) (Returned x)
   pub used : UsedInputs old new sources false
 
--- or it was refused in its order,
+-- A call that reads was refused where its plan ends, whatever was read before it, and used the inputs as far as that place.
 pub record WasRefused {X : Type 0} (plan : ℕ → CommandPlan ℕ X) (refusal : Refusal) (old new : InputsState) : Type 0 where
   pub sources : ℕ
   pub allows : (before : ℕ) → Allows (plan before) (Stopped (before + sources) (Some refusal))
   pub used : UsedInputs old new sources false
 
--- or a fault cut it off
+-- A call that reads was cut off by a fault where its plan allows it, whatever was read before it, and used the inputs as far as that place.
 pub record WasInterrupted {X : Type 0} (plan : ℕ → CommandPlan ℕ X) (refusal : Refusal) (old new : InputsState) : Type 0 where
   pub failed : Bool
   pub sources : ℕ
@@ -71,7 +71,8 @@ pub record WasInterrupted {X : Type 0} (plan : ℕ → CommandPlan ℕ X) (refus
   pub allows : (before : ℕ) → Allows (plan before) (Interrupted (before + sources) (reading_fault failed))
   pub used : UsedInputs old new sources failed
 
--- A call that reads so many inputs went as its plan may go, whatever was read before it.
+-- A call that reads so many inputs took a way through its plan, whatever had been read before it: it gave what the plan gives, was refused where the plan
+-- ends, or a fault cut it off.
 abbrev pub AnsweredByPlan : {X : Type 0} → ℕ → (ℕ → CommandPlan ℕ X) → Result X Refusal → InputsState → InputsState → Type 0
 AnsweredByPlan inputs plan (Ok x) old new = WasRead plan x inputs old new
 AnsweredByPlan inputs plan (Err refusal) old new = WasRefused plan refusal old new ⊎ WasInterrupted plan refusal old new

@@ -25,7 +25,7 @@ pub fn read_mdb<I: Inputs>(
     calibrations: &str,
     containers: &str,
 ) -> Result<RawMdb, Refusal>
-    // It went as its plan may go.
+    // It took a way through its plan, and used the inputs as far as that went.
     ensures read { AnsweredByPlan 3 (sheets_plan (I.files inputs.old) parameters.now calibrations.now containers.now) result
         (inputs_state (I.files inputs.old) (I.open_sources inputs.old)
         (I.given inputs.old) (I.faults inputs.old) (I.never_fails inputs.old))

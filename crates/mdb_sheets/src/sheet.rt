@@ -23,7 +23,7 @@ pub(crate) fn read_sheet<I: Inputs>(
     inputs: &mut I,
     name: &str,
 ) -> Result<Sheet, Refusal>
-    // It went as its plan may go.
+    // It took a way through its plan, and used the inputs as far as that went.
     ensures read { AnsweredByPlan 1 (sheet_plan (I.files inputs.old) name.now) result
         (inputs_state (I.files inputs.old) (I.open_sources inputs.old)
         (I.given inputs.old) (I.faults inputs.old) (I.never_fails inputs.old))

@@ -15,6 +15,7 @@ use Rattle.archive_cli.proofs.Diskless.{scan_disk, scan_job_ended, values_disk, 
 use Rattle.archive_cli.specs.Command.{effects_of}
 use Rattle.archive_cli.specs.Report.{IsReport}
 use Rattle.archive_cli.proofs.CreateEnds.{create_caused, create_disk_fault, create_disk_later, create_disk_writes, create_ended, create_gave, create_handed_back, create_later, create_order, create_reads_counted, create_report, create_unasked, create_writes_counted, create_writes_later}
+use Rattle.archive_cli.proofs.QueryEnds.{query_caused, query_disk_fault, query_disk_later, query_disk_writes, query_ended, query_gave, query_handed_back, query_later, query_order, query_reads_counted, query_report, query_unasked, query_writes_counted, query_writes_later}
 use Rattle.archive_cli.proofs.RecoverPlan.{recover_caused, recover_disk_fault, recover_disk_later, recover_disk_writes, recover_ended, recover_reads, recover_report, recover_writes, recover_writes_later}
 use Rattle.archive_cli.proofs.Scanned.{call_of}
 use Rattle.archive_cli.proofs.run.run_job.Goals as goal
@@ -57,29 +58,14 @@ returns-in-Load-clause-caused g c = λ words.
     (g.K.Sink.written c.args.sink.now) (g.K.Sink.written c.load.new.sink) (g.K.Sink.faults c.args.sink.now) (g.K.Sink.faults c.load.new.sink) in
     subst (λ (job : Job). IsCaused call (Some (job_view job)) c.load.result.report.refusal) (sym c.in-Load.is) (c.load.ensures.caused words)
 
-pub returns-in-Query-clause-caused : goal.returns-in-Query-clause-caused
-returns-in-Query-clause-caused g c = λ words.
-    let call = call_of words (g.I.Inputs.files c.args.inputs.now) (g.C.Clock.next c.args.clock.now) (g.I.Inputs.faults c.args.inputs.now) (g.I.Inputs.faults c.query.new.inputs)
-    (g.K.Sink.written c.args.sink.now) (g.K.Sink.written c.query.new.sink) (g.K.Sink.faults c.args.sink.now) (g.K.Sink.faults c.query.new.sink) in
-    subst (λ (job : Job). IsCaused call (Some (job_view job)) c.query.result.report.refusal) (sym c.in-Query.is) (c.query.ensures.caused words (g.C.Clock.next c.args.clock.now))
-
 pub returns-in-Load-clause-handed_back : goal.returns-in-Load-clause-handed_back
 returns-in-Load-clause-handed_back g c =
     subst (λ (job : Job). IsHandedBack (Some (job_view job)) c.args.disk c.load.result.disk c.load.result.report) (sym c.in-Load.is) c.load.ensures.handed_back
-
-pub returns-in-Query-clause-handed_back : goal.returns-in-Query-clause-handed_back
-returns-in-Query-clause-handed_back g c =
-    subst (λ (job : Job). IsHandedBack (Some (job_view job)) c.args.disk c.query.result.disk c.query.result.report) (sym c.in-Query.is) c.query.ensures.handed_back
 
 pub returns-in-Load-clause-order : goal.returns-in-Load-clause-order
 returns-in-Load-clause-order g c =
     subst (λ (job : Job). IsInOrder (g.I.Inputs.files c.args.inputs.now) (Some (job_view job)) (g.I.Inputs.given c.args.inputs.now) (g.I.Inputs.given c.load.new.inputs) c.args.disk
     c.load.result.disk c.load.result.report) (sym c.in-Load.is) c.load.ensures.order
-
-pub returns-in-Query-clause-order : goal.returns-in-Query-clause-order
-returns-in-Query-clause-order g c =
-    subst (λ (job : Job). IsInOrder (g.I.Inputs.files c.args.inputs.now) (Some (job_view job)) (g.I.Inputs.given c.args.inputs.now) (g.I.Inputs.given c.query.new.inputs) c.args.disk
-    c.query.result.disk c.query.result.report) (sym c.in-Query.is) c.query.ensures.order
 
 pub returns-in-Scan-clause-order : goal.returns-in-Scan-clause-order
 returns-in-Scan-clause-order g c =
@@ -108,11 +94,6 @@ returns-in-Load-clause-unasked g c =
     subst (λ (job : Job). IsUnasked (Some (job_view job)) (g.I.Inputs.given c.args.inputs.now) (g.I.Inputs.given c.load.new.inputs) c.args.disk c.load.result.disk) (sym c.in-Load.is)
     c.load.ensures.unasked
 
-pub returns-in-Query-clause-unasked : goal.returns-in-Query-clause-unasked
-returns-in-Query-clause-unasked g c =
-    subst (λ (job : Job). IsUnasked (Some (job_view job)) (g.I.Inputs.given c.args.inputs.now) (g.I.Inputs.given c.query.new.inputs) c.args.disk c.query.result.disk) (sym c.in-Query.is)
-    c.query.ensures.unasked
-
 pub returns-in-Scan-clause-unasked : goal.returns-in-Scan-clause-unasked
 returns-in-Scan-clause-unasked g c =
     subst (λ (job : Job). IsUnasked (Some (job_view job)) (g.I.Inputs.given c.args.inputs.now) (g.I.Inputs.given c.scan.new.inputs) c.args.disk c.unopened.result.disk) (sym c.in-Scan.is)
@@ -137,10 +118,6 @@ pub returns-in-Load-clause-gave : goal.returns-in-Load-clause-gave
 returns-in-Load-clause-gave g c =
     subst (λ (job : Job). g.I.Inputs.given c.load.new.inputs ≤ g.I.Inputs.given c.args.inputs.now + inputs_of (Some (job_view job))) (sym c.in-Load.is) c.load.ensures.gave
 
-pub returns-in-Query-clause-gave : goal.returns-in-Query-clause-gave
-returns-in-Query-clause-gave g c =
-    subst (λ (job : Job). g.I.Inputs.given c.query.new.inputs ≤ g.I.Inputs.given c.args.inputs.now + inputs_of (Some (job_view job))) (sym c.in-Query.is) c.query.ensures.gave
-
 -- how many writes of the disk failed
 
 pub returns-in-Scan-clause-disk_writes : goal.returns-in-Scan-clause-disk_writes
@@ -159,11 +136,6 @@ pub returns-in-Load-clause-disk_writes : goal.returns-in-Load-clause-disk_writes
 returns-in-Load-clause-disk_writes g c =
     let failed = g.D.Disk.device.failed_writes in
     subst (λ (job : Job). DiskWritesCounted (Some (job_view job)) c.load.result.report (failed c.args.disk) (failed c.load.result.disk)) (sym c.in-Load.is) c.load.ensures.disk_writes
-
-pub returns-in-Query-clause-disk_writes : goal.returns-in-Query-clause-disk_writes
-returns-in-Query-clause-disk_writes g c =
-    let failed = g.D.Disk.device.failed_writes in
-    subst (λ (job : Job). DiskWritesCounted (Some (job_view job)) c.query.result.report (failed c.args.disk) (failed c.query.result.disk)) (sym c.in-Query.is) c.query.ensures.disk_writes
 
 -- `recover`: what its plan says
 
@@ -461,3 +433,213 @@ returns-in-Create-clause-same g c = c.create.ensures.ran.inputs.files
 
 pub returns-in-Create-clause-closed : goal.returns-in-Create-clause-closed
 returns-in-Create-clause-closed g c = c.create.ensures.ran.inputs.closed
+
+-- `query`: what its plan says
+
+pub returns-in-Query-clause-ended : goal.returns-in-Query-clause-ended
+returns-in-Query-clause-ended g c = λ given.
+    let device = g.D.Disk.device in
+    let r = c.query.result in
+    let files = g.I.Inputs.files c.args.inputs.now in
+    let name = c.in-Query.asks.now in
+    let state = λ (i : g.row.I.Denot). inputs_state (g.I.Inputs.files i) (g.I.Inputs.open_sources i) (g.I.Inputs.given i) (g.I.Inputs.faults i) (g.I.Inputs.never_fails i) in
+    let a = state c.args.inputs.now in
+    let b = state c.query.new.inputs in
+    let output = output_state (g.K.Sink.written c.args.sink.now) (g.K.Sink.faults c.args.sink.now) in
+    let output' = output_state (g.K.Sink.written c.query.new.sink) (g.K.Sink.faults c.query.new.sink) in
+    let went = effects_of c.args.disk r.disk output output' r.report in
+    let call = call_of given files (g.C.Clock.next c.args.clock.now) a.faults b.faults output.written output'.written output.faults output'.faults in
+    subst (λ (job : Job). IsJobEnding device call c.args.disk r.disk (Some (job_view job)) r.report) (sym c.in-Query.is) (query_ended device went files name a b c.query.ensures.ran given (g.C.Clock.next c.args.clock.now))
+
+pub returns-in-Query-clause-caused : goal.returns-in-Query-clause-caused
+returns-in-Query-clause-caused g c = λ given.
+    let device = g.D.Disk.device in
+    let r = c.query.result in
+    let files = g.I.Inputs.files c.args.inputs.now in
+    let name = c.in-Query.asks.now in
+    let state = λ (i : g.row.I.Denot). inputs_state (g.I.Inputs.files i) (g.I.Inputs.open_sources i) (g.I.Inputs.given i) (g.I.Inputs.faults i) (g.I.Inputs.never_fails i) in
+    let a = state c.args.inputs.now in
+    let b = state c.query.new.inputs in
+    let output = output_state (g.K.Sink.written c.args.sink.now) (g.K.Sink.faults c.args.sink.now) in
+    let output' = output_state (g.K.Sink.written c.query.new.sink) (g.K.Sink.faults c.query.new.sink) in
+    let went = effects_of c.args.disk r.disk output output' r.report in
+    let call = call_of given files (g.C.Clock.next c.args.clock.now) a.faults b.faults output.written output'.written output.faults output'.faults in
+    subst (λ (job : Job). IsCaused call (Some (job_view job)) r.report.refusal) (sym c.in-Query.is) (query_caused device went files name a b c.query.ensures.ran given (g.C.Clock.next c.args.clock.now))
+
+pub returns-in-Query-clause-report : goal.returns-in-Query-clause-report
+returns-in-Query-clause-report g c =
+    let device = g.D.Disk.device in
+    let r = c.query.result in
+    let files = g.I.Inputs.files c.args.inputs.now in
+    let name = c.in-Query.asks.now in
+    let state = λ (i : g.row.I.Denot). inputs_state (g.I.Inputs.files i) (g.I.Inputs.open_sources i) (g.I.Inputs.given i) (g.I.Inputs.faults i) (g.I.Inputs.never_fails i) in
+    let a = state c.args.inputs.now in
+    let b = state c.query.new.inputs in
+    let output = output_state (g.K.Sink.written c.args.sink.now) (g.K.Sink.faults c.args.sink.now) in
+    let output' = output_state (g.K.Sink.written c.query.new.sink) (g.K.Sink.faults c.query.new.sink) in
+    let went = effects_of c.args.disk r.disk output output' r.report in
+    subst (λ (job : Job). IsReport (Some (job_view job)) r.report) (sym c.in-Query.is) (query_report device went files name a b c.query.ensures.ran)
+
+pub returns-in-Query-clause-order : goal.returns-in-Query-clause-order
+returns-in-Query-clause-order g c =
+    let device = g.D.Disk.device in
+    let r = c.query.result in
+    let files = g.I.Inputs.files c.args.inputs.now in
+    let name = c.in-Query.asks.now in
+    let state = λ (i : g.row.I.Denot). inputs_state (g.I.Inputs.files i) (g.I.Inputs.open_sources i) (g.I.Inputs.given i) (g.I.Inputs.faults i) (g.I.Inputs.never_fails i) in
+    let a = state c.args.inputs.now in
+    let b = state c.query.new.inputs in
+    let output = output_state (g.K.Sink.written c.args.sink.now) (g.K.Sink.faults c.args.sink.now) in
+    let output' = output_state (g.K.Sink.written c.query.new.sink) (g.K.Sink.faults c.query.new.sink) in
+    let went = effects_of c.args.disk r.disk output output' r.report in
+    subst (λ (job : Job). IsInOrder files (Some (job_view job)) a.given b.given c.args.disk r.disk r.report) (sym c.in-Query.is) (query_order device went files name a b c.query.ensures.ran)
+
+pub returns-in-Query-clause-later : goal.returns-in-Query-clause-later
+returns-in-Query-clause-later g c =
+    let device = g.D.Disk.device in
+    let r = c.query.result in
+    let files = g.I.Inputs.files c.args.inputs.now in
+    let name = c.in-Query.asks.now in
+    let state = λ (i : g.row.I.Denot). inputs_state (g.I.Inputs.files i) (g.I.Inputs.open_sources i) (g.I.Inputs.given i) (g.I.Inputs.faults i) (g.I.Inputs.never_fails i) in
+    let a = state c.args.inputs.now in
+    let b = state c.query.new.inputs in
+    let output = output_state (g.K.Sink.written c.args.sink.now) (g.K.Sink.faults c.args.sink.now) in
+    let output' = output_state (g.K.Sink.written c.query.new.sink) (g.K.Sink.faults c.query.new.sink) in
+    let went = effects_of c.args.disk r.disk output output' r.report in
+    query_later device went files name a b c.query.ensures.ran
+
+pub returns-in-Query-clause-writes_later : goal.returns-in-Query-clause-writes_later
+returns-in-Query-clause-writes_later g c =
+    let device = g.D.Disk.device in
+    let r = c.query.result in
+    let files = g.I.Inputs.files c.args.inputs.now in
+    let name = c.in-Query.asks.now in
+    let state = λ (i : g.row.I.Denot). inputs_state (g.I.Inputs.files i) (g.I.Inputs.open_sources i) (g.I.Inputs.given i) (g.I.Inputs.faults i) (g.I.Inputs.never_fails i) in
+    let a = state c.args.inputs.now in
+    let b = state c.query.new.inputs in
+    let output = output_state (g.K.Sink.written c.args.sink.now) (g.K.Sink.faults c.args.sink.now) in
+    let output' = output_state (g.K.Sink.written c.query.new.sink) (g.K.Sink.faults c.query.new.sink) in
+    let went = effects_of c.args.disk r.disk output output' r.report in
+    query_writes_later device went files name a b c.query.ensures.ran
+
+pub returns-in-Query-clause-reads_counted : goal.returns-in-Query-clause-reads_counted
+returns-in-Query-clause-reads_counted g c =
+    let device = g.D.Disk.device in
+    let r = c.query.result in
+    let files = g.I.Inputs.files c.args.inputs.now in
+    let name = c.in-Query.asks.now in
+    let state = λ (i : g.row.I.Denot). inputs_state (g.I.Inputs.files i) (g.I.Inputs.open_sources i) (g.I.Inputs.given i) (g.I.Inputs.faults i) (g.I.Inputs.never_fails i) in
+    let a = state c.args.inputs.now in
+    let b = state c.query.new.inputs in
+    let output = output_state (g.K.Sink.written c.args.sink.now) (g.K.Sink.faults c.args.sink.now) in
+    let output' = output_state (g.K.Sink.written c.query.new.sink) (g.K.Sink.faults c.query.new.sink) in
+    let went = effects_of c.args.disk r.disk output output' r.report in
+    query_reads_counted device went files name a b c.query.ensures.ran
+
+pub returns-in-Query-clause-writes_counted : goal.returns-in-Query-clause-writes_counted
+returns-in-Query-clause-writes_counted g c =
+    let device = g.D.Disk.device in
+    let r = c.query.result in
+    let files = g.I.Inputs.files c.args.inputs.now in
+    let name = c.in-Query.asks.now in
+    let state = λ (i : g.row.I.Denot). inputs_state (g.I.Inputs.files i) (g.I.Inputs.open_sources i) (g.I.Inputs.given i) (g.I.Inputs.faults i) (g.I.Inputs.never_fails i) in
+    let a = state c.args.inputs.now in
+    let b = state c.query.new.inputs in
+    let output = output_state (g.K.Sink.written c.args.sink.now) (g.K.Sink.faults c.args.sink.now) in
+    let output' = output_state (g.K.Sink.written c.query.new.sink) (g.K.Sink.faults c.query.new.sink) in
+    let went = effects_of c.args.disk r.disk output output' r.report in
+    query_writes_counted device went files name a b c.query.ensures.ran
+
+pub returns-in-Query-clause-reliable : goal.returns-in-Query-clause-reliable
+returns-in-Query-clause-reliable g c = λ sure.
+    (c.query.ensures.ran.inputs.reliable sure).1
+
+pub returns-in-Query-clause-disk_later : goal.returns-in-Query-clause-disk_later
+returns-in-Query-clause-disk_later g c =
+    let device = g.D.Disk.device in
+    let r = c.query.result in
+    let files = g.I.Inputs.files c.args.inputs.now in
+    let name = c.in-Query.asks.now in
+    let state = λ (i : g.row.I.Denot). inputs_state (g.I.Inputs.files i) (g.I.Inputs.open_sources i) (g.I.Inputs.given i) (g.I.Inputs.faults i) (g.I.Inputs.never_fails i) in
+    let a = state c.args.inputs.now in
+    let b = state c.query.new.inputs in
+    let output = output_state (g.K.Sink.written c.args.sink.now) (g.K.Sink.faults c.args.sink.now) in
+    let output' = output_state (g.K.Sink.written c.query.new.sink) (g.K.Sink.faults c.query.new.sink) in
+    let went = effects_of c.args.disk r.disk output output' r.report in
+    query_disk_later device went files name a b c.query.ensures.ran
+
+pub returns-in-Query-clause-disk_fault : goal.returns-in-Query-clause-disk_fault
+returns-in-Query-clause-disk_fault g c =
+    let device = g.D.Disk.device in
+    let r = c.query.result in
+    let files = g.I.Inputs.files c.args.inputs.now in
+    let name = c.in-Query.asks.now in
+    let state = λ (i : g.row.I.Denot). inputs_state (g.I.Inputs.files i) (g.I.Inputs.open_sources i) (g.I.Inputs.given i) (g.I.Inputs.faults i) (g.I.Inputs.never_fails i) in
+    let a = state c.args.inputs.now in
+    let b = state c.query.new.inputs in
+    let output = output_state (g.K.Sink.written c.args.sink.now) (g.K.Sink.faults c.args.sink.now) in
+    let output' = output_state (g.K.Sink.written c.query.new.sink) (g.K.Sink.faults c.query.new.sink) in
+    let went = effects_of c.args.disk r.disk output output' r.report in
+    query_disk_fault device went files name a b c.query.ensures.ran
+
+pub returns-in-Query-clause-disk_writes : goal.returns-in-Query-clause-disk_writes
+returns-in-Query-clause-disk_writes g c =
+    let device = g.D.Disk.device in
+    let r = c.query.result in
+    let files = g.I.Inputs.files c.args.inputs.now in
+    let name = c.in-Query.asks.now in
+    let state = λ (i : g.row.I.Denot). inputs_state (g.I.Inputs.files i) (g.I.Inputs.open_sources i) (g.I.Inputs.given i) (g.I.Inputs.faults i) (g.I.Inputs.never_fails i) in
+    let a = state c.args.inputs.now in
+    let b = state c.query.new.inputs in
+    let output = output_state (g.K.Sink.written c.args.sink.now) (g.K.Sink.faults c.args.sink.now) in
+    let output' = output_state (g.K.Sink.written c.query.new.sink) (g.K.Sink.faults c.query.new.sink) in
+    let went = effects_of c.args.disk r.disk output output' r.report in
+    subst (λ (job : Job). DiskWritesCounted (Some (job_view job)) r.report (device.failed_writes c.args.disk) (device.failed_writes r.disk)) (sym c.in-Query.is) (query_disk_writes device went files name a b c.query.ensures.ran)
+
+pub returns-in-Query-clause-handed_back : goal.returns-in-Query-clause-handed_back
+returns-in-Query-clause-handed_back g c =
+    let device = g.D.Disk.device in
+    let r = c.query.result in
+    let files = g.I.Inputs.files c.args.inputs.now in
+    let name = c.in-Query.asks.now in
+    let state = λ (i : g.row.I.Denot). inputs_state (g.I.Inputs.files i) (g.I.Inputs.open_sources i) (g.I.Inputs.given i) (g.I.Inputs.faults i) (g.I.Inputs.never_fails i) in
+    let a = state c.args.inputs.now in
+    let b = state c.query.new.inputs in
+    let output = output_state (g.K.Sink.written c.args.sink.now) (g.K.Sink.faults c.args.sink.now) in
+    let output' = output_state (g.K.Sink.written c.query.new.sink) (g.K.Sink.faults c.query.new.sink) in
+    let went = effects_of c.args.disk r.disk output output' r.report in
+    subst (λ (job : Job). IsHandedBack (Some (job_view job)) c.args.disk r.disk r.report) (sym c.in-Query.is) (query_handed_back device went files name a b c.query.ensures.ran)
+
+pub returns-in-Query-clause-unasked : goal.returns-in-Query-clause-unasked
+returns-in-Query-clause-unasked g c =
+    let device = g.D.Disk.device in
+    let r = c.query.result in
+    let files = g.I.Inputs.files c.args.inputs.now in
+    let name = c.in-Query.asks.now in
+    let state = λ (i : g.row.I.Denot). inputs_state (g.I.Inputs.files i) (g.I.Inputs.open_sources i) (g.I.Inputs.given i) (g.I.Inputs.faults i) (g.I.Inputs.never_fails i) in
+    let a = state c.args.inputs.now in
+    let b = state c.query.new.inputs in
+    let output = output_state (g.K.Sink.written c.args.sink.now) (g.K.Sink.faults c.args.sink.now) in
+    let output' = output_state (g.K.Sink.written c.query.new.sink) (g.K.Sink.faults c.query.new.sink) in
+    let went = effects_of c.args.disk r.disk output output' r.report in
+    subst (λ (job : Job). IsUnasked (Some (job_view job)) a.given b.given c.args.disk r.disk) (sym c.in-Query.is) (query_unasked device went files name a b c.query.ensures.ran)
+
+pub returns-in-Query-clause-gave : goal.returns-in-Query-clause-gave
+returns-in-Query-clause-gave g c =
+    let device = g.D.Disk.device in
+    let r = c.query.result in
+    let files = g.I.Inputs.files c.args.inputs.now in
+    let name = c.in-Query.asks.now in
+    let state = λ (i : g.row.I.Denot). inputs_state (g.I.Inputs.files i) (g.I.Inputs.open_sources i) (g.I.Inputs.given i) (g.I.Inputs.faults i) (g.I.Inputs.never_fails i) in
+    let a = state c.args.inputs.now in
+    let b = state c.query.new.inputs in
+    let output = output_state (g.K.Sink.written c.args.sink.now) (g.K.Sink.faults c.args.sink.now) in
+    let output' = output_state (g.K.Sink.written c.query.new.sink) (g.K.Sink.faults c.query.new.sink) in
+    let went = effects_of c.args.disk r.disk output output' r.report in
+    subst (λ (job : Job). b.given ≤ a.given + inputs_of (Some (job_view job))) (sym c.in-Query.is) (query_gave device went files name a b c.query.ensures.ran)
+
+pub returns-in-Query-clause-same : goal.returns-in-Query-clause-same
+returns-in-Query-clause-same g c = c.query.ensures.ran.inputs.files
+
+pub returns-in-Query-clause-closed : goal.returns-in-Query-clause-closed
+returns-in-Query-clause-closed g c = c.query.ensures.ran.inputs.closed
