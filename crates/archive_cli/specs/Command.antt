@@ -6,7 +6,7 @@ use Rattle.arch_types.specs.declared.refusal.Refusal.{Refusal}
 use Rattle.arch_types.specs.declared.refusal.Refusal.TheVariants.{NoArchive, Damaged}
 use Rattle.disk_journal.specs.Format.{HoldsNone}
 use Rattle.outer_traits.specs.Outside.{WritesSome}
-use Rattle.outer_ledgers.specs.Ledger.{InputsState, NoWriteFailed, OutputState, UsedInputs, UsedOutput, WritesFailedAtMost}
+use Rattle.outer_ledgers.specs.Ledger.{InputsState, UsedWithoutFailedWrite, OutputState, UsedInputs, UsedOutput, WritesFailedAtMost}
 use Rattle.dump_lines.specs.Output.{Appends}
 use Rattle.command_plans.specs.Plan.{FailedCalls, OfMemory, OfInputs, OfOutput, OfDisk, interruption_refusal, no_failed_calls, with_failed_call, CommandPlan, Return, Stop, May, Question, Way, Returned, Stopped, Interrupted, Allows}
 use Rattle.archive_store.specs.declared.head.Head.{Head}
@@ -37,11 +37,11 @@ pub data DiskOutcome : Type 0 where
 -- a disk has this outcome: what it holds by then is known where it is transparent, and its counts on any disk
 abbrev pub HasOutcome : {D : Type 0} → Device D → D → D → Bool → DiskOutcome → Type 0
 HasOutcome device old new failed NotAsked = new ≡ old
-HasOutcome device old new failed Looked = NoWriteFailed device old new failed × (IsTrue device.is_transparent → IsReadAsBefore device old new)
+HasOutcome device old new failed Looked = UsedWithoutFailedWrite device old new failed × (IsTrue device.is_transparent → IsReadAsBefore device old new)
 HasOutcome device old new failed LookFailed = WritesFailedAtMost 1 device old new failed × (IsTrue device.is_transparent → IsReadAsBefore device old new)
-HasOutcome device old new failed (Opened archive) = NoWriteFailed device old new failed × (IsTrue device.is_transparent → IsReadOnly device old new archive)
+HasOutcome device old new failed (Opened archive) = UsedWithoutFailedWrite device old new failed × (IsTrue device.is_transparent → IsReadOnly device old new archive)
 HasOutcome device old new failed (MakingFailed head) = WritesFailedAtMost 2 device old new failed × (IsTrue device.is_transparent → IsMakingFailed device old new head)
-HasOutcome device old new failed (Made head) = NoWriteFailed device old new failed × (IsTrue device.is_transparent → IsMade device old new head)
+HasOutcome device old new failed (Made head) = UsedWithoutFailedWrite device old new failed × (IsTrue device.is_transparent → IsMade device old new head)
 
 -- What a command has done so far: the text that it printed, whole, or that it was printing; the report but for its refusal; the outcome of the disk; how
 -- many sources the inputs gave; and which calls of the outside failed before, though it went on.

@@ -5,7 +5,7 @@
 //! says command_words. What a command does, in which order, is its plan (specs/Command.antt), so far of `create`, `query` and `recover`: there the
 //! cases of `run` follow from the plan (proofs/CreateEnds.antt, proofs/QueryEnds.antt, proofs/RecoverPlan.antt). A later command adds its plan.
 //!
-//! The way of a dump: for `scan` and `values` `read_scan_input` takes it in, and dump_lines keeps its rows; for `load` `batches` hands its packets to
+//! The way of a dump: for `scan` and `values` `read_scan_input` takes it in, and dump_lines keeps its rows; for `load` load_session hands its packets to
 //! the archive's store. The way of an ask: mdb_sheets reads it, and retrieval extracts the cells of the store's plan and prints them.
 //!
 //! The one idea of the proofs: an archive that was opened is the one that the disk stands for. That the right answer comes follows from the

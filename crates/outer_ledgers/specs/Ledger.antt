@@ -73,8 +73,8 @@ pub record UsedDisk {D : Type 0} (device : Device D) (old new : D) (failed : Boo
   pub writes : (n : ℕ) × (fewest ≤ n) × (n ≤ most) × (device.failed_writes new ≡ raised_by n (device.failed_writes old))
 
 -- what a call did to a disk's counts in which no write of the disk failed
-abbrev pub NoWriteFailed : {D : Type 0} → Device D → D → D → Bool → Type 0
-NoWriteFailed device old new failed = UsedDisk device old new failed 0 0
+abbrev pub UsedWithoutFailedWrite : {D : Type 0} → Device D → D → D → Bool → Type 0
+UsedWithoutFailedWrite device old new failed = UsedDisk device old new failed 0 0
 
 -- what a call did to a disk's counts in which no more than so many writes of the disk failed
 abbrev pub WritesFailedAtMost : {D : Type 0} → ℕ → Device D → D → D → Bool → Type 0
