@@ -221,7 +221,7 @@ module _ {D : Type 0} (device : Device D) (e : Effects D) where
         let same = no_failed_write device e.disk e.disk' false did.disk.0 in
         inl (record {
           refusal = Exists;
-          refused = (λ known. (is known, (did.disk.1 known).reads), same);
+          refused = record { held = is; reads = λ known. (did.disk.1 known).reads; no_failed_write = same };
           kept = λ known one. did.disk.1 known;
           images = λ known none. absurd (one-not-none (device.reads e.disk 0) (is known).0 (is known).1 none);
           report = did.report;
