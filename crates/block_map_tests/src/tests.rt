@@ -158,3 +158,22 @@ fn grows(rt: HostRuntime) -> Result<(), Fail> {
     assert_eq!(rt; next, 3001);
     Ok(())
 }
+
+/// What a count comes to, where there is room for it.
+fn counted(index: &mut GrowingIndex<u64, u64>, key: u64) -> Option<u64> {
+    if index.room() == 0 || index.get(key) == Some(u64::MAX) {
+        return None;
+    }
+    Some(index.add_one(key))
+}
+
+#[test]
+fn counts(rt: HostRuntime) -> Result<(), Fail> {
+    let mut index = GrowingIndex::new(rt.alloc());
+    index.reserve(3)?;
+    for (key, want) in [(8, 1), (3, 1), (8, 2), (8, 3)] {
+        assert_eq!(rt; counted(&mut index, key), Some(want));
+    }
+    assert_eq!(rt; (index.len(), index.room()), (2, 1));
+    Ok(())
+}
