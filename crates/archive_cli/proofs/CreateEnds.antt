@@ -42,7 +42,8 @@ use Rattle.archive_cli.specs.Report.{IsReadOnlyReport, unopened}
 use Rattle.archive_cli.proofs.Caused.{create_made_cause, create_refused_cause, create_unmade_cause}
 use Rattle.archive_cli.proofs.CreateAnswers.{one-not-none}
 use Rattle.archive_cli.proofs.CreatePlan.{makes_after}
-use Rattle.archive_cli.proofs.OverInputs.{DidOver, EndsBefore, HasRead, IsUnread, cut_before, ended_before, first_of, gave_next, gave_so, one_at_most, reads_end, risen, still, unread_counted}
+use Rattle.archive_cli.proofs.OverInputs.{DidOver, EndsBefore, HasRead, cut_before, ended_before, gave_so, still}
+use Rattle.archive_cli.proofs.SheetsEnds.{AreUnread, sheets_counted, sheets_end, sheets_refused}
 use Rattle.archive_cli.proofs.Created.{create_reads, create_refused, create_unmade, create_writes, created, refused_kind, sheet_disk, sheet_writes, unmade_fault}
 use Rattle.archive_cli.proofs.DiskWrites.{none_of_two, unmade_writes}
 use Rattle.archive_cli.proofs.Ends.{WasPrinted, prints_end, silent_all}
@@ -57,11 +58,8 @@ use Rattle.archive_cli.proofs.Recovered.{finished_disk, finished_reads, not_read
 -- the sheets gave no head
 abbrev HasNoHead : Option Files → SheetWords → Refusal → ℕ → Bool → Type 0
 HasNoHead files words refusal n failed =
-    IsUnread files SheetOctets words.parameters 0 refusal n failed
-    ⊎ ((HasSheet files words.parameters × IsUnread files SheetOctets words.calibrations 1 refusal n failed)
-    ⊎ ((HasSheet files words.parameters × HasSheet files words.calibrations × IsUnread files SheetOctets words.containers 2 refusal n failed)
-    ⊎ ((raw : RawMdb) × AreSheets files words.parameters words.calibrations words.containers raw
-    × ((sheets_refusal raw ≡ Some refusal) ⊎ (refusal ≡ OutOfMemory)) × (n ≡ 3) × (failed ≡ false))))
+    AreUnread files words.parameters words.calibrations words.containers refusal n failed
+    ⊎ ((raw : RawMdb) × AreSheets files words.parameters words.calibrations words.containers raw × ((sheets_refusal raw ≡ Some refusal) ⊎ (refusal ≡ OutOfMemory)) × (n ≡ 3) × (failed ≡ false))
 
 module _ {D : Type 0} (device : Device D) (e : Effects D) (a b : InputsState) where
   module _ (files : Option Files) (words : SheetWords) (way : Way Progress ⊥) (did : DidOver device e a b way) where
@@ -72,49 +70,21 @@ module _ {D : Type 0} (device : Device D) (e : Effects D) (a b : InputsState) wh
     checked_end : (raw : RawMdb) (found : Option Refusal) → AreSheets files words.parameters words.calibrations words.containers raw → found ≡ sheets_refusal raw →
         Allows (and_then (map_done nothing_done (head_checked 3 raw found)) (making_plan device e.disk)) way → HeadsOn
     checked_end raw None are is goes = inr (raw, record { sheets = are; admitted = sym is }, goes)
-    checked_end raw (Some refusal) are is goes = inl (refusal, 3, false, inr (inr (inr (raw, are, inl (sym is), refl, refl))), ended_before device e a b way 3 refusal goes did)
+    checked_end raw (Some refusal) are is goes = inl (refusal, 3, false, inr (raw, are, inl (sym is), refl, refl), ended_before device e a b way 3 refusal goes did)
 
     checks_end : (raw : RawMdb) → AreSheets files words.parameters words.calibrations words.containers raw →
         Allows (and_then (map_done nothing_done (checking_plan 3 raw)) (making_plan device e.disk)) way → HeadsOn
-    checks_end raw are (inl goes) = inl (OutOfMemory, 3, false, inr (inr (inr (raw, are, inr refl, refl, refl))), cut_before device e a b way 3 false goes did)
+    checks_end raw are (inl goes) = inl (OutOfMemory, 3, false, inr (raw, are, inr refl, refl, refl), cut_before device e a b way 3 false goes did)
     checks_end raw are (inr h) = checked_end raw h.0 are h.1 h.2
-
-    third_end : (ps cs : List Fields) → IsSheet files words.parameters ps → IsSheet files words.calibrations cs →
-        Allows (and_then (map_done nothing_done (and_then (third_sheet_plan files words.containers ps 2 cs) (checking_plan 3))) (making_plan device e.disk)) way → HeadsOn
-    third_end ps cs p c goes =
-        elim (reads_end device e a b files SheetOctets (λ octets. sheet_of octets) words.containers 2 (λ ks. and_then (map_done nothing_done (and_then (giving_plan ps cs ks) (checking_plan 3))) (making_plan device e.disk)) way did
-        (first_of (sheet_plan files words.containers 2) (giving_plan ps cs) (checking_plan 3) (making_plan device e.disk) way goes)) [
-          | inl n ↦ inl (n.0, n.1, n.2, inr (inr (inl (has_sheet files words.parameters ps p, has_sheet files words.calibrations cs c, n.3))), n.4)
-          | inr h ↦ checks_end (record { parameters = ps; calibrations = cs; containers = h.0 }) (record { parameters_sheet = p; calibrations_sheet = c; containers_sheet = sheet_was_read files words.containers h.0 h.1 }) h.2
-        ]
-
-    second_end : (ps : List Fields) → IsSheet files words.parameters ps →
-        Allows (and_then (map_done nothing_done (and_then (second_sheet_plan files words.calibrations words.containers 1 ps) (checking_plan 3))) (making_plan device e.disk)) way → HeadsOn
-    second_end ps p goes =
-        elim (reads_end device e a b files SheetOctets (λ octets. sheet_of octets) words.calibrations 1 (λ cs. and_then (map_done nothing_done (and_then (third_sheet_plan files words.containers ps 2 cs) (checking_plan 3))) (making_plan device e.disk)) way did
-        (first_of (sheet_plan files words.calibrations 1) (third_sheet_plan files words.containers ps 2) (checking_plan 3) (making_plan device e.disk) way goes)) [
-          | inl n ↦ inl (n.0, n.1, n.2, inr (inl (has_sheet files words.parameters ps p, n.3)), n.4)
-          | inr h ↦ third_end ps h.0 p (sheet_was_read files words.calibrations h.0 h.1) h.2
-        ]
 
     pub heads_end : Allows (create_plan device e.disk files words) way → HeadsOn
     heads_end goes =
-        elim (reads_end device e a b files SheetOctets (λ octets. sheet_of octets) words.parameters 0 (λ ps. and_then (map_done nothing_done (and_then (second_sheet_plan files words.calibrations words.containers 1 ps) (checking_plan 3))) (making_plan device e.disk)) way did
-        (first_of (sheet_plan files words.parameters 0) (second_sheet_plan files words.calibrations words.containers 1) (checking_plan 3) (making_plan device e.disk) way goes)) [
+        elim (sheets_end device e a b files words.parameters words.calibrations words.containers (checking_plan 3) (making_plan device e.disk) way did goes) [
           | inl n ↦ inl (n.0, n.1, n.2, inl n.3, n.4)
-          | inr h ↦ second_end h.0 (sheet_was_read files words.parameters h.0 h.1) h.2
+          | inr h ↦ checks_end h.0 h.1 h.2
         ]
 
 -- ---- what is known of sheets that gave no head
-
--- a sheet that wasn't read, after so many others
-sheet_refused : (files : Option Files) (name : List ℕ) (s : ℕ) (a b : InputsState) (refusal : Refusal) (n : ℕ) (failed : Bool) → UsedInputs a b n failed →
-    IsUnread files SheetOctets name s refusal n failed → IsSheetRefused files name a.faults b.faults (given_more s a.given) b.given refusal
-sheet_refused files name s a b (Missing lacking) n failed used h = ((h.0, h.1), gave_so a b n failed used s h.2)
-sheet_refused files name s a b ReadFault n failed used h = ((risen a b n failed used h.2, h.0), one_at_most a b n failed used s h.1)
-sheet_refused files name s a b (Limit which number) n failed used h = ((h.0, h.1, h.2), gave_next a b n failed used s h.3)
-sheet_refused files name s a b OutOfMemory n failed used h = (tt, one_at_most a b n failed used s h.0)
-sheet_refused files name s a b other n failed used h = absurd h
 
 some_counted : (r refusal : Refusal) (before now : ℕ) → ◌≡◌ {A = Option Refusal} (Some r) (Some refusal) → ReadsCounted (Some r) before now → ReadsCounted (Some refusal) before now
 some_counted r refusal before now e h = let same : r ≡ refusal = cc in subst (λ (x : Refusal). ReadsCounted (Some x) before now) same h
@@ -166,13 +136,9 @@ module _ (files : Option Files) (words : SheetWords) (a b : InputsState) where
   })
 
   without_head : (refusal : Refusal) (n : ℕ) (failed : Bool) → UsedInputs a b n failed → HasNoHead files words refusal n failed → IsWithoutHead files words a b refusal
-  without_head refusal n failed used (inl h) =
-      unread_without_head refusal (unread_counted files SheetOctets words.parameters 0 a b refusal n failed used h) (inl (sheet_refused files words.parameters 0 a b refusal n failed used h))
-  without_head refusal n failed used (inr (inl h)) =
-      unread_without_head refusal (unread_counted files SheetOctets words.calibrations 1 a b refusal n failed used h.1) (inr (inl (h.0, sheet_refused files words.calibrations 1 a b refusal n failed used h.1)))
-  without_head refusal n failed used (inr (inr (inl h))) =
-      unread_without_head refusal (unread_counted files SheetOctets words.containers 2 a b refusal n failed used h.2) (inr (inr (h.0, h.1, sheet_refused files words.containers 2 a b refusal n failed used h.2)))
-  without_head refusal n failed used (inr (inr (inr h))) = bad_without_head refusal h.0 h.1 (still a b n failed used h.4) (gave_so a b n failed used 3 h.3) h.2
+  without_head refusal n failed used (inl h) = unread_without_head refusal
+      (sheets_counted files words.parameters words.calibrations words.containers a b refusal n failed used h) (sheets_refused files words.parameters words.calibrations words.containers a b refusal n failed used h)
+  without_head refusal n failed used (inr h) = bad_without_head refusal h.0 h.1 (still a b n failed used h.4) (gave_so a b n failed used 3 h.3) h.2
 
 -- ---- once the disk was asked
 

@@ -17,10 +17,6 @@ use Rattle.archive_cli.specs.Report.{unopened}
 use Rattle.archive_cli.specs.ValuesEnding.{IsInputRefused, IsParameterRefused, IsValuesEnding}
 use Rattle.archive_cli.proofs.Created.{refused_kind}
 
-pub values_job_ended : {D : Type 0} (device : Device D) (call : Call) (old new : D) (words : ValuesWords) (refusal : Option Refusal) (report : Report) → new ≡ old →
-    report ≡ unopened refusal → IsValuesEnding call words refusal → IsJobEnding device call old new (Some (Values words)) report
-values_job_ended device call old new words refusal report same is h = (same, subst (λ (r : Report). IsValuesEnding call words r.refusal) (sym is) h)
-
 no_parameter : (broken : Option Broken) (passed : Option (MdbLimit × ℕ)) (number : Option ℕ) → first_refusal broken passed number ≡ Some DiskFault → ⊥
 no_parameter (Some broken) passed number e = absurd (cc (e))
 no_parameter None (Some passed) number e = absurd (cc (e))

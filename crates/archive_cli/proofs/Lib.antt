@@ -12,6 +12,7 @@ pub mod Recovered
 pub mod Commands
 pub mod Ends
 pub mod OverInputs
+pub mod SheetsEnds
 pub mod RecoverPlan
 pub mod CreatePlan
 pub mod CreateEnds
@@ -26,6 +27,8 @@ pub mod QueryPlan
 pub mod QueryEnds
 pub mod ScanPlan
 pub mod ScanEnds
+pub mod ValuesPlan
+pub mod ValuesEnds
 pub mod LoadAnswers
 pub mod Jobless
 pub mod Answers

@@ -92,7 +92,13 @@ module _ {D : Type 0} (device : Device D) (e : Effects D) (files : Option Files)
 
 -- ---- what was said by cases follows
 
-bad_begins : (dump : List ℕ) (packets : List (List ℕ)) (octet : ℕ) (rest : List ℕ) → IsDump dump packets (octet ∷ rest) →
+-- a rest of no octets, or one that begins with no packet, is no call that failed
+pub rest_quiet : (dump rest : List ℕ) → IsQuiet (ending_of_rest dump rest)
+rest_quiet dump [] = tt
+rest_quiet dump (octet ∷ rest) = tt
+
+-- a rest of some octets begins with no packet there
+pub bad_begins : (dump : List ℕ) (packets : List (List ℕ)) (octet : ℕ) (rest : List ℕ) → IsDump dump packets (octet ∷ rest) →
     IsBadRest dump (octet ∷ rest) (length dump - length (octet ∷ rest)) (bad_kind_of octet)
 bad_begins dump packets octet rest parts =
     let len = ap length parts.joined ∙ length-append (concat packets) (octet ∷ rest) in (omega (arith, len), refl)
@@ -176,10 +182,6 @@ module _ {D : Type 0} (device : Device D) (e : Effects D) (files : Option Files)
   -- counts of the inputs, and of the output
   pub scan_later : a.faults ≤ b.faults
   scan_later = counted_later (failed_at went.ran.way OfInputs) a.faults b.faults went.inputs.counted
-
-  rest_quiet : (dump rest : List ℕ) → IsQuiet (ending_of_rest dump rest)
-  rest_quiet dump [] = tt
-  rest_quiet dump (octet ∷ rest) = tt
 
   pub scan_reads_counted : ReadsCounted e.report.refusal a.faults b.faults
   scan_reads_counted = elim at_end [

@@ -92,7 +92,7 @@ module _ {D : Type 0} (device : Device D) (e : Effects D) (files : Option Files)
 
 -- ---- which answer is due
 
-cut_once : (dump : List ℕ) (a b : List (List ℕ) × List ℕ) → IsDump dump a.0 a.1 → IsDump dump b.0 b.1 → a ≡ b
+pub cut_once : (dump : List ℕ) (a b : List (List ℕ) × List ℕ) → IsDump dump a.0 a.1 → IsDump dump b.0 b.1 → a ≡ b
 cut_once dump a b h k =
     let both = dump_is_one dump a.0 b.0 a.1 b.1 h k in
     ap (λ (packets : List (List ℕ)). (packets, a.1)) both.0 ∙ ap (λ (rest : List ℕ). (b.0, rest)) both.1

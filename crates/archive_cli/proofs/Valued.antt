@@ -28,7 +28,7 @@ use Rattle.dump_lines.specs.declared.rows.DumpTable.{DumpTable}
 use Rattle.archive_cli.specs.Call.{Call, WritesNothing, Prints, PrintsSome, WritesFailed}
 use Rattle.retrieval.specs.CellText.{cell_line}
 use Rattle.command_words.specs.Job.{ValuesWords}
-use Rattle.dump_lines.specs.DumpTable.{IsGathered}
+use Rattle.dump_lines.specs.DumpTable.{IsGathered, IsDumpTable}
 use Rattle.retrieval.specs.Parameter.{IsNoParameter, IsNamedParameter, first_refusal, number_named, parameter_refusal}
 use Rattle.archive_cli.specs.ReadDump.{dump_limit, IsDumpRead, ending_of}
 use Rattle.archive_cli.specs.ValuesEnding.{AreSheetsOf, ParameterOverDump, HasDump, IsInputRefused, IsParameterRefused, IsValuesEnding, text_of_asked}
@@ -78,61 +78,13 @@ text-is db number packets (octet ∷ rest) moment stored reason cells e =
     ap (λ (more : List ℕ). lines_of_cells db number stored ++ more) (no-end (nat_lt octet 32) reason (length (cells_of_stored db number stored)) e) ∙
     append-nil (lines_of_cells db number stored) ∙ text-by db number packets moment stored cells
 
+-- what is printed of the rows of a dump is the text of its cells
+pub text_of_rows : (db : Database) (number : ℕ) (dump : List ℕ) (moment : ℤ) (loaded : DumpTable) (l : IsDumpTable dump moment loaded) →
+    text_of_cells db number loaded.table.stored loaded.why ≡ values_text db number l.packets (drop loaded.at dump) moment
+text_of_rows db number dump moment loaded l =
+    text-is db number l.packets (drop loaded.at dump) moment loaded.table.stored loaded.why (cells-stored db number l.packets moment loaded.table.stored loaded.counts l.gathered) l.why
+
 -- ---- the ending
-
--- what was asked
-abbrev pub asked_of : (call : Call) (words : ValuesWords) (raw : RawMdb) (db : Database) (number : ℕ) (loaded : DumpTable) → AreSheetsOf call words raw →
-    IsNamedParameter raw words.name db number → IsDumpRead call.files call.moment words.dump loaded → ParameterOverDump call words
-asked_of call words raw db number loaded s p r = record {
-  raw = raw;
-  db = db;
-  number = number;
-  sheets = s;
-  parameter = p;
-  received = received_of call words.dump loaded r;
-}
-
-text-of : (call : Call) (words : ValuesWords) (raw : RawMdb) (db : Database) (number : ℕ) (loaded : DumpTable) (s : AreSheetsOf call words raw)
-    (p : IsNamedParameter raw words.name db number) (r : IsDumpRead call.files call.moment words.dump loaded) →
-    text_of_cells db number loaded.table.stored loaded.why ≡ text_of_asked (asked_of call words raw db number loaded s p r)
-text-of call words raw db number loaded s p r =
-    text-is db number r.rows.packets (drop loaded.at r.dump) r.moment loaded.table.stored loaded.why
-    (cells-stored db number r.rows.packets r.moment loaded.table.stored loaded.counts r.rows.gathered) r.rows.why
-
-ended-cases : (call : Call) (words : ValuesWords) (raw : RawMdb) (db : Database) (number : ℕ) (loaded : DumpTable) (reason : Why) (s : AreSheetsOf call words raw)
-    (p : IsNamedParameter raw words.name db number) (r : IsDumpRead call.files call.moment words.dump loaded) → loaded.why ≡ reason →
-    Prints call (text_of_asked (asked_of call words raw db number loaded s p r)) → IsValuesEnding call words (ending_of reason loaded.at)
-ended-cases call words raw db number loaded why.End s p r e text =
-    (asked_of call words raw db number loaded s p r, rest_is_none (drop loaded.at r.dump) (sym e ∙ r.rows.why), text)
-ended-cases call words raw db number loaded why.Version s p r e text =
-    (asked_of call words raw db number loaded s p r, bad_rest r.dump (drop loaded.at r.dump) loaded.at bad.Version (end_is r.dump loaded.at r.rows.within) (sym e ∙ r.rows.why), text)
-ended-cases call words raw db number loaded why.Truncated s p r e text =
-    (asked_of call words raw db number loaded s p r, bad_rest r.dump (drop loaded.at r.dump) loaded.at bad.Truncated (end_is r.dump loaded.at r.rows.within) (sym e ∙ r.rows.why), text)
-
--- the cells were printed
-pub values_ended : (call : Call) (words : ValuesWords) (raw : RawMdb) (db : Database) (number : ℕ) (loaded : DumpTable) → AreSheetsOf call words raw → IsNamedParameter raw words.name db number →
-    IsDumpRead call.files call.moment words.dump loaded → Prints call (text_of_cells db number loaded.table.stored loaded.why) → IsValuesEnding call words (ending_of loaded.why loaded.at)
-values_ended call words raw db number loaded s p r text =
-    ended-cases call words raw db number loaded loaded.why s p r refl (rw (text-of call words raw db number loaded s p r) at text)
-
--- a write failed
-values_some : (call : Call) (words : ValuesWords) (raw : RawMdb) (db : Database) (number : ℕ) (loaded : DumpTable) → AreSheetsOf call words raw → IsNamedParameter raw words.name db number →
-    IsDumpRead call.files call.moment words.dump loaded → WritesFailed call → PrintsSome call (text_of_cells db number loaded.table.stored loaded.why) → IsValuesEnding call words (Some WriteFault)
-values_some call words raw db number loaded s p r failed some =
-    (asked_of call words raw db number loaded s p r, failed, rw (text-of call words raw db number loaded s p r) at some)
-
--- memory was wanting while the cells were printed
-values_memory : (call : Call) (words : ValuesWords) (raw : RawMdb) (db : Database) (number : ℕ) (loaded : DumpTable) → AreSheetsOf call words raw → IsNamedParameter raw words.name db number →
-    IsDumpRead call.files call.moment words.dump loaded → PrintsSome call (text_of_cells db number loaded.table.stored loaded.why) → IsValuesEnding call words (Some OutOfMemory)
-values_memory call words raw db number loaded s p r some =
-    inr (asked_of call words raw db number loaded s p r, rw (text-of call words raw db number loaded s p r) at some)
-
--- the text wasn't printed to its end
-pub values_unprinted : (call : Call) (words : ValuesWords) (raw : RawMdb) (db : Database) (number : ℕ) (loaded : DumpTable) (fault : PrintFault) → AreSheetsOf call words raw →
-    IsNamedParameter raw words.name db number → IsDumpRead call.files call.moment words.dump loaded → (fault ≡ printing.Write → WritesFailed call) →
-    PrintsSome call (text_of_cells db number loaded.table.stored loaded.why) → IsValuesEnding call words (Some (refusal_of_print fault))
-values_unprinted call words raw db number loaded printing.Write s p r failed some = values_some call words raw db number loaded s p r (failed refl) some
-values_unprinted call words raw db number loaded printing.OutOfMemory s p r failed some = values_memory call words raw db number loaded s p r some
 
 -- ---- refusals before it
 
@@ -179,13 +131,8 @@ has-dump None name dump i short = tt
 has-dump (Some all) name dump i short = rw i short
 
 -- there's no parameter
-pub values_unknown : (call : Call) (words : ValuesWords) (raw : RawMdb) (loaded : DumpTable) (refusal : Refusal) → AreSheetsOf call words raw →
-    IsDumpRead call.files call.moment words.dump loaded → IsNoParameter raw words.name refusal → WritesNothing call → IsValuesEnding call words (Some refusal)
-values_unknown call words raw loaded refusal s r (inl cause) silent =
-    parameter-cases call words refusal (other-parameter raw words.name refusal cause) (record {
-      raw = raw;
-      sheets = s;
-      dump = has-dump call.files words.dump r.dump r.input r.short;
-      cause = cause;
-    }) silent
-values_unknown call words raw loaded refusal s r (inr memory) silent = rw memory (inl silent)
+pub values_refused : (call : Call) (words : ValuesWords) (raw : RawMdb) (dump : List ℕ) (refusal : Refusal) → AreSheetsOf call words raw → IsInput call.files words.dump dump →
+    length dump ≤ dump_limit → IsNoParameter raw words.name refusal → WritesNothing call → IsValuesEnding call words (Some refusal)
+values_refused call words raw dump refusal s input short (inl cause) silent =
+    parameter-cases call words refusal (other-parameter raw words.name refusal cause) (record { raw = raw; sheets = s; dump = has-dump call.files words.dump dump input short; cause = cause }) silent
+values_refused call words raw dump refusal s input short (inr memory) silent = rw memory (inl silent)

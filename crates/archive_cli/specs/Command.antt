@@ -133,9 +133,13 @@ printing_then_plan s text refusal = May OfOutput (record s { text = text; is_who
 abbrev pub printing_plan : Progress → List ℕ → CommandPlan Progress ⊥
 printing_plan s text = printing_then_plan s text None
 
+-- prints a text that is made while it is printed, so that memory may be wanting behind some of it, and ends by this refusal or by none
+abbrev pub stepwise_printing_then_plan : Progress → List ℕ → Option Refusal → CommandPlan Progress ⊥
+stepwise_printing_then_plan s text refusal = May OfMemory (record s { text = text; is_whole = false }) (printing_then_plan s text refusal)
+
 -- prints a text that is made while it is printed, so that memory may be wanting behind some of it
 abbrev pub stepwise_printing_plan : Progress → List ℕ → CommandPlan Progress ⊥
-stepwise_printing_plan s text = May OfMemory (record s { text = text; is_whole = false }) (printing_plan s text)
+stepwise_printing_plan s text = stepwise_printing_then_plan s text None
 
 -- what an opening finds on a disk
 pub data OpeningResult : Type 0 where

@@ -8,6 +8,7 @@ pub mod Recover
 pub mod Create
 pub mod Query
 pub mod Scan
+pub mod Values
 pub mod ReadDump
 pub mod ValuesPrinting
 pub mod ScanEnding

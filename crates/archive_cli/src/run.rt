@@ -148,9 +148,7 @@ fn run_job<D: Disk, I: Inputs, K: Sink, C: Clock>(
 {
     match job {
         Job::Scan { dump } => scan(alloc, dump, disk, inputs, sink, clock),
-        Job::Values(words) => {
-            Ended::unopened(disk, values(alloc, words, inputs, sink, clock).err())
-        }
+        Job::Values(words) => values(alloc, words, disk, inputs, sink, clock),
         Job::Create(words) => create(alloc, words, disk, inputs, sink),
         Job::Load(words) => load(alloc, words, disk, inputs, sink, clock),
         Job::Query { asks } => query(alloc, asks, disk, inputs, sink),

@@ -10,31 +10,16 @@ use Rattle.archive_cli.specs.DiskWrites.{DiskWritesCounted}
 use Rattle.archive_cli.specs.HandedBack.{IsHandedBack, IsUnasked}
 use Rattle.archive_cli.specs.Ending.{IsCaused, IsJobEnding}
 use Rattle.archive_cli.specs.ValuesEnding.{IsValuesEnding}
-use Rattle.archive_cli.proofs.Diskless.{values_disk, values_job_ended}
+use Rattle.archive_cli.proofs.Diskless.{values_disk}
 use Rattle.archive_cli.specs.Command.{effects_of}
 use Rattle.archive_cli.specs.Report.{IsReport}
 use Rattle.archive_cli.proofs.CreateEnds.{create_caused, create_disk_fault, create_disk_later, create_disk_writes, create_ended, create_gave, create_handed_back, create_later, create_order, create_reads_counted, create_report, create_unasked, create_writes_counted, create_writes_later}
 use Rattle.archive_cli.proofs.QueryEnds.{query_caused, query_disk_fault, query_disk_later, query_disk_writes, query_ended, query_gave, query_handed_back, query_later, query_order, query_reads_counted, query_report, query_unasked, query_writes_counted, query_writes_later}
 use Rattle.archive_cli.proofs.RecoverPlan.{recover_caused, recover_disk_fault, recover_disk_later, recover_disk_writes, recover_ended, recover_reads, recover_report, recover_writes, recover_writes_later}
+use Rattle.archive_cli.proofs.ValuesEnds.{values_end, values_later, values_order, values_plan_ended, values_reads_counted, values_report, values_writes_counted}
 use Rattle.archive_cli.proofs.ScanEnds.{scan_disk_fault, scan_gave, scan_later, scan_order, scan_plan_ended, scan_reads_counted, scan_report, scan_same, scan_writes_counted, scan_writes_later}
 use Rattle.archive_cli.proofs.Scanned.{call_of}
 use Rattle.archive_cli.proofs.run.run_job.Goals as goal
-
-pub returns-in-Values-clause-ended : goal.returns-in-Values-clause-ended
-returns-in-Values-clause-ended g c = λ words.
-    let device = g.D.Disk.device in
-    let call = call_of words (g.I.Inputs.files c.args.inputs.now) (g.C.Clock.next c.args.clock.now) (g.I.Inputs.faults c.args.inputs.now) (g.I.Inputs.faults c.values.new.inputs)
-    (g.K.Sink.written c.args.sink.now) (g.K.Sink.written c.values.new.sink) (g.K.Sink.faults c.args.sink.now) (g.K.Sink.faults c.values.new.sink) in
-    let ended = subst (IsValuesEnding call (words_of c.in-Values.words)) (sym c.err.ensures.value) (c.values.ensures.ended words) in
-    subst (λ (job : Job). IsJobEnding device call c.args.disk c.unopened.result.disk (Some (job_view job)) c.unopened.result.report) (sym c.in-Values.is)
-    (values_job_ended device call c.args.disk c.unopened.result.disk (words_of c.in-Values.words) c.err.result c.unopened.result.report c.unopened.ensures.disk c.unopened.ensures.report ended)
-
-pub returns-in-Values-clause-disk_fault : goal.returns-in-Values-clause-disk_fault
-returns-in-Values-clause-disk_fault g c = λ is.
-    let call = call_of [] (g.I.Inputs.files c.args.inputs.now) (g.C.Clock.next c.args.clock.now) (g.I.Inputs.faults c.args.inputs.now) (g.I.Inputs.faults c.values.new.inputs)
-    (g.K.Sink.written c.args.sink.now) (g.K.Sink.written c.values.new.sink) (g.K.Sink.faults c.args.sink.now) (g.K.Sink.faults c.values.new.sink) in
-    let ended = subst (IsValuesEnding call (words_of c.in-Values.words)) (sym c.err.ensures.value) (c.values.ensures.ended []) in
-    absurd (values_disk call (words_of c.in-Values.words) c.err.result c.unopened.result.report c.unopened.ensures.report ended is)
 
 pub returns-in-Load-clause-caused : goal.returns-in-Load-clause-caused
 returns-in-Load-clause-caused g c = λ words.
@@ -51,16 +36,6 @@ returns-in-Load-clause-order g c =
     subst (λ (job : Job). IsInOrder (g.I.Inputs.files c.args.inputs.now) (Some (job_view job)) (g.I.Inputs.given c.args.inputs.now) (g.I.Inputs.given c.load.new.inputs) c.args.disk
     c.load.result.disk c.load.result.report) (sym c.in-Load.is) c.load.ensures.order
 
-pub returns-in-Values-clause-order : goal.returns-in-Values-clause-order
-returns-in-Values-clause-order g c =
-    let files = g.I.Inputs.files c.args.inputs.now in
-    let given = g.I.Inputs.given c.args.inputs.now in
-    let given' = g.I.Inputs.given c.values.new.inputs in
-    let ending = c.unopened.result.report.refusal in
-    let is : ending ≡ result_err c.values.result = ap (λ (r : Report). r.refusal) c.unopened.ensures.report ∙ c.err.ensures.value in
-    subst (λ (job : Job). IsInOrder files (Some (job_view job)) given given' c.args.disk c.unopened.result.disk c.unopened.result.report) (sym c.in-Values.is)
-    (subst (λ (o : Option Refusal). AreInOrder files (values_inputs (words_of c.in-Values.words)) given given' o) (sym is) c.values.ensures.order)
-
 -- before a source was given
 
 pub returns-in-Load-clause-unasked : goal.returns-in-Load-clause-unasked
@@ -68,28 +43,13 @@ returns-in-Load-clause-unasked g c =
     subst (λ (job : Job). IsUnasked (Some (job_view job)) (g.I.Inputs.given c.args.inputs.now) (g.I.Inputs.given c.load.new.inputs) c.args.disk c.load.result.disk) (sym c.in-Load.is)
     c.load.ensures.unasked
 
-pub returns-in-Values-clause-unasked : goal.returns-in-Values-clause-unasked
-returns-in-Values-clause-unasked g c =
-    subst (λ (job : Job). IsUnasked (Some (job_view job)) (g.I.Inputs.given c.args.inputs.now) (g.I.Inputs.given c.values.new.inputs) c.args.disk c.unopened.result.disk)
-    (sym c.in-Values.is) (λ below same. c.unopened.ensures.disk)
-
 -- how many sources were given
-
-pub returns-in-Values-clause-gave : goal.returns-in-Values-clause-gave
-returns-in-Values-clause-gave g c =
-    subst (λ (job : Job). g.I.Inputs.given c.values.new.inputs ≤ g.I.Inputs.given c.args.inputs.now + inputs_of (Some (job_view job))) (sym c.in-Values.is) c.values.ensures.gave
 
 pub returns-in-Load-clause-gave : goal.returns-in-Load-clause-gave
 returns-in-Load-clause-gave g c =
     subst (λ (job : Job). g.I.Inputs.given c.load.new.inputs ≤ g.I.Inputs.given c.args.inputs.now + inputs_of (Some (job_view job))) (sym c.in-Load.is) c.load.ensures.gave
 
 -- how many writes of the disk failed
-
-pub returns-in-Values-clause-disk_writes : goal.returns-in-Values-clause-disk_writes
-returns-in-Values-clause-disk_writes g c =
-    let failed = g.D.Disk.device.failed_writes in
-    subst (λ (job : Job). DiskWritesCounted (Some (job_view job)) c.unopened.result.report (failed c.args.disk) (failed c.unopened.result.disk)) (sym c.in-Values.is)
-    (ap (λ (d : g.row.D.Denot). g.D.Disk.device.failed_writes d) c.unopened.ensures.disk)
 
 pub returns-in-Load-clause-disk_writes : goal.returns-in-Load-clause-disk_writes
 returns-in-Load-clause-disk_writes g c =
@@ -827,3 +787,228 @@ returns-in-Scan-clause-same g c = c.scan.ensures.ran.inputs.files
 
 pub returns-in-Scan-clause-closed : goal.returns-in-Scan-clause-closed
 returns-in-Scan-clause-closed g c = c.scan.ensures.ran.inputs.closed
+
+-- `values`: what its plan says
+
+pub returns-in-Values-clause-ended : goal.returns-in-Values-clause-ended
+returns-in-Values-clause-ended g c = λ given.
+    let device = g.D.Disk.device in
+    let r = c.values.result in
+    let files = g.I.Inputs.files c.args.inputs.now in
+    let next = g.C.Clock.next c.args.clock.now in
+    let words = words_of c.in-Values.words in
+    let state = λ (i : g.row.I.Denot). inputs_state (g.I.Inputs.files i) (g.I.Inputs.open_sources i) (g.I.Inputs.given i) (g.I.Inputs.faults i) (g.I.Inputs.never_fails i) in
+    let a = state c.args.inputs.now in
+    let b = state c.values.new.inputs in
+    let output = output_state (g.K.Sink.written c.args.sink.now) (g.K.Sink.faults c.args.sink.now) in
+    let output' = output_state (g.K.Sink.written c.values.new.sink) (g.K.Sink.faults c.values.new.sink) in
+    let went = effects_of c.args.disk r.disk output output' r.report in
+    let call = call_of given files next a.faults b.faults output.written output'.written output.faults output'.faults in
+    subst (λ (job : Job). IsJobEnding device call c.args.disk r.disk (Some (job_view job)) r.report) (sym c.in-Values.is) ((values_end device went files next words a b c.values.ensures.ran).disk, values_plan_ended device went files next words a b c.values.ensures.ran given)
+
+pub returns-in-Values-clause-caused : goal.returns-in-Values-clause-caused
+returns-in-Values-clause-caused g c = λ given.
+    let device = g.D.Disk.device in
+    let r = c.values.result in
+    let files = g.I.Inputs.files c.args.inputs.now in
+    let next = g.C.Clock.next c.args.clock.now in
+    let words = words_of c.in-Values.words in
+    let state = λ (i : g.row.I.Denot). inputs_state (g.I.Inputs.files i) (g.I.Inputs.open_sources i) (g.I.Inputs.given i) (g.I.Inputs.faults i) (g.I.Inputs.never_fails i) in
+    let a = state c.args.inputs.now in
+    let b = state c.values.new.inputs in
+    let output = output_state (g.K.Sink.written c.args.sink.now) (g.K.Sink.faults c.args.sink.now) in
+    let output' = output_state (g.K.Sink.written c.values.new.sink) (g.K.Sink.faults c.values.new.sink) in
+    let went = effects_of c.args.disk r.disk output output' r.report in
+    let call = call_of given files next a.faults b.faults output.written output'.written output.faults output'.faults in
+    subst (λ (job : Job). IsCaused call (Some (job_view job)) r.report.refusal) (sym c.in-Values.is) (tt)
+
+pub returns-in-Values-clause-report : goal.returns-in-Values-clause-report
+returns-in-Values-clause-report g c =
+    let device = g.D.Disk.device in
+    let r = c.values.result in
+    let files = g.I.Inputs.files c.args.inputs.now in
+    let next = g.C.Clock.next c.args.clock.now in
+    let words = words_of c.in-Values.words in
+    let state = λ (i : g.row.I.Denot). inputs_state (g.I.Inputs.files i) (g.I.Inputs.open_sources i) (g.I.Inputs.given i) (g.I.Inputs.faults i) (g.I.Inputs.never_fails i) in
+    let a = state c.args.inputs.now in
+    let b = state c.values.new.inputs in
+    let output = output_state (g.K.Sink.written c.args.sink.now) (g.K.Sink.faults c.args.sink.now) in
+    let output' = output_state (g.K.Sink.written c.values.new.sink) (g.K.Sink.faults c.values.new.sink) in
+    let went = effects_of c.args.disk r.disk output output' r.report in
+    subst (λ (job : Job). IsReport (Some (job_view job)) r.report) (sym c.in-Values.is) (values_report device went files next words a b c.values.ensures.ran)
+
+pub returns-in-Values-clause-order : goal.returns-in-Values-clause-order
+returns-in-Values-clause-order g c =
+    let device = g.D.Disk.device in
+    let r = c.values.result in
+    let files = g.I.Inputs.files c.args.inputs.now in
+    let next = g.C.Clock.next c.args.clock.now in
+    let words = words_of c.in-Values.words in
+    let state = λ (i : g.row.I.Denot). inputs_state (g.I.Inputs.files i) (g.I.Inputs.open_sources i) (g.I.Inputs.given i) (g.I.Inputs.faults i) (g.I.Inputs.never_fails i) in
+    let a = state c.args.inputs.now in
+    let b = state c.values.new.inputs in
+    let output = output_state (g.K.Sink.written c.args.sink.now) (g.K.Sink.faults c.args.sink.now) in
+    let output' = output_state (g.K.Sink.written c.values.new.sink) (g.K.Sink.faults c.values.new.sink) in
+    let went = effects_of c.args.disk r.disk output output' r.report in
+    subst (λ (job : Job). IsInOrder files (Some (job_view job)) a.given b.given c.args.disk r.disk r.report) (sym c.in-Values.is) (values_order device went files next words a b c.values.ensures.ran)
+
+pub returns-in-Values-clause-later : goal.returns-in-Values-clause-later
+returns-in-Values-clause-later g c =
+    let device = g.D.Disk.device in
+    let r = c.values.result in
+    let files = g.I.Inputs.files c.args.inputs.now in
+    let next = g.C.Clock.next c.args.clock.now in
+    let words = words_of c.in-Values.words in
+    let state = λ (i : g.row.I.Denot). inputs_state (g.I.Inputs.files i) (g.I.Inputs.open_sources i) (g.I.Inputs.given i) (g.I.Inputs.faults i) (g.I.Inputs.never_fails i) in
+    let a = state c.args.inputs.now in
+    let b = state c.values.new.inputs in
+    let output = output_state (g.K.Sink.written c.args.sink.now) (g.K.Sink.faults c.args.sink.now) in
+    let output' = output_state (g.K.Sink.written c.values.new.sink) (g.K.Sink.faults c.values.new.sink) in
+    let went = effects_of c.args.disk r.disk output output' r.report in
+    values_later device went files next words a b c.values.ensures.ran
+
+pub returns-in-Values-clause-writes_later : goal.returns-in-Values-clause-writes_later
+returns-in-Values-clause-writes_later g c =
+    let device = g.D.Disk.device in
+    let r = c.values.result in
+    let files = g.I.Inputs.files c.args.inputs.now in
+    let next = g.C.Clock.next c.args.clock.now in
+    let words = words_of c.in-Values.words in
+    let state = λ (i : g.row.I.Denot). inputs_state (g.I.Inputs.files i) (g.I.Inputs.open_sources i) (g.I.Inputs.given i) (g.I.Inputs.faults i) (g.I.Inputs.never_fails i) in
+    let a = state c.args.inputs.now in
+    let b = state c.values.new.inputs in
+    let output = output_state (g.K.Sink.written c.args.sink.now) (g.K.Sink.faults c.args.sink.now) in
+    let output' = output_state (g.K.Sink.written c.values.new.sink) (g.K.Sink.faults c.values.new.sink) in
+    let went = effects_of c.args.disk r.disk output output' r.report in
+    (values_end device went files next words a b c.values.ensures.ran).later
+
+pub returns-in-Values-clause-reads_counted : goal.returns-in-Values-clause-reads_counted
+returns-in-Values-clause-reads_counted g c =
+    let device = g.D.Disk.device in
+    let r = c.values.result in
+    let files = g.I.Inputs.files c.args.inputs.now in
+    let next = g.C.Clock.next c.args.clock.now in
+    let words = words_of c.in-Values.words in
+    let state = λ (i : g.row.I.Denot). inputs_state (g.I.Inputs.files i) (g.I.Inputs.open_sources i) (g.I.Inputs.given i) (g.I.Inputs.faults i) (g.I.Inputs.never_fails i) in
+    let a = state c.args.inputs.now in
+    let b = state c.values.new.inputs in
+    let output = output_state (g.K.Sink.written c.args.sink.now) (g.K.Sink.faults c.args.sink.now) in
+    let output' = output_state (g.K.Sink.written c.values.new.sink) (g.K.Sink.faults c.values.new.sink) in
+    let went = effects_of c.args.disk r.disk output output' r.report in
+    values_reads_counted device went files next words a b c.values.ensures.ran
+
+pub returns-in-Values-clause-writes_counted : goal.returns-in-Values-clause-writes_counted
+returns-in-Values-clause-writes_counted g c =
+    let device = g.D.Disk.device in
+    let r = c.values.result in
+    let files = g.I.Inputs.files c.args.inputs.now in
+    let next = g.C.Clock.next c.args.clock.now in
+    let words = words_of c.in-Values.words in
+    let state = λ (i : g.row.I.Denot). inputs_state (g.I.Inputs.files i) (g.I.Inputs.open_sources i) (g.I.Inputs.given i) (g.I.Inputs.faults i) (g.I.Inputs.never_fails i) in
+    let a = state c.args.inputs.now in
+    let b = state c.values.new.inputs in
+    let output = output_state (g.K.Sink.written c.args.sink.now) (g.K.Sink.faults c.args.sink.now) in
+    let output' = output_state (g.K.Sink.written c.values.new.sink) (g.K.Sink.faults c.values.new.sink) in
+    let went = effects_of c.args.disk r.disk output output' r.report in
+    values_writes_counted device went files next words a b c.values.ensures.ran
+
+pub returns-in-Values-clause-reliable : goal.returns-in-Values-clause-reliable
+returns-in-Values-clause-reliable g c = λ sure.
+    (c.values.ensures.ran.inputs.reliable sure).1
+
+pub returns-in-Values-clause-disk_later : goal.returns-in-Values-clause-disk_later
+returns-in-Values-clause-disk_later g c =
+    let device = g.D.Disk.device in
+    let r = c.values.result in
+    let files = g.I.Inputs.files c.args.inputs.now in
+    let next = g.C.Clock.next c.args.clock.now in
+    let words = words_of c.in-Values.words in
+    let state = λ (i : g.row.I.Denot). inputs_state (g.I.Inputs.files i) (g.I.Inputs.open_sources i) (g.I.Inputs.given i) (g.I.Inputs.faults i) (g.I.Inputs.never_fails i) in
+    let a = state c.args.inputs.now in
+    let b = state c.values.new.inputs in
+    let output = output_state (g.K.Sink.written c.args.sink.now) (g.K.Sink.faults c.args.sink.now) in
+    let output' = output_state (g.K.Sink.written c.values.new.sink) (g.K.Sink.faults c.values.new.sink) in
+    let went = effects_of c.args.disk r.disk output output' r.report in
+    let same = ap (λ (d : g.row.D.Denot). device.fault_count d) (values_end device went files next words a b c.values.ensures.ran).disk in omega (arith, same)
+
+pub returns-in-Values-clause-disk_fault : goal.returns-in-Values-clause-disk_fault
+returns-in-Values-clause-disk_fault g c = λ is.
+    let device = g.D.Disk.device in
+    let r = c.values.result in
+    let files = g.I.Inputs.files c.args.inputs.now in
+    let next = g.C.Clock.next c.args.clock.now in
+    let words = words_of c.in-Values.words in
+    let state = λ (i : g.row.I.Denot). inputs_state (g.I.Inputs.files i) (g.I.Inputs.open_sources i) (g.I.Inputs.given i) (g.I.Inputs.faults i) (g.I.Inputs.never_fails i) in
+    let a = state c.args.inputs.now in
+    let b = state c.values.new.inputs in
+    let output = output_state (g.K.Sink.written c.args.sink.now) (g.K.Sink.faults c.args.sink.now) in
+    let output' = output_state (g.K.Sink.written c.values.new.sink) (g.K.Sink.faults c.values.new.sink) in
+    let went = effects_of c.args.disk r.disk output output' r.report in
+    absurd (values_disk (call_of [] files next a.faults b.faults output.written output'.written output.faults output'.faults) words r.report.refusal r.report (values_report device went files next words a b c.values.ensures.ran) (values_plan_ended device went files next words a b c.values.ensures.ran []) is)
+
+pub returns-in-Values-clause-disk_writes : goal.returns-in-Values-clause-disk_writes
+returns-in-Values-clause-disk_writes g c =
+    let device = g.D.Disk.device in
+    let r = c.values.result in
+    let files = g.I.Inputs.files c.args.inputs.now in
+    let next = g.C.Clock.next c.args.clock.now in
+    let words = words_of c.in-Values.words in
+    let state = λ (i : g.row.I.Denot). inputs_state (g.I.Inputs.files i) (g.I.Inputs.open_sources i) (g.I.Inputs.given i) (g.I.Inputs.faults i) (g.I.Inputs.never_fails i) in
+    let a = state c.args.inputs.now in
+    let b = state c.values.new.inputs in
+    let output = output_state (g.K.Sink.written c.args.sink.now) (g.K.Sink.faults c.args.sink.now) in
+    let output' = output_state (g.K.Sink.written c.values.new.sink) (g.K.Sink.faults c.values.new.sink) in
+    let went = effects_of c.args.disk r.disk output output' r.report in
+    subst (λ (job : Job). DiskWritesCounted (Some (job_view job)) r.report (device.failed_writes c.args.disk) (device.failed_writes r.disk)) (sym c.in-Values.is) (ap (λ (d : g.row.D.Denot). device.failed_writes d) (values_end device went files next words a b c.values.ensures.ran).disk)
+
+pub returns-in-Values-clause-handed_back : goal.returns-in-Values-clause-handed_back
+returns-in-Values-clause-handed_back g c =
+    let device = g.D.Disk.device in
+    let r = c.values.result in
+    let files = g.I.Inputs.files c.args.inputs.now in
+    let next = g.C.Clock.next c.args.clock.now in
+    let words = words_of c.in-Values.words in
+    let state = λ (i : g.row.I.Denot). inputs_state (g.I.Inputs.files i) (g.I.Inputs.open_sources i) (g.I.Inputs.given i) (g.I.Inputs.faults i) (g.I.Inputs.never_fails i) in
+    let a = state c.args.inputs.now in
+    let b = state c.values.new.inputs in
+    let output = output_state (g.K.Sink.written c.args.sink.now) (g.K.Sink.faults c.args.sink.now) in
+    let output' = output_state (g.K.Sink.written c.values.new.sink) (g.K.Sink.faults c.values.new.sink) in
+    let went = effects_of c.args.disk r.disk output output' r.report in
+    subst (λ (job : Job). IsHandedBack (Some (job_view job)) c.args.disk r.disk r.report) (sym c.in-Values.is) ((values_end device went files next words a b c.values.ensures.ran).disk)
+
+pub returns-in-Values-clause-unasked : goal.returns-in-Values-clause-unasked
+returns-in-Values-clause-unasked g c =
+    let device = g.D.Disk.device in
+    let r = c.values.result in
+    let files = g.I.Inputs.files c.args.inputs.now in
+    let next = g.C.Clock.next c.args.clock.now in
+    let words = words_of c.in-Values.words in
+    let state = λ (i : g.row.I.Denot). inputs_state (g.I.Inputs.files i) (g.I.Inputs.open_sources i) (g.I.Inputs.given i) (g.I.Inputs.faults i) (g.I.Inputs.never_fails i) in
+    let a = state c.args.inputs.now in
+    let b = state c.values.new.inputs in
+    let output = output_state (g.K.Sink.written c.args.sink.now) (g.K.Sink.faults c.args.sink.now) in
+    let output' = output_state (g.K.Sink.written c.values.new.sink) (g.K.Sink.faults c.values.new.sink) in
+    let went = effects_of c.args.disk r.disk output output' r.report in
+    let same = (values_end device went files next words a b c.values.ensures.ran).disk in
+    subst (λ (job : Job). IsUnasked (Some (job_view job)) a.given b.given c.args.disk r.disk) (sym c.in-Values.is) (λ below gave. same)
+
+pub returns-in-Values-clause-gave : goal.returns-in-Values-clause-gave
+returns-in-Values-clause-gave g c =
+    let device = g.D.Disk.device in
+    let r = c.values.result in
+    let files = g.I.Inputs.files c.args.inputs.now in
+    let next = g.C.Clock.next c.args.clock.now in
+    let words = words_of c.in-Values.words in
+    let state = λ (i : g.row.I.Denot). inputs_state (g.I.Inputs.files i) (g.I.Inputs.open_sources i) (g.I.Inputs.given i) (g.I.Inputs.faults i) (g.I.Inputs.never_fails i) in
+    let a = state c.args.inputs.now in
+    let b = state c.values.new.inputs in
+    let output = output_state (g.K.Sink.written c.args.sink.now) (g.K.Sink.faults c.args.sink.now) in
+    let output' = output_state (g.K.Sink.written c.values.new.sink) (g.K.Sink.faults c.values.new.sink) in
+    let went = effects_of c.args.disk r.disk output output' r.report in
+    subst (λ (job : Job). b.given ≤ a.given + inputs_of (Some (job_view job))) (sym c.in-Values.is) ((values_end device went files next words a b c.values.ensures.ran).gave)
+
+pub returns-in-Values-clause-same : goal.returns-in-Values-clause-same
+returns-in-Values-clause-same g c = c.values.ensures.ran.inputs.files
+
+pub returns-in-Values-clause-closed : goal.returns-in-Values-clause-closed
+returns-in-Values-clause-closed g c = c.values.ensures.ran.inputs.closed
