@@ -10,15 +10,9 @@ use Rattle.mdb_items.specs.Database.{Broken, limit_passed}
 use Rattle.mdb_model.specs.Sheets.{sheets_database, sheets_fault}
 use Rattle.mdb_sheets.specs.Sheets.{ReadsCounted}
 use Rattle.outer_traits.specs.Outside.{Files, HasRisen, Stays}
-use Rattle.space_packet.specs.declared.dump.Why.{Why}
-use Rattle.space_packet.specs.declared.dump.Why.TheVariants as why
-use Rattle.dump_lines.specs.declared.print_fault.PrintFault.{PrintFault}
-use Rattle.dump_lines.specs.declared.print_fault.PrintFault.TheVariants as printing
 use Rattle.dump_lines.specs.Output.{WritesCounted}
 use Rattle.retrieval.specs.Parameter.{IsNoParameter, first_refusal, number_named, parameter_refusal}
 use Rattle.archive_cli.specs.Reading.{IsInputRefusal, IsSheetsRefusal}
-use Rattle.archive_cli.specs.ReadDump.{ending_of}
-use Rattle.archive_cli.specs.ValuesPrinting.{PrintCounted, refusal_of_print}
 
 -- an ending that speaks of no call that failed
 abbrev pub IsQuiet : Option Refusal → Type 0
@@ -33,16 +27,6 @@ reads_no_fault ending before now no_fault same = same
 pub writes_no_fault : (ending : Option Refusal) (before now : ℕ) → IsQuiet ending → Stays before now → WritesCounted ending before now
 writes_no_fault (Some WriteFault) before now no_fault same = absurd no_fault
 writes_no_fault ending before now no_fault same = same
-
--- reads that came before and didn't fail
-pub reads_later : (ending : Option Refusal) (first before now : ℕ) → Stays first before → ReadsCounted ending before now → ReadsCounted ending first now
-reads_later ending first before now same counted = rw same at counted
-
--- the ending by what a dump's rest is
-pub rest_no_fault : (reason : Why) (at : ℕ) → IsQuiet (ending_of reason at)
-rest_no_fault why.End at = tt
-rest_no_fault why.Version at = tt
-rest_no_fault why.Truncated at = tt
 
 -- sheets and a name that give no parameter
 first_no_fault : (broken : Option Broken) (passed : Option (MdbLimit × ℕ)) (number : Option ℕ) → IfSome (first_refusal broken passed number) (λ refusal. IsQuiet (Some refusal))
@@ -72,15 +56,6 @@ pub input_unwritten : (files : Option Files) (name : List ℕ) (which : Which) (
     IsInputRefusal files name which faults faults' refusal → WritesCounted (Some refusal) writes writes
 input_unwritten files name which faults faults' WriteFault writes h = absurd h
 input_unwritten files name which faults faults' refusal writes h = refl
-
--- a text that wasn't printed
-pub print_writes : (fault : PrintFault) (before now : ℕ) → PrintCounted (Some fault) before now → WritesCounted (Some (refusal_of_print fault)) before now
-print_writes printing.Write before now counted = counted
-print_writes printing.OutOfMemory before now counted = counted
-
-pub print_reads : (fault : PrintFault) (before now : ℕ) → Stays before now → ReadsCounted (Some (refusal_of_print fault)) before now
-print_reads printing.Write before now same = same
-print_reads printing.OutOfMemory before now same = same
 
 -- a source that was opened, read and closed again
 source_risen : (source : ℕ) → HasRisen 0 source → 0 < source

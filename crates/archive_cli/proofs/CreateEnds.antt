@@ -4,8 +4,7 @@ use Rattle.std.specs.Prelude.{IsTrue, min, option_map}
 use Rattle.arch_disk.specs.Disk.{Device, LeavesOnly, raised}
 use Rattle.arch_disk.proofs.Moments.{started}
 use Rattle.arch_types.specs.declared.refusal.Refusal.{Refusal}
-use Rattle.arch_types.specs.declared.refusal.Refusal.TheVariants.{Missing, ReadFault, Limit, Exists, DiskFault, OutOfMemory}
-use Rattle.arch_types.specs.declared.refusal.Which.TheVariants.{SheetOctets}
+use Rattle.arch_types.specs.declared.refusal.Refusal.TheVariants.{Exists, DiskFault, OutOfMemory}
 use Rattle.disk_journal.specs.Calls.{BeginsOpen, IsJournalCreateFailed}
 use Rattle.disk_journal.specs.Format.{HoldsNone}
 use Rattle.mdb_items.specs.declared.fault.MdbLimit.{MdbLimit}
@@ -13,9 +12,7 @@ use Rattle.mdb_items.specs.declared.sheet.RawMdb.{RawMdb}
 use Rattle.mdb_items.specs.Checks.{or_else}
 use Rattle.mdb_items.specs.Database.{Broken, limit_passed}
 use Rattle.mdb_model.specs.Sheets.{sheets_database, sheets_fault}
-use Rattle.mdb_sheets.proofs.Sheets.{has_sheet, sheet_was_read}
-use Rattle.mdb_sheets.specs.Plans.{giving_plan, second_sheet_plan, sheet_plan, third_sheet_plan}
-use Rattle.mdb_sheets.specs.Sheets.{AreSheets, Fields, HasSheet, IsRefusal, IsSheet, IsSheetRefused, ReadsCounted, sheet_of}
+use Rattle.mdb_sheets.specs.Sheets.{AreSheets, IsRefusal, ReadsCounted}
 use Rattle.outer_traits.specs.Outside.{Files}
 use Rattle.archive_store.specs.declared.head.Head.{Head}
 use Rattle.archive_store.specs.Calls.{IsCreateImage, IsStoreCreateRefusal}

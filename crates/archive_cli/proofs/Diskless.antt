@@ -1,7 +1,6 @@
 -- The commands over a dump ask nothing of the disk.
 use Rattle.std.proofs.Common.{◌≡◌, ◌∙◌, inl, inr, ℕ, List, Option, Some, None, sym, ap, subst}
 use Rattle.std.specs.Prelude.{◌⊎◌}
-use Rattle.arch_disk.specs.Disk.{Device}
 use Rattle.arch_types.specs.declared.refusal.Refusal.{Refusal}
 use Rattle.arch_types.specs.declared.refusal.Refusal.TheVariants.{DiskFault}
 use Rattle.mdb_items.specs.declared.fault.MdbLimit.{MdbLimit}
@@ -10,8 +9,7 @@ use Rattle.mdb_items.specs.Database.{Broken, limit_passed}
 use Rattle.mdb_model.specs.Sheets.{sheets_database, sheets_fault}
 use Rattle.archive_cli.specs.declared.report.Report.{Report}
 use Rattle.archive_cli.specs.Call.{Call}
-use Rattle.archive_cli.specs.Ending.{IsJobEnding}
-use Rattle.command_words.specs.Job.{SheetWords, Values, ValuesWords}
+use Rattle.command_words.specs.Job.{SheetWords, ValuesWords}
 use Rattle.retrieval.specs.Parameter.{first_refusal, number_named, parameter_refusal}
 use Rattle.archive_cli.specs.Report.{unopened}
 use Rattle.archive_cli.specs.ValuesEnding.{IsInputRefused, IsParameterRefused, IsValuesEnding}

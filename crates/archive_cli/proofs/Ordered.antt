@@ -1,6 +1,6 @@
 -- Inputs that are read in their order.
 use Rattle.std.proofs.Common.{◌≡◌, ◌<◌, ◌≤◌, ◌+◌, ℕ, ℤ, suc, Bool, true, false, List, [], ◌∷◌, length, Option, Some, None, inl, inr, refl, sym, subst, arith}
-use Rattle.std.specs.Prelude.{IfSome, IsSome, IsSomeAnd, Result, Ok, Err, nat_lt, if◌then◌else◌}
+use Rattle.std.specs.Prelude.{IfSome, IsSome, IsSomeAnd, nat_lt, if◌then◌else◌}
 use Rattle.std.specs.FinMap.{get}
 use Rattle.arch_disk.specs.Disk.{Device}
 use Rattle.arch_types.specs.declared.refusal.Refusal.{Refusal}
@@ -11,10 +11,8 @@ use Rattle.arch_types.specs.Limits.{limit_of}
 use Rattle.mdb_items.specs.Checks.{or_else}
 use Rattle.mdb_items.specs.declared.sheet.RawMdb.{RawMdb}
 use Rattle.mdb_sheets.specs.Sheets.{AreSheets, HasSheet, IsRefusal, IsSheetRefusal, SourcesOfSheet, more}
-use Rattle.outer_traits.specs.declared.whole.ReadFault.{ReadFault as AReadFault}
-use Rattle.outer_traits.specs.declared.whole.ReadFault.TheVariants as fault
 use Rattle.outer_traits.specs.Outside.{Files, IsOneMoreAtMost, one_more}
-use Rattle.outer_traits.specs.Whole.{IsInput, ReadingGiven}
+use Rattle.outer_traits.specs.Whole.{IsInput}
 use Rattle.archive_store.specs.StoreView.{StoreView}
 use Rattle.archive_cli.specs.declared.report.Report.{Report}
 use Rattle.archive_cli.specs.Expecting.{IsOrEarlier}
@@ -102,17 +100,6 @@ module _ (all : Files) (given given' : ℕ) where
   read_in_order k name which inputs faults faults' other few h = absurd h
 
 -- ---- how many sources were given
-
--- a reading gives one source at most
-pub reading_few : {X : Type 0} (result : Result X AReadFault) (before now : ℕ) → ReadingGiven result before now → now ≤ before + 1
-reading_few (Ok octets) before now given = omega (arith, given)
-reading_few (Err fault.TooLong) before now given = omega (arith, given)
-reading_few (Err fault.Missing) before now given = omega (arith, given)
-reading_few (Err other) before now given = one_few before now given
-  where
-    one_few : (before now : ℕ) → IsOneMoreAtMost before now → now ≤ before + 1
-    one_few before now (inl same) = omega (arith, same)
-    one_few before now (inr one) = omega (arith, one)
 
 sheet_few : (first before now k : ℕ) (refusal : Refusal) → before ≤ first + k → SourcesOfSheet refusal before now → now ≤ first + suc k
 sheet_few first before now k (Missing name) few given = omega (arith, few, given)

@@ -12,13 +12,12 @@ use Rattle.space_packet.specs.declared.dump.Why.{Why}
 use Rattle.space_packet.specs.declared.dump.Why.TheVariants as why
 use Rattle.space_packet.specs.Rest.{why_of}
 use Rattle.yarch_table.specs.declared.table.Stored.{Stored}
-use Rattle.outer_traits.specs.Whole.{IsInput}
 use Rattle.dump_lines.specs.declared.counts.Counts.{Counts}
 use Rattle.dump_lines.specs.declared.rows.DumpTable.{DumpTable}
 use Rattle.dump_lines.specs.Text.{scanned_rows, row_line, row_lines, counts_line, last_line, scan_text}
-use Rattle.archive_cli.specs.Call.{Call, IsMomentOf}
+use Rattle.archive_cli.specs.Call.{IsMomentOf}
 pub use Rattle.archive_cli.specs.Call.{call_of}
-use Rattle.archive_cli.specs.ReadDump.{dump_limit, ReadDump, IsBadRest, IsDumpRead}
+use Rattle.archive_cli.specs.ReadDump.{IsBadRest}
 use Rattle.dump_lines.specs.DumpTable.{HasCounts, IsGathered, IsDumpTable}
 use Rattle.dump_lines.specs.Printing.{lines_of, end_of, text_of_loaded}
 use Rattle.archive_cli.proofs.Visible.{table-all}
@@ -45,19 +44,6 @@ text_is packets [] moment stored counts reason g e =
     rw (e, lines_are packets moment stored counts g, last_is packets moment counts g.counted)
 text_is packets (octet ∷ rest) moment stored counts reason g e =
     rw (end_is_none (nat_lt octet 32) reason counts e, append-nil (lines_of stored)) (lines_are packets moment stored counts g)
-
-abbrev pub received : (call : Call) (name dump : List ℕ) (moment : ℤ) (loaded : DumpTable) → IsInput call.files name dump → length dump ≤ dump_limit →
-    IsMomentOf call.moment moment → IsDumpTable dump moment loaded → ReadDump call name
-received call name dump moment loaded i s m l = record {
-  dump = dump;
-  moment = moment;
-  packets = l.packets;
-  rest = drop loaded.at dump;
-  input = i;
-  short = s;
-  clock = m;
-  parts = l.parts;
-}
 
 pub text_of_received : (dump : List ℕ) (moment : ℤ) (loaded : DumpTable) (l : IsDumpTable dump moment loaded) → text_of_loaded loaded ≡ scan_text l.packets (drop loaded.at dump) moment
 text_of_received dump moment loaded l = text_is l.packets (drop loaded.at dump) moment loaded.table.stored loaded.counts loaded.why l.gathered l.why
@@ -89,9 +75,6 @@ bad_rest dump (octet ∷ rest) at kind len e = (len, kind_cases (nat_lt octet 32
 -- where a rest begins, and its length
 pub end_is : (dump : List ℕ) (at : ℕ) → at ≤ length dump → at + length (drop at dump) ≡ length dump
 end_is dump at within = let len = length-drop at dump in omega (arith, len, within)
-
-abbrev pub received_of : (call : Call) (name : List ℕ) (loaded : DumpTable) → IsDumpRead call.files call.moment name loaded → ReadDump call name
-received_of call name loaded r = received call name r.dump r.moment loaded r.input r.short r.known r.rows
 
 pub moment_of : (known : Option ℤ) (moment : ℤ) → IfSome known (λ next. moment ≡ next) → IsClockTime moment → IsMomentOf known moment
 moment_of None moment e m = m

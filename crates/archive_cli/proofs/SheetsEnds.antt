@@ -1,5 +1,5 @@
 -- Where the reading of the three sheets ends, in any plan that begins with it.
-use Rattle.std.proofs.Common.{◌≡◌, ◌⊎◌, ◌≤◌, ◌+◌, inl, inr, ℕ, Bool, List, Option, Some, arith}
+use Rattle.std.proofs.Common.{◌⊎◌, inl, inr, ℕ, Bool, List, Option, Some}
 use Rattle.arch_disk.specs.Disk.{Device}
 use Rattle.arch_types.specs.declared.refusal.Refusal.{Refusal}
 use Rattle.arch_types.specs.declared.refusal.Refusal.TheVariants.{Missing, ReadFault, Limit, OutOfMemory}
@@ -12,7 +12,7 @@ use Rattle.outer_traits.specs.Outside.{Files}
 use Rattle.command_plans.specs.Plan.{CommandPlan, Way, Allows, and_then, map_done}
 use Rattle.outer_ledgers.specs.Ledger.{InputsState, UsedInputs, given_more}
 use Rattle.archive_cli.specs.Command.{Effects, Progress, nothing_done}
-use Rattle.archive_cli.proofs.OverInputs.{DidOver, EndsBefore, IsUnread, first_of, gave_next, gave_so, one_at_most, reads_end, risen, still, unread_counted, unread_one}
+use Rattle.archive_cli.proofs.OverInputs.{DidOver, EndsBefore, IsUnread, first_of, gave_next, gave_so, one_at_most, reads_end, risen, unread_counted}
 
 -- one of the sheets wasn't read
 abbrev pub AreUnread : Option Files → List ℕ → List ℕ → List ℕ → Refusal → ℕ → Bool → Type 0

@@ -6,7 +6,6 @@ use Rattle.arch_types.specs.declared.cell.Cell.{Cell}
 use Rattle.arch_types.specs.declared.row.Row.{Row}
 use Rattle.arch_types.specs.declared.refusal.Refusal.{Refusal}
 use Rattle.arch_types.specs.declared.refusal.Refusal.TheVariants.{WriteFault, BadPacket, OutOfMemory}
-use Rattle.arch_types.specs.declared.refusal.BadKind.TheVariants as bad
 use Rattle.arch_types.specs.Table.{sorted, table_of}
 use Rattle.mdb_items.specs.declared.calibration.Calibration.{Calibration}
 use Rattle.mdb_items.specs.declared.fault.MdbLimit.{MdbLimit}
@@ -22,21 +21,18 @@ use Rattle.space_packet.specs.Rest.{why_of}
 use Rattle.yarch_table.specs.declared.table.Stored.{Stored}
 use Rattle.yarch_table.specs.Stored.{rows_of}
 use Rattle.dump_lines.specs.declared.counts.Counts.{Counts}
-use Rattle.dump_lines.specs.declared.print_fault.PrintFault.{PrintFault}
-use Rattle.dump_lines.specs.declared.print_fault.PrintFault.TheVariants as printing
 use Rattle.dump_lines.specs.declared.rows.DumpTable.{DumpTable}
-use Rattle.archive_cli.specs.Call.{Call, WritesNothing, Prints, PrintsSome, WritesFailed}
+use Rattle.archive_cli.specs.Call.{Call, WritesNothing}
 use Rattle.retrieval.specs.CellText.{cell_line}
 use Rattle.command_words.specs.Job.{ValuesWords}
 use Rattle.dump_lines.specs.DumpTable.{IsGathered, IsDumpTable}
-use Rattle.retrieval.specs.Parameter.{IsNoParameter, IsNamedParameter, first_refusal, number_named, parameter_refusal}
-use Rattle.archive_cli.specs.ReadDump.{dump_limit, IsDumpRead, ending_of}
-use Rattle.archive_cli.specs.ValuesEnding.{AreSheetsOf, ParameterOverDump, HasDump, IsInputRefused, IsParameterRefused, IsValuesEnding, text_of_asked}
-use Rattle.archive_cli.specs.ValuesPrinting.{cells_of_stored, end_of_cells, line_if, line_of, lines_of_cells, refusal_of_print, text_of_cells}
+use Rattle.retrieval.specs.Parameter.{IsNoParameter, first_refusal, number_named, parameter_refusal}
+use Rattle.archive_cli.specs.ReadDump.{dump_limit}
+use Rattle.archive_cli.specs.ValuesEnding.{AreSheetsOf, HasDump, IsInputRefused, IsParameterRefused, IsValuesEnding}
+use Rattle.archive_cli.specs.ValuesPrinting.{cells_of_stored, end_of_cells, line_if, line_of, lines_of_cells, text_of_cells}
 use Rattle.mdb_lookups.specs.Lookups.{calibration_of}
 use Rattle.retrieval.specs.ValuesText.{cell_lines, cells_of, values_line, values_text}
 use Rattle.archive_cli.proofs.PacketNames.{cells_are}
-use Rattle.archive_cli.proofs.Scanned.{bad_rest, rest_is_none, received_of, end_is}
 use Rattle.archive_cli.proofs.Visible.{table-all}
 
 -- ---- the text

@@ -1,15 +1,15 @@
 -- Where the plan of `values` ends, and what was said of `values` by cases follows.
-use Rattle.std.proofs.Common.{◌≡◌, ◌⊎◌, ◌≤◌, ◌<◌, ◌+◌, ◌-◌, ◌^◌, ◌∙◌, inl, inr, ℕ, ℤ, Bool, false, true, List, [], ◌∷◌, length, Option, Some, None, refl, sym, ap, subst, arith}
+use Rattle.std.proofs.Common.{◌≡◌, ◌⊎◌, ◌≤◌, ◌+◌, ◌-◌, ◌^◌, inl, inr, ℕ, ℤ, Bool, false, true, List, [], ◌∷◌, length, Option, Some, None, refl, sym, subst, arith}
 use Rattle.std.specs.Prelude.{min}
 use Rattle.arch_disk.specs.Disk.{Device}
 use Rattle.arch_types.specs.declared.refusal.Refusal.{Refusal}
-use Rattle.arch_types.specs.declared.refusal.Refusal.TheVariants.{Missing, ReadFault, WriteFault, Limit, DiskFault, OutOfMemory}
+use Rattle.arch_types.specs.declared.refusal.Refusal.TheVariants.{Missing, ReadFault, WriteFault, Limit, OutOfMemory}
 use Rattle.arch_types.specs.declared.refusal.Which.TheVariants.{DumpOctets}
 use Rattle.arch_types.specs.Dump.{IsDump}
 use Rattle.mdb_items.specs.declared.sheet.RawMdb.{RawMdb}
 use Rattle.mdb_model.specs.Sheets.{sheets_database}
 use Rattle.mdb_sheets.specs.Sheets.{AreSheets, ReadsCounted, more}
-use Rattle.outer_traits.specs.Outside.{Files, HasRisen, WritesSome}
+use Rattle.outer_traits.specs.Outside.{Files}
 use Rattle.outer_traits.specs.Whole.{IsInput}
 use Rattle.command_plans.specs.Plan.{OfMemory, OfInputs, OfOutput, CommandPlan, Return, Stop, May, Question, Choose, Way, Stopped, Interrupted, Allows, and_then, map_done}
 use Rattle.command_plans.proofs.Plans.{end_of}
@@ -32,7 +32,7 @@ use Rattle.archive_cli.specs.ValuesEnding.{IsValuesEnding, ParameterOverDump}
 use Rattle.archive_cli.proofs.Ends.{silent_all}
 use Rattle.archive_cli.proofs.Counted.{input_unwritten, parameter_no_fault, reads_no_fault, sheets_unwritten, writes_no_fault}
 use Rattle.archive_cli.proofs.Ordered.{sheets_in_order, undumped_in_order, unread_few, valued_in_order}
-use Rattle.archive_cli.proofs.OverInputs.{EndsBefore, HasRead, IsUnread, NotBegun, gave_few, gave_next, gave_so, one_at_most, reads_end, unread_counted, unread_one, unread_refusal}
+use Rattle.archive_cli.proofs.OverInputs.{EndsBefore, HasRead, IsUnread, gave_few, gave_next, gave_so, one_at_most, reads_end, unread_counted, unread_one, unread_refusal}
 use Rattle.archive_cli.proofs.Reading.{sheets_unread}
 use Rattle.archive_cli.proofs.ScanEnds.{bad_begins, rest_quiet}
 use Rattle.archive_cli.proofs.SheetsEnds.{AreUnread, sheets_counted, sheets_end, sheets_refused}

@@ -1,16 +1,15 @@
 -- How the plan of `values` goes.
-use Rattle.std.proofs.Common.{◌≡◌, ◌⊎◌, ◌≤◌, ◌+◌, ◌∙◌, inl, inr, ℕ, ℤ, false, true, List, drop, Option, Some, None, refl, sym, ap, subst}
+use Rattle.std.proofs.Common.{◌≡◌, ◌≤◌, ◌+◌, ◌∙◌, inl, inr, ℕ, ℤ, false, true, List, drop, Option, Some, None, refl, sym, ap, subst}
 use Rattle.std.specs.Prelude.{IsSome, Err}
 use Rattle.arch_disk.specs.Disk.{Device}
 use Rattle.arch_types.specs.declared.refusal.Refusal.{Refusal}
-use Rattle.arch_types.specs.declared.refusal.Refusal.TheVariants.{OutOfMemory}
 use Rattle.arch_types.specs.declared.refusal.Which.TheVariants.{DumpOctets}
 use Rattle.mdb_items.specs.Database.{Database}
 use Rattle.mdb_items.specs.declared.sheet.RawMdb.{RawMdb}
 use Rattle.mdb_model.specs.Sheets.{sheets_database}
 use Rattle.mdb_sheets.proofs.Sheets.{sheets_determined}
 use Rattle.mdb_sheets.specs.Plans.{sheets_plan}
-use Rattle.outer_traits.specs.Outside.{Files, HasRisen, WritesSome}
+use Rattle.outer_traits.specs.Outside.{Files, WritesSome}
 use Rattle.command_plans.specs.Plan.{OfMemory, OfOutput, CommandPlan, Returned, Stopped, Interrupted, EachEnd, IsDetermined, map_done}
 use Rattle.command_plans.proofs.Plans.{determined, determined_map_done, gave}
 use Rattle.command_words.specs.Job.{ValuesWords}

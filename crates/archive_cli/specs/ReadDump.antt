@@ -41,20 +41,12 @@ abbrev pub IsBadRest : List ℕ → List ℕ → ℕ → BadKind → Type 0
 IsBadRest dump [] at kind = ⊥
 IsBadRest dump (octet ∷ rest) at kind = (at + length (octet ∷ rest) ≡ length dump) × (kind ≡ bad_kind_of octet)
 
--- the rows of a dump, as the program holds them
-pub record IsDumpRead (files : Option Files) (clock : Option ℤ) (name : List ℕ) (loaded : DumpTable) : Type 0 where
-  pub dump : List ℕ
-  pub moment : ℤ
-  pub input : IsInput files name dump
-  pub short : length dump ≤ dump_limit
-  pub known : IsMomentOf clock moment
-  pub rows : IsDumpTable dump moment loaded
-
 -- the rows of a dump that was read by its plan and received at the moment that the clock tells, as the program holds them
 pub record IsDumpReceived (files : Option Files) (clock : Option ℤ) (name : List ℕ) (old new : InputsState) (loaded : DumpTable) : Type 0 where
   pub dump : List ℕ
   pub moment : ℤ
   pub read : WasRead (input_plan files DumpOctets (λ octets. octets) name) dump 1 old new
+  pub short : length dump ≤ dump_limit
   pub told : IsMomentOf clock moment
   pub rows : IsDumpTable dump moment loaded
 

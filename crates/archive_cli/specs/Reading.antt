@@ -9,23 +9,14 @@ use Rattle.mdb_sheets.specs.Sheets.{HasSheet, IsSheetRefusal}
 use Rattle.outer_traits.specs.Outside.{Files, HasRisen}
 use Rattle.outer_traits.specs.declared.fault.OpenFault.{OpenFault}
 use Rattle.outer_traits.specs.declared.fault.OpenFault.TheVariants as unopened
-use Rattle.outer_traits.specs.declared.whole.ReadFault as fault
 use Rattle.input_plans.specs.Inputs.{AnsweredByPlan, input_plan}
 use Rattle.outer_ledgers.specs.Ledger.{InputsState}
-use Rattle.outer_traits.specs.declared.whole.ReadFault.TheVariants as faulted
 
 -- the refusal of an input that wasn't opened, or want of memory for the name that is missing
 abbrev pub IsOpeningFault : List ℕ → OpenFault → Refusal → Type 0
 IsOpeningFault name unopened.Missing refusal = (refusal ≡ Missing name) ⊎ (refusal ≡ OutOfMemory)
 IsOpeningFault name unopened.Failed refusal = refusal ≡ ReadFault
 IsOpeningFault name unopened.OutOfMemory refusal = refusal ≡ OutOfMemory
-
--- the refusal of a fault of reading, or want of memory for the name that is missing
-abbrev pub IsInputRefusalOf : List ℕ → Which → fault.ReadFault → Refusal → Type 0
-IsInputRefusalOf name which faulted.Missing refusal = (refusal ≡ Missing name) ⊎ (refusal ≡ OutOfMemory)
-IsInputRefusalOf name which faulted.Failed refusal = refusal ≡ ReadFault
-IsInputRefusalOf name which faulted.TooLong refusal = refusal ≡ Limit which (limit_of which)
-IsInputRefusalOf name which faulted.OutOfMemory refusal = refusal ≡ OutOfMemory
 
 -- a named input wasn't read for this refusal, by its plan, whatever had been read before it
 abbrev pub IsInputUnread : Option Files → Which → List ℕ → InputsState → InputsState → Refusal → Type 0

@@ -1,15 +1,11 @@
-use Rattle.std.proofs.Common.{◌≡◌, ◌∙◌, ◌+◌, ◌≤◌, [], Option, Some, ap, arith, refl, subst, sym}
-use Rattle.std.specs.Result.{result_err}
+use Rattle.std.proofs.Common.{◌+◌, ◌≤◌, [], Some, ap, arith, refl, subst, sym}
 use Rattle.outer_ledgers.specs.Ledger.{inputs_state, output_state}
-use Rattle.arch_types.specs.declared.refusal.Refusal.{Refusal}
-use Rattle.archive_cli.specs.declared.report.Report.{Report}
-use Rattle.archive_cli.specs.Order.{AreInOrder, IsInOrder, inputs_of, values_inputs}
+use Rattle.archive_cli.specs.Order.{IsInOrder, inputs_of}
 use Rattle.command_words.specs.declared.job.Job.{Job}
 use Rattle.command_words.specs.JobView.{job_view, sheet_words_of, words_of}
 use Rattle.archive_cli.specs.DiskWrites.{DiskWritesCounted}
 use Rattle.archive_cli.specs.HandedBack.{IsHandedBack, IsUnasked}
 use Rattle.archive_cli.specs.Ending.{IsCaused, IsJobEnding}
-use Rattle.archive_cli.specs.ValuesEnding.{IsValuesEnding}
 use Rattle.archive_cli.proofs.Diskless.{values_disk}
 use Rattle.archive_cli.specs.Command.{effects_of}
 use Rattle.archive_cli.specs.Report.{IsReport}

@@ -10,7 +10,7 @@ use Rattle.archive_cli.proofs.scan.scan.Goals as goal
 pub print-requires : goal.print-requires
 print-requires g c = record {
   empty = c.in-Ok.ensures.empty;
-  shown = c.in-Ok.ensures.received.rows.gathered.shown;
+  shown = c.in-Ok.ensures.read.rows.gathered.shown;
 }
 
 pub returns-in-Err-clause-ran : goal.returns-in-Err-clause-ran

@@ -18,7 +18,7 @@ use Rattle.archive_cli.proofs.values.values.Goals as goal
 
 pub print-requires : goal.print-requires
 print-requires g c =
-    let received = c.in-Ok-read_scan_input.ensures.received in record {
+    let received = c.in-Ok-read_scan_input.ensures.read in record {
       empty = c.in-Ok-read_scan_input.ensures.empty;
       shown = received.rows.gathered.shown;
       few = rows_few received.dump received.moment c.in-Ok-read_scan_input.scan_input.loaded received.rows received.short;
