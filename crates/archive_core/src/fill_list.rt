@@ -69,6 +69,7 @@ impl FillList {
         clear_failed_writes(self.items.as_mut_slice());
     }
 
+    /// The items, in the order in which they were noted.
     pub fn as_slice(&self) -> &[Fill]
         ensures { result.now ≡ self.now.items }
     {

@@ -32,6 +32,7 @@ abbrev pub tally : Option ℕ → ℕ
 tally None = 0
 tally (Some count) = count
 
+-- how many were counted of a key among entries
 abbrev pub tally_of : {K : Type 0} → (K → K → Ordering) → List (K × ℕ) → K → ℕ
 tally_of cmp entries key = tally (lookup (is_at (cmp key)) entries)
 

@@ -52,7 +52,7 @@ impl Table {
         })
     }
 
-    /// Makes room for at least so many more rows. The one error is want of memory, and then all is as before.
+    /// Makes room for at least so many more rows. The one error is want of memory, or of places of 32 bits, and then all is as before.
     pub fn reserve(&mut self, rows: u64) -> Result<(), AllocError>
         ensures ok { OnOk result (self.new ≡ record { stored = self.old.stored; room = max self.old.room rows }) }
         ensures err { OnErr result (self.new ≡ self.old) }
