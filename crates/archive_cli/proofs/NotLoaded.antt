@@ -39,7 +39,7 @@ pub gives_input : (files : Option Files) (name : List ℕ) (left : Option (List 
 gives_input None name left dump g h = tt
 gives_input (Some all) name left dump g h = some_is (get all name) dump (gives_all all name left (λ octets. octets ≡ dump) g h)
 
-gives_long : (files : Option Files) (name : List ℕ) (left : Option (List ℕ)) (most : ℕ) → IsLeftAtFirst files name left → IfSome left (λ octets. most < length octets)
+pub gives_long : (files : Option Files) (name : List ℕ) (left : Option (List ℕ)) (most : ℕ) → IsLeftAtFirst files name left → IfSome left (λ octets. most < length octets)
     → IfSome files (λ all. IsSomeAnd (get all name) (λ dump. most < length dump))
 gives_long None name left most g h = tt
 gives_long (Some all) name left most g h = gives_all all name left (λ octets. most < length octets) g h
@@ -53,14 +53,14 @@ gives_there (Some all) name left g = go (get all name) g
     go (Some octets) is = refl
 
 -- an input that is missing, and one that isn't
-abbrev OnlyMissing : Type 0 → Option Files → List ℕ → OpenFault → Type 0
+abbrev pub OnlyMissing : Type 0 → Option Files → List ℕ → OpenFault → Type 0
 OnlyMissing X files name fault = IfSome files (λ all. IsErrOf {T = X} (Err fault) Missing ↔ IsNone (get all name))
 
-gone : (X : Type 0) (files : Option Files) (name : List ℕ) → OnlyMissing X files name Missing → IfSome files (λ all. IsNone (get all name))
+pub gone : (X : Type 0) (files : Option Files) (name : List ℕ) → OnlyMissing X files name Missing → IfSome files (λ all. IsNone (get all name))
 gone X None name h = tt
 gone X (Some all) name h = h.0 refl
 
-still_there : (X : Type 0) (files : Option Files) (name : List ℕ) → OnlyMissing X files name Failed → IsThere files name
+pub still_there : (X : Type 0) (files : Option Files) (name : List ℕ) → OnlyMissing X files name Failed → IsThere files name
 still_there X None name h = tt
 still_there X (Some all) name h = go (get all name) h.1
   where

@@ -28,7 +28,7 @@ IsDumpRefusal left number (refused.Limit DumpOctets most) link =
     (number ≤ limit_of Links) × (most ≡ dump_limit) × (link ≡ Some number) × IfSome left (λ octets. most < length octets)
 IsDumpRefusal left number (refused.Limit Links most) link = (most ≡ limit_of Links) × (limit_of Links < number) × (link ≡ None)
 IsDumpRefusal left number refused.ReadFault link = (number ≤ limit_of Links) × (link ≡ None)
-IsDumpRefusal left number refused.OutOfMemory link = link ≡ None
+IsDumpRefusal left number refused.OutOfMemory link = (number ≤ limit_of Links) × (link ≡ None)
 IsDumpRefusal left number other link = ⊥
 
 -- the same of a fault of reading

@@ -1,0 +1,1 @@
+-- Where the plan of `load` ends, and what was said of `load` by cases follows.
