@@ -31,7 +31,7 @@ use Rattle.archive_cli.specs.Loading.{IsDumpRefusal, IsOpeningFault}
 use Rattle.archive_cli.specs.ReadDump.{dump_limit}
 use Rattle.archive_cli.specs.Report.{read_only, unopened}
 use Rattle.archive_cli.specs.Session.{SessionResult}
-use Rattle.archive_cli.proofs.Commands.{no_text, ran_unopened}
+use Rattle.archive_cli.proofs.Commands.{no_text, ran_unopened, unopened_after}
 use Rattle.archive_cli.proofs.NotLoaded.{OnlyMissing, gives_long, gives_there, gone, still_there}
 use Rattle.archive_cli.proofs.OverInputs.{HasRead}
 use Rattle.archive_cli.proofs.RecoverPlan.{opens_determined}
@@ -72,18 +72,6 @@ session_after known archive dump link moment = λ s h. each s s.refusal
     each s None = whole s (ending_of_rest dump s.rest)
     each s (Some refused.DiskFault) = (refl, refl)
     each s (Some other) = (refl, refl)
-
-module _ {D : Type 0} (device : Device D) (e : Effects D) (f : Archive → CommandPlan Progress ⊥) where
-  -- an opening that was refused came behind one source
-  unopened_after : (refusal : Refusal) (cause : IsStoreOpenRefusal device e.disk e.disk' refusal) (reads : device.reads e.disk' ≡ device.reads e.disk)
-      (images : LeavesOnly device e.disk e.disk' (device.images e.disk)) (counts : CountsNeverFall device e.disk e.disk') (report : e.report ≡ unopened (Some refusal)) (silent : e.output' ≡ e.output)
-      → HasRead 1 (ran_unopened device e f 1 refusal cause reads images counts report silent).way
-  unfolding ran_unopened
-  unopened_after refused.NoArchive cause reads images counts report silent = (refl, refl)
-  unopened_after (refused.Damaged file at) cause reads images counts report silent = (refl, refl)
-  unopened_after refused.DiskFault cause reads images counts report silent = (refl, refl)
-  unopened_after refused.OutOfMemory cause reads images counts report silent = (refl, refl)
-  unopened_after other cause reads images counts report silent = absurd cause
 
 module _ {D : Type 0} (device : Device D) (e : Effects D) (files : Option Files) (next : Option ℤ) (words : LoadWords) (a b : InputsState) where
   abbrev plan : CommandPlan Progress ⊥
@@ -147,7 +135,7 @@ module _ {D : Type 0} (device : Device D) (e : Effects D) (files : Option Files)
     load_unarchived refusal cause reads images counts report silent used =
         let f = loading_plan known files next words in
         let went = ran_unopened device e f 1 refusal cause reads images counts report silent in
-        let each = unopened_after device e f refusal cause reads images counts report silent in
+        let each = unopened_after device e f 1 refusal cause reads images counts report silent in
         record { ran = record { way = went.way; allows = inr (true, there, inr went.allows); did = went.did }; inputs = rw (each.0, each.1) used }
 
     module _ (archive : Archive) (stands : known → StandsFor (device.reads e.disk) archive) where
@@ -242,8 +230,8 @@ module _ {D : Type 0} (device : Device D) (e : Effects D) (files : Option Files)
 
 -- ---- which answer is due
 
-session_determined : (known : Type 0) (archive : Archive) (dump : List ℕ) (link : ℕ) (moment : ℤ) → IsDetermined (session_plan known archive dump link moment)
-session_determined known archive dump link moment = λ s h. each s s.refusal
+session_determined : (is : Type 0) (archive : Archive) (dump : List ℕ) (link : ℕ) (moment : ℤ) → IsDetermined (session_plan is archive dump link moment)
+session_determined is archive dump link moment = λ s h. each s s.refusal
   where
     whole : (s : SessionResult) (rest : Option Refusal) → IsDetermined (after_packets archive link s rest)
     whole s None = tt

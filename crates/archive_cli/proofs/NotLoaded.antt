@@ -145,7 +145,7 @@ module _ {D : Type 0} (device : Device D) (call : Call) (words : LoadWords) (sil
     inr (u.0, nothing old new archive refused.ReadFault link None (gives_there call.files words.dump left gives) disk u.1),
   )
   unread_cases old new archive left refused.OutOfMemory link gives u disk counted =
-      inr (inl (nothing old new archive refused.OutOfMemory link None (gives_there call.files words.dump left gives) disk u))
+      inr (inl (nothing old new archive refused.OutOfMemory link None (gives_there call.files words.dump left gives) disk u.1))
   unread_cases old new archive left other link gives u disk counted = absurd u
 
   -- an archive was opened, and the dump wasn't read to its end
