@@ -1,14 +1,11 @@
 -- Where the plan of `create` ends, and what was said of `create` by cases follows.
-use Rattle.std.proofs.Common.{◌≡◌, ◌⊎◌, ◌≤◌, ◌<◌, ◌+◌, ◌^◌, ◌-◌, ◌∙◌, inl, inr, ℕ, ℤ, zero, suc, Bool, true, false, List, [], length, Option, Some, None, refl, sym, ap, subst, arith}
-use Rattle.std.specs.Prelude.{IfSome, IsNone, IsSomeAnd, IsTrue, min, option_map}
-use Rattle.std.specs.FinMap.{get}
+use Rattle.std.proofs.Common.{◌≡◌, ◌⊎◌, ◌≤◌, ◌<◌, ◌+◌, ◌^◌, ◌-◌, ◌∙◌, inl, inr, ℕ, ℤ, zero, suc, Bool, true, false, List, [], Option, Some, None, refl, sym, ap, subst, arith}
+use Rattle.std.specs.Prelude.{IsTrue, min, option_map}
 use Rattle.arch_disk.specs.Disk.{Device, LeavesOnly, raised}
 use Rattle.arch_disk.proofs.Moments.{started}
 use Rattle.arch_types.specs.declared.refusal.Refusal.{Refusal}
 use Rattle.arch_types.specs.declared.refusal.Refusal.TheVariants.{Missing, ReadFault, Limit, Exists, DiskFault, OutOfMemory}
-use Rattle.arch_types.specs.declared.refusal.Which.{Which}
 use Rattle.arch_types.specs.declared.refusal.Which.TheVariants.{SheetOctets}
-use Rattle.arch_types.specs.Limits.{limit_of}
 use Rattle.disk_journal.specs.Calls.{BeginsOpen, IsJournalCreateFailed}
 use Rattle.disk_journal.specs.Format.{HoldsNone}
 use Rattle.mdb_items.specs.declared.fault.MdbLimit.{MdbLimit}
@@ -19,8 +16,7 @@ use Rattle.mdb_model.specs.Sheets.{sheets_database, sheets_fault}
 use Rattle.mdb_sheets.proofs.Sheets.{has_sheet, sheet_was_read}
 use Rattle.mdb_sheets.specs.Plans.{giving_plan, second_sheet_plan, sheet_plan, third_sheet_plan}
 use Rattle.mdb_sheets.specs.Sheets.{AreSheets, Fields, HasSheet, IsRefusal, IsSheet, IsSheetRefused, ReadsCounted, sheet_of}
-use Rattle.outer_traits.specs.Outside.{Files, HasRisen, IsOneMoreAtMost, one_more}
-use Rattle.outer_traits.specs.Whole.{IsThere}
+use Rattle.outer_traits.specs.Outside.{Files}
 use Rattle.archive_store.specs.declared.head.Head.{Head}
 use Rattle.archive_store.specs.Calls.{IsCreateImage, IsStoreCreateRefusal}
 use Rattle.archive_store.proofs.Calls.{store_create_counted, store_create_most}
@@ -34,7 +30,7 @@ use Rattle.retrieval.specs.Parameter.{broken_rule, passed_limit, sheets_refusal}
 use Rattle.archive_cli.specs.declared.report.Report.{Report}
 use Rattle.archive_cli.specs.Call.{Call, call_of}
 use Rattle.archive_cli.specs.Caused.{IsCreateCaused}
-use Rattle.archive_cli.specs.Command.{Progress, HasEffects, Effects, RanOver, failed_at, looked, nothing_done, sources_at}
+use Rattle.archive_cli.specs.Command.{Progress, HasEffects, Effects, RanOver, failed_at, looked, nothing_done}
 use Rattle.archive_cli.specs.Create.{HasArchiveAs, checking_plan, create_plan, head_checked, made, after_making, making_plan, making_failed}
 use Rattle.archive_cli.specs.CreateEnding.{AreGood, AreRefused, IsCreateEnding, IsMakingFailed, create_line, new_head}
 use Rattle.archive_cli.specs.DiskWrites.{TwoAtMost}
@@ -221,7 +217,7 @@ module _ {D : Type 0} (device : Device D) (e : Effects D) where
         let same = no_failed_write device e.disk e.disk' false did.disk.0 in
         inl (record {
           refusal = Exists;
-          refused = (λ known. (is known, (did.disk.1 known).reads), same);
+          refused = record { held = is; reads = λ known. (did.disk.1 known).reads; no_failed_write = same };
           kept = λ known one. did.disk.1 known;
           images = λ known none. absurd (one-not-none (device.reads e.disk 0) (is known).0 (is known).1 none);
           report = did.report;

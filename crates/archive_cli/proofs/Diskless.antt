@@ -11,25 +11,15 @@ use Rattle.mdb_model.specs.Sheets.{sheets_database, sheets_fault}
 use Rattle.archive_cli.specs.declared.report.Report.{Report}
 use Rattle.archive_cli.specs.Call.{Call}
 use Rattle.archive_cli.specs.Ending.{IsJobEnding}
-use Rattle.command_words.specs.Job.{Scan, SheetWords, Values, ValuesWords}
+use Rattle.command_words.specs.Job.{SheetWords, Values, ValuesWords}
 use Rattle.retrieval.specs.Parameter.{first_refusal, number_named, parameter_refusal}
 use Rattle.archive_cli.specs.Report.{unopened}
-use Rattle.archive_cli.specs.ScanEnding.{IsScanEnding}
 use Rattle.archive_cli.specs.ValuesEnding.{IsInputRefused, IsParameterRefused, IsValuesEnding}
 use Rattle.archive_cli.proofs.Created.{refused_kind}
-
-pub scan_job_ended : {D : Type 0} (device : Device D) (call : Call) (old new : D) (name : List ℕ) (refusal : Option Refusal) (report : Report) → new ≡ old → report ≡ unopened refusal →
-    IsScanEnding call name refusal → IsJobEnding device call old new (Some (Scan name)) report
-scan_job_ended device call old new name refusal report same is h = (same, subst (λ (r : Report). IsScanEnding call name r.refusal) (sym is) h)
 
 pub values_job_ended : {D : Type 0} (device : Device D) (call : Call) (old new : D) (words : ValuesWords) (refusal : Option Refusal) (report : Report) → new ≡ old →
     report ≡ unopened refusal → IsValuesEnding call words refusal → IsJobEnding device call old new (Some (Values words)) report
 values_job_ended device call old new words refusal report same is h = (same, subst (λ (r : Report). IsValuesEnding call words r.refusal) (sym is) h)
-
--- no scan is refused for the disk
-pub scan_disk : (call : Call) (name : List ℕ) (refusal : Option Refusal) (report : Report) → report ≡ unopened refusal → IsScanEnding call name refusal → report.refusal ≡ Some DiskFault → ⊥
-scan_disk call name refusal report is h e =
-    let same : refusal ≡ Some DiskFault = sym (ap (λ (r : Report). r.refusal) is) ∙ e in subst (IsScanEnding call name) same h
 
 no_parameter : (broken : Option Broken) (passed : Option (MdbLimit × ℕ)) (number : Option ℕ) → first_refusal broken passed number ≡ Some DiskFault → ⊥
 no_parameter (Some broken) passed number e = absurd (cc (e))

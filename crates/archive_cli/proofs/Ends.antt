@@ -54,7 +54,7 @@ module _ {D : Type 0} (device : Device D) (e : Effects D) where
         let did : HasEffects device e (Stopped (looked sources) (Some NoArchive)) = subst (λ (w : Way Progress ⊥). HasEffects device e w) goes did in
         inl (record {
           refusal = NoArchive;
-          refused = (is, no_failed_write device e.disk e.disk' false did.disk.0);
+          refused = record { none = is; no_failed_write = no_failed_write device e.disk e.disk' false did.disk.0 };
           report = did.report;
           silent = silent_all e.output.written e.output'.written did.printed;
           faults = did.output.counted;
@@ -65,7 +65,7 @@ module _ {D : Type 0} (device : Device D) (e : Effects D) where
         let did : HasEffects device e (Stopped (looked sources) (Some (Damaged file at))) = subst (λ (w : Way Progress ⊥). HasEffects device e w) goes did in
         inl (record {
           refusal = Damaged file at;
-          refused = (is, no_failed_write device e.disk e.disk' false did.disk.0);
+          refused = record { damaged = is; no_failed_write = no_failed_write device e.disk e.disk' false did.disk.0 };
           report = did.report;
           silent = silent_all e.output.written e.output'.written did.printed;
           faults = did.output.counted;

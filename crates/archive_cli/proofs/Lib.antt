@@ -24,6 +24,8 @@ pub mod Queried
 pub mod QueryAnswers
 pub mod QueryPlan
 pub mod QueryEnds
+pub mod ScanPlan
+pub mod ScanEnds
 pub mod LoadAnswers
 pub mod Jobless
 pub mod Answers

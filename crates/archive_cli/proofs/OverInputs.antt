@@ -9,14 +9,15 @@ use Rattle.arch_types.specs.declared.refusal.Which.{Which}
 use Rattle.arch_types.specs.Limits.{limit_of}
 use Rattle.mdb_sheets.specs.Sheets.{ReadsCounted}
 use Rattle.outer_traits.specs.Outside.{Files, HasRisen, IsOneMoreAtMost, one_more}
-use Rattle.outer_traits.specs.Whole.{IsThere}
+use Rattle.outer_traits.specs.Whole.{IsInput, IsThere}
 use Rattle.command_plans.specs.Plan.{OfMemory, OfInputs, CommandPlan, Return, Stop, May, Question, Choose, Way, Returned, Stopped, Interrupted, Allows, EachEnd, and_then, interruption_refusal, map_done}
 use Rattle.command_plans.proofs.Plans.{allows_map_done, cut, end_of, ended, gave}
 use Rattle.input_plans.specs.Inputs.{AnsweredByPlan, InputRead, OverLimit, WithinLimit, IsInputAs, IsThereAs, WasRead, input_read, input_there, reading_fault, input_plan}
+use Rattle.input_plans.proofs.Inputs.{no_memory_then, there_some}
 use Rattle.outer_ledgers.specs.Ledger.{Counted, InputsState, UsedInputs, given_more}
 use Rattle.outer_ledgers.proofs.Ledgers.{counted_risen}
 use Rattle.archive_cli.specs.Command.{Progress, HasEffects, Effects, Ran, RanOver, failed_at, nothing_done, sources_at}
-use Rattle.archive_cli.specs.Reading.{IsInputRefusal}
+use Rattle.archive_cli.specs.Reading.{IsInputRefusal, IsInputUnread}
 use Rattle.archive_cli.specs.Report.{unopened}
 use Rattle.archive_cli.proofs.Commands.{no_text}
 use Rattle.archive_cli.proofs.Ends.{silent_all}
@@ -85,6 +86,17 @@ module _ {D : Type 0} (device : Device D) (e : Effects D) {X : Type 0} (plan : �
     inputs = subst (λ (s : ℕ). UsedInputs a b s false) (none_before r.sources) r.used;
   }
   ran_unread refusal (inr r) report same silent = cut_off r.failed r.sources refusal r.refusal_is (r.allows 0) r.used report same silent
+
+-- an input was read, and there was no memory for what is made of it
+pub memory_behind : (files : Option Files) (which : Which) (name : List ℕ) (a b : InputsState) (octets : List ℕ) → WasRead (input_plan files which (λ read. read) name) octets 1 a b →
+    IsInput files name octets → IsInputUnread files which name a b OutOfMemory
+memory_behind files which name a b octets read is = inr (record {
+  failed = false;
+  sources = 1;
+  refusal_is = refl;
+  allows = λ before. no_memory_then files which (λ (octets : List ℕ). octets) name before (there_some files name octets is);
+  used = read.used;
+})
 
 -- ---- where a reading ends
 

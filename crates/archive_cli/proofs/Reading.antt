@@ -9,6 +9,7 @@ use Rattle.arch_types.specs.Limits.{limit_of}
 use Rattle.mdb_sheets.specs.Sheets.{IsRefusal, ReadsCounted}
 use Rattle.outer_traits.specs.Outside.{Files, OpeningCounted}
 use Rattle.outer_traits.specs.Whole.{IsInputFault}
+use Rattle.input_plans.specs.Inputs.{IsFaultRefusal}
 use Rattle.outer_traits.specs.declared.fault.OpenFault.{OpenFault}
 use Rattle.outer_traits.specs.declared.fault.OpenFault.TheVariants as unopened
 use Rattle.outer_traits.specs.declared.whole.ReadFault.{ReadFault}
@@ -23,6 +24,13 @@ read_refusal files name which faults faults' Missing refusal h (inr is) = rw is 
 read_refusal files name which faults faults' Failed refusal h is = rw is h
 read_refusal files name which faults faults' TooLong refusal h is = rw is (refl, refl, h)
 read_refusal files name which faults faults' OutOfMemory refusal h is = rw is tt
+
+-- the refusal of a fault, in the words of plans
+pub fault_refusal_is : (name : List ℕ) (which : Which) (fault : ReadFault) (refusal : Refusal) → IsInputRefusalOf name which fault refusal → IsFaultRefusal name which fault refusal
+fault_refusal_is name which Missing refusal is = is
+fault_refusal_is name which Failed refusal is = is
+fault_refusal_is name which TooLong refusal is = is
+fault_refusal_is name which OutOfMemory refusal is = is
 
 -- inputs that were read before have at least as many faults
 pub read_later : (files files' : Option Files) (name : List ℕ) (which : Which) (before faults faults' : ℕ) (refusal : Refusal) → files' ≡ files → before ≤ faults →

@@ -3,7 +3,6 @@ use Rattle.std.proofs.Common.{◌≡◌, ℕ, ℤ, ◌+◌, ◌-◌, ◌≤◌, 
 use Rattle.std.specs.Prelude.{IfSome, flat_map, nat_lt, if◌then◌else◌}
 use Rattle.std.proofs.lemmas.List.{length-drop}
 use Rattle.arch_types.specs.declared.row.Row.{Row}
-use Rattle.arch_types.specs.declared.refusal.Refusal.TheVariants.{WriteFault, BadPacket}
 use Rattle.arch_types.specs.declared.refusal.BadKind.{BadKind}
 use Rattle.arch_types.specs.declared.refusal.BadKind.TheVariants as bad
 use Rattle.arch_types.specs.History.{firsts}
@@ -17,10 +16,9 @@ use Rattle.outer_traits.specs.Whole.{IsInput}
 use Rattle.dump_lines.specs.declared.counts.Counts.{Counts}
 use Rattle.dump_lines.specs.declared.rows.DumpTable.{DumpTable}
 use Rattle.dump_lines.specs.Text.{scanned_rows, row_line, row_lines, counts_line, last_line, scan_text}
-use Rattle.archive_cli.specs.Call.{Call, Prints, PrintsSome, WritesFailed, IsMomentOf}
+use Rattle.archive_cli.specs.Call.{Call, IsMomentOf}
 pub use Rattle.archive_cli.specs.Call.{call_of}
-use Rattle.archive_cli.specs.ReadDump.{dump_limit, ReadDump, IsBadRest, IsDumpRead, ending_of}
-use Rattle.archive_cli.specs.ScanEnding.{IsScanEnding}
+use Rattle.archive_cli.specs.ReadDump.{dump_limit, ReadDump, IsBadRest, IsDumpRead}
 use Rattle.dump_lines.specs.DumpTable.{HasCounts, IsGathered, IsDumpTable}
 use Rattle.dump_lines.specs.Printing.{lines_of, end_of, text_of_loaded}
 use Rattle.archive_cli.proofs.Visible.{table-all}
@@ -61,7 +59,7 @@ received call name dump moment loaded i s m l = record {
   parts = l.parts;
 }
 
-text_of_received : (dump : List ℕ) (moment : ℤ) (loaded : DumpTable) (l : IsDumpTable dump moment loaded) → text_of_loaded loaded ≡ scan_text l.packets (drop loaded.at dump) moment
+pub text_of_received : (dump : List ℕ) (moment : ℤ) (loaded : DumpTable) (l : IsDumpTable dump moment loaded) → text_of_loaded loaded ≡ scan_text l.packets (drop loaded.at dump) moment
 text_of_received dump moment loaded l = text_is l.packets (drop loaded.at dump) moment loaded.table.stored loaded.counts loaded.why l.gathered l.why
 
 pub rest_is_none : (rest : List ℕ) → why.End ≡ why_of rest → rest ≡ []
@@ -92,39 +90,8 @@ bad_rest dump (octet ∷ rest) at kind len e = (len, kind_cases (nat_lt octet 32
 pub end_is : (dump : List ℕ) (at : ℕ) → at ≤ length dump → at + length (drop at dump) ≡ length dump
 end_is dump at within = let len = length-drop at dump in omega (arith, len, within)
 
--- the dump was read and printed to its end
-scan_whole : (call : Call) (name dump : List ℕ) (moment : ℤ) (loaded : DumpTable) → IsInput call.files name dump → length dump ≤ dump_limit → IsMomentOf call.moment moment →
-    IsDumpTable dump moment loaded → loaded.why ≡ why.End → Prints call (text_of_loaded loaded) → IsScanEnding call name None
-scan_whole call name dump moment loaded i s m l e p =
-    (received call name dump moment loaded i s m l, rest_is_none (drop loaded.at dump) (sym e ∙ l.why), rw (text_of_received dump moment loaded l) at p)
-
--- its rows were printed, and a rest is left
-scan_bad : (call : Call) (name dump : List ℕ) (moment : ℤ) (loaded : DumpTable) (kind : BadKind) → IsInput call.files name dump → length dump ≤ dump_limit → IsMomentOf call.moment moment →
-    IsDumpTable dump moment loaded → loaded.why ≡ why_bad kind → Prints call (text_of_loaded loaded) → IsScanEnding call name (Some (BadPacket loaded.at kind))
-scan_bad call name dump moment loaded kind i s m l e p =
-    let len = length-drop loaded.at dump in
-    let within = l.within in
-    let sum : loaded.at + length (drop loaded.at dump) ≡ length dump = omega (arith, len, within) in
-    (received call name dump moment loaded i s m l, bad_rest dump (drop loaded.at dump) loaded.at kind sum (sym e ∙ l.why), rw (text_of_received dump moment loaded l) at p)
-
 abbrev pub received_of : (call : Call) (name : List ℕ) (loaded : DumpTable) → IsDumpRead call.files call.moment name loaded → ReadDump call name
 received_of call name loaded r = received call name r.dump r.moment loaded r.input r.short r.known r.rows
-
-scan_cases : (call : Call) (name : List ℕ) (loaded : DumpTable) (reason : Why) → IsDumpRead call.files call.moment name loaded → loaded.why ≡ reason → Prints call (text_of_loaded loaded) →
-    IsScanEnding call name (ending_of reason loaded.at)
-scan_cases call name loaded why.End r e p = scan_whole call name r.dump r.moment loaded r.input r.short r.known r.rows e p
-scan_cases call name loaded why.Version r e p = scan_bad call name r.dump r.moment loaded bad.Version r.input r.short r.known r.rows e p
-scan_cases call name loaded why.Truncated r e p = scan_bad call name r.dump r.moment loaded bad.Truncated r.input r.short r.known r.rows e p
-
--- its rows were printed
-pub scan_ended : (call : Call) (name : List ℕ) (loaded : DumpTable) → IsDumpRead call.files call.moment name loaded → Prints call (text_of_loaded loaded) →
-    IsScanEnding call name (ending_of loaded.why loaded.at)
-scan_ended call name loaded r p = scan_cases call name loaded loaded.why r refl p
-
--- a part of it was printed
-pub scan_some : (call : Call) (name : List ℕ) (loaded : DumpTable) → IsDumpRead call.files call.moment name loaded → WritesFailed call → PrintsSome call (text_of_loaded loaded) →
-    IsScanEnding call name (Some WriteFault)
-scan_some call name loaded r f p = (received_of call name loaded r, f, rw (text_of_received r.dump r.moment loaded r.rows) at p)
 
 pub moment_of : (known : Option ℤ) (moment : ℤ) → IfSome known (λ next. moment ≡ next) → IsClockTime moment → IsMomentOf known moment
 moment_of None moment e m = m

@@ -136,9 +136,13 @@ pub record RanOver {D : Type 0} (device : Device D) (plan : CommandPlan Progress
 
 -- ---- the parts of plans
 
+-- prints a text, for which there's memory, and ends by this refusal or by none
+abbrev pub printing_then_plan : Progress → List ℕ → Option Refusal → CommandPlan Progress ⊥
+printing_then_plan s text refusal = May OfOutput (record s { text = text; is_whole = false }) (Stop (record s { text = text; is_whole = true }) refusal)
+
 -- prints a text, for which there's memory
 abbrev pub printing_plan : Progress → List ℕ → CommandPlan Progress ⊥
-printing_plan s text = May OfOutput (record s { text = text; is_whole = false }) (Stop (record s { text = text; is_whole = true }) None)
+printing_plan s text = printing_then_plan s text None
 
 -- prints a text that is made while it is printed, so that memory may be wanting behind some of it
 abbrev pub stepwise_printing_plan : Progress → List ℕ → CommandPlan Progress ⊥

@@ -9,6 +9,7 @@ pub mod Reading
 pub mod Recover
 pub mod Create
 pub mod Query
+pub mod Scan
 pub mod ReadDump
 pub mod ValuesPrinting
 pub mod ScanEnding

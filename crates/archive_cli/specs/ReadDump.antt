@@ -12,6 +12,8 @@ use Rattle.outer_traits.specs.Whole.{IsInput}
 use Rattle.space_packet.specs.declared.dump.Why.{Why}
 use Rattle.space_packet.specs.declared.dump.Why.TheVariants as why
 use Rattle.dump_lines.specs.declared.rows.DumpTable.{DumpTable}
+use Rattle.input_plans.specs.Inputs.{WasRead, input_plan}
+use Rattle.outer_ledgers.specs.Ledger.{InputsState}
 use Rattle.archive_cli.specs.Call.{Call, IsMomentOf}
 use Rattle.dump_lines.specs.DumpTable.{IsDumpTable}
 
@@ -46,6 +48,14 @@ pub record IsDumpRead (files : Option Files) (clock : Option ℤ) (name : List �
   pub input : IsInput files name dump
   pub short : length dump ≤ dump_limit
   pub known : IsMomentOf clock moment
+  pub rows : IsDumpTable dump moment loaded
+
+-- the rows of a dump that was read by its plan and received at the moment that the clock tells, as the program holds them
+pub record IsDumpReceived (files : Option Files) (clock : Option ℤ) (name : List ℕ) (old new : InputsState) (loaded : DumpTable) : Type 0 where
+  pub dump : List ℕ
+  pub moment : ℤ
+  pub read : WasRead (input_plan files DumpOctets (λ octets. octets) name) dump 1 old new
+  pub told : IsMomentOf clock moment
   pub rows : IsDumpTable dump moment loaded
 
 -- the ending by why no packet follows

@@ -1,5 +1,5 @@
 -- The refusals of an input that can't be read.
-use Rattle.std.specs.Prelude.{◌≡◌, ℕ, ◌<◌, List, Option, IfSome, IsNone, IsSome, IsSomeAnd, length, ◌⊎◌}
+use Rattle.std.specs.Prelude.{◌≡◌, ℕ, ◌<◌, List, Option, IfSome, IsNone, IsSome, IsSomeAnd, length, ◌⊎◌, Err}
 use Rattle.std.specs.FinMap.{get}
 use Rattle.arch_types.specs.declared.refusal.Refusal.{Refusal}
 use Rattle.arch_types.specs.declared.refusal.Refusal.TheVariants.{Missing, ReadFault, Limit, OutOfMemory}
@@ -10,6 +10,8 @@ use Rattle.outer_traits.specs.Outside.{Files, HasRisen}
 use Rattle.outer_traits.specs.declared.fault.OpenFault.{OpenFault}
 use Rattle.outer_traits.specs.declared.fault.OpenFault.TheVariants as unopened
 use Rattle.outer_traits.specs.declared.whole.ReadFault as fault
+use Rattle.input_plans.specs.Inputs.{AnsweredByPlan, input_plan}
+use Rattle.outer_ledgers.specs.Ledger.{InputsState}
 use Rattle.outer_traits.specs.declared.whole.ReadFault.TheVariants as faulted
 
 -- the refusal of an input that wasn't opened, or want of memory for the name that is missing
@@ -24,6 +26,10 @@ IsInputRefusalOf name which faulted.Missing refusal = (refusal ≡ Missing name)
 IsInputRefusalOf name which faulted.Failed refusal = refusal ≡ ReadFault
 IsInputRefusalOf name which faulted.TooLong refusal = refusal ≡ Limit which (limit_of which)
 IsInputRefusalOf name which faulted.OutOfMemory refusal = refusal ≡ OutOfMemory
+
+-- a named input wasn't read for this refusal, by its plan, whatever had been read before it
+abbrev pub IsInputUnread : Option Files → Which → List ℕ → InputsState → InputsState → Refusal → Type 0
+IsInputUnread files which name old new refusal = AnsweredByPlan {X = List ℕ} 1 (input_plan files which (λ octets. octets) name) (Err refusal) old new
 
 -- the refusal is that of the first of three sheets that isn't read
 abbrev pub IsSheetsRefusal : Option Files → List ℕ → List ℕ → List ℕ → ℕ → ℕ → Refusal → Type 0

@@ -2,8 +2,9 @@
 //!
 //! `run` is the top call. Its contract has for each job one equation per answer: the cause, what was written, and what became of the disk
 //! (specs/Ending.antt), and which answer has to come, where the contents of inputs and disk are known (specs/Expected.antt). Which words are a job
-//! says command_words. What a command does, in which order, is its plan (specs/Command.antt), so far of `create`, `query` and `recover`: there the
-//! cases of `run` follow from the plan (proofs/CreateEnds.antt, proofs/QueryEnds.antt, proofs/RecoverPlan.antt). A later command adds its plan.
+//! says command_words. What a command does, in which order, is its plan (specs/Command.antt), so far of `scan`, `create`, `query` and `recover`:
+//! there the cases of `run` follow from the plan (proofs/ScanEnds.antt, proofs/CreateEnds.antt, proofs/QueryEnds.antt, proofs/RecoverPlan.antt). A
+//! later command adds its plan.
 //!
 //! The way of a dump: for `scan` and `values` `read_scan_input` takes it in, and dump_lines keeps its rows; for `load` load_session hands its packets to
 //! the archive's store. The way of an ask: mdb_sheets reads it, and retrieval extracts the cells of the store's plan and prints them.

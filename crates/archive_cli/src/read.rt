@@ -6,7 +6,9 @@ ghost use Rattle.std.specs.Result.{result_err};
 ghost use Rattle.mdb_sheets.specs.Sheets.{ReadsCounted};
 ghost use Rattle.outer_traits.specs.Outside.{Stays};
 ghost use Rattle.outer_traits.specs.Whole.{IsInput};
-ghost use Rattle.archive_cli.specs.Reading.{IsOpeningFault, IsInputRefusal, IsInputRefusalOf};
+ghost use Rattle.outer_ledgers.specs.Ledger.{inputs_state};
+ghost use Rattle.input_plans.specs.Inputs.{WasRead, input_plan};
+ghost use Rattle.archive_cli.specs.Reading.{IsInputUnread, IsOpeningFault, IsInputRefusal, IsInputRefusalOf};
 
 use arch_types::octets::Octets;
 use arch_types::refusal::{Refusal, Which};
@@ -23,6 +25,19 @@ pub fn read_limited<I: Inputs>(
     name: &str,
     which: Which,
 ) -> Result<Vec<u8>, Refusal>
+    // It took a way through its plan, and used the inputs as far as that went.
+    ensures read { IfOk result (λ octets. WasRead (input_plan (I.files inputs.old) which (λ read. read) name.now)
+        octets.items 1
+        (inputs_state (I.files inputs.old) (I.open_sources inputs.old)
+        (I.given inputs.old) (I.faults inputs.old) (I.never_fails inputs.old))
+        (inputs_state (I.files inputs.new) (I.open_sources inputs.new)
+        (I.given inputs.new) (I.faults inputs.new) (I.never_fails inputs.new))) }
+    ensures unread { IfErr result (IsInputUnread (I.files inputs.old) which name.now
+        (inputs_state (I.files inputs.old) (I.open_sources inputs.old)
+        (I.given inputs.old) (I.faults inputs.old) (I.never_fails inputs.old))
+        (inputs_state (I.files inputs.new) (I.open_sources inputs.new)
+        (I.given inputs.new) (I.faults inputs.new) (I.never_fails inputs.new))) }
+
     ensures whole { IfOk result (λ octets. IsInput (I.files inputs.old) name.now octets.items) }
     ensures short { IfOk result (λ octets. vec_len octets ≤ limit_of which) }
     ensures refused { IfErr result (IsInputRefusal (I.files inputs.old) name.now which (I.faults inputs.old)

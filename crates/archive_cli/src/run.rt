@@ -147,7 +147,7 @@ fn run_job<D: Disk, I: Inputs, K: Sink, C: Clock>(
     ensures gave { I.given inputs.new ≤ I.given inputs.old + inputs_of (Some (job_view job.entry)) }
 {
     match job {
-        Job::Scan { dump } => Ended::unopened(disk, scan(alloc, dump, inputs, sink, clock).err()),
+        Job::Scan { dump } => scan(alloc, dump, disk, inputs, sink, clock),
         Job::Values(words) => {
             Ended::unopened(disk, values(alloc, words, inputs, sink, clock).err())
         }

@@ -4,8 +4,9 @@ ghost use Rattle.std.specs.Prelude.{◌≡◌, ◌+◌, ◌<◌, ◌≤◌, ◌^
 ghost use Rattle.std.specs.Result.{result_err};
 ghost use Rattle.mdb_sheets.specs.Sheets.{ReadsCounted};
 ghost use Rattle.outer_traits.specs.Outside.{Stays};
-ghost use Rattle.archive_cli.specs.Reading.{IsInputRefusal};
-ghost use Rattle.archive_cli.specs.ReadDump.{IsDumpRead, ending_of, dump_limit};
+ghost use Rattle.outer_ledgers.specs.Ledger.{inputs_state};
+ghost use Rattle.archive_cli.specs.Reading.{IsInputRefusal, IsInputUnread};
+ghost use Rattle.archive_cli.specs.ReadDump.{IsDumpRead, IsDumpReceived, ending_of, dump_limit};
 ghost use Rattle.dump_lines.specs.DumpTable.{IsDumpTable};
 
 use crate::read::read_limited;
@@ -32,6 +33,18 @@ pub fn read_scan_input<I: Inputs, C: Clock>(
     name: &str,
     clock: &mut C,
 ) -> Result<ScanInput, Refusal>
+    // The dump was read by its plan, and received at the moment that the clock tells.
+    ensures read { IfOk result (λ scan_input. IsDumpReceived (I.files inputs.old) (C.next clock.old) name.now
+        (inputs_state (I.files inputs.old) (I.open_sources inputs.old)
+        (I.given inputs.old) (I.faults inputs.old) (I.never_fails inputs.old))
+        (inputs_state (I.files inputs.new) (I.open_sources inputs.new)
+        (I.given inputs.new) (I.faults inputs.new) (I.never_fails inputs.new)) scan_input.loaded) }
+    ensures unread { IfErr result (IsInputUnread (I.files inputs.old) Which.DumpOctets name.now
+        (inputs_state (I.files inputs.old) (I.open_sources inputs.old)
+        (I.given inputs.old) (I.faults inputs.old) (I.never_fails inputs.old))
+        (inputs_state (I.files inputs.new) (I.open_sources inputs.new)
+        (I.given inputs.new) (I.faults inputs.new) (I.never_fails inputs.new))) }
+
     ensures received { IfOk result (λ scan_input. IsDumpRead (I.files inputs.old) (C.next clock.old) name.now
         scan_input.loaded) }
     ensures empty { IfOk result (λ scan_input. scan_input.line_buffer ≡ []) }

@@ -92,15 +92,7 @@ impl LimitCounts {
         ensures octets { self.new.octets ≡ self.old.octets }
         ensures room { self.old.room ≤ self.new.room + 1 }
     {
-        match self.rows.get(interval) {
-            Some(rows) => {
-                self.rows.replace(interval, rows + 1);
-                self.most = self.most.max(rows + 1);
-            }
-            None => {
-                self.rows.insert(interval, 1);
-                self.most = self.most.max(1);
-            }
-        }
+        let rows = self.rows.add_one(interval);
+        self.most = self.most.max(rows);
     }
 }

@@ -1,13 +1,13 @@
 //! The blocks of a growing index that has room or had some.
 
-ghost use Rattle.std.specs.Prelude.{◌≡◌, ◌+◌, ◌-◌, ◌<◌, ◌≤◌, [], length, max, IfSome, IfNone, IfOk, OnSome, OnOk, OnErr};
+ghost use Rattle.std.specs.Prelude.{◌≡◌, ◌+◌, ◌-◌, ◌<◌, ◌≤◌, ◌^◌, [], length, max, IfSome, IfNone, IfOk, OnSome, OnOk, OnErr};
 ghost use Rattle.std.specs.Map.{lookup};
 ghost use Rattle.std.specs.BTreeMap.{is_at, insert_entry};
 ghost use Rattle.std.specs.BTreeMap.Range.{entries_from};
 ghost use Rattle.block_map.specs.Rising.{IsRising};
-ghost use Rattle.block_map.specs.Index.{IsAdded};
+ghost use Rattle.block_map.specs.Index.{IsAdded, tally_of};
 
-use crate::blocks::{Block, CAPACITY, open_block, put};
+use crate::blocks::{Block, CAPACITY, open_block, put, set_value};
 use crate::body::add_spare;
 use crate::entries::Entries;
 use crate::search::place_in;
@@ -179,5 +179,36 @@ impl<K: Ord + Copy, V: Copy> GrowingBody<K, V> {
         ensures rising { IsRising K.cmp result }
     {
         entries_from_key(self.blocks.as_slice(), key)
+    }
+}
+
+impl<K: Ord + Copy> GrowingBody<K, u64> {
+    /// Counts one more of a key, of which none was counted where it isn't there, and answers the count. Takes no memory.
+    pub(crate) fn add_one(&mut self, key: K) -> u64
+        requires room { 0 < self.old.room }
+        requires small { tally_of K.cmp self.old.entries key + 1 < 2 ^ 64 }
+        ensures count { result ≡ tally_of K.cmp self.old.entries key + 1 }
+        ensures entries { self.new.entries ≡ insert_entry K.cmp self.old.entries key result }
+        ensures left { self.old.room ≤ self.new.room + 1 }
+        ensures rising { IsRising K.cmp self.new.entries }
+    {
+        let spares = self.spare.len();
+        let b = open_block(&mut self.blocks, &mut self.spare, key, NEARLY_FULL);
+        self.excess -= (spares - self.spare.len()) * FOR_A_SPLIT;
+        let entries = self.blocks[b].as_slice();
+        match place_in(entries, key) {
+            Ok(at) => {
+                let count = entries[at].1 + 1;
+                set_value(&mut self.blocks, b, at, key, count);
+                count
+            }
+            Err(at) => {
+                self.excess += passes_nearly_full(entries.len());
+                put(&mut self.blocks, b, at, key, 1);
+                self.len += 1;
+                self.room -= 1;
+                1
+            }
+        }
     }
 }

@@ -1,11 +1,11 @@
 //! The index that only grows.
 
-ghost use Rattle.std.specs.Prelude.{◌≡◌, ◌+◌, ◌<◌, ◌≤◌, [], length, max, IfSome, IfNone, OnSome, OnOk, OnErr};
+ghost use Rattle.std.specs.Prelude.{◌≡◌, ◌+◌, ◌<◌, ◌≤◌, ◌^◌, [], length, max, IfSome, IfNone, OnSome, OnOk, OnErr};
 ghost use Rattle.std.specs.Map.{lookup};
 ghost use Rattle.std.specs.BTreeMap.{is_at, insert_entry};
 ghost use Rattle.std.specs.BTreeMap.Range.{entries_from};
 ghost use Rattle.block_map.specs.Rising.{IsRising};
-ghost use Rattle.block_map.specs.Index.{IsAdded};
+ghost use Rattle.block_map.specs.Index.{IsAdded, tally_of};
 
 use crate::entries::Entries;
 use crate::growing_body::GrowingBody;
@@ -140,6 +140,23 @@ impl<K: Ord + Copy, V: Copy> GrowingIndex<K, V> {
         match &self.body {
             Some(body) => body.from_key(key),
             None => Entries::new(&[], &[]),
+        }
+    }
+}
+
+impl<K: Ord + Copy> GrowingIndex<K, u64> {
+    /// Counts one more of a key, of which none was counted where it isn't there, and answers the count. Takes no memory.
+    pub fn add_one(&mut self, key: K) -> u64
+        requires room { 0 < self.old.room }
+        requires small { tally_of K.cmp self.old.entries key + 1 < 2 ^ 64 }
+        ensures count { result ≡ tally_of K.cmp self.old.entries key + 1 }
+        ensures entries { self.new.entries ≡ insert_entry K.cmp self.old.entries key result }
+        ensures left { self.old.room ≤ self.new.room + 1 }
+        ensures rising { IsRising K.cmp self.new.entries }
+    {
+        match &mut self.body {
+            Some(body) => body.add_one(key),
+            None => 0,
         }
     }
 }

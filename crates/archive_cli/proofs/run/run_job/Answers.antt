@@ -1,56 +1,40 @@
-use Rattle.std.proofs.Common.{◌≡◌, ◌∙◌, ◌+◌, ◌≤◌, [], Option, Some, ap, refl, subst, sym}
+use Rattle.std.proofs.Common.{◌≡◌, ◌∙◌, ◌+◌, ◌≤◌, [], Option, Some, ap, arith, refl, subst, sym}
 use Rattle.std.specs.Result.{result_err}
 use Rattle.outer_ledgers.specs.Ledger.{inputs_state, output_state}
 use Rattle.arch_types.specs.declared.refusal.Refusal.{Refusal}
 use Rattle.archive_cli.specs.declared.report.Report.{Report}
-use Rattle.archive_cli.specs.Order.{AreInOrder, IsInOrder, inputs_of, scan_inputs, values_inputs}
+use Rattle.archive_cli.specs.Order.{AreInOrder, IsInOrder, inputs_of, values_inputs}
 use Rattle.command_words.specs.declared.job.Job.{Job}
 use Rattle.command_words.specs.JobView.{job_view, sheet_words_of, words_of}
 use Rattle.archive_cli.specs.DiskWrites.{DiskWritesCounted}
 use Rattle.archive_cli.specs.HandedBack.{IsHandedBack, IsUnasked}
 use Rattle.archive_cli.specs.Ending.{IsCaused, IsJobEnding}
-use Rattle.archive_cli.specs.ScanEnding.{IsScanEnding}
 use Rattle.archive_cli.specs.ValuesEnding.{IsValuesEnding}
-use Rattle.archive_cli.proofs.Diskless.{scan_disk, scan_job_ended, values_disk, values_job_ended}
+use Rattle.archive_cli.proofs.Diskless.{values_disk, values_job_ended}
 use Rattle.archive_cli.specs.Command.{effects_of}
 use Rattle.archive_cli.specs.Report.{IsReport}
 use Rattle.archive_cli.proofs.CreateEnds.{create_caused, create_disk_fault, create_disk_later, create_disk_writes, create_ended, create_gave, create_handed_back, create_later, create_order, create_reads_counted, create_report, create_unasked, create_writes_counted, create_writes_later}
 use Rattle.archive_cli.proofs.QueryEnds.{query_caused, query_disk_fault, query_disk_later, query_disk_writes, query_ended, query_gave, query_handed_back, query_later, query_order, query_reads_counted, query_report, query_unasked, query_writes_counted, query_writes_later}
 use Rattle.archive_cli.proofs.RecoverPlan.{recover_caused, recover_disk_fault, recover_disk_later, recover_disk_writes, recover_ended, recover_reads, recover_report, recover_writes, recover_writes_later}
+use Rattle.archive_cli.proofs.ScanEnds.{scan_disk_fault, scan_gave, scan_later, scan_order, scan_plan_ended, scan_reads_counted, scan_report, scan_same, scan_writes_counted, scan_writes_later}
 use Rattle.archive_cli.proofs.Scanned.{call_of}
 use Rattle.archive_cli.proofs.run.run_job.Goals as goal
-
-pub returns-in-Scan-clause-ended : goal.returns-in-Scan-clause-ended
-returns-in-Scan-clause-ended g c = λ words.
-    let device = g.D.Disk.device in
-    let call = call_of words (g.I.Inputs.files c.args.inputs.now) (g.C.Clock.next c.args.clock.now) (g.I.Inputs.faults c.args.inputs.now) (g.I.Inputs.faults c.scan.new.inputs)
-    (g.K.Sink.written c.args.sink.now) (g.K.Sink.written c.scan.new.sink) (g.K.Sink.faults c.args.sink.now) (g.K.Sink.faults c.scan.new.sink) in
-    let ended = subst (IsScanEnding call c.in-Scan.dump.now) (sym c.err.ensures.value) (c.scan.ensures.ended words) in
-    subst (λ (job : Job). IsJobEnding device call c.args.disk c.unopened.result.disk (Some (job_view job)) c.unopened.result.report) (sym c.in-Scan.is)
-    (scan_job_ended device call c.args.disk c.unopened.result.disk c.in-Scan.dump.now c.err.result c.unopened.result.report c.unopened.ensures.disk c.unopened.ensures.report ended)
-
-pub returns-in-Scan-clause-disk_fault : goal.returns-in-Scan-clause-disk_fault
-returns-in-Scan-clause-disk_fault g c = λ is.
-    let call = call_of [] (g.I.Inputs.files c.args.inputs.now) (g.C.Clock.next c.args.clock.now) (g.I.Inputs.faults c.args.inputs.now) (g.I.Inputs.faults c.scan.new.inputs)
-    (g.K.Sink.written c.args.sink.now) (g.K.Sink.written c.scan.new.sink) (g.K.Sink.faults c.args.sink.now) (g.K.Sink.faults c.scan.new.sink) in
-    let ended = subst (IsScanEnding call c.in-Scan.dump.now) (sym c.err.ensures.value) (c.scan.ensures.ended []) in
-    absurd (scan_disk call c.in-Scan.dump.now c.err.result c.unopened.result.report c.unopened.ensures.report ended is)
 
 pub returns-in-Values-clause-ended : goal.returns-in-Values-clause-ended
 returns-in-Values-clause-ended g c = λ words.
     let device = g.D.Disk.device in
     let call = call_of words (g.I.Inputs.files c.args.inputs.now) (g.C.Clock.next c.args.clock.now) (g.I.Inputs.faults c.args.inputs.now) (g.I.Inputs.faults c.values.new.inputs)
     (g.K.Sink.written c.args.sink.now) (g.K.Sink.written c.values.new.sink) (g.K.Sink.faults c.args.sink.now) (g.K.Sink.faults c.values.new.sink) in
-    let ended = subst (IsValuesEnding call (words_of c.in-Values.words)) (sym c.err-in-Values.ensures.value) (c.values.ensures.ended words) in
-    subst (λ (job : Job). IsJobEnding device call c.args.disk c.unopened-in-Values.result.disk (Some (job_view job)) c.unopened-in-Values.result.report) (sym c.in-Values.is)
-    (values_job_ended device call c.args.disk c.unopened-in-Values.result.disk (words_of c.in-Values.words) c.err-in-Values.result c.unopened-in-Values.result.report c.unopened-in-Values.ensures.disk c.unopened-in-Values.ensures.report ended)
+    let ended = subst (IsValuesEnding call (words_of c.in-Values.words)) (sym c.err.ensures.value) (c.values.ensures.ended words) in
+    subst (λ (job : Job). IsJobEnding device call c.args.disk c.unopened.result.disk (Some (job_view job)) c.unopened.result.report) (sym c.in-Values.is)
+    (values_job_ended device call c.args.disk c.unopened.result.disk (words_of c.in-Values.words) c.err.result c.unopened.result.report c.unopened.ensures.disk c.unopened.ensures.report ended)
 
 pub returns-in-Values-clause-disk_fault : goal.returns-in-Values-clause-disk_fault
 returns-in-Values-clause-disk_fault g c = λ is.
     let call = call_of [] (g.I.Inputs.files c.args.inputs.now) (g.C.Clock.next c.args.clock.now) (g.I.Inputs.faults c.args.inputs.now) (g.I.Inputs.faults c.values.new.inputs)
     (g.K.Sink.written c.args.sink.now) (g.K.Sink.written c.values.new.sink) (g.K.Sink.faults c.args.sink.now) (g.K.Sink.faults c.values.new.sink) in
-    let ended = subst (IsValuesEnding call (words_of c.in-Values.words)) (sym c.err-in-Values.ensures.value) (c.values.ensures.ended []) in
-    absurd (values_disk call (words_of c.in-Values.words) c.err-in-Values.result c.unopened-in-Values.result.report c.unopened-in-Values.ensures.report ended is)
+    let ended = subst (IsValuesEnding call (words_of c.in-Values.words)) (sym c.err.ensures.value) (c.values.ensures.ended []) in
+    absurd (values_disk call (words_of c.in-Values.words) c.err.result c.unopened.result.report c.unopened.ensures.report ended is)
 
 pub returns-in-Load-clause-caused : goal.returns-in-Load-clause-caused
 returns-in-Load-clause-caused g c = λ words.
@@ -67,24 +51,14 @@ returns-in-Load-clause-order g c =
     subst (λ (job : Job). IsInOrder (g.I.Inputs.files c.args.inputs.now) (Some (job_view job)) (g.I.Inputs.given c.args.inputs.now) (g.I.Inputs.given c.load.new.inputs) c.args.disk
     c.load.result.disk c.load.result.report) (sym c.in-Load.is) c.load.ensures.order
 
-pub returns-in-Scan-clause-order : goal.returns-in-Scan-clause-order
-returns-in-Scan-clause-order g c =
-    let files = g.I.Inputs.files c.args.inputs.now in
-    let given = g.I.Inputs.given c.args.inputs.now in
-    let given' = g.I.Inputs.given c.scan.new.inputs in
-    let ending = c.unopened.result.report.refusal in
-    let is : ending ≡ result_err c.scan.result = ap (λ (r : Report). r.refusal) c.unopened.ensures.report ∙ c.err.ensures.value in
-    subst (λ (job : Job). IsInOrder files (Some (job_view job)) given given' c.args.disk c.unopened.result.disk c.unopened.result.report) (sym c.in-Scan.is)
-    (subst (λ (o : Option Refusal). AreInOrder files (scan_inputs c.in-Scan.dump.now) given given' o) (sym is) c.scan.ensures.order)
-
 pub returns-in-Values-clause-order : goal.returns-in-Values-clause-order
 returns-in-Values-clause-order g c =
     let files = g.I.Inputs.files c.args.inputs.now in
     let given = g.I.Inputs.given c.args.inputs.now in
     let given' = g.I.Inputs.given c.values.new.inputs in
-    let ending = c.unopened-in-Values.result.report.refusal in
-    let is : ending ≡ result_err c.values.result = ap (λ (r : Report). r.refusal) c.unopened-in-Values.ensures.report ∙ c.err-in-Values.ensures.value in
-    subst (λ (job : Job). IsInOrder files (Some (job_view job)) given given' c.args.disk c.unopened-in-Values.result.disk c.unopened-in-Values.result.report) (sym c.in-Values.is)
+    let ending = c.unopened.result.report.refusal in
+    let is : ending ≡ result_err c.values.result = ap (λ (r : Report). r.refusal) c.unopened.ensures.report ∙ c.err.ensures.value in
+    subst (λ (job : Job). IsInOrder files (Some (job_view job)) given given' c.args.disk c.unopened.result.disk c.unopened.result.report) (sym c.in-Values.is)
     (subst (λ (o : Option Refusal). AreInOrder files (values_inputs (words_of c.in-Values.words)) given given' o) (sym is) c.values.ensures.order)
 
 -- before a source was given
@@ -94,21 +68,12 @@ returns-in-Load-clause-unasked g c =
     subst (λ (job : Job). IsUnasked (Some (job_view job)) (g.I.Inputs.given c.args.inputs.now) (g.I.Inputs.given c.load.new.inputs) c.args.disk c.load.result.disk) (sym c.in-Load.is)
     c.load.ensures.unasked
 
-pub returns-in-Scan-clause-unasked : goal.returns-in-Scan-clause-unasked
-returns-in-Scan-clause-unasked g c =
-    subst (λ (job : Job). IsUnasked (Some (job_view job)) (g.I.Inputs.given c.args.inputs.now) (g.I.Inputs.given c.scan.new.inputs) c.args.disk c.unopened.result.disk) (sym c.in-Scan.is)
-    (λ below same. c.unopened.ensures.disk)
-
 pub returns-in-Values-clause-unasked : goal.returns-in-Values-clause-unasked
 returns-in-Values-clause-unasked g c =
-    subst (λ (job : Job). IsUnasked (Some (job_view job)) (g.I.Inputs.given c.args.inputs.now) (g.I.Inputs.given c.values.new.inputs) c.args.disk c.unopened-in-Values.result.disk)
-    (sym c.in-Values.is) (λ below same. c.unopened-in-Values.ensures.disk)
+    subst (λ (job : Job). IsUnasked (Some (job_view job)) (g.I.Inputs.given c.args.inputs.now) (g.I.Inputs.given c.values.new.inputs) c.args.disk c.unopened.result.disk)
+    (sym c.in-Values.is) (λ below same. c.unopened.ensures.disk)
 
 -- how many sources were given
-
-pub returns-in-Scan-clause-gave : goal.returns-in-Scan-clause-gave
-returns-in-Scan-clause-gave g c =
-    subst (λ (job : Job). g.I.Inputs.given c.scan.new.inputs ≤ g.I.Inputs.given c.args.inputs.now + inputs_of (Some (job_view job))) (sym c.in-Scan.is) c.scan.ensures.gave
 
 pub returns-in-Values-clause-gave : goal.returns-in-Values-clause-gave
 returns-in-Values-clause-gave g c =
@@ -120,17 +85,11 @@ returns-in-Load-clause-gave g c =
 
 -- how many writes of the disk failed
 
-pub returns-in-Scan-clause-disk_writes : goal.returns-in-Scan-clause-disk_writes
-returns-in-Scan-clause-disk_writes g c =
-    let failed = g.D.Disk.device.failed_writes in
-    subst (λ (job : Job). DiskWritesCounted (Some (job_view job)) c.unopened.result.report (failed c.args.disk) (failed c.unopened.result.disk)) (sym c.in-Scan.is)
-    (ap (λ (d : g.row.D.Denot). g.D.Disk.device.failed_writes d) c.unopened.ensures.disk)
-
 pub returns-in-Values-clause-disk_writes : goal.returns-in-Values-clause-disk_writes
 returns-in-Values-clause-disk_writes g c =
     let failed = g.D.Disk.device.failed_writes in
-    subst (λ (job : Job). DiskWritesCounted (Some (job_view job)) c.unopened-in-Values.result.report (failed c.args.disk) (failed c.unopened-in-Values.result.disk)) (sym c.in-Values.is)
-    (ap (λ (d : g.row.D.Denot). g.D.Disk.device.failed_writes d) c.unopened-in-Values.ensures.disk)
+    subst (λ (job : Job). DiskWritesCounted (Some (job_view job)) c.unopened.result.report (failed c.args.disk) (failed c.unopened.result.disk)) (sym c.in-Values.is)
+    (ap (λ (d : g.row.D.Denot). g.D.Disk.device.failed_writes d) c.unopened.ensures.disk)
 
 pub returns-in-Load-clause-disk_writes : goal.returns-in-Load-clause-disk_writes
 returns-in-Load-clause-disk_writes g c =
@@ -643,3 +602,228 @@ returns-in-Query-clause-same g c = c.query.ensures.ran.inputs.files
 
 pub returns-in-Query-clause-closed : goal.returns-in-Query-clause-closed
 returns-in-Query-clause-closed g c = c.query.ensures.ran.inputs.closed
+
+-- `scan`: what its plan says
+
+pub returns-in-Scan-clause-ended : goal.returns-in-Scan-clause-ended
+returns-in-Scan-clause-ended g c = λ given.
+    let device = g.D.Disk.device in
+    let r = c.scan.result in
+    let files = g.I.Inputs.files c.args.inputs.now in
+    let next = g.C.Clock.next c.args.clock.now in
+    let name = c.in-Scan.dump.now in
+    let state = λ (i : g.row.I.Denot). inputs_state (g.I.Inputs.files i) (g.I.Inputs.open_sources i) (g.I.Inputs.given i) (g.I.Inputs.faults i) (g.I.Inputs.never_fails i) in
+    let a = state c.args.inputs.now in
+    let b = state c.scan.new.inputs in
+    let output = output_state (g.K.Sink.written c.args.sink.now) (g.K.Sink.faults c.args.sink.now) in
+    let output' = output_state (g.K.Sink.written c.scan.new.sink) (g.K.Sink.faults c.scan.new.sink) in
+    let went = effects_of c.args.disk r.disk output output' r.report in
+    let call = call_of given files next a.faults b.faults output.written output'.written output.faults output'.faults in
+    subst (λ (job : Job). IsJobEnding device call c.args.disk r.disk (Some (job_view job)) r.report) (sym c.in-Scan.is) ((scan_same device went files next name a b c.scan.ensures.ran, scan_plan_ended device went files next name a b c.scan.ensures.ran given))
+
+pub returns-in-Scan-clause-report : goal.returns-in-Scan-clause-report
+returns-in-Scan-clause-report g c =
+    let device = g.D.Disk.device in
+    let r = c.scan.result in
+    let files = g.I.Inputs.files c.args.inputs.now in
+    let next = g.C.Clock.next c.args.clock.now in
+    let name = c.in-Scan.dump.now in
+    let state = λ (i : g.row.I.Denot). inputs_state (g.I.Inputs.files i) (g.I.Inputs.open_sources i) (g.I.Inputs.given i) (g.I.Inputs.faults i) (g.I.Inputs.never_fails i) in
+    let a = state c.args.inputs.now in
+    let b = state c.scan.new.inputs in
+    let output = output_state (g.K.Sink.written c.args.sink.now) (g.K.Sink.faults c.args.sink.now) in
+    let output' = output_state (g.K.Sink.written c.scan.new.sink) (g.K.Sink.faults c.scan.new.sink) in
+    let went = effects_of c.args.disk r.disk output output' r.report in
+    subst (λ (job : Job). IsReport (Some (job_view job)) r.report) (sym c.in-Scan.is) (scan_report device went files next name a b c.scan.ensures.ran)
+
+pub returns-in-Scan-clause-order : goal.returns-in-Scan-clause-order
+returns-in-Scan-clause-order g c =
+    let device = g.D.Disk.device in
+    let r = c.scan.result in
+    let files = g.I.Inputs.files c.args.inputs.now in
+    let next = g.C.Clock.next c.args.clock.now in
+    let name = c.in-Scan.dump.now in
+    let state = λ (i : g.row.I.Denot). inputs_state (g.I.Inputs.files i) (g.I.Inputs.open_sources i) (g.I.Inputs.given i) (g.I.Inputs.faults i) (g.I.Inputs.never_fails i) in
+    let a = state c.args.inputs.now in
+    let b = state c.scan.new.inputs in
+    let output = output_state (g.K.Sink.written c.args.sink.now) (g.K.Sink.faults c.args.sink.now) in
+    let output' = output_state (g.K.Sink.written c.scan.new.sink) (g.K.Sink.faults c.scan.new.sink) in
+    let went = effects_of c.args.disk r.disk output output' r.report in
+    subst (λ (job : Job). IsInOrder files (Some (job_view job)) a.given b.given c.args.disk r.disk r.report) (sym c.in-Scan.is) (scan_order device went files next name a b c.scan.ensures.ran)
+
+pub returns-in-Scan-clause-later : goal.returns-in-Scan-clause-later
+returns-in-Scan-clause-later g c =
+    let device = g.D.Disk.device in
+    let r = c.scan.result in
+    let files = g.I.Inputs.files c.args.inputs.now in
+    let next = g.C.Clock.next c.args.clock.now in
+    let name = c.in-Scan.dump.now in
+    let state = λ (i : g.row.I.Denot). inputs_state (g.I.Inputs.files i) (g.I.Inputs.open_sources i) (g.I.Inputs.given i) (g.I.Inputs.faults i) (g.I.Inputs.never_fails i) in
+    let a = state c.args.inputs.now in
+    let b = state c.scan.new.inputs in
+    let output = output_state (g.K.Sink.written c.args.sink.now) (g.K.Sink.faults c.args.sink.now) in
+    let output' = output_state (g.K.Sink.written c.scan.new.sink) (g.K.Sink.faults c.scan.new.sink) in
+    let went = effects_of c.args.disk r.disk output output' r.report in
+    scan_later device went files next name a b c.scan.ensures.ran
+
+pub returns-in-Scan-clause-writes_later : goal.returns-in-Scan-clause-writes_later
+returns-in-Scan-clause-writes_later g c =
+    let device = g.D.Disk.device in
+    let r = c.scan.result in
+    let files = g.I.Inputs.files c.args.inputs.now in
+    let next = g.C.Clock.next c.args.clock.now in
+    let name = c.in-Scan.dump.now in
+    let state = λ (i : g.row.I.Denot). inputs_state (g.I.Inputs.files i) (g.I.Inputs.open_sources i) (g.I.Inputs.given i) (g.I.Inputs.faults i) (g.I.Inputs.never_fails i) in
+    let a = state c.args.inputs.now in
+    let b = state c.scan.new.inputs in
+    let output = output_state (g.K.Sink.written c.args.sink.now) (g.K.Sink.faults c.args.sink.now) in
+    let output' = output_state (g.K.Sink.written c.scan.new.sink) (g.K.Sink.faults c.scan.new.sink) in
+    let went = effects_of c.args.disk r.disk output output' r.report in
+    scan_writes_later device went files next name a b c.scan.ensures.ran
+
+pub returns-in-Scan-clause-reads_counted : goal.returns-in-Scan-clause-reads_counted
+returns-in-Scan-clause-reads_counted g c =
+    let device = g.D.Disk.device in
+    let r = c.scan.result in
+    let files = g.I.Inputs.files c.args.inputs.now in
+    let next = g.C.Clock.next c.args.clock.now in
+    let name = c.in-Scan.dump.now in
+    let state = λ (i : g.row.I.Denot). inputs_state (g.I.Inputs.files i) (g.I.Inputs.open_sources i) (g.I.Inputs.given i) (g.I.Inputs.faults i) (g.I.Inputs.never_fails i) in
+    let a = state c.args.inputs.now in
+    let b = state c.scan.new.inputs in
+    let output = output_state (g.K.Sink.written c.args.sink.now) (g.K.Sink.faults c.args.sink.now) in
+    let output' = output_state (g.K.Sink.written c.scan.new.sink) (g.K.Sink.faults c.scan.new.sink) in
+    let went = effects_of c.args.disk r.disk output output' r.report in
+    scan_reads_counted device went files next name a b c.scan.ensures.ran
+
+pub returns-in-Scan-clause-writes_counted : goal.returns-in-Scan-clause-writes_counted
+returns-in-Scan-clause-writes_counted g c =
+    let device = g.D.Disk.device in
+    let r = c.scan.result in
+    let files = g.I.Inputs.files c.args.inputs.now in
+    let next = g.C.Clock.next c.args.clock.now in
+    let name = c.in-Scan.dump.now in
+    let state = λ (i : g.row.I.Denot). inputs_state (g.I.Inputs.files i) (g.I.Inputs.open_sources i) (g.I.Inputs.given i) (g.I.Inputs.faults i) (g.I.Inputs.never_fails i) in
+    let a = state c.args.inputs.now in
+    let b = state c.scan.new.inputs in
+    let output = output_state (g.K.Sink.written c.args.sink.now) (g.K.Sink.faults c.args.sink.now) in
+    let output' = output_state (g.K.Sink.written c.scan.new.sink) (g.K.Sink.faults c.scan.new.sink) in
+    let went = effects_of c.args.disk r.disk output output' r.report in
+    scan_writes_counted device went files next name a b c.scan.ensures.ran
+
+pub returns-in-Scan-clause-reliable : goal.returns-in-Scan-clause-reliable
+returns-in-Scan-clause-reliable g c = λ sure.
+    (c.scan.ensures.ran.inputs.reliable sure).1
+
+pub returns-in-Scan-clause-disk_later : goal.returns-in-Scan-clause-disk_later
+returns-in-Scan-clause-disk_later g c =
+    let device = g.D.Disk.device in
+    let r = c.scan.result in
+    let files = g.I.Inputs.files c.args.inputs.now in
+    let next = g.C.Clock.next c.args.clock.now in
+    let name = c.in-Scan.dump.now in
+    let state = λ (i : g.row.I.Denot). inputs_state (g.I.Inputs.files i) (g.I.Inputs.open_sources i) (g.I.Inputs.given i) (g.I.Inputs.faults i) (g.I.Inputs.never_fails i) in
+    let a = state c.args.inputs.now in
+    let b = state c.scan.new.inputs in
+    let output = output_state (g.K.Sink.written c.args.sink.now) (g.K.Sink.faults c.args.sink.now) in
+    let output' = output_state (g.K.Sink.written c.scan.new.sink) (g.K.Sink.faults c.scan.new.sink) in
+    let went = effects_of c.args.disk r.disk output output' r.report in
+    let same = ap (λ (d : g.row.D.Denot). device.fault_count d) (scan_same device went files next name a b c.scan.ensures.ran) in omega (arith, same)
+
+pub returns-in-Scan-clause-disk_fault : goal.returns-in-Scan-clause-disk_fault
+returns-in-Scan-clause-disk_fault g c = λ is.
+    let device = g.D.Disk.device in
+    let r = c.scan.result in
+    let files = g.I.Inputs.files c.args.inputs.now in
+    let next = g.C.Clock.next c.args.clock.now in
+    let name = c.in-Scan.dump.now in
+    let state = λ (i : g.row.I.Denot). inputs_state (g.I.Inputs.files i) (g.I.Inputs.open_sources i) (g.I.Inputs.given i) (g.I.Inputs.faults i) (g.I.Inputs.never_fails i) in
+    let a = state c.args.inputs.now in
+    let b = state c.scan.new.inputs in
+    let output = output_state (g.K.Sink.written c.args.sink.now) (g.K.Sink.faults c.args.sink.now) in
+    let output' = output_state (g.K.Sink.written c.scan.new.sink) (g.K.Sink.faults c.scan.new.sink) in
+    let went = effects_of c.args.disk r.disk output output' r.report in
+    absurd (scan_disk_fault device went files next name a b c.scan.ensures.ran is)
+
+pub returns-in-Scan-clause-disk_writes : goal.returns-in-Scan-clause-disk_writes
+returns-in-Scan-clause-disk_writes g c =
+    let device = g.D.Disk.device in
+    let r = c.scan.result in
+    let files = g.I.Inputs.files c.args.inputs.now in
+    let next = g.C.Clock.next c.args.clock.now in
+    let name = c.in-Scan.dump.now in
+    let state = λ (i : g.row.I.Denot). inputs_state (g.I.Inputs.files i) (g.I.Inputs.open_sources i) (g.I.Inputs.given i) (g.I.Inputs.faults i) (g.I.Inputs.never_fails i) in
+    let a = state c.args.inputs.now in
+    let b = state c.scan.new.inputs in
+    let output = output_state (g.K.Sink.written c.args.sink.now) (g.K.Sink.faults c.args.sink.now) in
+    let output' = output_state (g.K.Sink.written c.scan.new.sink) (g.K.Sink.faults c.scan.new.sink) in
+    let went = effects_of c.args.disk r.disk output output' r.report in
+    subst (λ (job : Job). DiskWritesCounted (Some (job_view job)) r.report (device.failed_writes c.args.disk) (device.failed_writes r.disk)) (sym c.in-Scan.is) (ap (λ (d : g.row.D.Denot). device.failed_writes d) (scan_same device went files next name a b c.scan.ensures.ran))
+
+pub returns-in-Scan-clause-handed_back : goal.returns-in-Scan-clause-handed_back
+returns-in-Scan-clause-handed_back g c =
+    let device = g.D.Disk.device in
+    let r = c.scan.result in
+    let files = g.I.Inputs.files c.args.inputs.now in
+    let next = g.C.Clock.next c.args.clock.now in
+    let name = c.in-Scan.dump.now in
+    let state = λ (i : g.row.I.Denot). inputs_state (g.I.Inputs.files i) (g.I.Inputs.open_sources i) (g.I.Inputs.given i) (g.I.Inputs.faults i) (g.I.Inputs.never_fails i) in
+    let a = state c.args.inputs.now in
+    let b = state c.scan.new.inputs in
+    let output = output_state (g.K.Sink.written c.args.sink.now) (g.K.Sink.faults c.args.sink.now) in
+    let output' = output_state (g.K.Sink.written c.scan.new.sink) (g.K.Sink.faults c.scan.new.sink) in
+    let went = effects_of c.args.disk r.disk output output' r.report in
+    subst (λ (job : Job). IsHandedBack (Some (job_view job)) c.args.disk r.disk r.report) (sym c.in-Scan.is) (scan_same device went files next name a b c.scan.ensures.ran)
+
+pub returns-in-Scan-clause-unasked : goal.returns-in-Scan-clause-unasked
+returns-in-Scan-clause-unasked g c =
+    let device = g.D.Disk.device in
+    let r = c.scan.result in
+    let files = g.I.Inputs.files c.args.inputs.now in
+    let next = g.C.Clock.next c.args.clock.now in
+    let name = c.in-Scan.dump.now in
+    let state = λ (i : g.row.I.Denot). inputs_state (g.I.Inputs.files i) (g.I.Inputs.open_sources i) (g.I.Inputs.given i) (g.I.Inputs.faults i) (g.I.Inputs.never_fails i) in
+    let a = state c.args.inputs.now in
+    let b = state c.scan.new.inputs in
+    let output = output_state (g.K.Sink.written c.args.sink.now) (g.K.Sink.faults c.args.sink.now) in
+    let output' = output_state (g.K.Sink.written c.scan.new.sink) (g.K.Sink.faults c.scan.new.sink) in
+    let went = effects_of c.args.disk r.disk output output' r.report in
+    let same = scan_same device went files next name a b c.scan.ensures.ran in
+    subst (λ (job : Job). IsUnasked (Some (job_view job)) a.given b.given c.args.disk r.disk) (sym c.in-Scan.is) (λ below gave. same)
+
+pub returns-in-Scan-clause-gave : goal.returns-in-Scan-clause-gave
+returns-in-Scan-clause-gave g c =
+    let device = g.D.Disk.device in
+    let r = c.scan.result in
+    let files = g.I.Inputs.files c.args.inputs.now in
+    let next = g.C.Clock.next c.args.clock.now in
+    let name = c.in-Scan.dump.now in
+    let state = λ (i : g.row.I.Denot). inputs_state (g.I.Inputs.files i) (g.I.Inputs.open_sources i) (g.I.Inputs.given i) (g.I.Inputs.faults i) (g.I.Inputs.never_fails i) in
+    let a = state c.args.inputs.now in
+    let b = state c.scan.new.inputs in
+    let output = output_state (g.K.Sink.written c.args.sink.now) (g.K.Sink.faults c.args.sink.now) in
+    let output' = output_state (g.K.Sink.written c.scan.new.sink) (g.K.Sink.faults c.scan.new.sink) in
+    let went = effects_of c.args.disk r.disk output output' r.report in
+    subst (λ (job : Job). b.given ≤ a.given + inputs_of (Some (job_view job))) (sym c.in-Scan.is) (scan_gave device went files next name a b c.scan.ensures.ran)
+
+pub returns-in-Scan-clause-caused : goal.returns-in-Scan-clause-caused
+returns-in-Scan-clause-caused g c = λ given.
+    let device = g.D.Disk.device in
+    let r = c.scan.result in
+    let files = g.I.Inputs.files c.args.inputs.now in
+    let next = g.C.Clock.next c.args.clock.now in
+    let name = c.in-Scan.dump.now in
+    let state = λ (i : g.row.I.Denot). inputs_state (g.I.Inputs.files i) (g.I.Inputs.open_sources i) (g.I.Inputs.given i) (g.I.Inputs.faults i) (g.I.Inputs.never_fails i) in
+    let a = state c.args.inputs.now in
+    let b = state c.scan.new.inputs in
+    let output = output_state (g.K.Sink.written c.args.sink.now) (g.K.Sink.faults c.args.sink.now) in
+    let output' = output_state (g.K.Sink.written c.scan.new.sink) (g.K.Sink.faults c.scan.new.sink) in
+    let went = effects_of c.args.disk r.disk output output' r.report in
+    let call = call_of given files next a.faults b.faults output.written output'.written output.faults output'.faults in
+    subst (λ (job : Job). IsCaused call (Some (job_view job)) r.report.refusal) (sym c.in-Scan.is) (tt)
+
+pub returns-in-Scan-clause-same : goal.returns-in-Scan-clause-same
+returns-in-Scan-clause-same g c = c.scan.ensures.ran.inputs.files
+
+pub returns-in-Scan-clause-closed : goal.returns-in-Scan-clause-closed
+returns-in-Scan-clause-closed g c = c.scan.ensures.ran.inputs.closed
