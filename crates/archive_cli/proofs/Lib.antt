@@ -35,6 +35,7 @@ pub mod Closing
 pub mod Sessions
 pub mod LoadPlan
 pub mod LoadEnds
+pub mod LoadCases
 pub mod NotLoaded
 pub mod Caused
 pub mod HandedBack
