@@ -1,5 +1,5 @@
 -- What was said of `load` by cases follows from the way of its plan.
-use Rattle.std.proofs.Common.{◌≡◌, ◌⊎◌, ◌≤◌, ◌<◌, ◌+◌, ◌∙◌, inl, inr, ℕ, ℤ, Bool, false, true, List, [], ◌-◌, length, take, Option, Some, None, refl, sym, ap, subst, arith, length-append}
+use Rattle.std.proofs.Common.{◌≡◌, ◌⊎◌, ◌≤◌, ◌<◌, ◌+◌, ◌∙◌, inl, inr, ℕ, zero, suc, ℤ, Bool, false, true, List, [], ◌-◌, length, take, Option, Some, None, refl, sym, ap, subst, arith, length-append}
 use Rattle.std.specs.Prelude.{IfSome, IsSomeAnd, IsTrue}
 use Rattle.std.specs.FinMap.{get}
 use Rattle.std.proofs.lemmas.Bool.{false≢true}
@@ -272,16 +272,16 @@ module _ {D : Type 0} (device : Device D) (e : Effects D) (files : Option Files)
     session_ended is (Some (BadPacket at kind)) h = (record { whole = whole_of (h.4.1 is) h.0; silent = h.2; report_is = h.3 }, h.1)
     session_ended is (Some DiskFault) h = (h.3.0.faults, inr (failed_of (h.3.1 is) h.1 h.2))
     session_ended is (Some OutOfMemory) h = inr (inr (refused_of OutOfMemory (h.3.1 is) h.1 h.2))
-    session_ended is (Some (Limit DumpOctets number)) h = absurd (cause (Some (Limit DumpOctets number)) h.0).3
-    session_ended is (Some (Limit Links number)) h = absurd (cause (Some (Limit Links number)) h.0).3
+    session_ended is (Some (Limit DumpOctets number)) h = absurd (cause (Some (Limit DumpOctets number)) h.0).1.2
+    session_ended is (Some (Limit Links number)) h = absurd (cause (Some (Limit Links number)) h.0).1.2
     session_ended is (Some (Limit which number)) h =
         let c = cause (Some (Limit which number)) h.0 in
         record {
           refused = refused_of (Limit which number) (h.3.1 is) h.1 h.2;
-          records = c.1;
-          few = c.2 is;
+          records = c.1.0;
+          few = c.1.1 is;
           number_is = c.0;
-          passed = subst (λ (l : List Row). IsLimit 22 which c.1 (ingested w.s.reached l)) (rows_same (h.3.1 is).stands (batch_at w.s.place w.s.packets)) c.3;
+          passed = subst (λ (l : List Row). IsLimit 22 which c.1.0 (ingested w.s.reached l)) (rows_same (h.3.1 is).stands (batch_at w.s.place w.s.packets)) c.1.2;
         }
     session_ended is (Some other) h = absurd (cause (Some other) h.0)
 
@@ -295,7 +295,7 @@ module _ {D : Type 0} (device : Device D) (e : Effects D) (files : Option Files)
     session_caused there (Some (Limit HistoryOctets number)) h = (cause (Some (Limit HistoryOctets number)) h.0).0
     session_caused there (Some (Limit IntervalRows number)) h = (cause (Some (Limit IntervalRows number)) h.0).0
     session_caused there (Some (Limit Records number)) h = (cause (Some (Limit Records number)) h.0).0
-    session_caused there (Some (Limit which number)) h = absurd (cause (Some (Limit which number)) h.0).3
+    session_caused there (Some (Limit which number)) h = absurd (cause (Some (Limit which number)) h.0).1.2
     session_caused there (Some other) h = absurd (cause (Some other) h.0)
 
     session_report : (refusal : Option Refusal) → Came refusal → IsLoadReport words refusal e.report
@@ -304,7 +304,7 @@ module _ {D : Type 0} (device : Device D) (e : Effects D) (files : Option Files)
     session_report (Some (BadPacket at kind)) h = (length w.archive.history, length w.s.reached, grown, h.3)
     session_report (Some DiskFault) h = inr (length w.archive.history, length w.s.reached, grown, h.2)
     session_report (Some OutOfMemory) h = inr (length w.archive.history, length w.s.reached, grown, h.2)
-    session_report (Some (Limit DumpOctets number)) h = absurd (cause (Some (Limit DumpOctets number)) h.0).3
+    session_report (Some (Limit DumpOctets number)) h = absurd (cause (Some (Limit DumpOctets number)) h.0).1.2
     session_report (Some (Limit which number)) h = inr (length w.archive.history, length w.s.reached, grown, h.2)
     session_report (Some other) h = absurd (cause (Some other) h.0)
 
@@ -343,10 +343,10 @@ module _ {D : Type 0} (device : Device D) (e : Effects D) (files : Option Files)
     session_disk_fault (Some other) h is = absurd (cc (is))
 
     one_or_two : (n before now : ℕ) → 1 ≤ n → n ≤ 2 → now ≡ raised_by n before → OneOrTwo (Some DiskFault) before now
-    one_or_two 0 before now least most is = absurd (omega (arith, least))
-    one_or_two 1 before now least most is = inl is
-    one_or_two 2 before now least most is = inr is
-    one_or_two n before now least most is = absurd (omega (arith, most))
+    one_or_two zero before now least most is = absurd (omega (arith, least))
+    one_or_two (suc zero) before now least most is = inl is
+    one_or_two (suc (suc zero)) before now least most is = inr is
+    one_or_two (suc (suc (suc n))) before now least most is = absurd (omega (arith, most))
 
     session_disk_writes : (refusal : Option Refusal) → Came refusal → OneOrTwo refusal (device.failed_writes e.disk) (device.failed_writes e.disk')
     session_disk_writes None h = no_failed_write device e.disk e.disk' false h.4.0
@@ -392,19 +392,19 @@ module _ {D : Type 0} (device : Device D) (e : Effects D) (files : Option Files)
     ]
   ]
 
-  by : {P : Option Refusal → Type 0} (w : WasIngested device e files next words a b) → P w.refusal → P e.report.refusal
-  by {P = P} w h = subst P (sym w.refusal_is) h
+  by : (P : Option Refusal → Type 0) (w : WasIngested device e files next words a b) → P w.refusal → P e.report.refusal
+  by P w h = subst P (sym w.refusal_is) h
 
   -- for each answer its cause, what was written and what became of the disk
   pub load_ended : (given : List (List ℕ)) → IsTrue device.is_transparent → IsLoadEnding device (call device e files next words a b given) words e.disk e.disk' e.report.refusal e.report
   load_ended given is = ends (λ (r : Report). IsLoadEnding device (call device e files next words a b given) words e.disk e.disk' r.refusal r)
       (λ refusal n failed h back. subst (λ (d : D). IsLoadEnding device (call device e files next words a b given) words e.disk d (Some refusal) (unopened (Some refusal))) (sym back.disk)
-        (unfound_cases device e files next words a b given refusal n failed back.inputs back.silent refusal h))
+      (unfound_cases device e files next words a b given refusal n failed back.inputs back.silent refusal h))
       (λ there n used. load_unopened device (call device e files next words a b given) words n.silent e.disk e.disk' n.refusal (unopened (Some n.refusal)) refl there
-        (opening_cause device e.disk e.disk' n.refusal is n.refused) (n.disk is))
+      (opening_cause device e.disk e.disk' n.refusal is n.refused) (n.disk is))
       (λ there u. unread_cases device e files next words a b given there u is u.refusal refl u.cause)
       (λ there w. subst (λ (o : Option Refusal). IsLoadEnding device (call device e files next words a b given) words e.disk e.disk' o e.report) (sym w.refusal_is)
-        (session_ended device e files next words a b given w is w.refusal w.came))
+      (session_ended device e files next words a b given w is w.refusal w.came))
 
   -- the causes that words and inputs give, on any disk
   pub load_caused : (given : List (List ℕ)) → IsLoadCaused (call device e files next words a b given) words e.report.refusal
@@ -412,7 +412,7 @@ module _ {D : Type 0} (device : Device D) (e : Effects D) (files : Option Files)
       (λ refusal n failed h back. unfound_caused device e files next words a b given refusal n failed back.inputs refusal h)
       (λ there n used. unopened_caused device e files next words a b given there n.refusal n.refused)
       (λ there u. unread_caused device e files next words a b given there u u.refusal u.cause)
-      (λ there w. by {P = IsLoadCaused (call device e files next words a b given) words} w (session_caused device e files next words a b given w there w.refusal w.came))
+      (λ there w. by (IsLoadCaused (call device e files next words a b given) words) w (session_caused device e files next words a b given w there w.refusal w.came))
 
   pub load_report : IsLoadReport words e.report.refusal e.report
   load_report = ends (λ (r : Report). IsLoadReport words r.refusal r)
@@ -425,16 +425,16 @@ module _ {D : Type 0} (device : Device D) (e : Effects D) (files : Option Files)
   pub load_order : IsLoadFault a.given b.given e.disk e.disk' e.report e.report.refusal
   load_order = ends (λ (r : Report). IsLoadFault a.given b.given e.disk e.disk' r r.refusal)
       (λ refusal n failed h back. undumped_fault a.given b.given e.disk e.disk' (unopened (Some refusal)) refusal
-        (gave_so a b n failed back.inputs 0 (unfound_none device e files next words a b [] refusal n failed back.inputs refusal h)) back.disk refl)
+      (gave_so a b n failed back.inputs 0 (unfound_none device e files next words a b [] refusal n failed back.inputs refusal h)) back.disk refl)
       (λ there n used. unopened_order device e files next words a b [] there n.refusal n.refused)
       (λ there u. unread_fault a.given b.given e.disk e.disk' (record (read_only (Some u.refusal) (length u.archive.history)) { link = u.link }) u.refusal (length u.archive.history) u.link
-        u.inputs.gave refl)
+      u.inputs.gave refl)
       (λ there w. subst (λ (o : Option Refusal). IsLoadFault a.given b.given e.disk e.disk' e.report o) (sym w.refusal_is) (session_order device e files next words a b [] w w.refusal w.came))
 
   pub load_gave : b.given ≤ a.given + 1
   load_gave = ends (λ (r : Report). b.given ≤ a.given + 1)
       (λ refusal n failed h back.
-        let none = unfound_none device e files next words a b [] refusal n failed back.inputs refusal h in let most = gave_few a b n failed back.inputs in omega (arith, none, most))
+      let none = unfound_none device e files next words a b [] refusal n failed back.inputs refusal h in let most = gave_few a b n failed back.inputs in omega (arith, none, most))
       (λ there n used. gave_few a b 1 false used)
       (λ there u. gave_few a b 1 u.failed u.inputs)
       (λ there w. gave_few a b 1 false w.inputs)
@@ -451,7 +451,7 @@ module _ {D : Type 0} (device : Device D) (e : Effects D) (files : Option Files)
       (λ refusal n failed h back. load_same e.disk e.disk' false (Some refusal) back.disk)
       (λ there n used. unopened_back device e files next words a b [] there n.refusal n.refused)
       (λ there u. unread_back device e files next words a b [] there u u.refusal u.cause)
-      (λ there w. by {P = IsLoadBack e.disk e.disk' e.report.opened} w (session_back device e files next words a b [] w w.refusal w.came e.report.opened))
+      (λ there w. by (IsLoadBack e.disk e.disk' e.report.opened) w (session_back device e files next words a b [] w w.refusal w.came e.report.opened))
 
   -- counts of the inputs, of the output and of the disk
   pub load_later : a.faults ≤ b.faults
@@ -462,14 +462,14 @@ module _ {D : Type 0} (device : Device D) (e : Effects D) (files : Option Files)
       (λ refusal n failed h back. unfound_reads device e files next words a b [] refusal n failed back.inputs refusal h)
       (λ there n used. subst (λ (now : ℕ). ReadsCounted (Some n.refusal) a.faults now) (sym used.counted) (open_reads device e.disk e.disk' n.refusal n.refused a.faults))
       (λ there u. unread_reads device e files next words a b [] there u u.refusal u.cause)
-      (λ there w. by {P = λ (o : Option Refusal). ReadsCounted o a.faults b.faults} w (session_reads device e files next words a b [] w w.refusal w.came))
+      (λ there w. by (λ (o : Option Refusal). ReadsCounted o a.faults b.faults) w (session_reads device e files next words a b [] w w.refusal w.came))
 
   pub load_writes_counted : WritesCounted e.report.refusal e.output.faults e.output'.faults
   load_writes_counted = ends (λ (r : Report). WritesCounted r.refusal e.output.faults e.output'.faults)
       (λ refusal n failed h back. unfound_writes device e files next words a b [] refusal n failed back.inputs refusal h back.faults)
       (λ there n used. subst (λ (now : ℕ). WritesCounted (Some n.refusal) e.output.faults now) (sym n.faults) (open_writes device e.disk e.disk' n.refusal n.refused e.output.faults))
       (λ there u. unread_writes device e files next words a b [] there u u.refusal u.cause)
-      (λ there w. by {P = λ (o : Option Refusal). WritesCounted o e.output.faults e.output'.faults} w (session_writes device e files next words a b [] w w.refusal w.came))
+      (λ there w. by (λ (o : Option Refusal). WritesCounted o e.output.faults e.output'.faults) w (session_writes device e files next words a b [] w w.refusal w.came))
 
   pub load_writes_later : e.output.faults ≤ e.output'.faults
   load_writes_later = ends (λ (r : Report). e.output.faults ≤ e.output'.faults)
@@ -495,10 +495,10 @@ module _ {D : Type 0} (device : Device D) (e : Effects D) (files : Option Files)
   pub load_disk_writes : IsLoadWrites e.report.opened e.report.refusal (device.failed_writes e.disk) (device.failed_writes e.disk')
   load_disk_writes = ends (λ (r : Report). IsLoadWrites r.opened r.refusal (device.failed_writes e.disk) (device.failed_writes e.disk'))
       (λ refusal n failed h back. load_unopened_writes refusal (unopened (Some refusal)) (device.failed_writes e.disk) (device.failed_writes e.disk') refl
-        (inl (ap (λ (d : D). device.failed_writes d) back.disk)))
+      (inl (ap (λ (d : D). device.failed_writes d) back.disk)))
       (λ there n used. load_unopened_writes n.refusal (unopened (Some n.refusal)) (device.failed_writes e.disk) (device.failed_writes e.disk') refl
-        (open_counted device e.disk e.disk' n.refusal n.refused))
+      (open_counted device e.disk e.disk' n.refusal n.refused))
       (λ there u. unread_disk_writes device e files next words a b [] there u u.refusal u.cause)
       (λ there w. subst (λ (o : Bool). IsLoadWrites o e.report.refusal (device.failed_writes e.disk) (device.failed_writes e.disk'))
-        (sym (session_opened device e files next words a b [] w w.refusal w.came))
-        (by {P = λ (o : Option Refusal). OneOrTwo o (device.failed_writes e.disk) (device.failed_writes e.disk')} w (session_disk_writes device e files next words a b [] w w.refusal w.came)))
+      (sym (session_opened device e files next words a b [] w w.refusal w.came))
+      (by (λ (o : Option Refusal). OneOrTwo o (device.failed_writes e.disk) (device.failed_writes e.disk')) w (session_disk_writes device e files next words a b [] w w.refusal w.came)))

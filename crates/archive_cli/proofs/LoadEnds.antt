@@ -259,9 +259,11 @@ module _ {D : Type 0} (device : Device D) (e : Effects D) (files : Option Files)
               let here : HasEffects device e (Stopped (history_extended archive (Some words.link) s) (Some refusal)) = subst (HasEffects device e) goes did.0 in
               let bad = bad_rest dump s.rest s.packets session.parts refusal is in
               let report : e.report ≡ loaded (Some (BadPacket bad.0 bad.1)) (Some words.link) (length archive.history) (length s.reached) 0 0 0 =
-              here.report ∙ ap (λ (r : Refusal). loaded (Some r) (Some words.link) (length archive.history) (length s.reached) 0 0 0) bad.2 in
-              (Some (BadPacket bad.0 bad.1), ap (λ (r : Report). r.refusal) report,
-                (all, bad.3, silent_all e.output.written e.output'.written here.printed, report, here.disk, here.output.counted))
+              here.report ∙ ap (λ (r : Refusal). loaded (Some r) (Some words.link) (length archive.history) (length s.reached) 0 0 0) bad.2 in (
+                Some (BadPacket bad.0 bad.1),
+                ap (λ (r : Report). r.refusal) report,
+                (all, bad.3, silent_all e.output.written e.output'.written here.printed, report, here.disk, here.output.counted),
+              )
 
           session_end : (o : Option Refusal) → s.refusal ≡ o → Allows (after_session archive dump words.link moment s o) way → Ends
           session_end None is goes = packets_end is (ending_of_rest dump s.rest) refl goes

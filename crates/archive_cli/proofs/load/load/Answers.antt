@@ -11,7 +11,6 @@ use Rattle.archive_cli.specs.Loading.{IsLoadRun}
 use Rattle.archive_cli.proofs.Commands.{is_due_over}
 use Rattle.archive_cli.proofs.Counted.{reads_closed}
 use Rattle.archive_cli.proofs.During.{opened_store}
-use Rattle.archive_cli.proofs.LoadCases.{load_ended}
 use Rattle.archive_cli.proofs.LoadPlan.{closed_again, load_determined, load_received, load_unarchived, load_unread, no_room, ran_unfound}
 use Rattle.archive_cli.proofs.NotLoaded.{gives_input, gives_there}
 use Rattle.archive_cli.proofs.ReadOnly.{read_only_store}
@@ -54,7 +53,7 @@ returns-in-Err-open-clause-ran g c =
     let report = c.unopened-in-Err-open.result.report in
     let back = c.close.ensures in
     let used = closed_again (state c.args.inputs.now) (state c.open.new.self) (state c.close.new.self) source.same back.same source.opened back.closed source.gave back.gave_none
-        (λ sure. let one = source.reliable sure in let two = back.reliable one.0 source.fresh in (two.0, two.1 ∙ one.1)) false (back.kept source.fresh ∙ source.counted) in
+    (λ sure. let one = source.reliable sure in let two = back.reliable one.0 source.fresh in (two.0, two.1 ∙ one.1)) false (back.kept source.fresh ∙ source.counted) in
     subst (λ (d : g.row.D.Denot). RanOver device (load_plan device c.args.disk files next words) (effects_of c.args.disk d output output report) (state c.args.inputs.now) (state c.close.new.self))
     (sym c.unopened-in-Err-open.ensures.disk)
     (load_unarchived device (effects_of c.args.disk c.in-Err-open.disk output output report) files next words (state c.args.inputs.now) (state c.close.new.self)
@@ -75,10 +74,10 @@ returns-in-Err-received-clause-ran g c =
     let report = c.of-in-Err-received.result.report in
     let back = c.close-2.ensures in
     let used = closed_again (state c.args.inputs.now) (state c.open.new.self) (state c.close-2.new.self) source.same back.same source.opened back.closed source.gave back.gave_none
-        (λ sure. let one = source.reliable sure in
-        let two = back.reliable one.0 (c.read_dump-received.ensures.reliable (source.reliable_source sure) ∙ source.fresh) in (two.0, two.1 ∙ one.1)) in
+    (λ sure. let one = source.reliable sure in
+    let two = back.reliable one.0 (c.read_dump-received.ensures.reliable (source.reliable_source sure) ∙ source.fresh) in (two.0, two.1 ∙ one.1)) in
     let counted = reads_closed (Some unread.refusal) (g.I.Inputs.faults c.args.inputs.now) (g.I.Inputs.faults c.open.new.self) _ (g.I.Inputs.faults c.close-2.new.self) source.counted
-        (rw source.fresh at c.in-Err-received.ensures.counted) back.kept back.risen in
+    (rw source.fresh at c.in-Err-received.ensures.counted) back.kept back.risen in
     let one : g.I.Inputs.faults c.args.inputs.now ≤ g.I.Inputs.faults c.open.new.self = source.later in
     let two : g.I.Inputs.faults c.open.new.self ≤ g.I.Inputs.faults c.close-2.new.self = back.later in
     let first : device.fault_count c.args.disk ≤ device.fault_count s.opened = e.counts.faults in
@@ -114,17 +113,17 @@ returns-in-Ok-received-clause-ran g c =
     let back = c.close-2.ensures in
     let still = rw source.fresh at c.in-Ok-received.ensures.counted in
     let used = closed_again (state c.args.inputs.now) (state c.open.new.self) (state c.close-2.new.self) source.same back.same source.opened back.closed source.gave back.gave_none
-        (λ sure. let one = source.reliable sure in let two = back.reliable one.0 still in (two.0, two.1 ∙ one.1)) false (back.kept still ∙ source.counted) in
+    (λ sure. let one = source.reliable sure in let two = back.reliable one.0 still in (two.0, two.1 ∙ one.1)) false (back.kept still ∙ source.counted) in
     let session : IsLoadRun device s last received.dump words.link moment (g.K.Sink.written c.args.sink.now) (g.K.Sink.written c.load_dump-report.new.sink) report =
     rw (to_z-of_z w64 moment fits, link.0) at c.load_dump-report.ensures.session in
     let went = effects_of c.args.disk last.disk output output' report in
     let ran = ran_session device c.args.disk s last received.dump words.link moment output output' report
-        (λ known. let records = e.opened.records known in opened_store device c.args.disk s (e.opened.stands known) e.reads e.opened.opening e.crash records.0 records.1 records.2)
-        e.counts.faults (λ known. c.into_disk.ensures.images known) c.into_disk.ensures.faults session (rw e.opened.no_failed_write at c.load_dump-report.ensures.disk_writes)
-        c.load_dump-report.ensures.writes_counted c.load_dump-report.ensures.writes_later in
+    (λ known. let records = e.opened.records known in opened_store device c.args.disk s (e.opened.stands known) e.reads e.opened.opening e.crash records.0 records.1 records.2)
+    e.counts.faults (λ known. c.into_disk.ensures.images known) c.into_disk.ensures.faults session (rw e.opened.no_failed_write at c.load_dump-report.ensures.disk_writes)
+    c.load_dump-report.ensures.writes_counted c.load_dump-report.ensures.writes_later in
     let over = load_received device went files next words (state c.args.inputs.now) (state c.close-2.new.self) (gives_there files c.args.words.dump.now _ source.found) (archive_of s)
-        (λ known. e.opened.stands known) received.dump moment (omega (arith, link.0, link.1)) (gives_input files c.args.words.dump.now _ received.dump source.found c.in-Ok-received.ensures.whole)
-        c.in-Ok-received.ensures.short (moment_of next moment c.now-moment.ensures.known c.now-moment.ensures.range) used ran in
+    (λ known. e.opened.stands known) received.dump moment (omega (arith, link.0, link.1)) (gives_input files c.args.words.dump.now _ received.dump source.found c.in-Ok-received.ensures.whole)
+    c.in-Ok-received.ensures.short (moment_of next moment c.now-moment.ensures.known c.now-moment.ensures.range) used ran in
     subst (λ (d : g.row.D.Denot). RanOver device (load_plan device c.args.disk files next words) (effects_of c.args.disk d output output' c.of.result.report) (state c.args.inputs.now)
     (state c.close-2.new.self)) (sym (c.of.ensures.disk ∙ c.into_disk.ensures.disk))
     (subst (λ (r : Report). RanOver device (load_plan device c.args.disk files next words) (effects_of c.args.disk last.disk output output' r) (state c.args.inputs.now) (state c.close-2.new.self))

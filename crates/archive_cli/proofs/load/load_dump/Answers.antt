@@ -36,7 +36,7 @@ stopped-requires-in-Err g c =
     let front = c.front-before.ensures.front in
     let stopped = rw moment at c.in-Err.ensures.stopped in
     let more = grown_healed g.D.Disk.device c.args.store.now c.ingest_dump.new.store c.heal.new.store c.args.received.now.dump c.args.received.now.link c.args.moment c.in-Err.refusal stopped
-        c.heal.ensures.same c.heal.ensures.reopened in
+    c.heal.ensures.same c.heal.ensures.reopened in
     omega (arith, front, more)
 
 pub returns-in-None-clause-session : goal.returns-in-None-clause-session
