@@ -1,4 +1,4 @@
--- How the store of a load is given up.
+-- What becomes of the store of a load after its last batch.
 use Rattle.std.proofs.Common.{◌≡◌, ◌≢◌, inl, inr, ℕ, List, Option, Some, None, refl, sym, ap, subst}
 use Rattle.std.specs.Prelude.{Err, IfErr, Ok, OnOk, Result}
 use Rattle.arch_disk.specs.Disk.{Device}
@@ -10,20 +10,16 @@ use Rattle.archive_store.specs.Calls.{IsStoreReopened, IsStoreReopenRefusal}
 use Rattle.archive_store.specs.StoreView.{StoreView, FaultInvariant}
 use Rattle.archive_store.proofs.Calls.{reopen_failed}
 use Rattle.archive_cli.specs.declared.report.Report.{Report}
-use Rattle.archive_cli.specs.Loading.{IsStoreAtEnd, IsStoreClosed, IsLetGo, IsReopened}
+use Rattle.archive_cli.specs.Loading.{IsStoreAtEnd, IsReopened}
 use Rattle.dump_lines.specs.Output.{IsFinished}
 use Rattle.archive_cli.specs.ReadDump.{ending_of}
 
 module _ {D : Type 0} (device : Device D) (store : StoreView D) where
-  printed_cases : (refusal : Option Refusal) (before now : Option (List ℕ)) (text : List ℕ) → IsFinished refusal before now text → IsStoreAtEnd device refusal store store
-  printed_cases None before now text finished = refl
-  printed_cases (Some WriteFault) before now text finished = refl
-  printed_cases (Some other) before now text finished = absurd finished
-
   -- its line was printed, or not to its end
-  pub printed_closed : (refusal : Option Refusal) (disk : D) (before now : Option (List ℕ)) (text : List ℕ) → IsFinished refusal before now text → IsStoreClosed device store disk
-      → IsLetGo device store refusal disk
-  printed_closed refusal disk before now text finished closed_store = record { last = store; closed = printed_cases refusal before now text finished; closed_store = closed_store }
+  pub printed_end : (refusal : Option Refusal) (before now : Option (List ℕ)) (text : List ℕ) → IsFinished refusal before now text → IsStoreAtEnd device refusal store store
+  printed_end None before now text finished = refl
+  printed_end (Some WriteFault) before now text finished = refl
+  printed_end (Some other) before now text finished = absurd finished
 
   bad_cases : (reason : Why) (at : ℕ) → IsStoreAtEnd device (ending_of reason at) store store
   bad_cases why.End at = refl
@@ -31,13 +27,9 @@ module _ {D : Type 0} (device : Device D) (store : StoreView D) where
   bad_cases why.Truncated at = refl
 
   -- a rest is left of its dump
-  pub bad_closed : (reason : Why) (at : ℕ) (refusal : Refusal) (report : Report) (disk : D) → ending_of reason at ≡ Some refusal → report.refusal ≡ Some refusal → IsStoreClosed device store disk
-      → IsLetGo device store report.refusal disk
-  bad_closed reason at refusal report disk ending is closed_store = record {
-    last = store;
-    closed = subst (λ (o : Option Refusal). IsStoreAtEnd device o store store) (sym is) (subst (λ (o : Option Refusal). IsStoreAtEnd device o store store) ending (bad_cases reason at));
-    closed_store = closed_store;
-  }
+  pub bad_end : (reason : Why) (at : ℕ) (refusal : Refusal) (report : Report) → ending_of reason at ≡ Some refusal → report.refusal ≡ Some refusal → IsStoreAtEnd device report.refusal store store
+  bad_end reason at refusal report ending is =
+      subst (λ (o : Option Refusal). IsStoreAtEnd device o store store) (sym is) (subst (λ (o : Option Refusal). IsStoreAtEnd device o store store) ending (bad_cases reason at))
 
 -- a store whose disk failed was opened again, or the disk failed once more
 pub reopened_or_failed : {D : Type 0} (device : Device D) (old new : StoreView D) (result : Result Unit Refusal) → OnOk result (IsStoreReopened device old new)
@@ -59,7 +51,12 @@ reopened_or_failed {D = D} device old new (Err refusal) ok err counted =
     }
 
 -- a batch of it was refused
-pub refused_closed : {D : Type 0} (device : Device D) (store last : StoreView D) (refusal : Refusal) → (refusal ≢ DiskFault → last ≡ store) → (refusal ≡ DiskFault → IsReopened device store last)
+refused_cases : {D : Type 0} (device : Device D) (store last : StoreView D) (refusal : Refusal) → (refusal ≢ DiskFault → last ≡ store) → (refusal ≡ DiskFault → IsReopened device store last)
     → IsStoreAtEnd device (Some refusal) store last
-refused_closed device store last DiskFault same reopened = reopened refl
-refused_closed device store last other same reopened = same (λ e. cc)
+refused_cases device store last DiskFault same reopened = reopened refl
+refused_cases device store last other same reopened = same (λ e. cc)
+
+pub refused_end : {D : Type 0} (device : Device D) (store last : StoreView D) (refusal : Refusal) (report : Report) → report.refusal ≡ Some refusal → (refusal ≢ DiskFault → last ≡ store)
+    → (refusal ≡ DiskFault → IsReopened device store last) → IsStoreAtEnd device report.refusal store last
+refused_end device store last refusal report is same reopened =
+    subst (λ (o : Option Refusal). IsStoreAtEnd device o store last) (sym is) (refused_cases device store last refusal same reopened)

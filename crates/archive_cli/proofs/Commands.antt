@@ -8,13 +8,13 @@ use Rattle.archive_store.specs.Calls.{IsStoreOpenRefusal}
 use Rattle.archive_store.specs.Entries.{Archive}
 use Rattle.archive_store.specs.Stands.{StandsFor}
 use Rattle.disk_journal.specs.Calls.{CountsNeverFall, IsJournalOpenFailed}
-use Rattle.command_plans.specs.Plan.{Interruption, OfMemory, OfDisk, OfOutput, CommandPlan, May, Way, Returned, Stopped, Interrupted, Allows, IsDetermined, IsDue, refusal_at, and_then}
+use Rattle.command_plans.specs.Plan.{Interruption, OfMemory, OfInputs, OfDisk, OfOutput, CommandPlan, May, Way, Returned, Stopped, Interrupted, Allows, IsDetermined, IsDue, refusal_at, and_then}
 use Rattle.command_plans.proofs.Plans.{required, gave}
 use Rattle.dump_lines.specs.Output.{Appends, IsFinished, WritesCounted}
 use Rattle.outer_ledgers.specs.Ledger.{InputsState, UsedDisk}
 use Rattle.outer_ledgers.proofs.Ledgers.{risen_counted}
 use Rattle.archive_cli.specs.declared.report.Report.{Report}
-use Rattle.archive_cli.specs.Command.{Progress, HasEffects, looked, look_failed, Effects, Ran, RanOver, HasOutcome, NoneFound, DamageFound, ArchiveFound, opening_plan, printing_plan}
+use Rattle.archive_cli.specs.Command.{Progress, HasEffects, looked, look_failed, Effects, Ran, RanOver, HasOutcome, NoneFound, DamageFound, ArchiveFound, failed_at, opening_plan, printing_plan, sources_at}
 use Rattle.archive_cli.specs.Report.{unopened}
 
 -- no text was printed
@@ -126,6 +126,17 @@ module _ {D : Type 0} (device : Device D) (e : Effects D) (f : Archive → Comma
     };
   }
   ran_unopened other refused reads images counts report silent = absurd refused
+
+  -- it came behind so many sources, and no call of the inputs failed
+  pub unopened_after : (refusal : Refusal) (refused : IsStoreOpenRefusal device e.disk e.disk' refusal) (reads : device.reads e.disk' ≡ device.reads e.disk)
+      (images : LeavesOnly device e.disk e.disk' (device.images e.disk)) (counts : CountsNeverFall device e.disk e.disk') (report : e.report ≡ unopened (Some refusal)) (silent : e.output' ≡ e.output) →
+      (sources_at (ran_unopened refusal refused reads images counts report silent).way ≡ sources) × (failed_at (ran_unopened refusal refused reads images counts report silent).way OfInputs ≡ false)
+  unfolding ran_unopened
+  unopened_after NoArchive refused reads images counts report silent = (refl, refl)
+  unopened_after (Damaged file at) refused reads images counts report silent = (refl, refl)
+  unopened_after DiskFault refused reads images counts report silent = (refl, refl)
+  unopened_after OutOfMemory refused reads images counts report silent = (refl, refl)
+  unopened_after other refused reads images counts report silent = absurd refused
 
   -- an archive was opened, and what followed ran
   pub ran_opened : (archive : Archive) → (IsTrue device.is_transparent → StandsFor (device.reads e.disk) archive) → Ran device (f archive) e → Ran device (and_then (opening_plan sources device e.disk) f) e

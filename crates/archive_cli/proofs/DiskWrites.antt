@@ -14,9 +14,8 @@ use Rattle.archive_cli.specs.declared.report.Report.{Report}
 use Rattle.load_session.specs.Batches.{ExactlyOne}
 use Rattle.archive_cli.specs.DiskWrites.{DiskWritesCounted, IsLoadWrites, NoneFailed, OneAtMost, OneFailed, OneOrTwo, TwoAtMost}
 use Rattle.command_words.specs.Job.{Job, Scan, Values, Create, Load, Query, Recover}
-use Rattle.archive_cli.specs.Loading.{IsDumpRefusal, printed_report}
 use Rattle.archive_cli.specs.ReadDump.{ending_of}
-use Rattle.archive_cli.specs.Report.{loaded, read_only, unopened}
+use Rattle.archive_cli.specs.Report.{unopened}
 use Rattle.dump_lines.specs.Output.{IsFinished}
 use Rattle.space_packet.specs.declared.dump.Why.{Why}
 use Rattle.space_packet.specs.declared.dump.Why.TheVariants as why
@@ -98,17 +97,13 @@ taken_back DiskFault before between now one (inl same) = inl (same ∙ one)
 taken_back DiskFault before between now one (inr two) = inr (two ∙ ap raised one)
 taken_back other before between now same still = still ∙ same
 
--- ---- the reports of a load that opened an archive
-
-loaded_writes : (refusal : Option Refusal) (link : Option ℕ) (from to packets duplicates idle : ℕ) (report : Report) (before now : ℕ)
-    → report ≡ loaded refusal link from to packets duplicates idle → OneOrTwo refusal before now → IsLoadWrites report.opened report.refusal before now
-loaded_writes refusal link from to packets duplicates idle report before now is writes = subst (λ (r : Report). IsLoadWrites r.opened r.refusal before now) (sym is) writes
+-- ---- a load that opened an archive
 
 -- a batch was refused
-pub stopped_writes : (refusal : Refusal) (link : Option ℕ) (from to : ℕ) (report : Report) (before between now : ℕ) → report ≡ loaded (Some refusal) link from to 0 0 0
-    → ExactlyOne (Some refusal) before between → OneAtMost (Some refusal) between now → IsLoadWrites report.opened report.refusal before now
-stopped_writes refusal link from to report before between now is one back =
-    loaded_writes (Some refusal) link from to 0 0 0 report before now is (taken_back refusal before between now one back)
+pub stopped_writes : (refusal : Refusal) (report : Report) (before between now : ℕ) → report.refusal ≡ Some refusal → ExactlyOne (Some refusal) before between
+    → OneAtMost (Some refusal) between now → OneOrTwo report.refusal before now
+stopped_writes refusal report before between now is one back =
+    subst (λ (o : Option Refusal). OneOrTwo o before now) (sym is) (taken_back refusal before between now one back)
 
 bad_cases : (reason : Why) (at before now : ℕ) → now ≡ before → OneOrTwo (ending_of reason at) before now
 bad_cases why.End at before now same = same
@@ -116,33 +111,14 @@ bad_cases why.Version at before now same = same
 bad_cases why.Truncated at before now same = same
 
 -- a rest is left of the dump
-pub bad_writes : (reason : Why) (at : ℕ) (refusal : Refusal) (link : Option ℕ) (from to : ℕ) (report : Report) (before now : ℕ) → ending_of reason at ≡ Some refusal
-    → report ≡ loaded (Some refusal) link from to 0 0 0 → now ≡ before → IsLoadWrites report.opened report.refusal before now
-bad_writes reason at refusal link from to report before now ending is same =
-    loaded_writes (Some refusal) link from to 0 0 0 report before now is (subst (λ (o : Option Refusal). OneOrTwo o before now) ending (bad_cases reason at before now same))
-
-printed_cases : (refusal : Option Refusal) (from to packets idle : ℕ) (report : Report) (before now : ℕ) (written written' : Option (List ℕ)) (text : List ℕ)
-    → report ≡ printed_report refusal from to packets idle → IsFinished refusal written written' text → now ≡ before → IsLoadWrites report.opened report.refusal before now
-printed_cases None from to packets idle report before now written written' text is finished same = loaded_writes None None from to _ _ _ report before now is same
-printed_cases (Some WriteFault) from to packets idle report before now written written' text is finished same =
-    loaded_writes (Some WriteFault) None from to 0 0 0 report before now is same
-printed_cases (Some other) from to packets idle report before now written written' text is finished same = absurd finished
+pub bad_writes : (reason : Why) (at : ℕ) (refusal : Refusal) (report : Report) (before now : ℕ) → ending_of reason at ≡ Some refusal → report.refusal ≡ Some refusal → now ≡ before
+    → OneOrTwo report.refusal before now
+bad_writes reason at refusal report before now ending is same =
+    subst (λ (o : Option Refusal). OneOrTwo o before now) (ending ∙ sym is) (bad_cases reason at before now same)
 
 -- its line was printed, or not to its end
-pub printed_writes : (from to packets idle : ℕ) (report : Report) (before now : ℕ) (written written' : Option (List ℕ)) (text : List ℕ)
-    → report ≡ printed_report report.refusal from to packets idle → IsFinished report.refusal written written' text → now ≡ before
-    → IsLoadWrites report.opened report.refusal before now
-printed_writes from to packets idle report before now written written' text is finished same =
-    printed_cases report.refusal from to packets idle report before now written written' text is finished same
-
-unread_cases : (left : Option (List ℕ)) (number : ℕ) (refusal : Refusal) (link : Option ℕ) (before now : ℕ) → IsDumpRefusal left number refusal link → now ≡ before
-    → OneOrTwo (Some refusal) before now
-unread_cases left number DiskFault link before now unread same = absurd unread
-unread_cases left number other link before now unread same = same
-
--- the dump wasn't read
-pub unread_writes : (left : Option (List ℕ)) (number : ℕ) (refusal : Refusal) (link : Option ℕ) (rows : ℕ) (report : Report) (before now : ℕ)
-    → report ≡ record (read_only (Some refusal) rows) { link = link } → IsDumpRefusal left number refusal link → now ≡ before
-    → IsLoadWrites report.opened report.refusal before now
-unread_writes left number refusal link rows report before now is unread same =
-    subst (λ (r : Report). IsLoadWrites r.opened r.refusal before now) (sym is) (unread_cases left number refusal link before now unread same)
+pub printed_writes : (refusal : Option Refusal) (before now : ℕ) (written written' : Option (List ℕ)) (text : List ℕ) → IsFinished refusal written written' text → now ≡ before
+    → OneOrTwo refusal before now
+printed_writes None before now written written' text finished same = same
+printed_writes (Some WriteFault) before now written written' text finished same = same
+printed_writes (Some other) before now written written' text finished same = absurd finished

@@ -11,11 +11,9 @@ use Rattle.archive_core.specs.Items.{Item}
 use Rattle.mdb_items.specs.Database.{Database}
 use Rattle.mdb_sheets.specs.Sheets.{more}
 use Rattle.archive_store.specs.Calls.{IsStoreCreateRefusal, IsStoreOpenRefusal}
-use Rattle.archive_store.specs.StoreView.{StoreView}
 use Rattle.archive_cli.specs.declared.report.Report.{Report}
 use Rattle.archive_cli.specs.HandedBack.{IsCreateBack, IsHandedBack, IsLoadBack, IsQueryBack, IsUnasked, SameWithoutSource}
 use Rattle.command_words.specs.Job.{Job, Scan, Values, Create, Load, Query, Recover}
-use Rattle.archive_cli.specs.Loading.{IsLoadRun, IsDumpRefusal, IsLoadOutcome}
 use Rattle.dump_lines.specs.Output.{IsFinished}
 use Rattle.archive_cli.specs.QueryEnding.{IsSheetReply}
 use Rattle.archive_cli.specs.Report.{unopened, read_only}
@@ -74,32 +72,6 @@ pub made_back : {D : Type 0} (old new : D) (refusal : Option Refusal) (report : 
     → IsFinished refusal before now text → IsCreateBack old new report.refusal
 made_back old new refusal report before now text is finished =
     subst (λ (r : Report). IsCreateBack old new r.refusal) (sym is) (made_cases old new refusal before now text finished)
-
--- ---- load
-
-unread_cases : {D : Type 0} (old new : D) (left : Option (List ℕ)) (number : ℕ) (refusal : Refusal) (link : Option ℕ) → IsDumpRefusal left number refusal link
-    → IsLoadBack old new true (Some refusal)
-unread_cases old new left number (Missing name) link unread = absurd unread
-unread_cases old new left number ReadFault link unread = λ unopened. absurd (false≢true (sym unopened))
-unread_cases old new left number other link unread = tt
-
--- an archive was opened, and the dump wasn't read
-pub load_unread_back : {D : Type 0} (old new : D) (left : Option (List ℕ)) (number : ℕ) (refusal : Refusal) (link : Option ℕ) (rows : ℕ) (report : Report)
-    → report ≡ record (read_only (Some refusal) rows) { link = link } → IsDumpRefusal left number refusal link → IsLoadBack old new report.opened report.refusal
-load_unread_back old new left number refusal link rows report is unread =
-    subst (λ (r : Report). IsLoadBack old new r.opened r.refusal) (sym is) (unread_cases old new left number refusal link unread)
-
-went_cases : {D : Type 0} (old new : StoreView D) (dump : List ℕ) (link : ℕ) (moment : ℤ) (written written' : Option (List ℕ)) (first last : D) (opened : Bool) (refusal : Option Refusal)
-    (report : Report) → IsLoadOutcome old new dump link moment written written' refusal report → IsLoadBack first last opened refusal
-went_cases old new dump link moment written written' first last opened (Some (Missing name)) report went = absurd went.0.cause
-went_cases old new dump link moment written written' first last opened (Some ReadFault) report went = absurd went.0.cause
-went_cases old new dump link moment written written' first last opened other report went = tt
-
--- the dump was read
-pub session_back : {D : Type 0} (device : Device D) (first : D) (old : StoreView D) (dump : List ℕ) (link : ℕ) (moment : ℤ) (written written' : Option (List ℕ)) (disk : D) (report : Report)
-    → IsLoadRun device old dump link moment written written' disk report → IsLoadBack first disk report.opened report.refusal
-session_back device first old dump link moment written written' disk report s =
-    went_cases old s.new dump link moment written written' first disk report.opened report.refusal report s.went
 
 -- ---- query
 

@@ -36,9 +36,11 @@ pub mod LoadReports
 pub mod During
 pub mod Closing
 pub mod Sessions
+pub mod LoadPlan
+pub mod LoadEnds
+pub mod LoadCases
 pub mod NotLoaded
 pub mod Caused
-pub mod LoadCauses
 pub mod HandedBack
 pub mod DiskWrites
 pub mod Durable

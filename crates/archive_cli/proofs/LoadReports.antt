@@ -1,9 +1,12 @@
 -- What is printed of a load, and how its packets went into a store.
 use Rattle.std.proofs.Common.{◌≡◌, ◌∙◌, ℕ, ℤ, ◌+◌, ◌-◌, ◌≤◌, List, [], ◌++◌, length, drop, take, Option, Some, None, append_assoc, length-append, refl, sym, ap, subst, arith}
+use Rattle.std.specs.Prelude.{◌≢◌}
 use Rattle.arch_types.specs.declared.refusal.Refusal.{Refusal}
-use Rattle.arch_types.specs.declared.refusal.Refusal.TheVariants.{WriteFault, BadPacket}
+use Rattle.arch_types.specs.declared.refusal.Refusal.TheVariants.{WriteFault, BadPacket, DiskFault}
 use Rattle.arch_types.specs.declared.refusal.BadKind.{BadKind}
 use Rattle.arch_types.specs.declared.refusal.BadKind.TheVariants as bad
+use Rattle.arch_disk.specs.Disk.{Device}
+use Rattle.archive_core.specs.Items.{Item}
 use Rattle.archive_core.specs.Outcomes.{fresh_of}
 use Rattle.archive_core.proofs.Outcomes.{fresh_added, length-ingested}
 use Rattle.space_packet.specs.declared.dump.Why.{Why}
@@ -13,7 +16,7 @@ use Rattle.load_session.specs.declared.batches.DumpSummary.{DumpSummary}
 use Rattle.archive_cli.specs.declared.report.Report.{Report}
 use Rattle.load_session.specs.Batches.{arrived, rows_of_link, HasIngested, IsIngested, IsStoppedAt}
 use Rattle.archive_cli.specs.LoadEnding.{load_line, line_of_load}
-use Rattle.archive_cli.specs.Loading.{printed_report, IsLoadOutcome}
+use Rattle.archive_cli.specs.Loading.{printed_report, IsLoadOutcome, IsReopened}
 use Rattle.dump_lines.specs.Output.{IsFinished}
 use Rattle.archive_cli.specs.ReadDump.{ending_of}
 use Rattle.archive_cli.specs.Report.{loaded}
@@ -60,7 +63,7 @@ module _ {D : Type 0} (old new : StoreView D) (dump : List ℕ) (link : ℕ) (mo
   pub grown_whole : (whole : DumpSummary) → IsIngested old new dump link moment whole → length old.history ≤ length new.history
   grown_whole whole i = grown i.packets i.done
 
-  pub grown_stopped : (refusal : Refusal) → IsStoppedAt old new dump link moment refusal → length old.history ≤ length new.history
+  grown_stopped : (refusal : Refusal) → IsStoppedAt old new dump link moment refusal → length old.history ≤ length new.history
   grown_stopped refusal s = grown (take s.place s.packets) s.done
 
   -- and by no more rows than packets that aren't idle
@@ -165,7 +168,26 @@ module _ {D : Type 0} (old new : StoreView D) (dump : List ℕ) (link : ℕ) (mo
     went_stopped (BadPacket at kind) report s silent is = absurd s.cause
     went_stopped other report s silent is = (s, silent, is)
 
-    pub session_stopped : (refusal : Refusal) (report : Report) → IsStoppedAt old new dump link moment refusal → written' ≡ written
-        → report ≡ loaded (Some refusal) None (length old.history) (length new.history) 0 0 0 → IsLoadOutcome old new dump link moment written written' report.refusal report
-    session_stopped refusal report s silent is =
-        by_refusal (Some refusal) report None (length old.history) (length new.history) 0 0 0 is (went_stopped refusal report s silent is)
+-- ---- a store whose failed write was taken back
+
+module _ {D : Type 0} (device : Device D) (old new last : StoreView D) (dump : List ℕ) (link : ℕ) (moment : ℤ) where
+  -- its history stays
+  history_stays : (refusal : Refusal) → (refusal ≢ DiskFault → last ≡ new) → (refusal ≡ DiskFault → IsReopened device new last) → last.history ≡ new.history
+  history_stays DiskFault same reopened = (reopened refl).history
+  history_stays other same reopened = ap (λ (s : StoreView D). s.history) (same (λ e. cc))
+
+  pub grown_healed : (refusal : Refusal) → IsStoppedAt old new dump link moment refusal → (refusal ≢ DiskFault → last ≡ new) → (refusal ≡ DiskFault → IsReopened device new last)
+      → length old.history ≤ length last.history
+  grown_healed refusal s same reopened =
+      let more = grown_stopped old new dump link moment refusal s in
+      let stays = ap length (history_stays refusal same reopened) in
+      omega (arith, more, stays)
+
+  pub session_stopped : (written written' : Option (List ℕ)) (refusal : Refusal) (report : Report) → IsStoppedAt old new dump link moment refusal → written' ≡ written
+      → report ≡ loaded (Some refusal) None (length old.history) (length last.history) 0 0 0 → (refusal ≢ DiskFault → last ≡ new) → (refusal ≡ DiskFault → IsReopened device new last)
+      → IsLoadOutcome old new dump link moment written written' report.refusal report
+  session_stopped written written' refusal report s silent report_is same reopened =
+      let is : report ≡ loaded (Some refusal) None (length old.history) (length new.history) 0 0 0 =
+      report_is ∙ ap (λ (h : List Item). loaded (Some refusal) None (length old.history) (length h) 0 0 0) (history_stays refusal same reopened) in
+      by_refusal old new dump link moment written written' (Some refusal) report None (length old.history) (length new.history) 0 0 0 is
+      (went_stopped old new dump link moment written written' refusal report s silent is)

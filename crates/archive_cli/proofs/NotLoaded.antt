@@ -39,7 +39,7 @@ pub gives_input : (files : Option Files) (name : List ℕ) (left : Option (List 
 gives_input None name left dump g h = tt
 gives_input (Some all) name left dump g h = some_is (get all name) dump (gives_all all name left (λ octets. octets ≡ dump) g h)
 
-gives_long : (files : Option Files) (name : List ℕ) (left : Option (List ℕ)) (most : ℕ) → IsLeftAtFirst files name left → IfSome left (λ octets. most < length octets)
+pub gives_long : (files : Option Files) (name : List ℕ) (left : Option (List ℕ)) (most : ℕ) → IsLeftAtFirst files name left → IfSome left (λ octets. most < length octets)
     → IfSome files (λ all. IsSomeAnd (get all name) (λ dump. most < length dump))
 gives_long None name left most g h = tt
 gives_long (Some all) name left most g h = gives_all all name left (λ octets. most < length octets) g h
@@ -53,14 +53,14 @@ gives_there (Some all) name left g = go (get all name) g
     go (Some octets) is = refl
 
 -- an input that is missing, and one that isn't
-abbrev OnlyMissing : Type 0 → Option Files → List ℕ → OpenFault → Type 0
+abbrev pub OnlyMissing : Type 0 → Option Files → List ℕ → OpenFault → Type 0
 OnlyMissing X files name fault = IfSome files (λ all. IsErrOf {T = X} (Err fault) Missing ↔ IsNone (get all name))
 
-gone : (X : Type 0) (files : Option Files) (name : List ℕ) → OnlyMissing X files name Missing → IfSome files (λ all. IsNone (get all name))
+pub gone : (X : Type 0) (files : Option Files) (name : List ℕ) → OnlyMissing X files name Missing → IfSome files (λ all. IsNone (get all name))
 gone X None name h = tt
 gone X (Some all) name h = h.0 refl
 
-still_there : (X : Type 0) (files : Option Files) (name : List ℕ) → OnlyMissing X files name Failed → IsThere files name
+pub still_there : (X : Type 0) (files : Option Files) (name : List ℕ) → OnlyMissing X files name Failed → IsThere files name
 still_there X None name h = tt
 still_there X (Some all) name h = go (get all name) h.1
   where
@@ -74,33 +74,14 @@ still_there X (Some all) name h = go (get all name) h.1
 -- ---- endings
 
 module _ {D : Type 0} (device : Device D) (call : Call) (words : LoadWords) (silent : WritesNothing call) where
-  abbrev not_begun : (disk : D) (refusal : Refusal) → IsLoadNotBegun device call disk disk (unopened (Some refusal))
+  abbrev pub not_begun : (disk : D) (refusal : Refusal) → IsLoadNotBegun device call disk disk (unopened (Some refusal))
   not_begun disk refusal = record { silent = silent; disk = untouched device disk; report_is = refl }
 
   -- an ending by the report
-  reported : (old new : D) (refusal : Option Refusal) (report is : Report) → report ≡ is → is.refusal ≡ refusal → IsLoadEnding device call words old new refusal is
+  pub reported : (old new : D) (refusal : Option Refusal) (report is : Report) → report ≡ is → is.refusal ≡ refusal → IsLoadEnding device call words old new refusal is
       → IsLoadEnding device call words old new report.refusal report
   reported old new refusal report is same of ending =
       subst (λ (r : Report). IsLoadEnding device call words old new r.refusal r) (sym same) (subst (λ (o : Option Refusal). IsLoadEnding device call words old new o is) (sym of) ending)
-
-  not_there_cases : (X : Type 0) (disk : D) (fault : OpenFault) (refusal : Refusal) → IsOpeningFault words.dump fault refusal → OnlyMissing X call.files words.dump fault
-      → OpeningCounted {X = X} (Err fault) call.read_faults call.read_faults' → IsLoadEnding device call words disk disk (Some refusal) (unopened (Some refusal))
-  not_there_cases X disk Missing refusal (inl is) missing counted =
-      subst (λ (r : Refusal). IsLoadEnding device call words disk disk (Some r) (unopened (Some r))) (sym is)
-      ((refl, gone X call.files words.dump missing), not_begun disk (refused.Missing words.dump))
-  not_there_cases X disk Missing refusal (inr is) missing counted =
-      subst (λ (r : Refusal). IsLoadEnding device call words disk disk (Some r) (unopened (Some r))) (sym is) (inl (not_begun disk refused.OutOfMemory))
-  not_there_cases X disk Failed refusal is missing counted =
-      subst (λ (r : Refusal). IsLoadEnding device call words disk disk (Some r) (unopened (Some r))) (sym is)
-      (counted, still_there X call.files words.dump missing, inl (not_begun disk refused.ReadFault))
-  not_there_cases X disk OutOfMemory refusal is missing counted =
-      subst (λ (r : Refusal). IsLoadEnding device call words disk disk (Some r) (unopened (Some r))) (sym is) (inl (not_begun disk refused.OutOfMemory))
-
-  -- the dump wasn't opened
-  pub not_there : (X : Type 0) (disk : D) (fault : OpenFault) (refusal : Refusal) (report : Report) → report ≡ unopened (Some refusal) → IsOpeningFault words.dump fault refusal
-      → OnlyMissing X call.files words.dump fault → OpeningCounted {X = X} (Err fault) call.read_faults call.read_faults' → IsLoadEnding device call words disk disk report.refusal report
-  not_there X disk fault refusal report same is missing counted =
-      reported disk disk (Some refusal) report (unopened (Some refusal)) same refl (not_there_cases X disk fault refusal is missing counted)
 
   not_opened_cases : (old new : D) (refusal : Refusal) → IsThere call.files words.dump → IsOpeningRefusal device old new refusal → IsReadAsBefore device old new
       → IsLoadEnding device call words old new (Some refusal) (unopened (Some refusal))
@@ -115,10 +96,10 @@ module _ {D : Type 0} (device : Device D) (call : Call) (words : LoadWords) (sil
       → IsReadAsBefore device old new → IsLoadEnding device call words old new report.refusal report
   load_unopened old new refusal report same there cause disk = reported old new (Some refusal) report (unopened (Some refusal)) same refl (not_opened_cases old new refusal there cause disk)
 
-  abbrev unread_report : Archive → Refusal → Option ℕ → Report
+  abbrev pub unread_report : Archive → Refusal → Option ℕ → Report
   unread_report archive refusal link = record (read_only (Some refusal) (length archive.history)) { link = link }
 
-  nothing : (old new : D) (archive : Archive) (refusal : Refusal) (link named : Option ℕ) → IsThere call.files words.dump → IsReadOnly device old new archive → link ≡ named
+  pub nothing : (old new : D) (archive : Archive) (refusal : Refusal) (link named : Option ℕ) → IsThere call.files words.dump → IsReadOnly device old new archive → link ≡ named
       → IsNothingLoaded device call words old new named (unread_report archive refusal link)
   nothing old new archive refusal link named there disk is = record {
     input = there;
@@ -127,30 +108,3 @@ module _ {D : Type 0} (device : Device D) (call : Call) (words : LoadWords) (sil
     silent = silent;
     report_is = ap (unread_report archive refusal) is;
   }
-
-  unread_cases : (old new : D) (archive : Archive) (left : Option (List ℕ)) (refusal : Refusal) (link : Option ℕ) → IsLeftAtFirst call.files words.dump left → IsDumpRefusal left words.link refusal link
-      → IsReadOnly device old new archive → ReadsCounted (Some refusal) call.read_faults call.read_faults' → IsLoadEnding device call words old new (Some refusal) (unread_report archive refusal link)
-  unread_cases old new archive left (refused.Limit DumpOctets most) link gives u disk counted = (
-    (u.0, u.1, gives_long call.files words.dump left most gives u.3),
-    nothing old new archive (refused.Limit DumpOctets most) link (Some words.link) (gives_there call.files words.dump left gives) disk u.2,
-  )
-  unread_cases old new archive left (refused.Limit Links most) link gives u disk counted = (
-    u.0,
-    u.1,
-    nothing old new archive (refused.Limit Links most) link None (gives_there call.files words.dump left gives) disk u.2,
-  )
-  unread_cases old new archive left refused.ReadFault link gives u disk counted = (
-    counted,
-    gives_there call.files words.dump left gives,
-    inr (u.0, nothing old new archive refused.ReadFault link None (gives_there call.files words.dump left gives) disk u.1),
-  )
-  unread_cases old new archive left refused.OutOfMemory link gives u disk counted =
-      inr (inl (nothing old new archive refused.OutOfMemory link None (gives_there call.files words.dump left gives) disk u))
-  unread_cases old new archive left other link gives u disk counted = absurd u
-
-  -- an archive was opened, and the dump wasn't read to its end
-  pub not_read : (old new : D) (archive : Archive) (left : Option (List ℕ)) (refusal : Refusal) (link : Option ℕ) (report : Report)
-      → report ≡ record (read_only (Some refusal) (length archive.history)) { link = link } → IsLeftAtFirst call.files words.dump left → IsDumpRefusal left words.link refusal link
-      → IsReadOnly device old new archive → ReadsCounted (Some refusal) call.read_faults call.read_faults' → IsLoadEnding device call words old new report.refusal report
-  not_read old new archive left refusal link report same gives u disk counted =
-      reported old new (Some refusal) report (unread_report archive refusal link) same refl (unread_cases old new archive left refusal link gives u disk counted)

@@ -19,7 +19,6 @@ use Rattle.archive_cli.specs.Expecting.{IsOrEarlier}
 use Rattle.archive_cli.specs.Order.{AreInOrder, Input, IsLoadFault, create_inputs, first_unread, unread_at, values_inputs}
 use Rattle.command_words.specs.Job.{SheetWords, ValuesWords}
 use Rattle.archive_cli.specs.Reading.{IsInputRefusal}
-use Rattle.archive_cli.specs.Loading.{IsLoadRun, IsLoadOutcome}
 use Rattle.archive_cli.specs.Report.{read_only, unopened}
 use Rattle.archive_cli.specs.ValuesExpected.{refusal_of_input}
 use Rattle.archive_cli.proofs.ValuesAnswers.{absent, beyond, fine, has, within}
@@ -225,17 +224,6 @@ unread_fault given given' old new report refusal rows link one is =
     cases : (refusal : Refusal) → IsLoadFault given given' old new (record (read_only (Some refusal) rows) { link = link }) (Some refusal)
     cases ReadFault = inr (one, refl)
     cases other = tt
-
-went_cases : {D : Type 0} (old new : StoreView D) (dump : List ℕ) (link : ℕ) (moment : ℤ) (written written' : Option (List ℕ)) (given given' : ℕ) (first last : D) (refusal : Option Refusal)
-    (report : Report) → IsLoadOutcome old new dump link moment written written' refusal report → IsLoadFault given given' first last report refusal
-went_cases old new dump link moment written written' given given' first last (Some ReadFault) report went = absurd went.0.cause
-went_cases old new dump link moment written written' given given' first last other report went = tt
-
--- and the dump was read
-pub session_fault : {D : Type 0} (device : Device D) (first : D) (old : StoreView D) (dump : List ℕ) (link : ℕ) (moment : ℤ) (written written' : Option (List ℕ)) (disk : D) (report : Report)
-    (given given' : ℕ) → IsLoadRun device old dump link moment written written' disk report → IsLoadFault given given' first disk report report.refusal
-session_fault device first old dump link moment written written' disk report given given' s =
-    went_cases old s.new dump link moment written written' given given' first disk report.refusal report s.went
 
 -- ---- how many sources three sheets give, of which one isn't read
 

@@ -1,176 +1,52 @@
--- From what went into a store to the ending of a load.
-use Rattle.std.proofs.Common.{◌≡◌, inl, inr, ℕ, ℤ, ◌+◌, ◌≤◌, ◌<◌, Bool, true, false, List, [], ◌∷◌, ◌++◌, length, map, take, drop, Some, None, Option, refl, sym, ap, subst, ◌∙◌, arith, length-append}
+-- How the session of a load went, and what it leaves of the disk.
+use Rattle.std.proofs.Common.{◌≡◌, inl, inr, ℕ, ℤ, ◌+◌, ◌≤◌, ◌<◌, Bool, true, false, List, [], ◌∷◌, ◌++◌, length, map, take, drop, Some, None, Option, refl, sym, ap, subst, ◌∙◌, arith}
 use Rattle.std.specs.Prelude.{IsTrue, flat_map}
 use Rattle.std.proofs.lemmas.List.{take_all}
-use Rattle.arch_disk.specs.Disk.{Device}
+use Rattle.arch_disk.specs.Disk.{Device, raised}
 use Rattle.arch_types.specs.declared.refusal.Refusal.{Refusal}
 use Rattle.arch_types.specs.declared.refusal.Refusal.TheVariants.{WriteFault, BadPacket, DiskFault, Limit, OutOfMemory}
-use Rattle.arch_types.specs.declared.refusal.Which.TheVariants.{DumpOctets, Links}
 use Rattle.arch_types.specs.declared.row.Row.{Row}
 use Rattle.arch_types.specs.Arrivals.{row_of, kept}
-use Rattle.arch_types.specs.Dump.{IsDump}
 use Rattle.arch_types.specs.History.{ingested}
 use Rattle.archive_core.specs.declared.fills.Addition.TheVariants.{Rows}
 use Rattle.archive_core.specs.declared.fills.Fill.TheVariants.{Fault}
 use Rattle.archive_core.specs.Fills.{rows_of_faults, reopened}
 use Rattle.archive_core.specs.Items.{Item, items_of}
 use Rattle.archive_core.specs.Outcomes.{fresh_of}
-use Rattle.archive_core.proofs.Outcomes.{fresh_added}
 use Rattle.container_extract.specs.Chain.{packet_name_of}
-use Rattle.outer_traits.specs.Whole.{IsInput}
 use Rattle.archive_store.specs.declared.head.Head.{Head}
 use Rattle.archive_store.specs.Entries.{archive}
-use Rattle.archive_history.specs.Limits.{IsLimit}
 use Rattle.archive_store.specs.StoreView.{StoreView, archive_of, FaultInvariant, CrashInvariant}
 use Rattle.archive_store.specs.Stands.{StandsFor}
-use Rattle.archive_cli.specs.declared.report.Report.{Report}
-use Rattle.load_session.specs.Batches.{batch_at, first_table, rows_of_link, HasIngested, IsStoppedAt}
-use Rattle.archive_cli.specs.Call.{Call, IsMomentOf}
+use Rattle.command_plans.specs.Plan.{OfOutput, Way, Stopped, Interrupted, Allows}
 use Rattle.dump_lines.specs.Output.{WritesCounted}
-use Rattle.command_words.specs.Job.{LoadWords}
-use Rattle.archive_cli.specs.LoadEnding as ending
-use Rattle.archive_cli.specs.LoadEnding.{link_rows, new_rows_at, nothing_left, batch_left, IsLoad, IsLoadEnding, IsWholeLoad}
-use Rattle.archive_cli.specs.Loading.{IsStoreAtEnd, IsDone, IsReopened, IsLoadRun, IsLoadOutcome}
-use Rattle.archive_cli.specs.ReadDump.{dump_limit, ReadDump}
-use Rattle.archive_cli.specs.Report.{loaded, IsLoadReport}
+use Rattle.load_session.specs.Batches.{batch_at, first_table, rows_of_link, HasIngested, IsStoppedAt}
+use Rattle.outer_ledgers.specs.Ledger.{OutputState, UsedDisk}
+use Rattle.outer_ledgers.proofs.Ledgers.{risen_counted}
+use Rattle.archive_cli.specs.declared.report.Report.{Report}
+use Rattle.archive_cli.specs.Command.{Progress, Effects, Extended, ExtensionFailed, HasOutcome, Ran, effects_of}
+use Rattle.archive_cli.specs.DiskWrites.{OneOrTwo}
 use Rattle.archive_cli.specs.Durable.{FailedAtMostOnce, IsDurableAs}
-use Rattle.archive_cli.proofs.During.{failed_again, has_table, load_images, durable, durable_again, left, more_faults, IsOpened}
+use Rattle.archive_cli.specs.Load.{after_packets, extension_failed, history_extended, session_plan}
+use Rattle.archive_cli.specs.LoadEnding.{batch_left, line_of_load, link_rows, whole_report}
+use Rattle.archive_cli.specs.Loading.{IsStoreAtEnd, IsDone, IsReopened, IsLoadRun, IsLoadOutcome}
+use Rattle.archive_cli.specs.Expecting.{ending_of_rest}
+use Rattle.archive_cli.specs.Report.{loaded}
+use Rattle.archive_cli.specs.Session.{SessionResult, IsSession, IsSessionEnd, IsExtended, IsExtensionFailed, next_fresh_rows}
+use Rattle.archive_cli.proofs.Commands.{no_text}
+use Rattle.archive_cli.proofs.During.{failed_again, load_images, durable, durable_again, left, more_faults, IsOpened}
+use Rattle.archive_cli.proofs.Known.{bad_ending}
 
 -- where there's a table, it is table `tm`
-rows_are : (head : Head) (link : ℕ) (moment : ℤ) (packets : List (List ℕ)) → 0 < length head.tables → rows_of_link head link moment packets ≡ link_rows head.mdb link moment packets
+pub rows_are : (head : Head) (link : ℕ) (moment : ℤ) (packets : List (List ℕ)) → 0 < length head.tables → rows_of_link head link moment packets ≡ link_rows head.mdb link moment packets
 rows_are head link moment packets some = ap (λ (tables : List ℕ). flat_map (λ p. map (row_of link moment (packet_name_of head.mdb) p) tables) (kept packets)) (first_is head.tables some)
   where
     first_is : (tables : List (List ℕ)) → 0 < length tables → first_table tables ≡ 0 ∷ []
     first_is [] some = absurd (omega (arith, some))
     first_is (table ∷ tables) some = refl
 
--- a store that was opened for the words, and the dump that was read for it
-pub record IsReady {D : Type 0} (device : Device D) (call : Call) (words : LoadWords) (disk : D) (store : StoreView D) (dump : List ℕ) (moment : ℤ) : Type 0 where
-  pub opened : IsOpened device disk store
-  pub later : device.fault_count disk ≤ device.fault_count store.opened
-  pub link : words.link ≤ 255
-  pub input : IsInput call.files words.dump dump
-  pub short : length dump ≤ dump_limit
-  pub clock : IsMomentOf call.moment moment
-
--- the packets of a dump before a place went into a store, and the batch from there on met a fault with this count
-record Failing (dump : List ℕ) : Type 0 where
-  pub packets : List (List ℕ)
-  pub rest : List ℕ
-  pub place : ℕ
-  pub count : ℕ
-  pub parts : IsDump dump packets rest
-  pub within : place ≤ length packets
-
-module _ {D : Type 0} (device : Device D) (is_transparent : IsTrue device.is_transparent) (call : Call) (words : LoadWords) (disk : D) (old new : StoreView D) (dump : List ℕ) (moment : ℤ) (ready : IsReady device call words disk old dump moment) (keeps : CrashInvariant device new)
-    (faults : FaultInvariant device new) where
-  some : 0 < length old.head.tables
-  some = has_table (device.reads disk) (archive_of old) ready.opened.stands
-
-  rows_same : (packets : List (List ℕ)) → rows_of_link old.head words.link moment packets ≡ link_rows old.head.mdb words.link moment packets
-  rows_same packets = rows_are old.head words.link moment packets some
-
-  abbrev received_of : (packets : List (List ℕ)) (rest : List ℕ) → IsDump dump packets rest → ReadDump call words.dump
-  received_of packets rest parts = record {
-    dump = dump;
-    moment = moment;
-    packets = packets;
-    rest = rest;
-    input = ready.input;
-    short = ready.short;
-    clock = ready.clock;
-    parts = parts;
-  }
-
-  abbrev run_of : (in_hand : List Row → List (List Item)) (packets : List (List ℕ)) (rest : List ℕ) (place : ℕ) → IsDump dump packets rest → place ≤ length packets
-      → HasIngested old new words.link moment (take place packets) → rows_of_faults new.fills ≡ in_hand (new_rows_at (archive_of old) words.link moment packets place)
-      → IsLoad device call words in_hand disk new.disk
-  run_of in_hand packets rest place parts within done holds = record {
-    before = archive_of old;
-    received = received_of packets rest parts;
-    place = place;
-    reached = new.history;
-    stands = ready.opened.stands;
-    link = ready.link;
-    within = within;
-    reached_is = done.history ∙ ap (ingested old.history) (rows_same (take place packets));
-    images = load_images device disk old new ready.opened (in_hand (new_rows_at (archive_of old) words.link moment packets place)) holds words.link moment (take place packets) done keeps;
-  }
-
-  no_failed_write_now : new.fills ≡ [] → new.head ≡ old.head → IsDurableAs device new.disk old.head new.history
-  no_failed_write_now none head = subst (λ (h : Head). IsDurableAs device new.disk h new.history) head (durable device new is_transparent keeps none)
-
-  -- its journal has one record for the head, and each other one has a row
-  few_now : new.records + length old.history ≤ old.records + length new.history → new.records ≤ 1 + length new.history
-  few_now grown = omega (arith, grown, ready.opened.few)
-
-  all_done : (packets : List (List ℕ)) → HasIngested old new words.link moment packets → HasIngested old new words.link moment (take (length packets) packets)
-  all_done packets done = subst (λ (l : List (List ℕ)). HasIngested old new words.link moment l) (sym (take_all (length packets) packets (omega arith))) done
-
-  abbrev whole_of : (done : IsDone old new dump words.link moment) → IsWholeLoad device call words disk new.disk
-  whole_of done =
-      let i = done.ingested in record {
-        run = run_of nothing_left i.packets (drop done.whole.at dump) (length i.packets) i.parts (omega arith) (all_done i.packets i.done) (ap rows_of_faults i.fills);
-        all = refl;
-        durable = no_failed_write_now i.fills i.done.head;
-      }
-
-  abbrev no_failed_write_run : (refusal : Refusal) (s : IsStoppedAt old new dump words.link moment refusal) → new.fills ≡ [] → IsLoad device call words nothing_left disk new.disk
-  no_failed_write_run refusal s none = run_of nothing_left s.packets s.rest s.place s.parts s.within s.done (ap rows_of_faults none)
-
-  abbrev refused_no_failed_write : (refusal : Refusal) (report : Report) (s : IsStoppedAt old new dump words.link moment refusal) (none : new.fills ≡ []) → call.written' ≡ call.written
-      → report ≡ loaded (Some refusal) None (length old.history) (length new.history) 0 0 0 → ending.IsRefused device call words disk new.disk refusal report
-  refused_no_failed_write refusal report s none silent is = record {
-    stopped = record { run = no_failed_write_run refusal s none; silent = silent; report_is = is };
-    durable = no_failed_write_now none s.done.head;
-  }
-
-  -- the disk failed in a batch, after these packets
-  failed_now : (report : Report) (wrote : Bool) (s : Failing dump) → HasIngested old new words.link moment (take s.place s.packets)
-      → new.fills ≡ Fault s.count wrote (Rows (fresh_of new.history (rows_of_link old.head words.link moment (batch_at s.place s.packets)))) ∷ []
-      → (FailedAtMostOnce device disk new.disk → wrote ≡ false) → call.written' ≡ call.written
-      → report ≡ loaded (Some DiskFault) None (length old.history) (length new.history) 0 0 0 → ending.IsFailed device call words disk new.disk report
-  failed_now report wrote s done fills once silent is =
-      let rows : List Row = fresh_of new.history (rows_of_link old.head words.link moment (batch_at s.place s.packets)) in
-      let same : rows ≡ new_rows_at (archive_of old) words.link moment s.packets s.place =
-      ap (fresh_of new.history) (rows_same (batch_at s.place s.packets))
-      ∙ ap (λ (h : List Item). fresh_of h (link_rows old.head.mdb words.link moment (batch_at s.place s.packets)))
-      (done.history ∙ ap (ingested old.history) (rows_same (take s.place s.packets))) in
-      record {
-        stopped = record {
-          run = run_of batch_left s.packets s.rest s.place s.parts s.within done (ap rows_of_faults fills ∙ ap batch_left same);
-          silent = silent;
-          report_is = is;
-        };
-        now = λ c leaves. elim (left device new s.count wrote rows keeps fills c leaves) [
-          | inl stands ↦ inl (subst (λ (h : Head). StandsFor c (archive h new.history)) done.head stands)
-          | inr more ↦ inr (subst (λ (l : List Row). StandsFor c (archive old.head (new.history ++ items_of l))) same (subst (λ (h : Head). StandsFor c (archive h (new.history ++ items_of rows))) done.head more))
-        ];
-        durable = λ one.
-            subst (λ (h : Head). IsDurableAs device new.disk h new.history) done.head
-            (durable_again device new s.count rows is_transparent keeps (subst (λ (b : Bool). new.fills ≡ Fault s.count b (Rows rows) ∷ []) (once one) fills));
-      }
-
-  -- no call of the disk failed in a batch
-  session_cases : (refusal : Option Refusal) (report : Report) → (refusal ≡ Some DiskFault → ⊥) → IsLoadOutcome old new dump words.link moment call.written call.written' refusal report
-      → WritesCounted refusal call.write_faults call.write_faults' → IsLoadEnding device call words disk new.disk refusal report
-  session_cases None report no_failed_write w writes = record { line = record { whole = whole_of w.0; rest = w.1; printed = w.2 }; report_is = w.3 }
-  session_cases (Some WriteFault) report no_failed_write w writes = (writes, record { line = record { whole = whole_of w.0; rest = w.1; printed = w.2 }; report_is = w.3 })
-  session_cases (Some (BadPacket at kind)) report no_failed_write w writes = (record { whole = whole_of w.0; silent = w.2; report_is = w.3 }, w.1)
-  session_cases (Some (Limit DumpOctets number)) report no_failed_write w writes = absurd w.0.cause.2
-  session_cases (Some (Limit Links number)) report no_failed_write w writes = absurd w.0.cause.2
-  session_cases (Some (Limit which number)) report no_failed_write w writes = record {
-    refused = refused_no_failed_write (Limit which number) report w.0 w.0.cause.0 w.1 w.2;
-    records = new.records;
-    few = few_now (w.0.done.records w.0.cause.0);
-    number_is = w.0.cause.1;
-    passed = subst (λ (l : List Row). IsLimit 22 which new.records (ingested new.history l)) (rows_same (batch_at w.0.place w.0.packets)) w.0.cause.2;
-  }
-  session_cases (Some DiskFault) report no_failed_write w writes = absurd (no_failed_write refl)
-  session_cases (Some OutOfMemory) report no_failed_write w writes = inr (inr (refused_no_failed_write OutOfMemory report w.0 w.0.cause w.1 w.2))
-  session_cases (Some other) report no_failed_write w writes = absurd w.0.cause
-
--- ---- a store that was opened again
+no_rest : (dump rest : List ℕ) → rest ≡ [] → ending_of_rest dump rest ≡ None
+no_rest dump rest is = subst (λ (l : List ℕ). ending_of_rest dump l ≡ None) (sym is) refl
 
 -- the packets of an earlier store went into the one that was opened again too
 ingested_again : {D : Type 0} (device : Device D) (old new last : StoreView D) (link : ℕ) (moment : ℤ) (packets : List (List ℕ)) → HasIngested old new link moment packets → IsReopened device new last
@@ -182,73 +58,191 @@ ingested_again device old new last link moment packets done again some = record 
   records = λ none. absurd (some none);
 }
 
-module _ {D : Type 0} (device : Device D) (is_transparent : IsTrue device.is_transparent) (call : Call) (words : LoadWords) (disk : D) (old new last : StoreView D) (dump : List ℕ) (moment : ℤ)
-    (ready : IsReady device call words disk old dump moment) (keeps : CrashInvariant device last) (faults : FaultInvariant device last) where
-  -- with this fault
-  failed_with : (report : Report) (s : IsStoppedAt old new dump words.link moment DiskFault) (again : IsReopened device new last) (wrote : Bool)
-      → last.fills ≡ Fault s.cause.0 wrote (Rows (fresh_of new.history (rows_of_link old.head words.link moment (batch_at s.place s.packets)))) ∷ []
-      → (FailedAtMostOnce device disk last.disk → wrote ≡ false) → call.written' ≡ call.written
-      → report ≡ loaded (Some DiskFault) None (length old.history) (length new.history) 0 0 0 → IsLoadEnding device call words disk last.disk (Some DiskFault) report
-  failed_with report s again wrote fills once silent is =
-      let rows : List Item → List Row = λ h. fresh_of h (rows_of_link old.head words.link moment (batch_at s.place s.packets)) in
+-- ---- the disk
+
+module _ {D : Type 0} (device : Device D) (disk : D) (old : StoreView D) where
+  -- no call of it failed in a batch
+  extended : (new : StoreView D) (link : ℕ) (moment : ℤ) (packets : List (List ℕ)) → IsOpened device disk old → HasIngested old new link moment packets → new.fills ≡ [] → IsTrue device.is_transparent
+      → CrashInvariant device new → IsExtended device disk new.disk (archive_of old) new.history
+  extended new link moment packets opened done none known keeps = record {
+    stands = opened.stands;
+    images = load_images device disk old new opened [] (ap rows_of_faults none) link moment packets done keeps;
+    durable = subst (λ (h : Head). IsDurableAs device new.disk h new.history) done.head (durable device new known keeps none);
+  }
+
+  -- it failed in the one that held these rows
+  stopped_by : (last : StoreView D) (link : ℕ) (moment : ℤ) (packets : List (List ℕ)) (count : ℕ) (wrote : Bool) (rows : List Row) → IsOpened device disk old → HasIngested old last link moment packets
+      → last.fills ≡ Fault count wrote (Rows rows) ∷ [] → (FailedAtMostOnce device disk last.disk → wrote ≡ false) → IsTrue device.is_transparent → CrashInvariant device last
+      → IsExtensionFailed device disk last.disk (archive_of old) last.history rows
+  stopped_by last link moment packets count wrote rows opened done fills once known keeps = record {
+    stands = opened.stands;
+    images = load_images device disk old last opened (batch_left rows) (ap rows_of_faults fills) link moment packets done keeps;
+    now = λ c leaves. elim (left device last count wrote rows keeps fills c leaves) [
+      | inl stands ↦ inl (subst (λ (h : Head). StandsFor c (archive h last.history)) done.head stands)
+      | inr more ↦ inr (subst (λ (h : Head). StandsFor c (archive h (last.history ++ items_of rows))) done.head more)
+    ];
+    durable = λ one.
+        subst (λ (h : Head). IsDurableAs device last.disk h last.history) done.head
+        (durable_again device last count rows known keeps (subst (λ (b : Bool). last.fills ≡ Fault count b (Rows rows) ∷ []) (once one) fills));
+  }
+
+  -- its counts
+  used_still : (last : StoreView D) → device.fault_count disk ≤ device.fault_count old.opened → last.opened ≡ old.opened → FaultInvariant device last
+      → device.failed_writes last.disk ≡ device.failed_writes disk → UsedDisk device disk last.disk false 0 0
+  used_still last first same faults writes =
+      let later = faults.later in record { faults = omega (arith, first, ap device.fault_count same, later); writes = (0, omega arith, omega arith, writes) }
+
+  used_failed : (last : StoreView D) → raised (device.fault_count disk) ≤ device.fault_count last.disk → OneOrTwo (Some DiskFault) (device.failed_writes disk) (device.failed_writes last.disk)
+      → UsedDisk device disk last.disk true 1 2
+  used_failed last rose (inl one) = record { faults = rose; writes = (1, omega arith, omega arith, one) }
+  used_failed last rose (inr two) = record { faults = rose; writes = (2, omega arith, omega arith, two) }
+
+-- ---- the way of the plan
+
+module _ {D : Type 0} (device : Device D) (disk : D) (old new last : StoreView D) (dump : List ℕ) (link : ℕ) (moment : ℤ) (output output' : OutputState) (report : Report)
+    (opened : IsTrue device.is_transparent → IsOpened device disk old) (first : device.fault_count disk ≤ device.fault_count old.opened)
+    (keeps : IsTrue device.is_transparent → CrashInvariant device last) (faults : FaultInvariant device last) where
+  abbrev went : Effects D
+  went = effects_of disk last.disk output output' report
+
+  abbrev known : Type 0
+  known = IsTrue device.is_transparent
+
+  abbrev whole_result : IsDone old new dump link moment → SessionResult
+  whole_result done = record {
+    packets = done.ingested.packets;
+    rest = drop done.whole.at dump;
+    place = length done.ingested.packets;
+    reached = new.history;
+    refusal = None;
+  }
+
+  is_whole : (done : IsDone old new dump link moment) → IsSession known (archive_of old) dump link moment (whole_result done)
+  is_whole done =
+      let packets = done.ingested.packets in record {
+        parts = done.ingested.parts;
+        within = omega arith;
+        reached_is = done.ingested.done.history
+            ∙ ap (λ (l : List (List ℕ)). ingested old.history (rows_of_link old.head link moment l)) (sym (take_all (length packets) packets (omega arith)));
+        cause = refl;
+      }
+
+  abbrev stopped_result : (refusal : Refusal) → IsStoppedAt old new dump link moment refusal → SessionResult
+  stopped_result refusal s = record { packets = s.packets; rest = s.rest; place = s.place; reached = new.history; refusal = Some refusal }
+
+  is_stopped : (refusal : Refusal) (s : IsStoppedAt old new dump link moment refusal) → IsSessionEnd known (archive_of old) link moment (stopped_result refusal s) (Some refusal)
+      → IsSession known (archive_of old) dump link moment (stopped_result refusal s)
+  is_stopped refusal s cause = record { parts = s.parts; within = s.within; reached_is = s.done.history; cause = cause }
+
+  -- no call of the disk failed
+  still : (packets : List (List ℕ)) → last ≡ new → HasIngested old new link moment packets → new.fills ≡ [] → device.failed_writes last.disk ≡ device.failed_writes disk
+      → HasOutcome device disk last.disk false (Extended (archive_of old) new.history)
+  still packets same done none writes = (
+    used_still device disk old last first (ap (λ (s : StoreView D). s.opened) same ∙ done.opened) faults writes,
+    λ is. subst (λ (s : StoreView D). IsExtended device disk s.disk (archive_of old) new.history) (sym same)
+        (extended device disk old new link moment packets (opened is) done none is (subst (λ (s : StoreView D). CrashInvariant device s) same (keeps is))),
+  )
+
+  -- one failed in a batch, and the write was taken back, or one failed again
+  fails_with : (s : IsStoppedAt old new dump link moment DiskFault) → IsReopened device new last → (wrote : Bool)
+      → last.fills ≡ Fault s.cause.0 wrote (Rows (fresh_of new.history (rows_of_link old.head link moment (batch_at s.place s.packets)))) ∷ [] → (FailedAtMostOnce device disk last.disk → wrote ≡ false)
+      → OneOrTwo (Some DiskFault) (device.failed_writes disk) (device.failed_writes last.disk)
+      → HasOutcome device disk last.disk true (ExtensionFailed (archive_of old) new.history (next_fresh_rows (archive_of old) link moment (stopped_result DiskFault s)))
+  fails_with s again wrote fills once writes =
+      let rows : List Row = next_fresh_rows (archive_of old) link moment (stopped_result DiskFault s) in
       let some : last.fills ≡ [] → ⊥ = λ none. (let e = sym none ∙ fills in cc) in
-      let done = ingested_again device old new last words.link moment (take s.place s.packets) s.done again some in
-      let now : last.fills ≡ Fault s.cause.0 wrote (Rows (rows last.history)) ∷ [] = fills ∙ ap (λ (h : List Item). Fault s.cause.0 wrote (Rows (rows h)) ∷ []) (sym again.history) in
-      let failing : Failing dump = record {
-        packets = s.packets;
-        rest = s.rest;
-        place = s.place;
-        count = s.cause.0;
-        parts = s.parts;
-        within = s.within;
-      } in (
-        more_faults device disk old last s.cause.0 wrote (rows last.history) ready.later done.opened faults now,
-        inr (failed_now device is_transparent call words disk old last dump moment ready keeps faults report wrote failing done now once silent
-            (is ∙ ap (λ (h : List Item). loaded (Some DiskFault) None (length old.history) (length h) 0 0 0) (sym again.history))),
+      let done = ingested_again device old new last link moment (take s.place s.packets) s.done again some in (
+        used_failed device disk old last (more_faults device disk old last s.cause.0 wrote rows first done.opened faults fills) writes,
+        λ is. subst (λ (h : List Item). IsExtensionFailed device disk last.disk (archive_of old) h rows) again.history
+            (stopped_by device disk old last link moment (take s.place s.packets) s.cause.0 wrote rows (opened is) done fills once is (keeps is)),
       )
 
-  failed_again_so : (report : Report) → IsLoadOutcome old new dump words.link moment call.written call.written' (Some DiskFault) report → IsReopened device new last
-      → IsLoadEnding device call words disk last.disk (Some DiskFault) report
-  failed_again_so report w again =
-      let s = w.0 in
-      let rows : List Row = fresh_of new.history (rows_of_link old.head words.link moment (batch_at s.place s.packets)) in
-      let rose = more_faults device disk old new s.cause.0 true rows ready.later s.done.opened again.counted s.cause.1 in
+  fails : (s : IsStoppedAt old new dump link moment DiskFault) → IsReopened device new last → OneOrTwo (Some DiskFault) (device.failed_writes disk) (device.failed_writes last.disk)
+      → HasOutcome device disk last.disk true (ExtensionFailed (archive_of old) new.history (next_fresh_rows (archive_of old) link moment (stopped_result DiskFault s)))
+  fails s again writes =
+      let rows : List Row = fresh_of new.history (rows_of_link old.head link moment (batch_at s.place s.packets)) in
+      let rose = more_faults device disk old new s.cause.0 true rows first s.done.opened again.counted s.cause.1 in
       elim again.healed [
-        | inl healed ↦ failed_with report s again false (healed ∙ ap reopened s.cause.1) (λ one. refl) w.1 w.2
-        | inr failed ↦ failed_with report s again true (failed.0 ∙ s.cause.1) (λ one. absurd (failed_again device disk new.disk last.disk rose failed.1 one)) w.1 w.2
+        | inl healed ↦ fails_with s again false (healed ∙ ap reopened s.cause.1) (λ one. refl) writes
+        | inr failed ↦ fails_with s again true (failed.0 ∙ s.cause.1) (λ one. absurd (failed_again device disk new.disk last.disk rose failed.1 one)) writes
       ]
 
+  -- its journal has one record for the head, and each other one has a row
+  few_now : new.records + length old.history ≤ old.records + length new.history → known → new.records ≤ 1 + length new.history
+  few_now grown is = let few = (opened is).few in omega (arith, grown, few)
+
+  -- a batch was refused, and no call of the disk failed
+  abbrev Refused : (refusal : Refusal) → IsStoppedAt old new dump link moment refusal → Type 0
+  Refused refusal s = Allows (session_plan known (archive_of old) dump link moment) (Stopped (history_extended (archive_of old) None (stopped_result refusal s)) (Some refusal))
+
+  refused_by : (refusal : Refusal) (s : IsStoppedAt old new dump link moment refusal) → Refused refusal s → last ≡ new → new.fills ≡ [] → output'.written ≡ output.written
+      → report ≡ loaded (Some refusal) None (length old.history) (length new.history) 0 0 0 → output'.faults ≡ output.faults → device.failed_writes last.disk ≡ device.failed_writes disk → Ran device (session_plan known (archive_of old) dump link moment) went
+  refused_by refusal s goes same none silent is counted writes = record {
+    way = Stopped (history_extended (archive_of old) None (stopped_result refusal s)) (Some refusal);
+    allows = goes;
+    did = record { report = is; printed = rw silent (no_text output.written); output = record { counted = counted }; disk = still (take s.place s.packets) same s.done none writes };
+  }
+
   -- by the refusal
-  closed_cases : (refusal : Option Refusal) (report : Report) → IsStoreAtEnd device refusal new last → IsLoadOutcome old new dump words.link moment call.written call.written' refusal report
-      → WritesCounted refusal call.write_faults call.write_faults' → IsLoadEnding device call words disk last.disk refusal report
-  closed_cases (Some DiskFault) report closed w writes = failed_again_so report w closed
-  closed_cases refusal report closed w writes =
-      subst (λ (x : StoreView D). IsLoadEnding device call words disk x.disk refusal report) (sym closed)
-      (session_cases device is_transparent call words disk old new dump moment ready (subst (λ (x : StoreView D). CrashInvariant device x) closed keeps) (subst (λ (x : StoreView D). FaultInvariant device x) closed faults)
-      refusal report (λ e. cc) w writes)
+  by_refusal : (refusal : Option Refusal) → IsStoreAtEnd device refusal new last → IsLoadOutcome old new dump link moment output.written output'.written refusal report
+      → OneOrTwo refusal (device.failed_writes disk) (device.failed_writes last.disk) → WritesCounted refusal output.faults output'.faults → output.faults ≤ output'.faults
+      → Ran device (session_plan known (archive_of old) dump link moment) went
+  by_refusal None same w writes counted later =
+      let s : SessionResult = whole_result w.0 in
+      let line = line_of_load (length old.history) (length new.history) s.packets in
+      let way : Way Progress ⊥ = Stopped (record (history_extended (archive_of old) None s) { text = line; report = whole_report (length old.history) (length new.history) s.packets }) None in
+      record {
+        way = way;
+        allows = (s, is_whole w.0, subst (λ (o : Option Refusal). Allows (after_packets (archive_of old) link s o) way) (sym (no_rest dump s.rest w.1)) (inr refl));
+        did = record { report = w.3; printed = w.2; output = record { counted = counted }; disk = still s.packets same w.0.ingested.done w.0.ingested.fills writes };
+      }
+  by_refusal (Some WriteFault) same w writes counted later =
+      let s : SessionResult = whole_result w.0 in
+      let line = line_of_load (length old.history) (length new.history) s.packets in
+      let way : Way Progress ⊥ = Interrupted (record (history_extended (archive_of old) None s) { text = line; is_whole = false }) OfOutput in
+      record {
+        way = way;
+        allows = (s, is_whole w.0, subst (λ (o : Option Refusal). Allows (after_packets (archive_of old) link s o) way) (sym (no_rest dump s.rest w.1)) (inl refl));
+        did = record {
+          report = w.3;
+          printed = w.2;
+          output = record { counted = risen_counted output.faults output'.faults later counted };
+          disk = still s.packets same w.0.ingested.done w.0.ingested.fills writes;
+        };
+      }
+  by_refusal (Some (BadPacket at kind)) same w writes counted later =
+      let s : SessionResult = whole_result w.0 in
+      let way : Way Progress ⊥ = Stopped (history_extended (archive_of old) (Some link) s) (Some (BadPacket at kind)) in
+      record {
+        way = way;
+        allows = (s, is_whole w.0, subst (λ (o : Option Refusal). Allows (after_packets (archive_of old) link s o) way) (bad_ending dump s.rest at kind w.1) refl);
+        did = record {
+          report = w.3;
+          printed = rw w.2 (no_text output.written);
+          output = record { counted = counted };
+          disk = still s.packets same w.0.ingested.done w.0.ingested.fills writes;
+        };
+      }
+  by_refusal (Some DiskFault) again w writes counted later =
+      let s : SessionResult = stopped_result DiskFault w.0 in
+      record {
+        way = Stopped (extension_failed (archive_of old) link moment s) (Some DiskFault);
+        allows = (s, is_stopped DiskFault w.0 tt, refl);
+        did = record { report = w.2; printed = rw w.1 (no_text output.written); output = record { counted = counted }; disk = fails w.0 again writes };
+      }
+  by_refusal (Some OutOfMemory) same w writes counted later =
+      refused_by OutOfMemory w.0 (stopped_result OutOfMemory w.0, is_stopped OutOfMemory w.0 tt, refl) same w.0.cause w.1 w.2 counted writes
+  by_refusal (Some (Limit which number)) same w writes counted later =
+      let s = w.0 in
+      refused_by (Limit which number) s
+      (stopped_result (Limit which number) s, is_stopped (Limit which number) s (s.cause.1, (new.records, few_now (s.done.records s.cause.0), s.cause.2)), refl) same s.cause.0 w.1 w.2 counted writes
+  by_refusal (Some other) same w writes counted later = absurd w.0.cause
 
--- the ending of a load whose dump was read
-pub session_ending : {D : Type 0} (device : Device D) → IsTrue device.is_transparent → (call : Call) (words : LoadWords) (disk new : D) (old : StoreView D) (dump : List ℕ) (moment : ℤ) (report : Report) → IsReady device call words disk old dump moment
-    → IsLoadRun device old dump words.link moment call.written call.written' new report → WritesCounted report.refusal call.write_faults call.write_faults' → IsLoadEnding device call words disk new report.refusal report
-session_ending device is_transparent call words disk new old dump moment report ready s writes =
-    let closed_store = s.let_go.closed_store in
-    subst (λ d. IsLoadEnding device call words disk d report.refusal report) (sym closed_store.disk_is)
-    (closed_cases device is_transparent call words disk old s.new s.let_go.last dump moment ready (closed_store.images is_transparent) closed_store.faults report.refusal report s.let_go.closed s.went writes)
-
--- the history is no shorter
-grown : {D : Type 0} (old new : StoreView D) (link : ℕ) (moment : ℤ) (packets : List (List ℕ)) → HasIngested old new link moment packets → length old.history ≤ length new.history
-grown old new link moment packets done =
-    let rows = rows_of_link old.head link moment packets in
-    omega (arith, ap length (done.history ∙ fresh_added old.history rows), length-append old.history (fresh_of old.history rows))
-
--- and its report
-pub session_report : {D : Type 0} (device : Device D) (words : LoadWords) (old : StoreView D) (dump : List ℕ) (moment : ℤ) (written written' : Option (List ℕ)) (new : D) (report : Report)
-    → IsLoadRun device old dump words.link moment written written' new report → IsLoadReport words report.refusal report
-session_report device words old dump moment written written' new report s = go report.refusal s.went
-  where
-    go : (refusal : Option Refusal) → IsLoadOutcome old s.new dump words.link moment written written' refusal report → IsLoadReport words refusal report
-    go None w = (length old.history, length s.new.history, _, _, _, grown old s.new words.link moment w.0.ingested.packets w.0.ingested.done, w.3)
-    go (Some WriteFault) w = inr (length old.history, length s.new.history, grown old s.new words.link moment w.0.ingested.packets w.0.ingested.done, w.3)
-    go (Some (BadPacket at kind)) w = (length old.history, length s.new.history, grown old s.new words.link moment w.0.ingested.packets w.0.ingested.done, w.3)
-    go (Some (Limit DumpOctets number)) w = absurd w.0.cause.2
-    go (Some other) w = inr (length old.history, length s.new.history, grown old s.new words.link moment _ w.0.done, w.2)
+-- the packets of a dump went into a store that was opened, so far
+pub ran_session : {D : Type 0} (device : Device D) (disk : D) (old last : StoreView D) (dump : List ℕ) (link : ℕ) (moment : ℤ) (output output' : OutputState) (report : Report)
+    → (IsTrue device.is_transparent → IsOpened device disk old) → device.fault_count disk ≤ device.fault_count old.opened → (IsTrue device.is_transparent → CrashInvariant device last)
+    → FaultInvariant device last → IsLoadRun device old last dump link moment output.written output'.written report
+    → OneOrTwo report.refusal (device.failed_writes disk) (device.failed_writes last.disk) → WritesCounted report.refusal output.faults output'.faults → output.faults ≤ output'.faults
+    → Ran device (session_plan (IsTrue device.is_transparent) (archive_of old) dump link moment) (effects_of disk last.disk output output' report)
+ran_session device disk old last dump link moment output output' report opened first keeps faults s writes counted later =
+    by_refusal device disk old s.new last dump link moment output output' report opened first keeps faults report.refusal s.at_end s.went writes counted later

@@ -4,18 +4,21 @@ use Rattle.arch_disk.specs.Image.{Image}
 use Rattle.arch_disk.specs.Disk.{Device}
 use Rattle.arch_types.specs.declared.refusal.Refusal.{Refusal}
 use Rattle.arch_types.specs.declared.refusal.Refusal.TheVariants.{NoArchive, Damaged}
+use Rattle.arch_types.specs.declared.row.Row.{Row}
 use Rattle.disk_journal.specs.Format.{HoldsNone}
 use Rattle.outer_traits.specs.Outside.{WritesSome}
-use Rattle.outer_ledgers.specs.Ledger.{InputsState, UsedWithoutFailedWrite, OutputState, UsedInputs, UsedOutput, WritesFailedAtMost}
+use Rattle.outer_ledgers.specs.Ledger.{InputsState, UsedWithoutFailedWrite, OutputState, UsedDisk, UsedInputs, UsedOutput, WritesFailedAtMost}
 use Rattle.dump_lines.specs.Output.{Appends}
 use Rattle.command_plans.specs.Plan.{FailedCalls, OfMemory, OfInputs, OfOutput, OfDisk, interruption_refusal, no_failed_calls, with_failed_call, CommandPlan, Return, Stop, May, Question, Way, Returned, Stopped, Interrupted, Allows}
 use Rattle.archive_store.specs.declared.head.Head.{Head}
+use Rattle.archive_core.specs.Items.{Item}
 use Rattle.archive_store.specs.Entries.{Archive}
 use Rattle.archive_store.specs.Stands.{StandsFor, IsArchiveDamagedAt}
 use Rattle.archive_cli.specs.declared.report.Report.{Report}
 use Rattle.archive_cli.specs.CreateEnding.{IsMade, IsMakingFailed}
 use Rattle.archive_cli.specs.ReadOnly.{IsReadAsBefore, IsReadOnly}
 use Rattle.archive_cli.specs.Report.{unopened, read_only}
+use Rattle.archive_cli.specs.Session.{IsExtended, IsExtensionFailed}
 
 -- ---- what was done
 
@@ -33,6 +36,10 @@ pub data DiskOutcome : Type 0 where
   MakingFailed : Head → DiskOutcome
   -- an archive of this head was made
   Made : Head → DiskOutcome
+  -- this archive was opened, and its history extended to this
+  Extended : Archive → List Item → DiskOutcome
+  -- it was extended to this, and the disk failed as these rows were to stand behind it
+  ExtensionFailed : Archive → List Item → List Row → DiskOutcome
 
 -- a disk has this outcome: what it holds by then is known where it is transparent, and its counts on any disk
 abbrev pub HasOutcome : {D : Type 0} → Device D → D → D → Bool → DiskOutcome → Type 0
@@ -42,6 +49,10 @@ HasOutcome device old new failed LookFailed = WritesFailedAtMost 1 device old ne
 HasOutcome device old new failed (Opened archive) = UsedWithoutFailedWrite device old new failed × (IsTrue device.is_transparent → IsReadOnly device old new archive)
 HasOutcome device old new failed (MakingFailed head) = WritesFailedAtMost 2 device old new failed × (IsTrue device.is_transparent → IsMakingFailed device old new head)
 HasOutcome device old new failed (Made head) = UsedWithoutFailedWrite device old new failed × (IsTrue device.is_transparent → IsMade device old new head)
+HasOutcome device old new failed (Extended archive reached) =
+    UsedWithoutFailedWrite device old new failed × (IsTrue device.is_transparent → IsExtended device old new archive reached)
+HasOutcome device old new failed (ExtensionFailed archive reached rows) =
+    UsedDisk device old new failed 1 2 × (IsTrue device.is_transparent → IsExtensionFailed device old new archive reached rows)
 
 -- What a command has done so far: the text that it printed, whole, or that it was printing; the report but for its refusal; the outcome of the disk; how
 -- many sources the inputs gave; and which calls of the outside failed before, though it went on.

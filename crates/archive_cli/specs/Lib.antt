@@ -2,6 +2,8 @@ pub mod Durable
 pub mod LoadEnding
 pub mod LoadCaused
 pub mod Loading
+pub mod Session
+pub mod Load
 pub mod Call
 pub mod Reading
 pub mod Recover

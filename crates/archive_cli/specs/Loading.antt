@@ -1,5 +1,5 @@
 -- The steps of a load: how its dump is read, and how the packets go into a store that was opened.
-use Rattle.std.specs.Prelude.{◌≡◌, ◌⊎◌, ◌<◌, ◌≤◌, ◌-◌, ℕ, ℤ, IsTrue, List, [], length, drop, Option, Some, None, IfSome}
+use Rattle.std.specs.Prelude.{◌≡◌, ◌⊎◌, ◌<◌, ◌≤◌, ◌-◌, ℕ, ℤ, List, [], length, drop, Option, Some, None, IfSome}
 use Rattle.arch_disk.specs.Disk.{Device, raised}
 use Rattle.arch_types.specs.declared.refusal.Refusal.{Refusal}
 use Rattle.arch_types.specs.declared.refusal.Refusal.TheVariants as refused
@@ -9,7 +9,7 @@ use Rattle.outer_traits.specs.declared.whole.ReadFault.{ReadFault}
 use Rattle.outer_traits.specs.declared.whole.ReadFault.TheVariants as faulted
 use Rattle.outer_traits.specs.Outside.{WritesSome}
 use Rattle.archive_core.specs.Fills.{reopened}
-use Rattle.archive_store.specs.StoreView.{StoreView, FaultInvariant, CrashInvariant}
+use Rattle.archive_store.specs.StoreView.{StoreView, FaultInvariant}
 use Rattle.load_session.specs.declared.batches.DumpSummary.{DumpSummary}
 use Rattle.archive_cli.specs.declared.report.Report.{Report}
 use Rattle.load_session.specs.Batches.{IsIngested, IsStoppedAt}
@@ -28,7 +28,7 @@ IsDumpRefusal left number (refused.Limit DumpOctets most) link =
     (number ≤ limit_of Links) × (most ≡ dump_limit) × (link ≡ Some number) × IfSome left (λ octets. most < length octets)
 IsDumpRefusal left number (refused.Limit Links most) link = (most ≡ limit_of Links) × (limit_of Links < number) × (link ≡ None)
 IsDumpRefusal left number refused.ReadFault link = (number ≤ limit_of Links) × (link ≡ None)
-IsDumpRefusal left number refused.OutOfMemory link = link ≡ None
+IsDumpRefusal left number refused.OutOfMemory link = (number ≤ limit_of Links) × (link ≡ None)
 IsDumpRefusal left number other link = ⊥
 
 -- the same of a fault of reading
@@ -39,12 +39,6 @@ IsDumpRefusalFor other number refusal link = (refusal ≡ refused.OutOfMemory) �
 
 -- ---- the store
 
--- a store was closed, and this is its disk
-pub record IsStoreClosed {D : Type 0} (device : Device D) (store : StoreView D) (disk : D) : Type 0 where
-  pub disk_is : disk ≡ store.disk
-  pub images : IsTrue device.is_transparent → CrashInvariant device store
-  pub faults : FaultInvariant device store
-
 -- A store whose disk failed was opened again: its failed write is as if it had never been made, or one more call of the disk failed.
 pub record IsReopened {D : Type 0} (device : Device D) (old new : StoreView D) : Type 0 where
   pub history : new.history ≡ old.history
@@ -53,16 +47,10 @@ pub record IsReopened {D : Type 0} (device : Device D) (old new : StoreView D) :
   pub counted : FaultInvariant device old
   pub healed : (new.fills ≡ reopened old.fills) ⊎ ((new.fills ≡ old.fills) × (raised (device.fault_count old.disk) ≤ device.fault_count new.disk))
 
--- what became of a store before it was closed, by the refusal: where its disk failed it was opened again, and else nothing
+-- what became of a store after its last batch, by the refusal: where its disk failed it was opened again, and else nothing
 abbrev pub IsStoreAtEnd : {D : Type 0} → Device D → Option Refusal → StoreView D → StoreView D → Type 0
 IsStoreAtEnd device (Some refused.DiskFault) store last = IsReopened device store last
 IsStoreAtEnd device other store last = last ≡ store
-
--- a store was closed so and given up, and this is its disk
-pub record IsLetGo {D : Type 0} (device : Device D) (store : StoreView D) (refusal : Option Refusal) (disk : D) : Type 0 where
-  pub last : StoreView D
-  pub closed : IsStoreAtEnd device refusal store last
-  pub closed_store : IsStoreClosed device last disk
 
 -- the report of a load whose line was printed, or not
 abbrev pub printed_report : Option Refusal → ℕ → ℕ → ℕ → ℕ → Report
@@ -95,8 +83,8 @@ IsLoadOutcome old new dump link moment written written' (Some (refused.BadPacket
 IsLoadOutcome old new dump link moment written written' (Some refusal) report =
     IsStoppedAt old new dump link moment refusal × (written' ≡ written) × (report ≡ loaded (Some refusal) None (length old.history) (length new.history) 0 0 0)
 
--- the packets of a dump went into a store, which was then closed
-pub record IsLoadRun {D : Type 0} (device : Device D) (old : StoreView D) (dump : List ℕ) (link : ℕ) (moment : ℤ) (written written' : Option (List ℕ)) (disk : D) (report : Report) : Type 0 where
+-- the packets of a dump went into a store, whose failed write, if there was one, was then taken back
+pub record IsLoadRun {D : Type 0} (device : Device D) (old last : StoreView D) (dump : List ℕ) (link : ℕ) (moment : ℤ) (written written' : Option (List ℕ)) (report : Report) : Type 0 where
   pub new : StoreView D
-  pub let_go : IsLetGo device new report.refusal disk
+  pub at_end : IsStoreAtEnd device report.refusal new last
   pub went : IsLoadOutcome old new dump link moment written written' report.refusal report

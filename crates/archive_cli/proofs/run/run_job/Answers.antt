@@ -2,7 +2,7 @@ use Rattle.std.proofs.Common.{◌+◌, ◌≤◌, [], Some, ap, arith, refl, sub
 use Rattle.outer_ledgers.specs.Ledger.{inputs_state, output_state}
 use Rattle.archive_cli.specs.Order.{IsInOrder, inputs_of}
 use Rattle.command_words.specs.declared.job.Job.{Job}
-use Rattle.command_words.specs.JobView.{job_view, sheet_words_of, words_of}
+use Rattle.command_words.specs.JobView.{job_view, load_words_of, sheet_words_of, words_of}
 use Rattle.archive_cli.specs.DiskWrites.{DiskWritesCounted}
 use Rattle.archive_cli.specs.HandedBack.{IsHandedBack, IsUnasked}
 use Rattle.archive_cli.specs.Ending.{IsCaused, IsJobEnding}
@@ -10,6 +10,7 @@ use Rattle.archive_cli.proofs.Diskless.{values_disk}
 use Rattle.archive_cli.specs.Command.{effects_of}
 use Rattle.archive_cli.specs.Report.{IsReport}
 use Rattle.archive_cli.proofs.CreateEnds.{create_caused, create_disk_fault, create_disk_later, create_disk_writes, create_ended, create_gave, create_handed_back, create_later, create_order, create_reads_counted, create_report, create_unasked, create_writes_counted, create_writes_later}
+use Rattle.archive_cli.proofs.LoadCases.{load_caused, load_disk_fault, load_disk_later, load_disk_writes, load_ended, load_gave, load_handed_back, load_later, load_order, load_reads_counted, load_report, load_unasked, load_writes_counted, load_writes_later}
 use Rattle.archive_cli.proofs.QueryEnds.{query_caused, query_disk_fault, query_disk_later, query_disk_writes, query_ended, query_gave, query_handed_back, query_later, query_order, query_reads_counted, query_report, query_unasked, query_writes_counted, query_writes_later}
 use Rattle.archive_cli.proofs.RecoverPlan.{recover_caused, recover_disk_fault, recover_disk_later, recover_disk_writes, recover_ended, recover_reads, recover_report, recover_writes, recover_writes_later}
 use Rattle.archive_cli.proofs.ValuesEnds.{values_end, values_later, values_order, values_plan_ended, values_reads_counted, values_report, values_writes_counted}
@@ -17,40 +18,6 @@ use Rattle.archive_cli.proofs.ScanEnds.{scan_disk_fault, scan_gave, scan_later, 
 use Rattle.archive_cli.proofs.Scanned.{call_of}
 use Rattle.archive_cli.proofs.run.run_job.Goals as goal
 
-pub returns-in-Load-clause-caused : goal.returns-in-Load-clause-caused
-returns-in-Load-clause-caused g c = λ words.
-    let call = call_of words (g.I.Inputs.files c.args.inputs.now) (g.C.Clock.next c.args.clock.now) (g.I.Inputs.faults c.args.inputs.now) (g.I.Inputs.faults c.load.new.inputs)
-    (g.K.Sink.written c.args.sink.now) (g.K.Sink.written c.load.new.sink) (g.K.Sink.faults c.args.sink.now) (g.K.Sink.faults c.load.new.sink) in
-    subst (λ (job : Job). IsCaused call (Some (job_view job)) c.load.result.report.refusal) (sym c.in-Load.is) (c.load.ensures.caused words)
-
-pub returns-in-Load-clause-handed_back : goal.returns-in-Load-clause-handed_back
-returns-in-Load-clause-handed_back g c =
-    subst (λ (job : Job). IsHandedBack (Some (job_view job)) c.args.disk c.load.result.disk c.load.result.report) (sym c.in-Load.is) c.load.ensures.handed_back
-
-pub returns-in-Load-clause-order : goal.returns-in-Load-clause-order
-returns-in-Load-clause-order g c =
-    subst (λ (job : Job). IsInOrder (g.I.Inputs.files c.args.inputs.now) (Some (job_view job)) (g.I.Inputs.given c.args.inputs.now) (g.I.Inputs.given c.load.new.inputs) c.args.disk
-    c.load.result.disk c.load.result.report) (sym c.in-Load.is) c.load.ensures.order
-
--- before a source was given
-
-pub returns-in-Load-clause-unasked : goal.returns-in-Load-clause-unasked
-returns-in-Load-clause-unasked g c =
-    subst (λ (job : Job). IsUnasked (Some (job_view job)) (g.I.Inputs.given c.args.inputs.now) (g.I.Inputs.given c.load.new.inputs) c.args.disk c.load.result.disk) (sym c.in-Load.is)
-    c.load.ensures.unasked
-
--- how many sources were given
-
-pub returns-in-Load-clause-gave : goal.returns-in-Load-clause-gave
-returns-in-Load-clause-gave g c =
-    subst (λ (job : Job). g.I.Inputs.given c.load.new.inputs ≤ g.I.Inputs.given c.args.inputs.now + inputs_of (Some (job_view job))) (sym c.in-Load.is) c.load.ensures.gave
-
--- how many writes of the disk failed
-
-pub returns-in-Load-clause-disk_writes : goal.returns-in-Load-clause-disk_writes
-returns-in-Load-clause-disk_writes g c =
-    let failed = g.D.Disk.device.failed_writes in
-    subst (λ (job : Job). DiskWritesCounted (Some (job_view job)) c.load.result.report (failed c.args.disk) (failed c.load.result.disk)) (sym c.in-Load.is) c.load.ensures.disk_writes
 
 -- `recover`: what its plan says
 
@@ -558,6 +525,230 @@ returns-in-Query-clause-same g c = c.query.ensures.ran.inputs.files
 
 pub returns-in-Query-clause-closed : goal.returns-in-Query-clause-closed
 returns-in-Query-clause-closed g c = c.query.ensures.ran.inputs.closed
+
+-- `load`: what its plan says
+
+pub returns-in-Load-clause-ended : goal.returns-in-Load-clause-ended
+returns-in-Load-clause-ended g c = λ given.
+    let device = g.D.Disk.device in
+    let r = c.load.result in
+    let files = g.I.Inputs.files c.args.inputs.now in
+    let words = load_words_of c.in-Load.words in
+    let next = g.C.Clock.next c.args.clock.now in
+    let state = λ (i : g.row.I.Denot). inputs_state (g.I.Inputs.files i) (g.I.Inputs.open_sources i) (g.I.Inputs.given i) (g.I.Inputs.faults i) (g.I.Inputs.never_fails i) in
+    let a = state c.args.inputs.now in
+    let b = state c.load.new.inputs in
+    let output = output_state (g.K.Sink.written c.args.sink.now) (g.K.Sink.faults c.args.sink.now) in
+    let output' = output_state (g.K.Sink.written c.load.new.sink) (g.K.Sink.faults c.load.new.sink) in
+    let went = effects_of c.args.disk r.disk output output' r.report in
+    let call = call_of given files next a.faults b.faults output.written output'.written output.faults output'.faults in
+    subst (λ (job : Job). IsJobEnding device call c.args.disk r.disk (Some (job_view job)) r.report) (sym c.in-Load.is) (load_ended device went files next words a b c.load.ensures.ran given)
+
+pub returns-in-Load-clause-caused : goal.returns-in-Load-clause-caused
+returns-in-Load-clause-caused g c = λ given.
+    let device = g.D.Disk.device in
+    let r = c.load.result in
+    let files = g.I.Inputs.files c.args.inputs.now in
+    let words = load_words_of c.in-Load.words in
+    let next = g.C.Clock.next c.args.clock.now in
+    let state = λ (i : g.row.I.Denot). inputs_state (g.I.Inputs.files i) (g.I.Inputs.open_sources i) (g.I.Inputs.given i) (g.I.Inputs.faults i) (g.I.Inputs.never_fails i) in
+    let a = state c.args.inputs.now in
+    let b = state c.load.new.inputs in
+    let output = output_state (g.K.Sink.written c.args.sink.now) (g.K.Sink.faults c.args.sink.now) in
+    let output' = output_state (g.K.Sink.written c.load.new.sink) (g.K.Sink.faults c.load.new.sink) in
+    let went = effects_of c.args.disk r.disk output output' r.report in
+    let call = call_of given files next a.faults b.faults output.written output'.written output.faults output'.faults in
+    subst (λ (job : Job). IsCaused call (Some (job_view job)) r.report.refusal) (sym c.in-Load.is) (load_caused device went files next words a b c.load.ensures.ran given)
+
+pub returns-in-Load-clause-report : goal.returns-in-Load-clause-report
+returns-in-Load-clause-report g c =
+    let device = g.D.Disk.device in
+    let r = c.load.result in
+    let files = g.I.Inputs.files c.args.inputs.now in
+    let words = load_words_of c.in-Load.words in
+    let next = g.C.Clock.next c.args.clock.now in
+    let state = λ (i : g.row.I.Denot). inputs_state (g.I.Inputs.files i) (g.I.Inputs.open_sources i) (g.I.Inputs.given i) (g.I.Inputs.faults i) (g.I.Inputs.never_fails i) in
+    let a = state c.args.inputs.now in
+    let b = state c.load.new.inputs in
+    let output = output_state (g.K.Sink.written c.args.sink.now) (g.K.Sink.faults c.args.sink.now) in
+    let output' = output_state (g.K.Sink.written c.load.new.sink) (g.K.Sink.faults c.load.new.sink) in
+    let went = effects_of c.args.disk r.disk output output' r.report in
+    subst (λ (job : Job). IsReport (Some (job_view job)) r.report) (sym c.in-Load.is) (load_report device went files next words a b c.load.ensures.ran)
+
+pub returns-in-Load-clause-order : goal.returns-in-Load-clause-order
+returns-in-Load-clause-order g c =
+    let device = g.D.Disk.device in
+    let r = c.load.result in
+    let files = g.I.Inputs.files c.args.inputs.now in
+    let words = load_words_of c.in-Load.words in
+    let next = g.C.Clock.next c.args.clock.now in
+    let state = λ (i : g.row.I.Denot). inputs_state (g.I.Inputs.files i) (g.I.Inputs.open_sources i) (g.I.Inputs.given i) (g.I.Inputs.faults i) (g.I.Inputs.never_fails i) in
+    let a = state c.args.inputs.now in
+    let b = state c.load.new.inputs in
+    let output = output_state (g.K.Sink.written c.args.sink.now) (g.K.Sink.faults c.args.sink.now) in
+    let output' = output_state (g.K.Sink.written c.load.new.sink) (g.K.Sink.faults c.load.new.sink) in
+    let went = effects_of c.args.disk r.disk output output' r.report in
+    subst (λ (job : Job). IsInOrder files (Some (job_view job)) a.given b.given c.args.disk r.disk r.report) (sym c.in-Load.is) (load_order device went files next words a b c.load.ensures.ran)
+
+pub returns-in-Load-clause-later : goal.returns-in-Load-clause-later
+returns-in-Load-clause-later g c =
+    let device = g.D.Disk.device in
+    let r = c.load.result in
+    let files = g.I.Inputs.files c.args.inputs.now in
+    let words = load_words_of c.in-Load.words in
+    let next = g.C.Clock.next c.args.clock.now in
+    let state = λ (i : g.row.I.Denot). inputs_state (g.I.Inputs.files i) (g.I.Inputs.open_sources i) (g.I.Inputs.given i) (g.I.Inputs.faults i) (g.I.Inputs.never_fails i) in
+    let a = state c.args.inputs.now in
+    let b = state c.load.new.inputs in
+    let output = output_state (g.K.Sink.written c.args.sink.now) (g.K.Sink.faults c.args.sink.now) in
+    let output' = output_state (g.K.Sink.written c.load.new.sink) (g.K.Sink.faults c.load.new.sink) in
+    let went = effects_of c.args.disk r.disk output output' r.report in
+    load_later device went files next words a b c.load.ensures.ran
+
+pub returns-in-Load-clause-writes_later : goal.returns-in-Load-clause-writes_later
+returns-in-Load-clause-writes_later g c =
+    let device = g.D.Disk.device in
+    let r = c.load.result in
+    let files = g.I.Inputs.files c.args.inputs.now in
+    let words = load_words_of c.in-Load.words in
+    let next = g.C.Clock.next c.args.clock.now in
+    let state = λ (i : g.row.I.Denot). inputs_state (g.I.Inputs.files i) (g.I.Inputs.open_sources i) (g.I.Inputs.given i) (g.I.Inputs.faults i) (g.I.Inputs.never_fails i) in
+    let a = state c.args.inputs.now in
+    let b = state c.load.new.inputs in
+    let output = output_state (g.K.Sink.written c.args.sink.now) (g.K.Sink.faults c.args.sink.now) in
+    let output' = output_state (g.K.Sink.written c.load.new.sink) (g.K.Sink.faults c.load.new.sink) in
+    let went = effects_of c.args.disk r.disk output output' r.report in
+    load_writes_later device went files next words a b c.load.ensures.ran
+
+pub returns-in-Load-clause-reads_counted : goal.returns-in-Load-clause-reads_counted
+returns-in-Load-clause-reads_counted g c =
+    let device = g.D.Disk.device in
+    let r = c.load.result in
+    let files = g.I.Inputs.files c.args.inputs.now in
+    let words = load_words_of c.in-Load.words in
+    let next = g.C.Clock.next c.args.clock.now in
+    let state = λ (i : g.row.I.Denot). inputs_state (g.I.Inputs.files i) (g.I.Inputs.open_sources i) (g.I.Inputs.given i) (g.I.Inputs.faults i) (g.I.Inputs.never_fails i) in
+    let a = state c.args.inputs.now in
+    let b = state c.load.new.inputs in
+    let output = output_state (g.K.Sink.written c.args.sink.now) (g.K.Sink.faults c.args.sink.now) in
+    let output' = output_state (g.K.Sink.written c.load.new.sink) (g.K.Sink.faults c.load.new.sink) in
+    let went = effects_of c.args.disk r.disk output output' r.report in
+    load_reads_counted device went files next words a b c.load.ensures.ran
+
+pub returns-in-Load-clause-writes_counted : goal.returns-in-Load-clause-writes_counted
+returns-in-Load-clause-writes_counted g c =
+    let device = g.D.Disk.device in
+    let r = c.load.result in
+    let files = g.I.Inputs.files c.args.inputs.now in
+    let words = load_words_of c.in-Load.words in
+    let next = g.C.Clock.next c.args.clock.now in
+    let state = λ (i : g.row.I.Denot). inputs_state (g.I.Inputs.files i) (g.I.Inputs.open_sources i) (g.I.Inputs.given i) (g.I.Inputs.faults i) (g.I.Inputs.never_fails i) in
+    let a = state c.args.inputs.now in
+    let b = state c.load.new.inputs in
+    let output = output_state (g.K.Sink.written c.args.sink.now) (g.K.Sink.faults c.args.sink.now) in
+    let output' = output_state (g.K.Sink.written c.load.new.sink) (g.K.Sink.faults c.load.new.sink) in
+    let went = effects_of c.args.disk r.disk output output' r.report in
+    load_writes_counted device went files next words a b c.load.ensures.ran
+
+pub returns-in-Load-clause-reliable : goal.returns-in-Load-clause-reliable
+returns-in-Load-clause-reliable g c = λ sure.
+    (c.load.ensures.ran.inputs.reliable sure).1
+
+pub returns-in-Load-clause-disk_later : goal.returns-in-Load-clause-disk_later
+returns-in-Load-clause-disk_later g c =
+    let device = g.D.Disk.device in
+    let r = c.load.result in
+    let files = g.I.Inputs.files c.args.inputs.now in
+    let words = load_words_of c.in-Load.words in
+    let next = g.C.Clock.next c.args.clock.now in
+    let state = λ (i : g.row.I.Denot). inputs_state (g.I.Inputs.files i) (g.I.Inputs.open_sources i) (g.I.Inputs.given i) (g.I.Inputs.faults i) (g.I.Inputs.never_fails i) in
+    let a = state c.args.inputs.now in
+    let b = state c.load.new.inputs in
+    let output = output_state (g.K.Sink.written c.args.sink.now) (g.K.Sink.faults c.args.sink.now) in
+    let output' = output_state (g.K.Sink.written c.load.new.sink) (g.K.Sink.faults c.load.new.sink) in
+    let went = effects_of c.args.disk r.disk output output' r.report in
+    load_disk_later device went files next words a b c.load.ensures.ran
+
+pub returns-in-Load-clause-disk_fault : goal.returns-in-Load-clause-disk_fault
+returns-in-Load-clause-disk_fault g c =
+    let device = g.D.Disk.device in
+    let r = c.load.result in
+    let files = g.I.Inputs.files c.args.inputs.now in
+    let words = load_words_of c.in-Load.words in
+    let next = g.C.Clock.next c.args.clock.now in
+    let state = λ (i : g.row.I.Denot). inputs_state (g.I.Inputs.files i) (g.I.Inputs.open_sources i) (g.I.Inputs.given i) (g.I.Inputs.faults i) (g.I.Inputs.never_fails i) in
+    let a = state c.args.inputs.now in
+    let b = state c.load.new.inputs in
+    let output = output_state (g.K.Sink.written c.args.sink.now) (g.K.Sink.faults c.args.sink.now) in
+    let output' = output_state (g.K.Sink.written c.load.new.sink) (g.K.Sink.faults c.load.new.sink) in
+    let went = effects_of c.args.disk r.disk output output' r.report in
+    load_disk_fault device went files next words a b c.load.ensures.ran
+
+pub returns-in-Load-clause-disk_writes : goal.returns-in-Load-clause-disk_writes
+returns-in-Load-clause-disk_writes g c =
+    let device = g.D.Disk.device in
+    let r = c.load.result in
+    let files = g.I.Inputs.files c.args.inputs.now in
+    let words = load_words_of c.in-Load.words in
+    let next = g.C.Clock.next c.args.clock.now in
+    let state = λ (i : g.row.I.Denot). inputs_state (g.I.Inputs.files i) (g.I.Inputs.open_sources i) (g.I.Inputs.given i) (g.I.Inputs.faults i) (g.I.Inputs.never_fails i) in
+    let a = state c.args.inputs.now in
+    let b = state c.load.new.inputs in
+    let output = output_state (g.K.Sink.written c.args.sink.now) (g.K.Sink.faults c.args.sink.now) in
+    let output' = output_state (g.K.Sink.written c.load.new.sink) (g.K.Sink.faults c.load.new.sink) in
+    let went = effects_of c.args.disk r.disk output output' r.report in
+    subst (λ (job : Job). DiskWritesCounted (Some (job_view job)) r.report (device.failed_writes c.args.disk) (device.failed_writes r.disk)) (sym c.in-Load.is) (load_disk_writes device went files next words a b c.load.ensures.ran)
+
+pub returns-in-Load-clause-handed_back : goal.returns-in-Load-clause-handed_back
+returns-in-Load-clause-handed_back g c =
+    let device = g.D.Disk.device in
+    let r = c.load.result in
+    let files = g.I.Inputs.files c.args.inputs.now in
+    let words = load_words_of c.in-Load.words in
+    let next = g.C.Clock.next c.args.clock.now in
+    let state = λ (i : g.row.I.Denot). inputs_state (g.I.Inputs.files i) (g.I.Inputs.open_sources i) (g.I.Inputs.given i) (g.I.Inputs.faults i) (g.I.Inputs.never_fails i) in
+    let a = state c.args.inputs.now in
+    let b = state c.load.new.inputs in
+    let output = output_state (g.K.Sink.written c.args.sink.now) (g.K.Sink.faults c.args.sink.now) in
+    let output' = output_state (g.K.Sink.written c.load.new.sink) (g.K.Sink.faults c.load.new.sink) in
+    let went = effects_of c.args.disk r.disk output output' r.report in
+    subst (λ (job : Job). IsHandedBack (Some (job_view job)) c.args.disk r.disk r.report) (sym c.in-Load.is) (load_handed_back device went files next words a b c.load.ensures.ran)
+
+pub returns-in-Load-clause-unasked : goal.returns-in-Load-clause-unasked
+returns-in-Load-clause-unasked g c =
+    let device = g.D.Disk.device in
+    let r = c.load.result in
+    let files = g.I.Inputs.files c.args.inputs.now in
+    let words = load_words_of c.in-Load.words in
+    let next = g.C.Clock.next c.args.clock.now in
+    let state = λ (i : g.row.I.Denot). inputs_state (g.I.Inputs.files i) (g.I.Inputs.open_sources i) (g.I.Inputs.given i) (g.I.Inputs.faults i) (g.I.Inputs.never_fails i) in
+    let a = state c.args.inputs.now in
+    let b = state c.load.new.inputs in
+    let output = output_state (g.K.Sink.written c.args.sink.now) (g.K.Sink.faults c.args.sink.now) in
+    let output' = output_state (g.K.Sink.written c.load.new.sink) (g.K.Sink.faults c.load.new.sink) in
+    let went = effects_of c.args.disk r.disk output output' r.report in
+    subst (λ (job : Job). IsUnasked (Some (job_view job)) a.given b.given c.args.disk r.disk) (sym c.in-Load.is) (load_unasked device went files next words a b c.load.ensures.ran)
+
+pub returns-in-Load-clause-gave : goal.returns-in-Load-clause-gave
+returns-in-Load-clause-gave g c =
+    let device = g.D.Disk.device in
+    let r = c.load.result in
+    let files = g.I.Inputs.files c.args.inputs.now in
+    let words = load_words_of c.in-Load.words in
+    let next = g.C.Clock.next c.args.clock.now in
+    let state = λ (i : g.row.I.Denot). inputs_state (g.I.Inputs.files i) (g.I.Inputs.open_sources i) (g.I.Inputs.given i) (g.I.Inputs.faults i) (g.I.Inputs.never_fails i) in
+    let a = state c.args.inputs.now in
+    let b = state c.load.new.inputs in
+    let output = output_state (g.K.Sink.written c.args.sink.now) (g.K.Sink.faults c.args.sink.now) in
+    let output' = output_state (g.K.Sink.written c.load.new.sink) (g.K.Sink.faults c.load.new.sink) in
+    let went = effects_of c.args.disk r.disk output output' r.report in
+    subst (λ (job : Job). b.given ≤ a.given + inputs_of (Some (job_view job))) (sym c.in-Load.is) (load_gave device went files next words a b c.load.ensures.ran)
+
+pub returns-in-Load-clause-same : goal.returns-in-Load-clause-same
+returns-in-Load-clause-same g c = c.load.ensures.ran.inputs.files
+
+pub returns-in-Load-clause-closed : goal.returns-in-Load-clause-closed
+returns-in-Load-clause-closed g c = c.load.ensures.ran.inputs.closed
 
 -- `scan`: what its plan says
 
