@@ -1,8 +1,7 @@
 -- Inputs that are read in their order.
-use Rattle.std.proofs.Common.{◌≡◌, ◌<◌, ◌≤◌, ◌+◌, ℕ, ℤ, suc, Bool, true, false, List, [], ◌∷◌, length, Option, Some, None, inl, inr, refl, sym, subst, arith}
+use Rattle.std.proofs.Common.{◌≡◌, ◌<◌, ◌≤◌, ◌+◌, ℕ, suc, Bool, true, false, List, [], ◌∷◌, length, Option, Some, None, inl, inr, refl, sym, subst, arith}
 use Rattle.std.specs.Prelude.{IfSome, IsSome, IsSomeAnd, Result, Ok, Err, nat_lt, if◌then◌else◌}
 use Rattle.std.specs.FinMap.{get}
-use Rattle.arch_disk.specs.Disk.{Device}
 use Rattle.arch_types.specs.declared.refusal.Refusal.{Refusal}
 use Rattle.arch_types.specs.declared.refusal.Refusal.TheVariants.{Missing, ReadFault, Limit, OutOfMemory}
 use Rattle.arch_types.specs.declared.refusal.Which.{Which}
@@ -15,7 +14,6 @@ use Rattle.outer_traits.specs.declared.whole.ReadFault.{ReadFault as AReadFault}
 use Rattle.outer_traits.specs.declared.whole.ReadFault.TheVariants as fault
 use Rattle.outer_traits.specs.Outside.{Files, IsOneMoreAtMost, one_more}
 use Rattle.outer_traits.specs.Whole.{IsInput, ReadingGiven}
-use Rattle.archive_store.specs.StoreView.{StoreView}
 use Rattle.archive_cli.specs.declared.report.Report.{Report}
 use Rattle.archive_cli.specs.Expecting.{IsOrEarlier}
 use Rattle.archive_cli.specs.Order.{AreInOrder, Input, IsLoadFault, create_inputs, first_unread, unread_at, values_inputs}
