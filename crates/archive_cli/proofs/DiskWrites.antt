@@ -1,14 +1,12 @@
 -- How many writes of the disk failed.
-use Rattle.std.proofs.Common.{◌≡◌, ◌⊎◌, ◌≤◌, ◌∙◌, ℕ, List, Option, Some, None, inl, inr, arith, refl, sym, ap, subst}
+use Rattle.std.proofs.Common.{◌≡◌, ◌⊎◌, ◌≤◌, ◌∙◌, ℕ, List, Option, Some, None, inl, inr, arith, sym, ap, subst}
 use Rattle.std.specs.Prelude.{◌≢◌, Err, IfErr, Ok, OnOk, Result}
 use Rattle.std.proofs.lemmas.Bool.{cases_eq}
 use Rattle.arch_disk.specs.Disk.{Device, raised}
 use Rattle.arch_types.specs.declared.refusal.Refusal.{Refusal}
 use Rattle.arch_types.specs.declared.refusal.Refusal.TheVariants.{DiskFault, WriteFault}
-use Rattle.arch_types.specs.declared.row.Row.{Row}
-use Rattle.archive_core.specs.declared.fills.Addition.TheVariants.{Rows}
 use Rattle.archive_store.specs.Calls.{IsStoreReopened, IsStoreReopenRefusal}
-use Rattle.archive_store.specs.StoreView.{AddsFault, StoreView}
+use Rattle.archive_store.specs.StoreView.{StoreView}
 use Rattle.archive_store.proofs.Calls.{reopen_failed}
 use Rattle.archive_cli.specs.declared.report.Report.{Report}
 use Rattle.load_session.specs.Batches.{ExactlyOne}

@@ -1,5 +1,5 @@
 -- Disks that are handed back unasked.
-use Rattle.std.proofs.Common.{◌≡◌, ◌≤◌, ℕ, ℤ, arith, List, Bool, true, Option, Some, None, sym, subst}
+use Rattle.std.proofs.Common.{◌≡◌, ◌≤◌, ℕ, arith, List, Bool, Option, Some, None, sym, subst}
 use Rattle.std.specs.Prelude.{Result, Ok, Err}
 use Rattle.std.proofs.lemmas.Bool.{false≢true}
 use Rattle.arch_disk.specs.Disk.{Device}

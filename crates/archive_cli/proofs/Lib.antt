@@ -45,3 +45,4 @@ pub mod HandedBack
 pub mod DiskWrites
 pub mod Durable
 pub mod Ordered
+pub mod RunPlan

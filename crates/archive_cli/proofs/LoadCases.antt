@@ -1,7 +1,6 @@
 -- What was said of `load` by cases follows from the way of its plan.
-use Rattle.std.proofs.Common.{◌≡◌, ◌⊎◌, ◌≤◌, ◌<◌, ◌+◌, ◌∙◌, inl, inr, ℕ, zero, suc, ℤ, Bool, false, true, List, [], ◌-◌, length, take, Option, Some, None, refl, sym, ap, subst, arith, length-append}
-use Rattle.std.specs.Prelude.{IfSome, IsSomeAnd, IsTrue}
-use Rattle.std.specs.FinMap.{get}
+use Rattle.std.proofs.Common.{◌≡◌, ◌⊎◌, ◌≤◌, ◌+◌, ◌∙◌, inl, inr, ℕ, zero, suc, ℤ, Bool, false, true, List, [], ◌-◌, length, take, Option, Some, None, refl, sym, ap, subst, arith, length-append}
+use Rattle.std.specs.Prelude.{IsTrue}
 use Rattle.std.proofs.lemmas.Bool.{false≢true}
 use Rattle.arch_disk.specs.Disk.{Device, raised}
 use Rattle.arch_types.specs.declared.refusal.Refusal.{Refusal}
@@ -14,7 +13,6 @@ use Rattle.archive_core.specs.Outcomes.{fresh_of}
 use Rattle.archive_core.proofs.Outcomes.{fresh_added}
 use Rattle.archive_history.specs.Limits.{IsLimit}
 use Rattle.archive_store.specs.Calls.{IsStoreOpenRefusal}
-use Rattle.archive_store.specs.Entries.{Archive}
 use Rattle.archive_store.specs.Stands.{StandsFor}
 use Rattle.archive_store.proofs.Calls.{open_counted}
 use Rattle.command_plans.specs.Plan.{OfInputs}
@@ -37,7 +35,7 @@ use Rattle.archive_cli.specs.LoadEnding as ending
 use Rattle.archive_cli.specs.LoadEnding.{batch_left, history_with, link_rows, new_rows_at, nothing_left, IsDuring, IsLoad, IsLoadEnding, IsWholeLoad}
 use Rattle.archive_cli.specs.Order.{IsLoadFault}
 use Rattle.archive_cli.specs.ReadDump.{ReadDump}
-use Rattle.archive_cli.specs.ReadOnly.{IsOpenedThen, IsReadAsBefore}
+use Rattle.archive_cli.specs.ReadOnly.{IsOpenedThen}
 use Rattle.archive_cli.specs.Report.{loaded, read_only, unopened, IsLoadReport}
 use Rattle.archive_cli.specs.Session.{IsExtended, IsExtensionFailed, IsSessionEnd, next_fresh_rows}
 use Rattle.archive_cli.proofs.DiskWrites.{load_unopened_writes}
@@ -45,10 +43,10 @@ use Rattle.archive_cli.proofs.During.{has_table}
 use Rattle.archive_cli.proofs.Ends.{NotOpened}
 use Rattle.archive_cli.proofs.HandedBack.{given_unasked, load_same}
 use Rattle.archive_cli.proofs.LoadEnds.{HasCome, IsUnfound, IsUnreadOf, WasFound, WasIngested, WasUnread, load_end}
-use Rattle.archive_cli.proofs.NotLoaded.{load_unopened, not_begun, nothing, reported, unread_report}
+use Rattle.archive_cli.proofs.NotLoaded.{load_unopened, not_begun, nothing, unread_report}
 use Rattle.archive_cli.proofs.OverInputs.{EndsBefore, NotBegun, gave_few, gave_so, risen, still}
 use Rattle.archive_cli.proofs.Ordered.{undumped_fault, unread_fault}
-use Rattle.archive_cli.proofs.ReadOnly.{open_reads, open_writes, opening_cause, unopened_fault, untouched}
+use Rattle.archive_cli.proofs.ReadOnly.{open_reads, open_writes, opening_cause, unopened_fault}
 use Rattle.archive_cli.proofs.Sessions.{rows_are}
 
 module _ {D : Type 0} (device : Device D) (e : Effects D) (files : Option Files) (next : Option ℤ) (words : LoadWords) (a b : InputsState) (given : List (List ℕ)) where

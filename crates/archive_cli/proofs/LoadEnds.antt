@@ -1,10 +1,10 @@
 -- Where the plan of `load` ends, and what was said of `load` by cases follows.
-use Rattle.std.proofs.Common.{◌≡◌, ◌⊎◌, ◌≤◌, ◌<◌, ◌+◌, ◌-◌, ◌∙◌, inl, inr, ℕ, ℤ, Bool, false, true, List, [], ◌∷◌, length, take, Option, Some, None, refl, sym, ap, subst, arith, length-append}
+use Rattle.std.proofs.Common.{◌≡◌, ◌⊎◌, ◌≤◌, ◌<◌, ◌-◌, ◌∙◌, inl, inr, ℕ, ℤ, Bool, false, true, List, [], ◌∷◌, length, Option, Some, None, refl, sym, ap, subst, arith, length-append}
 use Rattle.std.specs.Prelude.{IfSome, IsNone, IsSomeAnd, IsTrue}
 use Rattle.std.specs.FinMap.{get}
 use Rattle.std.specs.List.{concat}
 use Rattle.std.proofs.lemmas.Bool.{cases_lt}
-use Rattle.arch_disk.specs.Disk.{Device, raised}
+use Rattle.arch_disk.specs.Disk.{Device}
 use Rattle.arch_types.specs.declared.refusal.BadKind.{BadKind}
 use Rattle.arch_types.specs.declared.refusal.Refusal.{Refusal}
 use Rattle.arch_types.specs.declared.refusal.Refusal.TheVariants.{Missing, ReadFault, WriteFault, BadPacket, DiskFault, Limit, OutOfMemory}
@@ -12,7 +12,6 @@ use Rattle.arch_types.specs.declared.refusal.Which.TheVariants.{DumpOctets, Link
 use Rattle.arch_types.specs.Dump.{IsDump}
 use Rattle.arch_types.specs.Limits.{limit_of}
 use Rattle.archive_store.specs.Entries.{Archive}
-use Rattle.archive_store.specs.Stands.{StandsFor}
 use Rattle.command_plans.specs.Plan.{OfMemory, OfInputs, OfOutput, CommandPlan, Way, Stopped, Interrupted, Allows, and_then}
 use Rattle.command_plans.specs.Plan as plan
 use Rattle.command_plans.proofs.Plans.{end_of}
@@ -23,7 +22,7 @@ use Rattle.outer_ledgers.specs.Ledger.{Counted, InputsState, UsedInputs}
 use Rattle.outer_traits.specs.Outside.{Files, WritesSome}
 use Rattle.outer_traits.specs.Whole.{IsInput, IsThere}
 use Rattle.archive_cli.specs.Call.{IsMomentOf}
-use Rattle.archive_cli.specs.Command.{Progress, HasEffects, HasOutcome, Opened, Extended, ExtensionFailed, Effects, NoneFound, DamageFound, ArchiveFound, IsOpeningResult, OpeningResult, after_opening, archive_opened, look_failed, looked, nothing_done, opening_plan}
+use Rattle.archive_cli.specs.Command.{Progress, HasEffects, HasOutcome, Opened, Extended, ExtensionFailed, Effects, NoneFound, DamageFound, ArchiveFound, IsOpeningResult, OpeningResult, after_opening, archive_opened, opening_plan}
 use Rattle.archive_cli.specs.Expecting.{ending_of_rest}
 use Rattle.archive_cli.specs.Load.{after_dump, after_dump_found, after_link, after_packets, after_session, dump_too_long, extension_failed, history_extended, link_refusal, load_plan, loading_plan, session_plan}
 use Rattle.archive_cli.specs.LoadEnding.{line_of_load, whole_report}

@@ -1,6 +1,6 @@
 -- How the plan of `load` goes.
 use Rattle.std.proofs.Common.{◌≡◌, ◌≤◌, ◌<◌, ◌-◌, ◌∙◌, inl, inr, ℕ, ℤ, Bool, true, false, List, length, Option, Some, None, refl, sym, ap, subst, arith}
-use Rattle.std.specs.Prelude.{Err, IfSome, IsNone, IsSome, IsSomeAnd, IsTrue, nat_lt}
+use Rattle.std.specs.Prelude.{Err, IfSome, IsSome, IsSomeAnd, IsTrue}
 use Rattle.std.specs.FinMap.{get}
 use Rattle.arch_disk.specs.Disk.{Device, LeavesOnly}
 use Rattle.arch_types.specs.declared.refusal.Refusal.{Refusal}
@@ -32,7 +32,7 @@ use Rattle.archive_cli.specs.ReadDump.{dump_limit}
 use Rattle.archive_cli.specs.Report.{read_only, unopened}
 use Rattle.archive_cli.specs.Session.{SessionResult}
 use Rattle.archive_cli.proofs.Commands.{no_text, ran_unopened, unopened_after}
-use Rattle.archive_cli.proofs.NotLoaded.{OnlyMissing, gives_long, gives_there, gone, still_there}
+use Rattle.archive_cli.proofs.NotLoaded.{OnlyMissing, gives_long, gone, still_there}
 use Rattle.archive_cli.proofs.OverInputs.{HasRead}
 use Rattle.archive_cli.proofs.RecoverPlan.{opens_determined}
 use Rattle.archive_cli.proofs.ValuesAnswers.{longer, not-longer}

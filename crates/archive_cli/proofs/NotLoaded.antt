@@ -1,15 +1,13 @@
 -- Endings of a load that ingested nothing.
-use Rattle.std.proofs.Common.{◌≡◌, ◌<◌, inl, inr, ℕ, List, length, Some, None, Option, refl, sym, ap, subst}
+use Rattle.std.proofs.Common.{◌≡◌, ◌<◌, inl, ℕ, List, length, Some, None, Option, refl, sym, ap, subst}
 use Rattle.std.specs.Prelude.{IfSome, IsNone, IsSome, IsSomeAnd, IsErrOf, ◌↔◌, Result, Err}
 use Rattle.std.specs.FinMap.{get}
 use Rattle.arch_disk.specs.Disk.{Device}
 use Rattle.arch_types.specs.declared.refusal.Refusal.{Refusal}
 use Rattle.arch_types.specs.declared.refusal.Refusal.TheVariants as refused
-use Rattle.arch_types.specs.declared.refusal.Which.TheVariants.{DumpOctets, Links}
-use Rattle.mdb_sheets.specs.Sheets.{ReadsCounted}
 use Rattle.outer_traits.specs.declared.fault.OpenFault.{OpenFault}
-use Rattle.outer_traits.specs.declared.fault.OpenFault.TheVariants.{Missing, Failed, OutOfMemory}
-use Rattle.outer_traits.specs.Outside.{Files, IsLeftAtFirst, OpeningCounted}
+use Rattle.outer_traits.specs.declared.fault.OpenFault.TheVariants.{Missing, Failed}
+use Rattle.outer_traits.specs.Outside.{Files, IsLeftAtFirst}
 use Rattle.outer_traits.specs.Whole.{IsInput, IsThere}
 use Rattle.archive_store.specs.Entries.{Archive}
 use Rattle.archive_cli.specs.declared.report.Report.{Report}
@@ -17,7 +15,6 @@ use Rattle.archive_cli.specs.Call.{Call, WritesNothing}
 use Rattle.archive_cli.specs.ReadOnly.{IsOpeningRefusal, IsReadAsBefore, IsReadOnly}
 use Rattle.command_words.specs.Job.{LoadWords}
 use Rattle.archive_cli.specs.LoadEnding.{IsLoadEnding, IsLoadNotBegun, IsNothingLoaded}
-use Rattle.archive_cli.specs.Loading.{IsOpeningFault, IsDumpRefusal}
 use Rattle.archive_cli.specs.Report.{unopened, read_only}
 use Rattle.archive_cli.proofs.ReadOnly.{untouched}
 

@@ -32,3 +32,4 @@ pub mod Report
 pub mod HandedBack
 pub mod DiskWrites
 pub mod Order
+pub mod Run

@@ -1,5 +1,5 @@
 -- A session that ingests the packets of a dump into an archive: what comes of it, and what it leaves of the disk.
-use Rattle.std.specs.Prelude.{Contains, ◌≡◌, ◌⊎◌, ◌≤◌, ◌+◌, ℕ, ℤ, List, [], ◌++◌, length, take, Option, Some, None}
+use Rattle.std.specs.Prelude.{◌≡◌, ◌⊎◌, ◌≤◌, ◌+◌, ℕ, ℤ, List, [], ◌++◌, length, take, Option, Some, None}
 use Rattle.arch_disk.specs.Image.{Image}
 use Rattle.arch_disk.specs.Disk.{Device}
 use Rattle.arch_types.specs.declared.refusal.Refusal.{Refusal}

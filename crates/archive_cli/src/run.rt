@@ -1,13 +1,17 @@
 //! The top call.
 
-ghost use Rattle.std.specs.Prelude.{◌≡◌, IsTrue, map, string_bytes, List, ℕ, Some, ◌+◌, ◌<◌, ◌≤◌, ◌^◌};
+ghost use Rattle.std.specs.Prelude.{◌≡◌, IsSome, IsTrue, map, string_bytes, List, ℕ, Some, ◌+◌, ◌<◌, ◌≤◌, ◌^◌};
 ghost use Rattle.arch_disk.specs.Disk.{raised};
 ghost use Rattle.outer_traits.specs.Outside.{Stays};
+ghost use Rattle.outer_ledgers.specs.Ledger.{inputs_state, output_state};
+ghost use Rattle.command_plans.specs.Plan.{IsDue};
 ghost use Rattle.mdb_sheets.specs.Sheets.{ReadsCounted};
 ghost use Rattle.command_words.specs.JobView.{job_view};
 ghost use Rattle.archive_cli.specs.Call.{call_of};
 ghost use Rattle.dump_lines.specs.Output.{WritesCounted};
 ghost use Rattle.command_words.specs.Job.{job_of, HasLink};
+ghost use Rattle.archive_cli.specs.Command.{RanOver, effects_of};
+ghost use Rattle.archive_cli.specs.Run.{job_plan, run_plan};
 ghost use Rattle.archive_cli.specs.Ending.{IsCaused, IsEnding, IsJobEnding};
 ghost use Rattle.archive_cli.specs.Expected.{IsExpected};
 ghost use Rattle.archive_cli.specs.DiskWrites.{DiskWritesCounted};
@@ -40,6 +44,22 @@ pub fn run<D: Disk, I: Inputs, K: Sink, C: Clock>(
     sink: &mut K,
     clock: &mut C,
 ) -> Ended<D>
+    // It took a way through its plan: where that ends stands what was printed, what became of the disk, what is reported, how many
+    // sources were given, and which calls failed.
+    ensures ran { RanOver D.device (run_plan D.device disk (I.files inputs.old) (C.next clock.old)
+        (map (λ w. string_bytes w) words.now))
+        (effects_of disk result.disk (output_state (K.written sink.old) (K.faults sink.old))
+        (output_state (K.written sink.new) (K.faults sink.new)) result.report)
+        (inputs_state (I.files inputs.old) (I.open_sources inputs.old) (I.given inputs.old)
+        (I.faults inputs.old) (I.never_fails inputs.old))
+        (inputs_state (I.files inputs.new) (I.open_sources inputs.new) (I.given inputs.new)
+        (I.faults inputs.new) (I.never_fails inputs.new)) }
+
+    // Where disk and inputs are known the answer that is due comes, or that of an interruption at its place.
+    ensures due { IsTrue D.device.is_transparent → IsSome (I.files inputs.old) →
+        IsDue (run_plan D.device disk (I.files inputs.old) (C.next clock.old) (map (λ w. string_bytes w) words.now))
+        result.report.refusal }
+
     // For each job and each answer its cause, what was written, and what became of the disk.
     ensures ended { IsEnding D.device (call_of (map (λ w. string_bytes w) words.now) (I.files inputs.old)
         (C.next clock.old) (I.faults inputs.old) (I.faults inputs.new) (K.written sink.old) (K.written sink.new)
@@ -118,6 +138,16 @@ fn run_job<D: Disk, I: Inputs, K: Sink, C: Clock>(
     clock: &mut C,
 ) -> Ended<D>
     requires link { HasLink (job_view job) }
+    ensures ran { RanOver D.device (job_plan D.device disk (I.files inputs.old) (C.next clock.old) (job_view job.entry))
+        (effects_of disk result.disk (output_state (K.written sink.old) (K.faults sink.old))
+        (output_state (K.written sink.new) (K.faults sink.new)) result.report)
+        (inputs_state (I.files inputs.old) (I.open_sources inputs.old) (I.given inputs.old)
+        (I.faults inputs.old) (I.never_fails inputs.old))
+        (inputs_state (I.files inputs.new) (I.open_sources inputs.new) (I.given inputs.new)
+        (I.faults inputs.new) (I.never_fails inputs.new)) }
+    ensures due { IsTrue D.device.is_transparent → IsSome (I.files inputs.old) →
+        IsDue (job_plan D.device disk (I.files inputs.old) (C.next clock.old) (job_view job.entry))
+        result.report.refusal }
     ensures ended { (words : List (List ℕ)) →
         IsJobEnding D.device (call_of words (I.files inputs.old) (C.next clock.old) (I.faults inputs.old)
         (I.faults inputs.new) (K.written sink.old) (K.written sink.new) (K.faults sink.old) (K.faults sink.new)) disk

@@ -1,5 +1,4 @@
-use Rattle.std.proofs.Common.{◌≡◌, ◌≤◌, ◌∙◌, false, length, refl, sym, ap, subst, arith, rules, w64, SFits, Some}
-use Rattle.std.specs.Prelude.{IsTrue}
+use Rattle.std.proofs.Common.{◌≤◌, ◌∙◌, false, refl, sym, subst, arith, rules, w64, SFits, Some}
 use Rattle.std.proofs.lemmas.Int.{to_z-of_z}
 use Rattle.archive_store.specs.StoreView.{archive_of}
 use Rattle.command_words.specs.JobView.{load_words_of}

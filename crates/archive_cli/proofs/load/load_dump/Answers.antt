@@ -1,4 +1,4 @@
-use Rattle.std.proofs.Common.{◌∙◌, w64, length, refl, sym, ap, arith}
+use Rattle.std.proofs.Common.{◌∙◌, w64, refl, sym, ap, arith}
 use Rattle.std.proofs.lemmas.Int.{to_z-of_z}
 use Rattle.archive_cli.specs.declared.report.Report.{Report}
 use Rattle.archive_cli.proofs.Closing.{bad_end, printed_end, refused_end}

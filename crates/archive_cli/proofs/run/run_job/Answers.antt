@@ -12,12 +12,12 @@ use Rattle.archive_cli.specs.Report.{IsReport}
 use Rattle.archive_cli.proofs.CreateEnds.{create_caused, create_disk_fault, create_disk_later, create_disk_writes, create_ended, create_gave, create_handed_back, create_later, create_order, create_reads_counted, create_report, create_unasked, create_writes_counted, create_writes_later}
 use Rattle.archive_cli.proofs.LoadCases.{load_caused, load_disk_fault, load_disk_later, load_disk_writes, load_ended, load_gave, load_handed_back, load_later, load_order, load_reads_counted, load_report, load_unasked, load_writes_counted, load_writes_later}
 use Rattle.archive_cli.proofs.QueryEnds.{query_caused, query_disk_fault, query_disk_later, query_disk_writes, query_ended, query_gave, query_handed_back, query_later, query_order, query_reads_counted, query_report, query_unasked, query_writes_counted, query_writes_later}
-use Rattle.archive_cli.proofs.RecoverPlan.{recover_caused, recover_disk_fault, recover_disk_later, recover_disk_writes, recover_ended, recover_reads, recover_report, recover_writes, recover_writes_later}
+use Rattle.archive_cli.proofs.RecoverPlan.{recover_caused, recover_disk_fault, recover_disk_later, recover_disk_writes, recover_ended, recover_over, recover_reads, recover_report, recover_writes, recover_writes_later}
 use Rattle.archive_cli.proofs.ValuesEnds.{values_end, values_later, values_order, values_plan_ended, values_reads_counted, values_report, values_writes_counted}
 use Rattle.archive_cli.proofs.ScanEnds.{scan_disk_fault, scan_gave, scan_later, scan_order, scan_plan_ended, scan_reads_counted, scan_report, scan_same, scan_writes_counted, scan_writes_later}
+use Rattle.archive_cli.proofs.RunPlan.{job_due, job_ran}
 use Rattle.archive_cli.proofs.Scanned.{call_of}
 use Rattle.archive_cli.proofs.run.run_job.Goals as goal
-
 
 -- `recover`: what its plan says
 
@@ -1199,3 +1199,71 @@ returns-in-Values-clause-same g c = c.values.ensures.ran.inputs.files
 
 pub returns-in-Values-clause-closed : goal.returns-in-Values-clause-closed
 returns-in-Values-clause-closed g c = c.values.ensures.ran.inputs.closed
+
+-- ---- the plan of the job
+
+pub returns-in-Scan-clause-ran : goal.returns-in-Scan-clause-ran
+returns-in-Scan-clause-ran g c =
+    let state = λ (i : g.row.I.Denot). inputs_state (g.I.Inputs.files i) (g.I.Inputs.open_sources i) (g.I.Inputs.given i) (g.I.Inputs.faults i) (g.I.Inputs.never_fails i) in
+    let went = effects_of c.args.disk c.scan.result.disk (output_state (g.K.Sink.written c.args.sink.now) (g.K.Sink.faults c.args.sink.now))
+    (output_state (g.K.Sink.written c.scan.new.sink) (g.K.Sink.faults c.scan.new.sink)) c.scan.result.report in
+    job_ran g.D.Disk.device went (g.I.Inputs.files c.args.inputs.now) (g.C.Clock.next c.args.clock.now) (state c.args.inputs.now) (state c.scan.new.inputs) c.args.job _ c.in-Scan.is c.scan.ensures.ran
+
+pub returns-in-Scan-clause-due : goal.returns-in-Scan-clause-due
+returns-in-Scan-clause-due g c = λ transparent known.
+    job_due g.D.Disk.device c.args.disk (g.I.Inputs.files c.args.inputs.now) (g.C.Clock.next c.args.clock.now) c.args.job _ c.scan.result.report.refusal c.in-Scan.is (c.scan.ensures.due known)
+
+pub returns-in-Values-clause-ran : goal.returns-in-Values-clause-ran
+returns-in-Values-clause-ran g c =
+    let state = λ (i : g.row.I.Denot). inputs_state (g.I.Inputs.files i) (g.I.Inputs.open_sources i) (g.I.Inputs.given i) (g.I.Inputs.faults i) (g.I.Inputs.never_fails i) in
+    let went = effects_of c.args.disk c.values.result.disk (output_state (g.K.Sink.written c.args.sink.now) (g.K.Sink.faults c.args.sink.now))
+    (output_state (g.K.Sink.written c.values.new.sink) (g.K.Sink.faults c.values.new.sink)) c.values.result.report in
+    job_ran g.D.Disk.device went (g.I.Inputs.files c.args.inputs.now) (g.C.Clock.next c.args.clock.now) (state c.args.inputs.now) (state c.values.new.inputs) c.args.job _ c.in-Values.is c.values.ensures.ran
+
+pub returns-in-Values-clause-due : goal.returns-in-Values-clause-due
+returns-in-Values-clause-due g c = λ transparent known.
+    job_due g.D.Disk.device c.args.disk (g.I.Inputs.files c.args.inputs.now) (g.C.Clock.next c.args.clock.now) c.args.job _ c.values.result.report.refusal c.in-Values.is (c.values.ensures.due known)
+
+pub returns-in-Create-clause-ran : goal.returns-in-Create-clause-ran
+returns-in-Create-clause-ran g c =
+    let state = λ (i : g.row.I.Denot). inputs_state (g.I.Inputs.files i) (g.I.Inputs.open_sources i) (g.I.Inputs.given i) (g.I.Inputs.faults i) (g.I.Inputs.never_fails i) in
+    let went = effects_of c.args.disk c.create.result.disk (output_state (g.K.Sink.written c.args.sink.now) (g.K.Sink.faults c.args.sink.now))
+    (output_state (g.K.Sink.written c.create.new.sink) (g.K.Sink.faults c.create.new.sink)) c.create.result.report in
+    job_ran g.D.Disk.device went (g.I.Inputs.files c.args.inputs.now) (g.C.Clock.next c.args.clock.now) (state c.args.inputs.now) (state c.create.new.inputs) c.args.job _ c.in-Create.is c.create.ensures.ran
+
+pub returns-in-Create-clause-due : goal.returns-in-Create-clause-due
+returns-in-Create-clause-due g c = λ transparent known.
+    job_due g.D.Disk.device c.args.disk (g.I.Inputs.files c.args.inputs.now) (g.C.Clock.next c.args.clock.now) c.args.job _ c.create.result.report.refusal c.in-Create.is (c.create.ensures.due transparent known)
+
+pub returns-in-Load-clause-ran : goal.returns-in-Load-clause-ran
+returns-in-Load-clause-ran g c =
+    let state = λ (i : g.row.I.Denot). inputs_state (g.I.Inputs.files i) (g.I.Inputs.open_sources i) (g.I.Inputs.given i) (g.I.Inputs.faults i) (g.I.Inputs.never_fails i) in
+    let went = effects_of c.args.disk c.load.result.disk (output_state (g.K.Sink.written c.args.sink.now) (g.K.Sink.faults c.args.sink.now))
+    (output_state (g.K.Sink.written c.load.new.sink) (g.K.Sink.faults c.load.new.sink)) c.load.result.report in
+    job_ran g.D.Disk.device went (g.I.Inputs.files c.args.inputs.now) (g.C.Clock.next c.args.clock.now) (state c.args.inputs.now) (state c.load.new.inputs) c.args.job _ c.in-Load.is c.load.ensures.ran
+
+pub returns-in-Load-clause-due : goal.returns-in-Load-clause-due
+returns-in-Load-clause-due g c = λ transparent known.
+    job_due g.D.Disk.device c.args.disk (g.I.Inputs.files c.args.inputs.now) (g.C.Clock.next c.args.clock.now) c.args.job _ c.load.result.report.refusal c.in-Load.is (c.load.ensures.due transparent known)
+
+pub returns-in-Query-clause-ran : goal.returns-in-Query-clause-ran
+returns-in-Query-clause-ran g c =
+    let state = λ (i : g.row.I.Denot). inputs_state (g.I.Inputs.files i) (g.I.Inputs.open_sources i) (g.I.Inputs.given i) (g.I.Inputs.faults i) (g.I.Inputs.never_fails i) in
+    let went = effects_of c.args.disk c.query.result.disk (output_state (g.K.Sink.written c.args.sink.now) (g.K.Sink.faults c.args.sink.now))
+    (output_state (g.K.Sink.written c.query.new.sink) (g.K.Sink.faults c.query.new.sink)) c.query.result.report in
+    job_ran g.D.Disk.device went (g.I.Inputs.files c.args.inputs.now) (g.C.Clock.next c.args.clock.now) (state c.args.inputs.now) (state c.query.new.inputs) c.args.job _ c.in-Query.is c.query.ensures.ran
+
+pub returns-in-Query-clause-due : goal.returns-in-Query-clause-due
+returns-in-Query-clause-due g c = λ transparent known.
+    job_due g.D.Disk.device c.args.disk (g.I.Inputs.files c.args.inputs.now) (g.C.Clock.next c.args.clock.now) c.args.job _ c.query.result.report.refusal c.in-Query.is (c.query.ensures.due transparent known)
+
+pub returns-in-Recover-clause-ran : goal.returns-in-Recover-clause-ran
+returns-in-Recover-clause-ran g c =
+    let state = λ (i : g.row.I.Denot). inputs_state (g.I.Inputs.files i) (g.I.Inputs.open_sources i) (g.I.Inputs.given i) (g.I.Inputs.faults i) (g.I.Inputs.never_fails i) in
+    let went = effects_of c.args.disk c.recover.result.disk (output_state (g.K.Sink.written c.args.sink.now) (g.K.Sink.faults c.args.sink.now))
+    (output_state (g.K.Sink.written c.recover.new.sink) (g.K.Sink.faults c.recover.new.sink)) c.recover.result.report in
+    job_ran g.D.Disk.device went (g.I.Inputs.files c.args.inputs.now) (g.C.Clock.next c.args.clock.now) (state c.args.inputs.now) (state c.args.inputs.now) c.args.job _ c.in-Recover.is (recover_over g.D.Disk.device went c.recover.ensures.ran (state c.args.inputs.now))
+
+pub returns-in-Recover-clause-due : goal.returns-in-Recover-clause-due
+returns-in-Recover-clause-due g c = λ transparent known.
+    job_due g.D.Disk.device c.args.disk (g.I.Inputs.files c.args.inputs.now) (g.C.Clock.next c.args.clock.now) c.args.job _ c.recover.result.report.refusal c.in-Recover.is (c.recover.ensures.due transparent)
