@@ -1,5 +1,5 @@
 -- Inputs that are read in their order.
-use Rattle.std.proofs.Common.{◌≡◌, ◌<◌, ◌≤◌, ◌+◌, ℕ, ℤ, suc, Bool, true, false, List, [], ◌∷◌, length, Option, Some, None, inl, inr, refl, sym, subst, arith}
+use Rattle.std.proofs.Common.{◌≡◌, ◌<◌, ◌≤◌, ◌+◌, ℕ, suc, Bool, true, false, List, [], ◌∷◌, length, Option, Some, None, inl, inr, refl, sym, subst, arith}
 use Rattle.std.specs.Prelude.{IfSome, IsSome, IsSomeAnd, nat_lt, if◌then◌else◌}
 use Rattle.std.specs.FinMap.{get}
 use Rattle.arch_types.specs.declared.refusal.Refusal.{Refusal}
@@ -12,7 +12,6 @@ use Rattle.mdb_items.specs.declared.sheet.RawMdb.{RawMdb}
 use Rattle.mdb_sheets.specs.Sheets.{AreSheets, HasSheet, IsRefusal, IsSheetRefusal, SourcesOfSheet, more}
 use Rattle.outer_traits.specs.Outside.{Files, IsOneMoreAtMost, one_more}
 use Rattle.outer_traits.specs.Whole.{IsInput}
-use Rattle.archive_store.specs.StoreView.{StoreView}
 use Rattle.archive_cli.specs.declared.report.Report.{Report}
 use Rattle.archive_cli.specs.Expecting.{IsOrEarlier}
 use Rattle.archive_cli.specs.Order.{AreInOrder, Input, IsLoadFault, create_inputs, first_unread, unread_at, values_inputs}

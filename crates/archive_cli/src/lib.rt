@@ -1,9 +1,9 @@
 //! The commands of the archive: what the words of a command line ask is done, and how it ended is said.
 //!
-//! `run` is the top call. Its contract has for each job one equation per answer: the cause, what was written, and what became of the disk
-//! (specs/Ending.antt), and which answer has to come, where the contents of inputs and disk are known (specs/Expected.antt). Which words are a job
-//! says command_words. What a command does, in which order, is its plan (specs/Command.antt), so far of all but `load`: there
-//! the cases of `run` follow from the plan (proofs/*Ends.antt, proofs/RecoverPlan.antt). A later command adds its plan.
+//! `run` is the top call. What a command does, in which order, is its plan (specs/Command.antt), and which words lead to which plan says
+//! specs/Run.antt. Beside that the contract of `run` has for each job one equation per answer: the cause, what was written, and what became of the disk
+//! (specs/Ending.antt), and which answer has to come, where the contents of inputs and disk are known (specs/Expected.antt). These cases follow from
+//! the plans (proofs/*Ends.antt, proofs/LoadCases.antt, proofs/RecoverPlan.antt). A later command adds its plan.
 //!
 //! The way of a dump: for `scan` and `values` `read_scan_input` takes it in, and dump_lines keeps its rows; for `load` load_session hands its packets to
 //! the archive's store. The way of an ask: mdb_sheets reads it, and retrieval extracts the cells of the store's plan and prints them.
