@@ -1,14 +1,11 @@
 -- What becomes of the store of a load after its last batch.
-use Rattle.std.proofs.Common.{◌≡◌, ◌≢◌, inl, inr, ℕ, List, Option, Some, None, refl, sym, ap, subst}
-use Rattle.std.specs.Prelude.{Err, IfErr, Ok, OnOk, Result}
+use Rattle.std.proofs.Common.{◌≡◌, ◌≢◌, ℕ, List, Option, Some, None, refl, sym, subst}
 use Rattle.arch_disk.specs.Disk.{Device}
 use Rattle.arch_types.specs.declared.refusal.Refusal.{Refusal}
 use Rattle.arch_types.specs.declared.refusal.Refusal.TheVariants.{DiskFault, WriteFault}
 use Rattle.space_packet.specs.declared.dump.Why.{Why}
 use Rattle.space_packet.specs.declared.dump.Why.TheVariants as why
-use Rattle.archive_store.specs.Calls.{IsStoreReopened, IsStoreReopenRefusal}
-use Rattle.archive_store.specs.StoreView.{StoreView, FaultInvariant}
-use Rattle.archive_store.proofs.Calls.{reopen_failed}
+use Rattle.archive_store.specs.StoreView.{StoreView}
 use Rattle.archive_cli.specs.declared.report.Report.{Report}
 use Rattle.archive_cli.specs.Loading.{IsStoreAtEnd, IsReopened}
 use Rattle.dump_lines.specs.Output.{IsFinished}
@@ -30,25 +27,6 @@ module _ {D : Type 0} (device : Device D) (store : StoreView D) where
   pub bad_end : (reason : Why) (at : ℕ) (refusal : Refusal) (report : Report) → ending_of reason at ≡ Some refusal → report.refusal ≡ Some refusal → IsStoreAtEnd device report.refusal store store
   bad_end reason at refusal report ending is =
       subst (λ (o : Option Refusal). IsStoreAtEnd device o store store) (sym is) (subst (λ (o : Option Refusal). IsStoreAtEnd device o store store) ending (bad_cases reason at))
-
--- a store whose disk failed was opened again, or the disk failed once more
-pub reopened_or_failed : {D : Type 0} (device : Device D) (old new : StoreView D) (result : Result Unit Refusal) → OnOk result (IsStoreReopened device old new)
-    → IfErr result (IsStoreReopenRefusal device old new) → FaultInvariant device old → IsReopened device old new
-reopened_or_failed {D = D} device old new (Ok x) ok err counted = record {
-  history = ap (λ (s : StoreView D). s.history) ok.store;
-  head = ap (λ (s : StoreView D). s.head) ok.store;
-  opened = ap (λ (s : StoreView D). s.opened) ok.store;
-  counted = counted;
-  healed = inl (ap (λ (s : StoreView D). s.fills) ok.store);
-}
-reopened_or_failed {D = D} device old new (Err refusal) ok err counted =
-    let failed = subst (IsStoreReopenRefusal device old new) (reopen_failed device old new refusal err) err in record {
-      history = ap (λ (s : StoreView D). s.history) failed.store;
-      head = ap (λ (s : StoreView D). s.head) failed.store;
-      opened = ap (λ (s : StoreView D). s.opened) failed.store;
-      counted = counted;
-      healed = inr (ap (λ (s : StoreView D). s.fills) failed.store, failed.rose);
-    }
 
 -- a batch of it was refused
 refused_cases : {D : Type 0} (device : Device D) (store last : StoreView D) (refusal : Refusal) → (refusal ≢ DiskFault → last ≡ store) → (refusal ≡ DiskFault → IsReopened device store last)

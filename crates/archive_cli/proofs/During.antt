@@ -1,6 +1,6 @@
 -- The disk during a load, and after it.
-use Rattle.std.proofs.Common.{◌≡◌, ◌⊎◌, inl, inr, ℕ, ℤ, ◌+◌, ◌^◌, ◌≤◌, ◌<◌, Bool, true, false, List, [], ◌∷◌, ◌++◌, length, map, Some, None, sym, ap, subst, ◌∙◌, arith, length-append}
-use Rattle.std.specs.Prelude.{Contains, IsTrue, slice_get}
+use Rattle.std.proofs.Common.{◌≡◌, ◌⊎◌, inl, inr, ℕ, ℤ, ◌+◌, ◌^◌, ◌≤◌, ◌<◌, Bool, true, false, List, [], ◌∷◌, ◌++◌, length, map, Some, None, ap, subst, ◌∙◌, arith, length-append}
+use Rattle.std.specs.Prelude.{Contains, IsTrue}
 use Rattle.std.proofs.lemmas.List.{length-map}
 use mathlib.Core.List.{IsPrefix}
 use Rattle.arch_disk.specs.Image.{Image}
@@ -36,26 +36,6 @@ pub record IsOpened {D : Type 0} (device : Device D) (disk : D) (store : StoreVi
   pub few : store.records ≤ 1 + length store.history
 
 -- ---- heads
-
-replays_head : (entries : List Entry) (first last : Archive) → Replays (Some first) entries (Some last) → last.head ≡ first.head
-replays_head [] first last m = cc
-replays_head (kinds.Head tables mdb ∷ entries) first last m = absurd m.1
-replays_head (kinds.Rows rows ∷ entries) first last m = replays_head entries m.0 last m.2 ∙ ap (λ (a : Archive). a.head) m.1.1
-
-first_there : (tables : List (List ℕ)) {table : List ℕ} → slice_get tables 0 ≡ Some table → 0 < length tables
-first_there [] e = absurd cc
-first_there (t ∷ tables) e = omega arith
-
--- an archive has a table
-pub has_table : (image : Image) (a : Archive) → StandsFor image a → 0 < length a.head.tables
-has_table image a s = go s.entries s.replays
-  where
-    go : (entries : List Entry) → Replays None entries (Some a) → 0 < length a.head.tables
-    go [] m = absurd cc
-    go (kinds.Rows rows ∷ entries) m = absurd m.1
-    go (kinds.Head tables mdb ∷ entries) m =
-        let same : a.head.tables ≡ tables = ap (λ (h : Head). h.tables) (replays_head entries m.0 a m.2 ∙ ap (λ (x : Archive). x.head) m.1.1) in
-        subst (λ (l : List (List ℕ)). 0 < length l) (sym same) (first_there tables m.1.0.0.first)
 
 -- each entry after the head has a row
 replays_few : (entries : List Entry) (first last : Archive) → Replays (Some first) entries (Some last) → length entries + length first.history ≤ length last.history

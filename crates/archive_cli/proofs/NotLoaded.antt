@@ -1,22 +1,11 @@
 -- Endings of a load that ingested nothing.
-use Rattle.std.proofs.Common.{◌≡◌, ◌<◌, inl, ℕ, List, length, Some, None, Option, refl, sym, ap, subst}
+use Rattle.std.proofs.Common.{◌≡◌, ◌<◌, ℕ, List, length, Some, None, Option, refl, ap, subst}
 use Rattle.std.specs.Prelude.{IfSome, IsNone, IsSome, IsSomeAnd, IsErrOf, ◌↔◌, Result, Err}
 use Rattle.std.specs.FinMap.{get}
-use Rattle.arch_disk.specs.Disk.{Device}
-use Rattle.arch_types.specs.declared.refusal.Refusal.{Refusal}
-use Rattle.arch_types.specs.declared.refusal.Refusal.TheVariants as refused
 use Rattle.outer_traits.specs.declared.fault.OpenFault.{OpenFault}
 use Rattle.outer_traits.specs.declared.fault.OpenFault.TheVariants.{Missing, Failed}
 use Rattle.outer_traits.specs.Outside.{Files, IsLeftAtFirst}
 use Rattle.outer_traits.specs.Whole.{IsInput, IsThere}
-use Rattle.archive_store.specs.Entries.{Archive}
-use Rattle.archive_cli.specs.declared.report.Report.{Report}
-use Rattle.archive_cli.specs.Call.{Call, WritesNothing}
-use Rattle.archive_cli.specs.ReadOnly.{IsOpeningRefusal, IsReadAsBefore, IsReadOnly}
-use Rattle.command_words.specs.Job.{LoadWords}
-use Rattle.archive_cli.specs.LoadEnding.{IsLoadEnding, IsLoadNotBegun, IsNothingLoaded}
-use Rattle.archive_cli.specs.Report.{unopened, read_only}
-use Rattle.archive_cli.proofs.ReadOnly.{untouched}
 
 -- ---- inputs
 
@@ -67,41 +56,3 @@ still_there X (Some all) name h = go (get all name) h.1
     go : (o : Option (List ℕ)) → (IsNone o → ◌≡◌ {A = Result X OpenFault} (Err Failed) (Err Missing)) → IsSome o
     go None is = absurd (differs (is refl))
     go (Some octets) is = refl
-
--- ---- endings
-
-module _ {D : Type 0} (device : Device D) (call : Call) (words : LoadWords) (silent : WritesNothing call) where
-  abbrev pub not_begun : (disk : D) (refusal : Refusal) → IsLoadNotBegun device call disk disk (unopened (Some refusal))
-  not_begun disk refusal = record { silent = silent; disk = untouched device disk; report_is = refl }
-
-  -- an ending by the report
-  pub reported : (old new : D) (refusal : Option Refusal) (report is : Report) → report ≡ is → is.refusal ≡ refusal → IsLoadEnding device call words old new refusal is
-      → IsLoadEnding device call words old new report.refusal report
-  reported old new refusal report is same of ending =
-      subst (λ (r : Report). IsLoadEnding device call words old new r.refusal r) (sym same) (subst (λ (o : Option Refusal). IsLoadEnding device call words old new o is) (sym of) ending)
-
-  not_opened_cases : (old new : D) (refusal : Refusal) → IsThere call.files words.dump → IsOpeningRefusal device old new refusal → IsReadAsBefore device old new
-      → IsLoadEnding device call words old new (Some refusal) (unopened (Some refusal))
-  not_opened_cases old new refused.NoArchive there cause disk = record { input = there; cause = cause; silent = silent; disk = disk; report_is = refl }
-  not_opened_cases old new (refused.Damaged file at) there cause disk = record { input = there; cause = cause; silent = silent; disk = disk; report_is = refl }
-  not_opened_cases old new refused.DiskFault there cause disk = (cause, inl (record { input = there; cause = cause; silent = silent; disk = disk; report_is = refl }))
-  not_opened_cases old new refused.OutOfMemory there cause disk = inl (record { silent = silent; disk = disk; report_is = refl })
-  not_opened_cases old new other there cause disk = absurd cause
-
-  -- the dump was opened, and no archive was
-  pub load_unopened : (old new : D) (refusal : Refusal) (report : Report) → report ≡ unopened (Some refusal) → IsThere call.files words.dump → IsOpeningRefusal device old new refusal
-      → IsReadAsBefore device old new → IsLoadEnding device call words old new report.refusal report
-  load_unopened old new refusal report same there cause disk = reported old new (Some refusal) report (unopened (Some refusal)) same refl (not_opened_cases old new refusal there cause disk)
-
-  abbrev pub unread_report : Archive → Refusal → Option ℕ → Report
-  unread_report archive refusal link = record (read_only (Some refusal) (length archive.history)) { link = link }
-
-  pub nothing : (old new : D) (archive : Archive) (refusal : Refusal) (link named : Option ℕ) → IsThere call.files words.dump → IsReadOnly device old new archive → link ≡ named
-      → IsNothingLoaded device call words old new named (unread_report archive refusal link)
-  nothing old new archive refusal link named there disk is = record {
-    input = there;
-    before = archive;
-    disk = disk;
-    silent = silent;
-    report_is = ap (unread_report archive refusal) is;
-  }

@@ -93,8 +93,3 @@ refused_cases db history asks other before faults kind e = absurd kind
 pub refused_reply : (db : Database) (history : List Item) (asks : List Ask) (refusal : Refusal) (before : Option (List ℕ)) (faults : ℕ) → asks_refusal db asks ≡ Some refusal →
     IsReply db history asks (Some refusal) before before faults faults
 refused_reply db history asks refusal before faults e = refused_cases db history asks refusal before faults (asks_answer db asks refusal e) e
-
--- the same, by what is known of the output
-pub refused_asks : (db : Database) (history : List Item) (asks : List Ask) (refusal : Refusal) (before now : Option (List ℕ)) (faults faults' : ℕ) → asks_refusal db asks ≡ Some refusal →
-    now ≡ before → faults' ≡ faults → IsReply db history asks (Some refusal) before now faults faults'
-refused_asks db history asks refusal before now faults faults' e same still = rw (same, still) (refused_reply db history asks refusal before faults e)

@@ -1,26 +1,24 @@
 -- How the session of a load went, and what it leaves of the disk.
-use Rattle.std.proofs.Common.{◌≡◌, inl, inr, ℕ, ℤ, ◌+◌, ◌≤◌, ◌<◌, Bool, true, false, List, [], ◌∷◌, ◌++◌, length, map, take, drop, Some, None, Option, refl, sym, ap, subst, ◌∙◌, arith}
-use Rattle.std.specs.Prelude.{IsTrue, flat_map}
+use Rattle.std.proofs.Common.{◌≡◌, inl, inr, ℕ, ℤ, ◌+◌, ◌≤◌, Bool, true, false, List, [], ◌∷◌, ◌++◌, length, take, drop, Some, None, Option, refl, sym, ap, subst, ◌∙◌, arith}
+use Rattle.std.specs.Prelude.{IsTrue}
 use Rattle.std.proofs.lemmas.List.{take_all}
 use Rattle.arch_disk.specs.Disk.{Device, raised}
 use Rattle.arch_types.specs.declared.refusal.Refusal.{Refusal}
 use Rattle.arch_types.specs.declared.refusal.Refusal.TheVariants.{WriteFault, BadPacket, DiskFault, Limit, OutOfMemory}
 use Rattle.arch_types.specs.declared.row.Row.{Row}
-use Rattle.arch_types.specs.Arrivals.{row_of, kept}
 use Rattle.arch_types.specs.History.{ingested}
 use Rattle.archive_core.specs.declared.fills.Addition.TheVariants.{Rows}
 use Rattle.archive_core.specs.declared.fills.Fill.TheVariants.{Fault}
 use Rattle.archive_core.specs.Fills.{rows_of_faults, reopened}
 use Rattle.archive_core.specs.Items.{Item, items_of}
 use Rattle.archive_core.specs.Outcomes.{fresh_of}
-use Rattle.container_extract.specs.Chain.{packet_name_of}
 use Rattle.archive_store.specs.declared.head.Head.{Head}
 use Rattle.archive_store.specs.Entries.{archive}
 use Rattle.archive_store.specs.StoreView.{StoreView, archive_of, FaultInvariant, CrashInvariant}
 use Rattle.archive_store.specs.Stands.{StandsFor}
 use Rattle.command_plans.specs.Plan.{OfOutput, Way, Stopped, Interrupted, Allows}
 use Rattle.dump_lines.specs.Output.{WritesCounted}
-use Rattle.load_session.specs.Batches.{batch_at, first_table, rows_of_link, HasIngested, IsStoppedAt}
+use Rattle.load_session.specs.Batches.{batch_at, rows_of_link, HasIngested, IsStoppedAt}
 use Rattle.outer_ledgers.specs.Ledger.{OutputState, UsedDisk}
 use Rattle.outer_ledgers.proofs.Ledgers.{risen_counted}
 use Rattle.archive_cli.specs.declared.report.Report.{Report}
@@ -28,7 +26,7 @@ use Rattle.archive_cli.specs.Command.{Progress, Effects, Extended, ExtensionFail
 use Rattle.archive_cli.specs.DiskWrites.{OneOrTwo}
 use Rattle.archive_cli.specs.Durable.{FailedAtMostOnce, IsDurableAs}
 use Rattle.archive_cli.specs.Load.{after_packets, extension_failed, history_extended, session_plan}
-use Rattle.archive_cli.specs.LoadEnding.{batch_left, line_of_load, link_rows, whole_report}
+use Rattle.archive_cli.specs.LoadEnding.{batch_left, line_of_load, whole_report}
 use Rattle.archive_cli.specs.Loading.{IsStoreAtEnd, IsDone, IsReopened, IsLoadRun, IsLoadOutcome}
 use Rattle.archive_cli.specs.Expecting.{ending_of_rest}
 use Rattle.archive_cli.specs.Report.{loaded}
@@ -36,14 +34,6 @@ use Rattle.archive_cli.specs.Session.{SessionResult, IsSession, IsSessionEnd, Is
 use Rattle.archive_cli.proofs.Commands.{no_text}
 use Rattle.archive_cli.proofs.During.{failed_again, load_images, durable, durable_again, left, more_faults, IsOpened}
 use Rattle.archive_cli.proofs.Known.{bad_ending}
-
--- where there's a table, it is table `tm`
-pub rows_are : (head : Head) (link : ℕ) (moment : ℤ) (packets : List (List ℕ)) → 0 < length head.tables → rows_of_link head link moment packets ≡ link_rows head.mdb link moment packets
-rows_are head link moment packets some = ap (λ (tables : List ℕ). flat_map (λ p. map (row_of link moment (packet_name_of head.mdb) p) tables) (kept packets)) (first_is head.tables some)
-  where
-    first_is : (tables : List (List ℕ)) → 0 < length tables → first_table tables ≡ 0 ∷ []
-    first_is [] some = absurd (omega (arith, some))
-    first_is (table ∷ tables) some = refl
 
 no_rest : (dump rest : List ℕ) → rest ≡ [] → ending_of_rest dump rest ≡ None
 no_rest dump rest is = subst (λ (l : List ℕ). ending_of_rest dump l ≡ None) (sym is) refl

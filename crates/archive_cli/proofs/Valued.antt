@@ -1,20 +1,13 @@
 -- From the rows of a dump to the ending of its values.
-use Rattle.std.proofs.Common.{◌≡◌, ◌∙◌, ◌≤◌, ℕ, ℤ, List, [], ◌∷◌, ◌++◌, length, drop, Bool, true, false, Option, Some, None, inl, inr, sym, ap, refl, append-nil}
-use Rattle.std.specs.Prelude.{◌⊎◌, IfSome, flat_map, if◌then◌else◌, nat_lt}
+use Rattle.std.proofs.Common.{◌≡◌, ◌∙◌, ℕ, ℤ, List, [], ◌∷◌, ◌++◌, length, drop, Bool, true, false, Option, Some, None, sym, ap, refl, append-nil}
+use Rattle.std.specs.Prelude.{flat_map, if◌then◌else◌, nat_lt}
 use Rattle.std.specs.List.{cons_option, filter_map}
 use Rattle.arch_types.specs.declared.cell.Cell.{Cell}
 use Rattle.arch_types.specs.declared.row.Row.{Row}
-use Rattle.arch_types.specs.declared.refusal.Refusal.{Refusal}
-use Rattle.arch_types.specs.declared.refusal.Refusal.TheVariants.{WriteFault, BadPacket, OutOfMemory}
 use Rattle.arch_types.specs.Table.{sorted, table_of}
 use Rattle.mdb_items.specs.declared.calibration.Calibration.{Calibration}
-use Rattle.mdb_items.specs.declared.fault.MdbLimit.{MdbLimit}
-use Rattle.mdb_items.specs.declared.sheet.RawMdb.{RawMdb}
-use Rattle.mdb_items.specs.Database.{Broken, Database, limit_passed}
-use Rattle.mdb_model.specs.Sheets.{sheets_database, sheets_fault}
+use Rattle.mdb_items.specs.Database.{Database}
 use Rattle.container_extract.specs.Extraction.{cell_of}
-use Rattle.outer_traits.specs.Outside.{Files}
-use Rattle.outer_traits.specs.Whole.{IsInput}
 use Rattle.space_packet.specs.declared.dump.Why.{Why}
 use Rattle.space_packet.specs.declared.dump.Why.TheVariants as why
 use Rattle.space_packet.specs.Rest.{why_of}
@@ -22,13 +15,8 @@ use Rattle.yarch_table.specs.declared.table.Stored.{Stored}
 use Rattle.yarch_table.specs.Stored.{rows_of}
 use Rattle.dump_lines.specs.declared.counts.Counts.{Counts}
 use Rattle.dump_lines.specs.declared.rows.DumpTable.{DumpTable}
-use Rattle.archive_cli.specs.Call.{Call, WritesNothing}
 use Rattle.retrieval.specs.CellText.{cell_line}
-use Rattle.command_words.specs.Job.{ValuesWords}
 use Rattle.dump_lines.specs.DumpTable.{IsGathered, IsDumpTable}
-use Rattle.retrieval.specs.Parameter.{IsNoParameter, first_refusal, number_named, parameter_refusal}
-use Rattle.archive_cli.specs.ReadDump.{dump_limit}
-use Rattle.archive_cli.specs.ValuesEnding.{AreSheetsOf, HasDump, IsInputRefused, IsParameterRefused, IsValuesEnding}
 use Rattle.archive_cli.specs.ValuesPrinting.{cells_of_stored, end_of_cells, line_if, line_of, lines_of_cells, text_of_cells}
 use Rattle.mdb_lookups.specs.Lookups.{calibration_of}
 use Rattle.retrieval.specs.ValuesText.{cell_lines, cells_of, values_line, values_text}
@@ -79,56 +67,3 @@ pub text_of_rows : (db : Database) (number : ℕ) (dump : List ℕ) (moment : �
     text_of_cells db number loaded.table.stored loaded.why ≡ values_text db number l.packets (drop loaded.at dump) moment
 text_of_rows db number dump moment loaded l =
     text-is db number l.packets (drop loaded.at dump) moment loaded.table.stored loaded.why (cells-stored db number l.packets moment loaded.table.stored loaded.counts l.gathered) l.why
-
--- ---- the ending
-
--- ---- refusals before it
-
-no-input : {A B C D D' D'' E F : Type 0} → (A → ⊥) → (C → ⊥) → (E → ⊥) → (F → ⊥) → (A ⊎ (B × C) ⊎ (D × D' × E)) ⊎ (D'' × F) → ⊥
-no-input a c e f (inl (inl x)) = a x
-no-input a c e f (inl (inr (inl x))) = c x.1
-no-input a c e f (inl (inr (inr x))) = e x.2
-no-input a c e f (inr x) = f x.1
-
--- an input wasn't read
-pub values_input : (call : Call) (words : ValuesWords) (refusal : Refusal) → IsInputRefused call words refusal → WritesNothing call → IsValuesEnding call words (Some refusal)
-values_input call words (BadPacket at kind) h s = absurd (no-input (λ x. x) (λ x. x) (λ x. x) (λ x. x) h)
-values_input call words WriteFault h s = absurd (no-input (λ x. x) (λ x. x) (λ x. x) (λ x. x) h)
-values_input call words OutOfMemory h s = inl s
-values_input call words refusal h s = (inl h, s)
-
-abbrev IsOther : Refusal → Type 0
-IsOther (BadPacket at kind) = ⊥
-IsOther WriteFault = ⊥
-IsOther refusal = Unit {0}
-
-other-refusal : (broken : Option Broken) (passed : Option (MdbLimit × ℕ)) (number : Option ℕ) → IfSome (first_refusal broken passed number) IsOther
-other-refusal (Some b) passed number = tt
-other-refusal None (Some p) number = tt
-other-refusal None None None = tt
-other-refusal None None (Some n) = tt
-
-other-some : (o : Option Refusal) (refusal : Refusal) → IfSome o IsOther → o ≡ Some refusal → IsOther refusal
-other-some o refusal h e = rw e at h
-
-other-parameter : (raw : RawMdb) (name : List ℕ) (refusal : Refusal) → parameter_refusal raw name ≡ Some refusal → IsOther refusal
-unfolding parameter_refusal
-other-parameter raw name refusal e =
-    other-some (parameter_refusal raw name) refusal (other-refusal (sheets_fault raw) (limit_passed (sheets_database raw)) (number_named (sheets_database raw) name)) e
-
-parameter-cases : (call : Call) (words : ValuesWords) (refusal : Refusal) → IsOther refusal → IsParameterRefused call words refusal → WritesNothing call → IsValuesEnding call words (Some refusal)
-parameter-cases call words (BadPacket at kind) o h s = absurd o
-parameter-cases call words WriteFault o h s = absurd o
-parameter-cases call words OutOfMemory o h s = inl s
-parameter-cases call words refusal o h s = (inr h, s)
-
-has-dump : (files : Option Files) (name dump : List ℕ) → IsInput files name dump → length dump ≤ dump_limit → HasDump files name
-has-dump None name dump i short = tt
-has-dump (Some all) name dump i short = rw i short
-
--- there's no parameter
-pub values_refused : (call : Call) (words : ValuesWords) (raw : RawMdb) (dump : List ℕ) (refusal : Refusal) → AreSheetsOf call words raw → IsInput call.files words.dump dump →
-    length dump ≤ dump_limit → IsNoParameter raw words.name refusal → WritesNothing call → IsValuesEnding call words (Some refusal)
-values_refused call words raw dump refusal s input short (inl cause) silent =
-    parameter-cases call words refusal (other-parameter raw words.name refusal cause) (record { raw = raw; sheets = s; dump = has-dump call.files words.dump dump input short; cause = cause }) silent
-values_refused call words raw dump refusal s input short (inr memory) silent = rw memory (inl silent)

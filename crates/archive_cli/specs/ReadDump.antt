@@ -6,31 +6,18 @@ use Rattle.arch_types.specs.declared.refusal.Which.TheVariants.{DumpOctets}
 use Rattle.arch_types.specs.declared.refusal.BadKind.{BadKind}
 use Rattle.arch_types.specs.declared.refusal.BadKind.TheVariants.{Version, Truncated}
 use Rattle.arch_types.specs.Limits.{limit_of}
-use Rattle.arch_types.specs.Dump.{IsDump}
 use Rattle.outer_traits.specs.Outside.{Files}
-use Rattle.outer_traits.specs.Whole.{IsInput}
 use Rattle.space_packet.specs.declared.dump.Why.{Why}
 use Rattle.space_packet.specs.declared.dump.Why.TheVariants as why
 use Rattle.dump_lines.specs.declared.rows.DumpTable.{DumpTable}
 use Rattle.input_plans.specs.Inputs.{WasRead, input_plan}
 use Rattle.outer_ledgers.specs.Ledger.{InputsState}
-use Rattle.archive_cli.specs.Call.{Call, IsMomentOf}
+use Rattle.archive_cli.specs.Call.{IsMomentOf}
 use Rattle.dump_lines.specs.DumpTable.{IsDumpTable}
 
 -- the greatest number of octets of a dump
 abbrev pub dump_limit : ℕ
 dump_limit = limit_of DumpOctets
-
--- a dump that was read to its end, the moment at which it was received, its packets and its rest
-pub record ReadDump (call : Call) (name : List ℕ) : Type 0 where
-  pub dump : List ℕ
-  pub moment : ℤ
-  pub packets : List (List ℕ)
-  pub rest : List ℕ
-  pub input : IsInput call.files name dump
-  pub short : length dump ≤ dump_limit
-  pub clock : IsMomentOf call.moment moment
-  pub parts : IsDump dump packets rest
 
 -- why octets are no packet: their packet version number isn't 000, or they end inside it
 abbrev pub bad_kind_of : ℕ → BadKind

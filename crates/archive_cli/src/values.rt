@@ -3,7 +3,7 @@
 ghost use Rattle.std.specs.Prelude.{◌≡◌, ◌<◌, ◌≤◌, ◌+◌, ◌^◌, ◌++◌, [], OnOk, OnErr, IfOk, IsSome, length};
 ghost use Rattle.std.specs.List.{AllByRecursion};
 ghost use Rattle.std.specs.Result.{result_err};
-ghost use Rattle.outer_traits.specs.Outside.{Stays, WritesSome};
+ghost use Rattle.outer_traits.specs.Outside.{WritesSome};
 ghost use Rattle.outer_ledgers.specs.Ledger.{inputs_state, output_state};
 ghost use Rattle.command_plans.specs.Plan.{IsDue};
 ghost use Rattle.arch_types.specs.Table.{sorted};
