@@ -15,7 +15,7 @@ use Rattle.archive_store.specs.StoreView.{StoreView}
 use Rattle.load_session.specs.declared.batches.DumpSummary.{DumpSummary}
 use Rattle.archive_cli.specs.declared.report.Report.{Report}
 use Rattle.load_session.specs.Batches.{arrived, rows_of_link, HasIngested, IsIngested, IsStoppedAt}
-use Rattle.archive_cli.specs.LoadEnding.{load_line, line_of_load}
+use Rattle.archive_cli.specs.LoadLine.{load_line, line_of_load}
 use Rattle.archive_cli.specs.Loading.{printed_report, IsLoadOutcome, IsReopened}
 use Rattle.dump_lines.specs.Output.{IsFinished}
 use Rattle.archive_cli.specs.ReadDump.{ending_of}

@@ -23,13 +23,13 @@ use Rattle.input_plans.specs.Inputs.{AnsweredByPlan, WasRead}
 use Rattle.input_plans.proofs.Inputs.{reads_determined}
 use Rattle.outer_ledgers.specs.Ledger.{InputsState}
 use Rattle.outer_ledgers.proofs.Ledgers.{risen_counted}
-use Rattle.archive_cli.specs.Call.{IsMomentOf}
+use Rattle.archive_cli.specs.Moment.{IsMomentOf}
 use Rattle.archive_cli.specs.Command.{Effects, RanOver, nothing_done}
-use Rattle.archive_cli.specs.Expecting.{ending_of_rest}
+use Rattle.archive_cli.specs.DumpRest.{ending_of_rest}
 use Rattle.archive_cli.specs.ReadDump.{ending_of}
 use Rattle.archive_cli.specs.Report.{unopened}
 use Rattle.archive_cli.specs.Scan.{dump_plan, receiving_plan, scan_plan}
-use Rattle.archive_cli.proofs.Known.{bad_ending}
+use Rattle.archive_cli.proofs.DumpRest.{bad_ending}
 use Rattle.archive_cli.proofs.OverInputs.{HasRead, ran_read, ran_unread}
 use Rattle.archive_cli.proofs.Scanned.{bad_rest, rest_is_none, text_of_received}
 

@@ -25,9 +25,9 @@ use Rattle.outer_ledgers.specs.Ledger.{InputsState}
 use Rattle.outer_ledgers.proofs.Ledgers.{risen_counted}
 use Rattle.retrieval.specs.Parameter.{IsNamedParameter, IsNoParameter, number_named}
 use Rattle.retrieval.specs.ValuesText.{values_text}
-use Rattle.archive_cli.specs.Call.{IsMomentOf}
+use Rattle.archive_cli.specs.Moment.{IsMomentOf}
 use Rattle.archive_cli.specs.Command.{Effects, RanOver, nothing_done}
-use Rattle.archive_cli.specs.Expecting.{ending_of_rest}
+use Rattle.archive_cli.specs.DumpRest.{ending_of_rest}
 use Rattle.archive_cli.specs.ReadDump.{ending_of}
 use Rattle.archive_cli.specs.Report.{unopened}
 use Rattle.archive_cli.specs.Scan.{dump_plan}

@@ -15,7 +15,7 @@ use Rattle.archive_core.specs.Items.{Item}
 use Rattle.archive_store.specs.Entries.{Archive}
 use Rattle.archive_store.specs.Stands.{StandsFor, IsArchiveDamagedAt}
 use Rattle.archive_cli.specs.declared.report.Report.{Report}
-use Rattle.archive_cli.specs.CreateEnding.{IsMade, IsMakingFailed}
+use Rattle.archive_cli.specs.Creation.{IsMade, IsMakingFailed}
 use Rattle.archive_cli.specs.ReadOnly.{IsReadAsBefore, IsReadOnly}
 use Rattle.archive_cli.specs.Report.{unopened, read_only}
 use Rattle.archive_cli.specs.Session.{IsExtended, IsExtensionFailed}

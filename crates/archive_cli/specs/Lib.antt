@@ -1,9 +1,9 @@
 pub mod Durable
-pub mod LoadEnding
+pub mod LoadLine
 pub mod Loading
 pub mod Session
 pub mod Load
-pub mod Call
+pub mod Moment
 pub mod Reading
 pub mod Recover
 pub mod Create
@@ -13,11 +13,11 @@ pub mod Values
 pub mod ReadDump
 pub mod ValuesPrinting
 pub mod ReadOnly
-pub mod RecoverEnding
-pub mod CreateEnding
-pub mod QueryEnding
+pub mod RecoverLine
+pub mod Creation
+pub mod Replying
 pub mod Command
-pub mod Expecting
+pub mod DumpRest
 pub mod Report
 pub mod DiskWrites
 pub mod Run

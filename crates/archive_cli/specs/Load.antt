@@ -10,10 +10,10 @@ use Rattle.archive_store.specs.Entries.{Archive}
 use Rattle.command_plans.specs.Plan.{OfMemory, OfInputs, OfOutput, OfDisk, no_failed_calls, with_failed_call, CommandPlan, Stop, May, Question, Choose, and_then}
 use Rattle.command_words.specs.Job.{LoadWords}
 use Rattle.input_plans.specs.Inputs.{InputRead, OverLimit, WithinLimit, IsInputAs, IsThereAs}
-use Rattle.archive_cli.specs.Call.{IsMomentOf}
+use Rattle.archive_cli.specs.Moment.{IsMomentOf}
 use Rattle.archive_cli.specs.Command.{Progress, Extended, ExtensionFailed, archive_opened, nothing_done, opening_plan}
-use Rattle.archive_cli.specs.Expecting.{ending_of_rest}
-use Rattle.archive_cli.specs.LoadEnding.{line_of_load, whole_report}
+use Rattle.archive_cli.specs.DumpRest.{ending_of_rest}
+use Rattle.archive_cli.specs.LoadLine.{line_of_load, whole_report}
 use Rattle.archive_cli.specs.ReadDump.{dump_limit}
 use Rattle.archive_cli.specs.Report.{loaded, read_only}
 use Rattle.archive_cli.specs.Session.{SessionResult, IsSession, next_fresh_rows}

@@ -12,7 +12,7 @@ use Rattle.space_packet.specs.declared.dump.Why.TheVariants as why
 use Rattle.dump_lines.specs.declared.rows.DumpTable.{DumpTable}
 use Rattle.input_plans.specs.Inputs.{WasRead, input_plan}
 use Rattle.outer_ledgers.specs.Ledger.{InputsState}
-use Rattle.archive_cli.specs.Call.{IsMomentOf}
+use Rattle.archive_cli.specs.Moment.{IsMomentOf}
 use Rattle.dump_lines.specs.DumpTable.{IsDumpTable}
 
 -- the greatest number of octets of a dump

@@ -6,9 +6,9 @@ use Rattle.outer_traits.specs.Outside.{Files}
 use Rattle.command_plans.specs.Plan.{CommandPlan, Question, Choose, and_then, map_done}
 use Rattle.input_plans.specs.Inputs.{input_plan}
 use Rattle.dump_lines.specs.Text.{scan_text}
-use Rattle.archive_cli.specs.Call.{IsMomentOf}
+use Rattle.archive_cli.specs.Moment.{IsMomentOf}
 use Rattle.archive_cli.specs.Command.{Progress, nothing_done, printing_then_plan}
-use Rattle.archive_cli.specs.Expecting.{ending_of_rest}
+use Rattle.archive_cli.specs.DumpRest.{ending_of_rest}
 
 -- reads the octets of a dump
 abbrev pub dump_plan : Option Files → List ℕ → ℕ → CommandPlan ℕ (List ℕ)

@@ -10,9 +10,9 @@ use Rattle.command_plans.specs.Plan.{OfMemory, CommandPlan, Return, Stop, May, Q
 use Rattle.command_words.specs.Job.{ValuesWords}
 use Rattle.retrieval.specs.Parameter.{number_named, parameter_refusal}
 use Rattle.retrieval.specs.ValuesText.{values_text}
-use Rattle.archive_cli.specs.Call.{IsMomentOf}
+use Rattle.archive_cli.specs.Moment.{IsMomentOf}
 use Rattle.archive_cli.specs.Command.{Progress, nothing_done, stepwise_printing_then_plan}
-use Rattle.archive_cli.specs.Expecting.{ending_of_rest}
+use Rattle.archive_cli.specs.DumpRest.{ending_of_rest}
 use Rattle.archive_cli.specs.Scan.{dump_plan}
 
 -- gives the octets of a dump beside the records of the sheets

@@ -9,7 +9,7 @@ ghost use Rattle.command_plans.specs.Plan.{IsDue};
 ghost use Rattle.dump_lines.specs.Output.{IsBuffered};
 ghost use Rattle.archive_cli.specs.Command.{Ran, RanOver, effects_of};
 ghost use Rattle.archive_cli.specs.Query.{asking_plan, query_plan};
-ghost use Rattle.archive_cli.specs.QueryEnding.{IsReply, IsSheetReply};
+ghost use Rattle.archive_cli.specs.Replying.{IsReply, IsSheetReply};
 ghost use Rattle.archive_cli.specs.Report.{status_at};
 ghost use Rattle.archive_cli.specs.ValuesPrinting.{PrintCounted};
 ghost use Rattle.retrieval.specs.Parameter.{number_named};

@@ -5,7 +5,7 @@ ghost use Rattle.outer_ledgers.specs.Ledger.{output_state};
 ghost use Rattle.command_plans.specs.Plan.{IsDue};
 ghost use Rattle.archive_cli.specs.Command.{Ran, effects_of};
 ghost use Rattle.archive_cli.specs.Recover.{recover_plan};
-ghost use Rattle.archive_cli.specs.RecoverEnding.{recover_line};
+ghost use Rattle.archive_cli.specs.RecoverLine.{recover_line};
 ghost use Rattle.archive_cli.specs.Report.{status_at};
 
 use crate::report::{Ended, Report};

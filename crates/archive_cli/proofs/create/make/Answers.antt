@@ -4,7 +4,7 @@ use Rattle.outer_ledgers.specs.Ledger.{output_state}
 use Rattle.dump_lines.specs.Output.{IsFinished}
 use Rattle.archive_cli.specs.Command.{HasOutcome, Made, Ran, effects_of, nothing_done}
 use Rattle.archive_cli.specs.Create.{made, making_plan}
-use Rattle.archive_cli.specs.CreateEnding.{create_line}
+use Rattle.archive_cli.specs.Creation.{create_line}
 use Rattle.archive_cli.proofs.Commands.{no_text, ran_printed}
 use Rattle.archive_cli.proofs.CreatePlan.{ran_made, ran_unmade}
 use Rattle.archive_cli.proofs.Created.{made_store}

@@ -8,7 +8,7 @@ use Rattle.archive_cli.specs.Command.{HasOutcome, Opened, RanOver, effects_of}
 use Rattle.archive_cli.specs.Load.{load_plan}
 use Rattle.archive_cli.specs.Loading.{IsLoadRun}
 use Rattle.archive_cli.proofs.Commands.{is_due_over}
-use Rattle.archive_cli.proofs.Counted.{reads_closed}
+use Rattle.archive_cli.proofs.SourceCounts.{reads_closed}
 use Rattle.archive_cli.proofs.During.{opened_store}
 use Rattle.archive_cli.proofs.LoadPlan.{closed_again, load_determined, load_received, load_unarchived, load_unread, no_room, ran_unfound}
 use Rattle.archive_cli.proofs.NotLoaded.{gives_input, gives_there}

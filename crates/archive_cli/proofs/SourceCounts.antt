@@ -1,4 +1,4 @@
--- Counts of calls that failed.
+-- The count of a source that was closed again.
 use Rattle.std.proofs.Common.{◌≡◌, ◌<◌, ◌∙◌, ℕ, zero, suc, Option, Some, subst, arith}
 use Rattle.arch_types.specs.declared.refusal.Refusal.{Refusal}
 use Rattle.arch_types.specs.declared.refusal.Refusal.TheVariants.{ReadFault}

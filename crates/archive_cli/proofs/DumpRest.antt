@@ -1,8 +1,8 @@
--- What is known of inputs, and what was received of them.
+-- How the rest of a dump is answered.
 use Rattle.std.proofs.Common.{◌≡◌, ℕ, ◌-◌, List, [], ◌∷◌, length, Some, arith}
 use Rattle.arch_types.specs.declared.refusal.Refusal.TheVariants.{BadPacket}
 use Rattle.arch_types.specs.declared.refusal.BadKind.{BadKind}
-use Rattle.archive_cli.specs.Expecting.{ending_of_rest}
+use Rattle.archive_cli.specs.DumpRest.{ending_of_rest}
 use Rattle.archive_cli.specs.ReadDump.{IsBadRest}
 
 pub bad_ending : (dump rest : List ℕ) (at : ℕ) (kind : BadKind) → IsBadRest dump rest at kind → Some (BadPacket at kind) ≡ ending_of_rest dump rest

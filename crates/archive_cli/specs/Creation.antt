@@ -1,4 +1,4 @@
--- How `create` ends: for each answer its cause, what was written and what became of the disk.
+-- What `create` prints, and what it leaves on a disk.
 use Rattle.std.specs.Prelude.{◌⊎◌, ℕ, List, [], ◌∷◌, ◌++◌, length, codes, decimal}
 use Rattle.arch_disk.specs.Image.{Image}
 use Rattle.arch_disk.specs.Disk.{Device, LeavesOnly}

@@ -1,4 +1,4 @@
--- All that the contract of `run` speaks of.
+-- The moment of a call.
 use Rattle.std.specs.Prelude.{◌≡◌, ℤ, Option, Some, None}
 use Rattle.text_forms.specs.ClockTime.{IsClockTime}
 

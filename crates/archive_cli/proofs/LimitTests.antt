@@ -1,4 +1,4 @@
--- Which answer of `values` has to come, by the causes of all answers.
+-- Comparisons with a limit.
 use Rattle.std.proofs.Common.{◌≡◌, ◌<◌, ◌≤◌, ℕ, true, false, arith}
 use Rattle.std.specs.Prelude.{nat_lt}
 use Rattle.std.proofs.lemmas.Bool.Decides.{nat_tests}

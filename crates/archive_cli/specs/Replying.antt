@@ -1,4 +1,4 @@
--- How `query --ask` ends: for each answer its cause, what was written and what became of the disk.
+-- How a sheet of asks is answered.
 use Rattle.std.specs.Prelude.{◌≡◌, ℕ, List, Result, Ok, Err, Option, Some, None}
 use Rattle.arch_types.specs.declared.ask.Ask.{Ask}
 use Rattle.arch_types.specs.declared.refusal.Refusal.{Refusal}

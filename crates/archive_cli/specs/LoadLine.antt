@@ -1,4 +1,4 @@
--- How `load` ends: for each answer its cause, what was written and what became of the disk.
+-- What `load` prints and reports, and the images while it goes on.
 use Rattle.std.specs.Prelude.{Contains, ◌⊎◌, ◌+◌, ◌-◌, ℕ, List, [], ◌∷◌, ◌++◌, length, codes, decimal, None}
 use mathlib.Core.List.{IsPrefix}
 use Rattle.arch_disk.specs.Image.{Image}
@@ -18,7 +18,7 @@ pub record IsDuring (before : Archive) (reached : List Item) (in_hand : List (Li
   pub begins : IsPrefix front reached
   pub stands : StandsFor image (archive before.head front) ⊎ ((more : List Item) × Contains in_hand more × StandsFor image (archive before.head (front ++ more)))
 
--- and where one did, all of them
+-- what a failed write may have left of the new rows of a batch: all of them
 abbrev pub batch_left : List Row → List (List Item)
 batch_left rows = items_of rows ∷ []
 

@@ -1,4 +1,4 @@
--- Which answer of `create` has to come, by the causes of all answers.
+-- A disk holds an archive, or none.
 use Rattle.std.proofs.Common.{◌≡◌, ◌≤◌, ℕ, List, [], ◌∷◌, length, arith}
 use Rattle.std.specs.Prelude.{get_or}
 use Rattle.disk_journal.specs.Format.{HoldsNone}

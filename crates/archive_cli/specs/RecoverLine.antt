@@ -1,4 +1,4 @@
--- How `recover` ends: for each answer its cause, what was written and what became of the disk.
+-- The line of `recover`.
 use Rattle.std.specs.Prelude.{ℕ, List, ◌++◌, codes, decimal}
 
 -- the one line of `recover`; nothing is filled, as no fill is kept yet
