@@ -16,7 +16,6 @@ use Rattle.dump_lines.specs.declared.counts.Counts.{Counts}
 use Rattle.dump_lines.specs.declared.rows.DumpTable.{DumpTable}
 use Rattle.dump_lines.specs.Text.{scanned_rows, row_line, row_lines, counts_line, last_line, scan_text}
 use Rattle.archive_cli.specs.Moment.{IsMomentOf}
-pub use Rattle.archive_cli.specs.Moment.{call_of}
 use Rattle.archive_cli.specs.ReadDump.{IsBadRest}
 use Rattle.dump_lines.specs.DumpTable.{HasCounts, IsGathered, IsDumpTable}
 use Rattle.dump_lines.specs.Printing.{lines_of, end_of, text_of_loaded}
