@@ -5,7 +5,7 @@ use mathlib.Core.List.{IsPrefix}
 use Rattle.arch_disk.specs.Image.{Image}
 use Rattle.arch_disk.specs.Disk.{Device, LeavesOnly, raised}
 use Rattle.arch_types.specs.declared.refusal.Refusal.{Refusal}
-use Rattle.arch_types.specs.declared.refusal.Refusal.TheVariants.{Limit, OutOfMemory}
+use Rattle.arch_types.specs.declared.refusal.Refusal.TheVariants.{OutOfMemory}
 use Rattle.archive_core.specs.Fills.{unacknowledged_rows}
 use Rattle.archive_core.specs.declared.fills.Fill.{Fill}
 use Rattle.archive_core.specs.Items.{Item}

@@ -1,5 +1,5 @@
 -- What `load` prints and reports, and the images while it goes on.
-use Rattle.std.specs.Prelude.{Contains, ◌⊎◌, ◌+◌, ◌-◌, ℕ, List, [], ◌∷◌, ◌++◌, length, codes, decimal, None}
+use Rattle.std.specs.Prelude.{Contains, ◌⊎◌, ◌-◌, ℕ, List, [], ◌∷◌, ◌++◌, length, codes, decimal, None}
 use mathlib.Core.List.{IsPrefix}
 use Rattle.arch_disk.specs.Image.{Image}
 use Rattle.arch_types.specs.declared.row.Row.{Row}
