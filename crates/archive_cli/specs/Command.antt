@@ -15,10 +15,10 @@ use Rattle.archive_core.specs.Items.{Item}
 use Rattle.archive_store.specs.Entries.{Archive}
 use Rattle.archive_store.specs.Stands.{StandsFor, IsArchiveDamagedAt}
 use Rattle.archive_cli.specs.declared.report.Report.{Report}
-use Rattle.archive_cli.specs.Creation.{IsMade, IsMakingFailed}
+use Rattle.archive_cli.specs.create_command.Creation.{IsMade, IsMakingFailed}
 use Rattle.archive_cli.specs.ReadOnly.{IsReadAsBefore, IsReadOnly}
 use Rattle.archive_cli.specs.Report.{unopened, read_only}
-use Rattle.archive_cli.specs.Session.{IsExtended, IsExtensionFailed}
+use Rattle.archive_cli.specs.load_command.Session.{IsExtended, IsExtensionFailed}
 
 -- ---- what was done
 

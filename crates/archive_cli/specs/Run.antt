@@ -6,12 +6,12 @@ use Rattle.outer_traits.specs.Outside.{Files}
 use Rattle.command_plans.specs.Plan.{OfMemory, CommandPlan, Stop, May, Question}
 use Rattle.command_words.specs.Job.{Job, Scan, Values, Create, Load, Query, Recover, job_of}
 use Rattle.archive_cli.specs.Command.{Progress, nothing_done}
-use Rattle.archive_cli.specs.Create.{create_plan}
-use Rattle.archive_cli.specs.Load.{load_plan}
-use Rattle.archive_cli.specs.Query.{query_plan}
-use Rattle.archive_cli.specs.Recover.{recover_plan}
-use Rattle.archive_cli.specs.Scan.{scan_plan}
-use Rattle.archive_cli.specs.Values.{values_plan}
+use Rattle.archive_cli.specs.create_command.Create.{create_plan}
+use Rattle.archive_cli.specs.load_command.Load.{load_plan}
+use Rattle.archive_cli.specs.query_command.Query.{query_plan}
+use Rattle.archive_cli.specs.recover_command.Recover.{recover_plan}
+use Rattle.archive_cli.specs.scan_command.Scan.{scan_plan}
+use Rattle.archive_cli.specs.values_command.Values.{values_plan}
 
 -- does a job over a disk, over inputs whose files may be known, and at a moment that may be known
 abbrev pub job_plan : {D : Type 0} → Device D → D → Option Files → Option ℤ → Job → CommandPlan Progress ⊥

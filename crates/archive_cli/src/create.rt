@@ -8,8 +8,8 @@ ghost use Rattle.field_codec.specs.declared.entry.Entry.TheVariants as entries;
 ghost use Rattle.field_codec.specs.Entries.{IsArchiveEntry};
 ghost use Rattle.command_words.specs.JobView.{sheet_words_of};
 ghost use Rattle.archive_cli.specs.Command.{Ran, RanOver, effects_of};
-ghost use Rattle.archive_cli.specs.Create.{create_plan, head_plan, making_plan};
-ghost use Rattle.archive_cli.specs.Creation.{create_line};
+ghost use Rattle.archive_cli.specs.create_command.Create.{create_plan, head_plan, making_plan};
+ghost use Rattle.archive_cli.specs.create_command.Creation.{create_line};
 ghost use Rattle.archive_cli.specs.Report.{status_at};
 
 use crate::report::{Ended, Report};

@@ -1,6 +1,6 @@
 //! The commands of the archive: what the words of a command line ask is done, and how it ended is said.
 //!
-//! `run` is the top call. What a command does, in which order, is its plan (specs/Command.antt has the parts, specs/Create.antt and its like the plans),
+//! `run` is the top call. What a command does, in which order, is its plan (specs/Command.antt has the parts, specs/create_command/Create.antt and its like the plans),
 //! and which words lead to which plan says specs/Run.antt. A call took a way that the plan allows, did what is said where that ended, and answers what is
 //! due. A later command adds its plan, and a line of `job_plan`.
 //!

@@ -10,9 +10,9 @@ ghost use Rattle.command_words.specs.JobView.{load_words_of};
 ghost use Rattle.dump_lines.specs.Output.{WritesCounted, IsFinished};
 ghost use Rattle.archive_cli.specs.Command.{RanOver, effects_of};
 ghost use Rattle.archive_cli.specs.DiskWrites.{OneAtMost, OneOrTwo};
-ghost use Rattle.archive_cli.specs.Load.{load_plan};
-ghost use Rattle.archive_cli.specs.LoadLine.{load_line};
-ghost use Rattle.archive_cli.specs.Loading.{printed_report, IsReopened, IsLoadRun, IsDumpRefusal, IsDumpRefusalFor};
+ghost use Rattle.archive_cli.specs.load_command.Load.{load_plan};
+ghost use Rattle.archive_cli.specs.load_command.LoadLine.{load_line};
+ghost use Rattle.archive_cli.specs.load_command.Loading.{printed_report, IsReopened, IsLoadRun, IsDumpRefusal, IsDumpRefusalFor};
 ghost use Rattle.archive_cli.specs.ReadDump.{dump_limit, ending_of};
 ghost use Rattle.archive_cli.specs.Report.{read_only, loaded, status_at};
 

@@ -8,10 +8,10 @@ ghost use Rattle.retrieval.specs.AnswerText.{IsParameterAnswer, ask_refusal, ask
 ghost use Rattle.command_plans.specs.Plan.{IsDue};
 ghost use Rattle.dump_lines.specs.Output.{IsBuffered};
 ghost use Rattle.archive_cli.specs.Command.{Ran, RanOver, effects_of};
-ghost use Rattle.archive_cli.specs.Query.{asking_plan, query_plan};
-ghost use Rattle.archive_cli.specs.Replying.{IsReply, IsSheetReply};
+ghost use Rattle.archive_cli.specs.query_command.Query.{asking_plan, query_plan};
+ghost use Rattle.archive_cli.specs.query_command.Replying.{IsReply, IsSheetReply};
 ghost use Rattle.archive_cli.specs.Report.{status_at};
-ghost use Rattle.archive_cli.specs.ValuesPrinting.{PrintCounted};
+ghost use Rattle.archive_cli.specs.values_command.ValuesPrinting.{PrintCounted};
 ghost use Rattle.retrieval.specs.Parameter.{number_named};
 
 use crate::report::{Ended, Report};

@@ -4,8 +4,8 @@ ghost use Rattle.std.specs.Prelude.{◌≡◌, [], IsTrue};
 ghost use Rattle.outer_ledgers.specs.Ledger.{output_state};
 ghost use Rattle.command_plans.specs.Plan.{IsDue};
 ghost use Rattle.archive_cli.specs.Command.{Ran, effects_of};
-ghost use Rattle.archive_cli.specs.Recover.{recover_plan};
-ghost use Rattle.archive_cli.specs.RecoverLine.{recover_line};
+ghost use Rattle.archive_cli.specs.recover_command.Recover.{recover_plan};
+ghost use Rattle.archive_cli.specs.recover_command.RecoverLine.{recover_line};
 ghost use Rattle.archive_cli.specs.Report.{status_at};
 
 use crate::report::{Ended, Report};

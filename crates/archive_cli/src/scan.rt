@@ -10,7 +10,7 @@ ghost use Rattle.std.specs.List.{AllByRecursion};
 ghost use Rattle.dump_lines.specs.DumpTable.{IsVisible};
 ghost use Rattle.archive_cli.specs.Command.{RanOver, effects_of};
 ghost use Rattle.archive_cli.specs.Report.{status_at};
-ghost use Rattle.archive_cli.specs.Scan.{scan_plan};
+ghost use Rattle.archive_cli.specs.scan_command.Scan.{scan_plan};
 
 use crate::report::Ended;
 use crate::scan_input::{ended, read_scan_input};

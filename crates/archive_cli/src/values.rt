@@ -13,8 +13,8 @@ ghost use Rattle.dump_lines.specs.Output.{Appends, IsBuffered};
 ghost use Rattle.dump_lines.specs.DumpTable.{IsVisible};
 ghost use Rattle.archive_cli.specs.Command.{RanOver, effects_of};
 ghost use Rattle.archive_cli.specs.Report.{status_at};
-ghost use Rattle.archive_cli.specs.Values.{values_plan};
-ghost use Rattle.archive_cli.specs.ValuesPrinting.{PrintCounted, line_of, cells_in_row, cells_of_stored, lines_of_cells, end_of_cells, text_of_cells, refusal_of_print};
+ghost use Rattle.archive_cli.specs.values_command.Values.{values_plan};
+ghost use Rattle.archive_cli.specs.values_command.ValuesPrinting.{PrintCounted, line_of, cells_in_row, cells_of_stored, lines_of_cells, end_of_cells, text_of_cells, refusal_of_print};
 
 use crate::report::Ended;
 use crate::scan_input::{ended, read_scan_input};

@@ -3,11 +3,11 @@ use Rattle.command_plans.specs.Plan.{OfMemory, Interrupted}
 use Rattle.outer_ledgers.specs.Ledger.{output_state}
 use Rattle.dump_lines.specs.Output.{IsFinished}
 use Rattle.archive_cli.specs.Command.{HasOutcome, Made, Ran, effects_of, nothing_done}
-use Rattle.archive_cli.specs.Create.{made, making_plan}
-use Rattle.archive_cli.specs.Creation.{create_line}
+use Rattle.archive_cli.specs.create_command.Create.{made, making_plan}
+use Rattle.archive_cli.specs.create_command.Creation.{create_line}
 use Rattle.archive_cli.proofs.Commands.{no_text, ran_printed}
-use Rattle.archive_cli.proofs.CreatePlan.{ran_made, ran_unmade}
-use Rattle.archive_cli.proofs.Created.{made_store}
+use Rattle.archive_cli.proofs.create_command.CreatePlan.{ran_made, ran_unmade}
+use Rattle.archive_cli.proofs.create_command.Created.{made_store}
 use Rattle.archive_cli.proofs.create.make.Goals as goal
 
 pub returns-in_default-clause-ran : goal.returns-in_default-clause-ran

@@ -5,16 +5,16 @@ use Rattle.command_words.specs.JobView.{load_words_of}
 use Rattle.outer_ledgers.specs.Ledger.{inputs_state, output_state}
 use Rattle.archive_cli.specs.declared.report.Report.{Report}
 use Rattle.archive_cli.specs.Command.{HasOutcome, Opened, RanOver, effects_of}
-use Rattle.archive_cli.specs.Load.{load_plan}
-use Rattle.archive_cli.specs.Loading.{IsLoadRun}
+use Rattle.archive_cli.specs.load_command.Load.{load_plan}
+use Rattle.archive_cli.specs.load_command.Loading.{IsLoadRun}
 use Rattle.archive_cli.proofs.Commands.{is_due_over}
 use Rattle.archive_cli.proofs.SourceCounts.{reads_closed}
-use Rattle.archive_cli.proofs.During.{opened_store}
-use Rattle.archive_cli.proofs.LoadPlan.{closed_again, load_determined, load_received, load_unarchived, load_unread, no_room, ran_unfound}
-use Rattle.archive_cli.proofs.NotLoaded.{gives_input, gives_there}
+use Rattle.archive_cli.proofs.load_command.During.{opened_store}
+use Rattle.archive_cli.proofs.load_command.LoadPlan.{closed_again, load_determined, load_received, load_unarchived, load_unread, no_room, ran_unfound}
+use Rattle.archive_cli.proofs.load_command.NotLoaded.{gives_input, gives_there}
 use Rattle.archive_cli.proofs.ReadOnly.{read_only_store}
-use Rattle.archive_cli.proofs.Scanned.{moment_of}
-use Rattle.archive_cli.proofs.Sessions.{ran_session}
+use Rattle.archive_cli.proofs.scan_command.Scanned.{moment_of}
+use Rattle.archive_cli.proofs.load_command.Sessions.{ran_session}
 use Rattle.outer_ledgers.proofs.Ledgers.{inputs_unused}
 use Rattle.archive_cli.proofs.load.load.Goals as goal
 

@@ -1,9 +1,9 @@
 use Rattle.std.proofs.Common.{◌∙◌, w64, refl, sym, ap, arith}
 use Rattle.std.proofs.lemmas.Int.{to_z-of_z}
 use Rattle.archive_cli.specs.declared.report.Report.{Report}
-use Rattle.archive_cli.proofs.Closing.{bad_end, printed_end, refused_end}
+use Rattle.archive_cli.proofs.load_command.Closing.{bad_end, printed_end, refused_end}
 use Rattle.archive_cli.proofs.DiskWrites.{bad_writes, printed_writes, stopped_writes}
-use Rattle.archive_cli.proofs.LoadReports.{counts_whole, grown_healed, grown_whole, session_bad, session_printed, session_stopped}
+use Rattle.archive_cli.proofs.load_command.LoadReports.{counts_whole, grown_healed, grown_whole, session_bad, session_printed, session_stopped}
 use Rattle.archive_cli.proofs.load.load_dump.Goals as goal
 
 pub print-requires-clause-grown : goal.print-requires-clause-grown

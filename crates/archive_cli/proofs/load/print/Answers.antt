@@ -1,6 +1,6 @@
 use Rattle.std.proofs.Common.{◌∙◌, length, sym, ap}
 use Rattle.archive_cli.specs.declared.report.Report.{Report}
-use Rattle.archive_cli.proofs.LoadReports.{finished_line, line_by, not_printed, printed}
+use Rattle.archive_cli.proofs.load_command.LoadReports.{finished_line, line_by, not_printed, printed}
 use Rattle.archive_cli.proofs.load.print.Goals as goal
 
 pub returns-in-None-clause-finished : goal.returns-in-None-clause-finished

@@ -3,8 +3,8 @@ use Rattle.std.specs.Prelude.{Result}
 use Rattle.arch_types.specs.declared.ask.Ask.{Ask}
 use Rattle.arch_types.specs.declared.refusal.Refusal.{Refusal}
 use Rattle.retrieval.specs.AnswerText.{asks_refusal}
-use Rattle.archive_cli.specs.Replying.{IsSheetReply}
-use Rattle.archive_cli.proofs.Replies.{refused_reply}
+use Rattle.archive_cli.specs.query_command.Replying.{IsSheetReply}
+use Rattle.archive_cli.proofs.query_command.Replies.{refused_reply}
 use Rattle.archive_cli.proofs.query.answer_sheet.Goals as goal
 
 pub returns-in-Some-clause-reply : goal.returns-in-Some-clause-reply

@@ -4,10 +4,10 @@ use Rattle.archive_store.specs.StoreView.{StoreView, CrashInvariant, archive_of}
 use Rattle.command_plans.specs.Plan.{OfMemory, Interrupted, and_then}
 use Rattle.outer_ledgers.specs.Ledger.{output_state}
 use Rattle.archive_cli.specs.Command.{HasOutcome, Opened, Ran, effects_of, nothing_done, opening_plan}
-use Rattle.archive_cli.specs.Query.{answering_plan, asking_plan}
+use Rattle.archive_cli.specs.query_command.Query.{answering_plan, asking_plan}
 use Rattle.archive_cli.specs.Report.{read_only}
 use Rattle.archive_cli.proofs.Commands.{no_text, ran_later, ran_opened, ran_unopened}
-use Rattle.archive_cli.proofs.QueryPlan.{ran_replied}
+use Rattle.archive_cli.proofs.query_command.QueryPlan.{ran_replied}
 use Rattle.archive_cli.proofs.ReadOnly.{read_only_store}
 use Rattle.archive_cli.proofs.query.ask_archive.Goals as goal
 

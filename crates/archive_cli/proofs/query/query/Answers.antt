@@ -1,9 +1,9 @@
 use Rattle.std.proofs.Common.{refl}
 use Rattle.outer_ledgers.specs.Ledger.{inputs_state, output_state}
 use Rattle.archive_cli.specs.Command.{effects_of}
-use Rattle.archive_cli.specs.Query.{query_plan}
+use Rattle.archive_cli.specs.query_command.Query.{query_plan}
 use Rattle.archive_cli.proofs.Commands.{is_due_over}
-use Rattle.archive_cli.proofs.QueryPlan.{query_determined, ran_asked, ran_unasked}
+use Rattle.archive_cli.proofs.query_command.QueryPlan.{query_determined, ran_asked, ran_unasked}
 use Rattle.archive_cli.proofs.query.query.Goals as goal
 
 pub returns-in-Ok-clause-ran : goal.returns-in-Ok-clause-ran

@@ -4,12 +4,12 @@ use Rattle.dump_lines.specs.Output.{IsFinished}
 use Rattle.command_plans.specs.Plan.{OfMemory, Interrupted, and_then}
 use Rattle.outer_ledgers.specs.Ledger.{output_state}
 use Rattle.archive_cli.specs.Command.{HasOutcome, Opened, Ran, effects_of, nothing_done, archive_opened, opening_plan}
-use Rattle.archive_cli.specs.Recover.{recover_plan, recovering_plan}
-use Rattle.archive_cli.specs.RecoverLine.{recover_line}
+use Rattle.archive_cli.specs.recover_command.Recover.{recover_plan, recovering_plan}
+use Rattle.archive_cli.specs.recover_command.RecoverLine.{recover_line}
 use Rattle.archive_cli.specs.Report.{read_only}
 use Rattle.archive_cli.proofs.Commands.{is_due, no_text, ran_later, ran_opened, ran_printed, ran_unopened}
 use Rattle.archive_cli.proofs.ReadOnly.{read_only_store}
-use Rattle.archive_cli.proofs.RecoverPlan.{recover_determined}
+use Rattle.archive_cli.proofs.recover_command.RecoverPlan.{recover_determined}
 use Rattle.archive_cli.proofs.recover.recover.Goals as goal
 
 -- the way that its plan went

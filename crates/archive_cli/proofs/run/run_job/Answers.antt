@@ -1,6 +1,6 @@
 use Rattle.outer_ledgers.specs.Ledger.{inputs_state, output_state}
 use Rattle.archive_cli.specs.Command.{effects_of}
-use Rattle.archive_cli.proofs.RecoverPlan.{recover_over}
+use Rattle.archive_cli.proofs.recover_command.RecoverPlan.{recover_over}
 use Rattle.archive_cli.proofs.RunPlan.{job_due, job_ran}
 use Rattle.archive_cli.proofs.run.run_job.Goals as goal
 

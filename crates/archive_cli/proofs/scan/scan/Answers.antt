@@ -2,9 +2,9 @@ use Rattle.std.proofs.Common.{◌∙◌, ap, refl}
 use Rattle.outer_ledgers.specs.Ledger.{inputs_state, output_state}
 use Rattle.archive_cli.specs.Command.{effects_of}
 use Rattle.archive_cli.specs.Report.{unopened}
-use Rattle.archive_cli.specs.Scan.{scan_plan}
+use Rattle.archive_cli.specs.scan_command.Scan.{scan_plan}
 use Rattle.archive_cli.proofs.Commands.{is_due_over}
-use Rattle.archive_cli.proofs.ScanPlan.{ran_scan_failed, ran_scanned, ran_unscanned, scan_determined}
+use Rattle.archive_cli.proofs.scan_command.ScanPlan.{ran_scan_failed, ran_scanned, ran_unscanned, scan_determined}
 use Rattle.archive_cli.proofs.scan.scan.Goals as goal
 
 pub print-requires : goal.print-requires

@@ -4,7 +4,7 @@ use Rattle.archive_cli.specs.ReadDump.{dump_limit}
 use Rattle.arch_types.specs.declared.refusal.Which.TheVariants.{DumpOctets}
 use Rattle.outer_ledgers.specs.Ledger.{inputs_state}
 use Rattle.archive_cli.proofs.OverInputs.{memory_behind}
-use Rattle.archive_cli.proofs.Scanned.{moment_of}
+use Rattle.archive_cli.proofs.scan_command.Scanned.{moment_of}
 use Rattle.archive_cli.proofs.scan_input.read_scan_input.Goals as goal
 
 pub returns-in-Ok-clause-read : goal.returns-in-Ok-clause-read

@@ -8,11 +8,11 @@ use Rattle.outer_ledgers.specs.Ledger.{inputs_state, output_state}
 use Rattle.archive_cli.specs.Command.{effects_of}
 use Rattle.archive_cli.specs.Reading.{IsInputUnread}
 use Rattle.archive_cli.specs.Report.{unopened}
-use Rattle.archive_cli.specs.Scan.{dump_plan}
-use Rattle.archive_cli.specs.Values.{values_plan}
-use Rattle.archive_cli.proofs.CellCounts.{rows_few}
+use Rattle.archive_cli.specs.scan_command.Scan.{dump_plan}
+use Rattle.archive_cli.specs.values_command.Values.{values_plan}
+use Rattle.archive_cli.proofs.values_command.CellCounts.{rows_few}
 use Rattle.archive_cli.proofs.Commands.{is_due_over}
-use Rattle.archive_cli.proofs.ValuesPlan.{dump_was_unread, inputs_were_read, ran_no_parameter, ran_some_valued, ran_unvalued, ran_valued, sheets_were_unread, values_determined}
+use Rattle.archive_cli.proofs.values_command.ValuesPlan.{dump_was_unread, inputs_were_read, ran_no_parameter, ran_some_valued, ran_unvalued, ran_valued, sheets_were_unread, values_determined}
 use Rattle.retrieval.proofs.Parameters.{number_within}
 use Rattle.archive_cli.proofs.values.values.Goals as goal
 

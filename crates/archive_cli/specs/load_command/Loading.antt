@@ -14,7 +14,7 @@ use Rattle.load_session.specs.declared.batches.DumpSummary.{DumpSummary}
 use Rattle.archive_cli.specs.declared.report.Report.{Report}
 use Rattle.load_session.specs.Batches.{IsIngested, IsStoppedAt}
 use Rattle.dump_lines.specs.Output.{Appends}
-use Rattle.archive_cli.specs.LoadLine.{line_of_load, whole_report}
+use Rattle.archive_cli.specs.load_command.LoadLine.{line_of_load, whole_report}
 pub use Rattle.archive_cli.specs.Reading.{IsOpeningFault}
 use Rattle.archive_cli.specs.ReadDump.{dump_limit, IsBadRest}
 use Rattle.archive_cli.specs.Report.{loaded}

@@ -8,7 +8,7 @@ use Rattle.command_plans.proofs.Plans.{determined, each_end, end_of}
 use Rattle.outer_ledgers.specs.Ledger.{InputsState}
 use Rattle.outer_ledgers.proofs.Ledgers.{inputs_unused}
 use Rattle.archive_cli.specs.Command.{Progress, Effects, Ran, RanOver, failed_at, sources_at, OpeningResult, NoneFound, DamageFound, ArchiveFound, IsOpeningResult, opening_plan, after_opening}
-use Rattle.archive_cli.specs.Recover.{recover_plan, recovering_plan}
+use Rattle.archive_cli.specs.recover_command.Recover.{recover_plan, recovering_plan}
 
 -- ---- which answer is due
 

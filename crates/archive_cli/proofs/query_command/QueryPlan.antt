@@ -18,12 +18,12 @@ use Rattle.outer_ledgers.specs.Ledger.{InputsState}
 use Rattle.outer_ledgers.proofs.Ledgers.{risen_counted}
 use Rattle.retrieval.specs.AnswerText.{asks_text}
 use Rattle.archive_cli.specs.Command.{HasOutcome, Opened, Effects, OpeningResult, NoneFound, DamageFound, ArchiveFound, Ran, RanOver, after_opening, archive_opened, nothing_done, opening_plan}
-use Rattle.archive_cli.specs.Query.{answering_plan, asking_plan, asks_checked, query_plan}
-use Rattle.archive_cli.specs.Replying.{IsSheetReply}
+use Rattle.archive_cli.specs.query_command.Query.{answering_plan, asking_plan, asks_checked, query_plan}
+use Rattle.archive_cli.specs.query_command.Replying.{IsSheetReply}
 use Rattle.archive_cli.specs.Report.{read_only, unopened}
 use Rattle.archive_cli.proofs.Commands.{no_text}
 use Rattle.archive_cli.proofs.OverInputs.{HasRead, ran_read, ran_unread}
-use Rattle.archive_cli.proofs.RecoverPlan.{opens_determined}
+use Rattle.archive_cli.proofs.recover_command.RecoverPlan.{opens_determined}
 
 -- ---- an archive was opened
 

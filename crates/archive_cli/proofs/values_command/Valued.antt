@@ -17,10 +17,10 @@ use Rattle.dump_lines.specs.declared.counts.Counts.{Counts}
 use Rattle.dump_lines.specs.declared.rows.DumpTable.{DumpTable}
 use Rattle.retrieval.specs.CellText.{cell_line}
 use Rattle.dump_lines.specs.DumpTable.{IsGathered, IsDumpTable}
-use Rattle.archive_cli.specs.ValuesPrinting.{cells_of_stored, end_of_cells, line_if, line_of, lines_of_cells, text_of_cells}
+use Rattle.archive_cli.specs.values_command.ValuesPrinting.{cells_of_stored, end_of_cells, line_if, line_of, lines_of_cells, text_of_cells}
 use Rattle.mdb_lookups.specs.Lookups.{calibration_of}
 use Rattle.retrieval.specs.ValuesText.{cell_lines, cells_of, values_line, values_text}
-use Rattle.archive_cli.proofs.PacketNames.{cells_are}
+use Rattle.archive_cli.proofs.scan_command.PacketNames.{cells_are}
 use Rattle.archive_cli.proofs.Visible.{table-all}
 
 -- ---- the text

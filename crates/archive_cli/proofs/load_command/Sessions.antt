@@ -25,14 +25,14 @@ use Rattle.archive_cli.specs.declared.report.Report.{Report}
 use Rattle.archive_cli.specs.Command.{Progress, Effects, Extended, ExtensionFailed, HasOutcome, Ran, effects_of}
 use Rattle.archive_cli.specs.DiskWrites.{OneOrTwo}
 use Rattle.archive_cli.specs.Durable.{FailedAtMostOnce, IsDurableAs}
-use Rattle.archive_cli.specs.Load.{after_packets, extension_failed, history_extended, session_plan}
-use Rattle.archive_cli.specs.LoadLine.{batch_left, line_of_load, whole_report}
-use Rattle.archive_cli.specs.Loading.{IsStoreAtEnd, IsDone, IsReopened, IsLoadRun, IsLoadOutcome}
+use Rattle.archive_cli.specs.load_command.Load.{after_packets, extension_failed, history_extended, session_plan}
+use Rattle.archive_cli.specs.load_command.LoadLine.{batch_left, line_of_load, whole_report}
+use Rattle.archive_cli.specs.load_command.Loading.{IsStoreAtEnd, IsDone, IsReopened, IsLoadRun, IsLoadOutcome}
 use Rattle.archive_cli.specs.DumpRest.{ending_of_rest}
 use Rattle.archive_cli.specs.Report.{loaded}
-use Rattle.archive_cli.specs.Session.{SessionResult, IsSession, IsSessionEnd, IsExtended, IsExtensionFailed, next_fresh_rows}
+use Rattle.archive_cli.specs.load_command.Session.{SessionResult, IsSession, IsSessionEnd, IsExtended, IsExtensionFailed, next_fresh_rows}
 use Rattle.archive_cli.proofs.Commands.{no_text}
-use Rattle.archive_cli.proofs.During.{failed_again, load_images, durable, durable_again, left, more_faults, IsOpened}
+use Rattle.archive_cli.proofs.load_command.During.{failed_again, load_images, durable, durable_again, left, more_faults, IsOpened}
 use Rattle.archive_cli.proofs.DumpRest.{bad_ending}
 
 no_rest : (dump rest : List ℕ) → rest ≡ [] → ending_of_rest dump rest ≡ None

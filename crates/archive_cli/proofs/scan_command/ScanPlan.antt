@@ -28,10 +28,10 @@ use Rattle.archive_cli.specs.Command.{Effects, RanOver, nothing_done}
 use Rattle.archive_cli.specs.DumpRest.{ending_of_rest}
 use Rattle.archive_cli.specs.ReadDump.{ending_of}
 use Rattle.archive_cli.specs.Report.{unopened}
-use Rattle.archive_cli.specs.Scan.{dump_plan, receiving_plan, scan_plan}
+use Rattle.archive_cli.specs.scan_command.Scan.{dump_plan, receiving_plan, scan_plan}
 use Rattle.archive_cli.proofs.DumpRest.{bad_ending}
 use Rattle.archive_cli.proofs.OverInputs.{HasRead, ran_read, ran_unread}
-use Rattle.archive_cli.proofs.Scanned.{bad_rest, rest_is_none, text_of_received}
+use Rattle.archive_cli.proofs.scan_command.Scanned.{bad_rest, rest_is_none, text_of_received}
 
 -- ---- the ending of a dump's rest
 

@@ -26,16 +26,16 @@ use Rattle.outer_ledgers.proofs.Ledgers.{risen_counted}
 use Rattle.archive_cli.specs.Moment.{IsMomentOf}
 use Rattle.archive_cli.specs.Command.{Progress, HasOutcome, Opened, Effects, ArchiveFound, Ran, RanOver, archive_opened, nothing_done, opening_plan}
 use Rattle.archive_cli.specs.DumpRest.{ending_of_rest}
-use Rattle.archive_cli.specs.Load.{after_dump, after_dump_found, after_link, after_packets, after_session, dump_too_long, link_refusal, load_plan, loading_plan, session_plan}
-use Rattle.archive_cli.specs.Loading.{IsDumpRefusal, IsOpeningFault}
+use Rattle.archive_cli.specs.load_command.Load.{after_dump, after_dump_found, after_link, after_packets, after_session, dump_too_long, link_refusal, load_plan, loading_plan, session_plan}
+use Rattle.archive_cli.specs.load_command.Loading.{IsDumpRefusal, IsOpeningFault}
 use Rattle.archive_cli.specs.ReadDump.{dump_limit}
 use Rattle.archive_cli.specs.Report.{read_only, unopened}
-use Rattle.archive_cli.specs.Session.{SessionResult}
+use Rattle.archive_cli.specs.load_command.Session.{SessionResult}
 use Rattle.archive_cli.proofs.Commands.{no_text, ran_unopened, unopened_after}
-use Rattle.archive_cli.proofs.NotLoaded.{OnlyMissing, gives_long, gone, still_there}
+use Rattle.archive_cli.proofs.load_command.NotLoaded.{OnlyMissing, gives_long, gone, still_there}
 use Rattle.archive_cli.proofs.OverInputs.{HasRead}
-use Rattle.archive_cli.proofs.RecoverPlan.{opens_determined}
-use Rattle.archive_cli.proofs.LimitTests.{longer, not-longer}
+use Rattle.archive_cli.proofs.recover_command.RecoverPlan.{opens_determined}
+use Rattle.archive_cli.proofs.values_command.LimitTests.{longer, not-longer}
 
 -- ---- the number of a link
 

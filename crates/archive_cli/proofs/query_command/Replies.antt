@@ -13,7 +13,7 @@ use Rattle.outer_traits.specs.Outside.{WritesSome}
 use Rattle.retrieval.specs.AnswerText.{ask_refusal, ask_text, asks_refusal, asks_text, request_refusal}
 use Rattle.dump_lines.specs.Output.{WritesCounted, IsBuffered, IsFinished}
 use Rattle.retrieval.specs.Parameter.{number_named}
-use Rattle.archive_cli.specs.Replying.{IsReply}
+use Rattle.archive_cli.specs.query_command.Replying.{IsReply}
 use Rattle.dump_lines.proofs.LineBuffers.{buffered_all, wrote_then}
 
 or_none : (o p : Option Refusal) → or_else o p ≡ None → (o ≡ None) × (p ≡ None)

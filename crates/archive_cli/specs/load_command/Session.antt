@@ -15,7 +15,7 @@ use Rattle.archive_store.specs.Entries.{Archive, archive}
 use Rattle.archive_store.specs.Stands.{StandsFor}
 use Rattle.load_session.specs.Batches.{batch_at, rows_of_link}
 use Rattle.archive_cli.specs.Durable.{FailedAtMostOnce, IsDurableAs}
-use Rattle.archive_cli.specs.LoadLine.{IsDuring, batch_left}
+use Rattle.archive_cli.specs.load_command.LoadLine.{IsDuring, batch_left}
 use Rattle.archive_cli.specs.ReadOnly.{IsOpenedThen}
 
 -- What came of a session: the packets of its dump, and its rest; the place before which they were ingested; the history that was reached; and why the batch

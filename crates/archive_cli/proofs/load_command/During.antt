@@ -24,7 +24,7 @@ use Rattle.archive_store.specs.Stands.{StandsFor}
 use Rattle.archive_store.proofs.Exact.{stands_once}
 use Rattle.load_session.specs.Batches.{HasIngested}
 use Rattle.archive_cli.specs.ReadOnly.{IsOpenedThen}
-use Rattle.archive_cli.specs.LoadLine.{IsDuring}
+use Rattle.archive_cli.specs.load_command.LoadLine.{IsDuring}
 use Rattle.archive_cli.specs.Durable.{FailedAtMostOnce, IsDurableAs}
 
 -- a store that was opened on a disk

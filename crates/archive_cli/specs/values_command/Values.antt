@@ -13,7 +13,7 @@ use Rattle.retrieval.specs.ValuesText.{values_text}
 use Rattle.archive_cli.specs.Moment.{IsMomentOf}
 use Rattle.archive_cli.specs.Command.{Progress, nothing_done, stepwise_printing_then_plan}
 use Rattle.archive_cli.specs.DumpRest.{ending_of_rest}
-use Rattle.archive_cli.specs.Scan.{dump_plan}
+use Rattle.archive_cli.specs.scan_command.Scan.{dump_plan}
 
 -- gives the octets of a dump beside the records of the sheets
 abbrev pub beside_sheets_plan : RawMdb → List ℕ → CommandPlan ℕ (RawMdb × List ℕ)

@@ -30,13 +30,13 @@ use Rattle.archive_cli.specs.Command.{Effects, RanOver, nothing_done}
 use Rattle.archive_cli.specs.DumpRest.{ending_of_rest}
 use Rattle.archive_cli.specs.ReadDump.{ending_of}
 use Rattle.archive_cli.specs.Report.{unopened}
-use Rattle.archive_cli.specs.Scan.{dump_plan}
-use Rattle.archive_cli.specs.Values.{beside_sheets_plan, dump_behind_plan, parameter_checked, values_inputs_plan, values_plan, valuing_plan}
-use Rattle.archive_cli.specs.ValuesPrinting.{PrintCounted, refusal_of_print, text_of_cells}
+use Rattle.archive_cli.specs.scan_command.Scan.{dump_plan}
+use Rattle.archive_cli.specs.values_command.Values.{beside_sheets_plan, dump_behind_plan, parameter_checked, values_inputs_plan, values_plan, valuing_plan}
+use Rattle.archive_cli.specs.values_command.ValuesPrinting.{PrintCounted, refusal_of_print, text_of_cells}
 use Rattle.archive_cli.proofs.Commands.{no_text}
 use Rattle.archive_cli.proofs.OverInputs.{HasRead, ran_read, ran_unread}
-use Rattle.archive_cli.proofs.ScanPlan.{cut_once, ending_is}
-use Rattle.archive_cli.proofs.Valued.{text_of_rows}
+use Rattle.archive_cli.proofs.scan_command.ScanPlan.{cut_once, ending_is}
+use Rattle.archive_cli.proofs.values_command.Valued.{text_of_rows}
 
 -- ---- the inputs
 

@@ -4,7 +4,7 @@ use Rattle.arch_disk.specs.Disk.{Device}
 use Rattle.archive_store.specs.Entries.{Archive}
 use Rattle.command_plans.specs.Plan.{OfMemory, CommandPlan, May, and_then}
 use Rattle.archive_cli.specs.Command.{Progress, nothing_done, archive_opened, opening_plan, printing_plan}
-use Rattle.archive_cli.specs.RecoverLine.{recover_line}
+use Rattle.archive_cli.specs.recover_command.RecoverLine.{recover_line}
 
 -- what it does with the archive that it opened
 abbrev pub recovering_plan : Archive → CommandPlan Progress ⊥

@@ -24,12 +24,12 @@ use Rattle.outer_ledgers.proofs.Ledgers.{inputs_unused}
 use Rattle.outer_ledgers.specs.Ledger.{InputsState, raised_by}
 use Rattle.retrieval.specs.Parameter.{sheets_refusal}
 use Rattle.archive_cli.specs.Command.{Effects, Ran, RanOver, looked, nothing_done, printing_plan}
-use Rattle.archive_cli.specs.Create.{HasArchiveAs, checking_plan, create_plan, head_checked, head_plan, made, after_making, making_plan, making_failed}
-use Rattle.archive_cli.specs.Creation.{create_line, new_head}
+use Rattle.archive_cli.specs.create_command.Create.{HasArchiveAs, checking_plan, create_plan, head_checked, head_plan, made, after_making, making_plan, making_failed}
+use Rattle.archive_cli.specs.create_command.Creation.{create_line, new_head}
 use Rattle.archive_cli.specs.Report.{unopened}
 use Rattle.archive_cli.proofs.Commands.{looked_only, no_text}
-use Rattle.archive_cli.proofs.ArchiveOrNone.{one-not-none}
-use Rattle.archive_cli.proofs.Created.{fewer_than_two, left_alone}
+use Rattle.archive_cli.proofs.create_command.ArchiveOrNone.{one-not-none}
+use Rattle.archive_cli.proofs.create_command.Created.{fewer_than_two, left_alone}
 use Rattle.archive_cli.proofs.OverInputs.{HasRead, ran_read, ran_unread}
 
 -- ---- the head

@@ -14,7 +14,7 @@ use Rattle.command_words.specs.Job.{SheetWords}
 use Rattle.archive_store.specs.declared.head.Head.{Head}
 use Rattle.retrieval.specs.Parameter.{sheets_refusal}
 use Rattle.archive_cli.specs.Command.{Progress, MakingFailed, Made, looked, nothing_done, printing_plan}
-use Rattle.archive_cli.specs.Creation.{create_line, new_head}
+use Rattle.archive_cli.specs.create_command.Creation.{create_line, new_head}
 use Rattle.archive_cli.specs.Report.{read_only, unopened}
 
 -- ---- the head

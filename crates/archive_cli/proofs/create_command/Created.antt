@@ -24,7 +24,7 @@ use Rattle.archive_store.specs.Entries.{archive}
 use Rattle.archive_store.specs.StoreView.{StoreView, IsNow, CrashInvariant}
 use Rattle.archive_store.specs.Stands.{StandsFor}
 use Rattle.archive_cli.specs.ReadOnly.{IsReadAsBefore}
-use Rattle.archive_cli.specs.Creation.{IsMade}
+use Rattle.archive_cli.specs.create_command.Creation.{IsMade}
 use Rattle.retrieval.specs.Parameter.{broken_rule, passed_limit, refusal_of_sheets, sheets_refusal}
 use Rattle.archive_cli.specs.Durable.{FailedAtMostOnce}
 

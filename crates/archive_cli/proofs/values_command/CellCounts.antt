@@ -12,7 +12,7 @@ use Rattle.yarch_table.specs.Stored.{rows_of}
 use Rattle.dump_lines.specs.declared.rows.DumpTable.{DumpTable}
 use Rattle.dump_lines.specs.DumpTable.{IsDumpTable}
 use Rattle.archive_cli.specs.ReadDump.{dump_limit}
-use Rattle.archive_cli.specs.ValuesPrinting.{count_if, cells_in_row}
+use Rattle.archive_cli.specs.values_command.ValuesPrinting.{count_if, cells_in_row}
 
 count-cases : (o : Option Cell) (cells : List Cell) → length (cons_option o cells) ≡ count_if o + length cells
 count-cases None cells = omega arith

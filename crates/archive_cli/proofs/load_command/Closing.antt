@@ -7,7 +7,7 @@ use Rattle.space_packet.specs.declared.dump.Why.{Why}
 use Rattle.space_packet.specs.declared.dump.Why.TheVariants as why
 use Rattle.archive_store.specs.StoreView.{StoreView}
 use Rattle.archive_cli.specs.declared.report.Report.{Report}
-use Rattle.archive_cli.specs.Loading.{IsStoreAtEnd, IsReopened}
+use Rattle.archive_cli.specs.load_command.Loading.{IsStoreAtEnd, IsReopened}
 use Rattle.dump_lines.specs.Output.{IsFinished}
 use Rattle.archive_cli.specs.ReadDump.{ending_of}
 

@@ -15,13 +15,13 @@ use Rattle.archive_store.specs.StoreView.{StoreView}
 use Rattle.load_session.specs.declared.batches.DumpSummary.{DumpSummary}
 use Rattle.archive_cli.specs.declared.report.Report.{Report}
 use Rattle.load_session.specs.Batches.{arrived, rows_of_link, HasIngested, IsIngested, IsStoppedAt}
-use Rattle.archive_cli.specs.LoadLine.{load_line, line_of_load}
-use Rattle.archive_cli.specs.Loading.{printed_report, IsLoadOutcome, IsReopened}
+use Rattle.archive_cli.specs.load_command.LoadLine.{load_line, line_of_load}
+use Rattle.archive_cli.specs.load_command.Loading.{printed_report, IsLoadOutcome, IsReopened}
 use Rattle.dump_lines.specs.Output.{IsFinished}
 use Rattle.archive_cli.specs.ReadDump.{ending_of}
 use Rattle.archive_cli.specs.Report.{loaded}
 use Rattle.load_session.proofs.Arrived.{few_rows}
-use Rattle.archive_cli.proofs.Scanned.{bad_rest, end_is, rest_is_none, why_bad}
+use Rattle.archive_cli.proofs.scan_command.Scanned.{bad_rest, end_is, rest_is_none, why_bad}
 
 -- the six pieces of a line, put one behind the other
 pub six_put : (old first second third fourth fifth last a b c d e f g h i j k : List ℕ) → old ≡ [] → first ≡ old ++ a ++ b → second ≡ first ++ c ++ d → third ≡ second ++ e ++ f

@@ -13,10 +13,10 @@ use Rattle.input_plans.specs.Inputs.{InputRead, OverLimit, WithinLimit, IsInputA
 use Rattle.archive_cli.specs.Moment.{IsMomentOf}
 use Rattle.archive_cli.specs.Command.{Progress, Extended, ExtensionFailed, archive_opened, nothing_done, opening_plan}
 use Rattle.archive_cli.specs.DumpRest.{ending_of_rest}
-use Rattle.archive_cli.specs.LoadLine.{line_of_load, whole_report}
+use Rattle.archive_cli.specs.load_command.LoadLine.{line_of_load, whole_report}
 use Rattle.archive_cli.specs.ReadDump.{dump_limit}
 use Rattle.archive_cli.specs.Report.{loaded, read_only}
-use Rattle.archive_cli.specs.Session.{SessionResult, IsSession, next_fresh_rows}
+use Rattle.archive_cli.specs.load_command.Session.{SessionResult, IsSession, next_fresh_rows}
 
 -- ---- what was done
 
