@@ -1,8 +1,8 @@
 //! The commands of the archive: what the words of a command line ask is done, and how it ended is said.
 //!
-//! `run` is the top call. What a command does, in which order, is its plan (specs/Command.antt has the parts, specs/create_command/Create.antt and its like the plans),
-//! and which words lead to which plan says specs/Run.antt. A call took a way that the plan allows, did what is said where that ended, and answers what is
-//! due. A later command adds its plan, and a line of `job_plan`.
+//! `run` is the top call. What a command does, in which order, is its plan: specs/Command.antt has the parts, a folder of specs/ each command's plan, and
+//! specs/Run.antt which words lead to which. A call took a way that the plan allows, did what is said where that ended, and answers what is due. A later
+//! command adds its plan, and a line of `job_plan`.
 //!
 //! The way of a dump: for `scan` and `values` `read_scan_input` takes it in, and dump_lines keeps its rows; for `load` load_session hands its packets to
 //! the archive's store. The way of an ask: mdb_sheets reads it, and retrieval extracts the cells of the store's plan and prints them.
