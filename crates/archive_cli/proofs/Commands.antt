@@ -8,13 +8,13 @@ use Rattle.archive_store.specs.Calls.{IsStoreOpenRefusal}
 use Rattle.archive_store.specs.Entries.{Archive}
 use Rattle.archive_store.specs.Stands.{StandsFor}
 use Rattle.disk_journal.specs.Calls.{CountsNeverFall, IsJournalOpenFailed}
-use Rattle.command_plans.specs.Plan.{Fault, OfMemory, OfDisk, OfOutput, Plan, May, Way, Gave, Ended, Cut, Allows, IsDetermined, IsDue, refusal_at, and_then}
+use Rattle.command_plans.specs.Plan.{Interruption, OfMemory, OfInputs, OfDisk, OfOutput, CommandPlan, May, Way, Returned, Stopped, Interrupted, Allows, IsDetermined, IsDue, refusal_at, and_then}
 use Rattle.command_plans.proofs.Plans.{required, gave}
 use Rattle.dump_lines.specs.Output.{Appends, IsFinished, WritesCounted}
 use Rattle.outer_ledgers.specs.Ledger.{InputsState, UsedDisk}
 use Rattle.outer_ledgers.proofs.Ledgers.{risen_counted}
 use Rattle.archive_cli.specs.declared.report.Report.{Report}
-use Rattle.archive_cli.specs.Command.{SoFar, Did, looked, look_failed, Effects, Ran, RanOver, Became, NoneHeld, DamageHeld, ArchiveHeld, opens, prints}
+use Rattle.archive_cli.specs.Command.{Progress, HasEffects, looked, look_failed, Effects, Ran, RanOver, HasOutcome, NoneFound, DamageFound, ArchiveFound, failed_at, opening_plan, printing_plan, sources_at}
 use Rattle.archive_cli.specs.Report.{unopened}
 
 -- no text was printed
@@ -24,24 +24,24 @@ no_text (Some before) = rw (append-nil before) refl
 
 module _ {D : Type 0} (device : Device D) (e : Effects D) where
   -- a call gave something, and what follows ran
-  pub ran_then : {X : Type 0} (p : Plan SoFar X) (f : X → Plan SoFar ⊥) (x : X) → Allows p (Gave x) → Ran device (f x) e → Ran device (and_then p f) e
+  pub ran_then : {X : Type 0} (p : CommandPlan Progress X) (f : X → CommandPlan Progress ⊥) (x : X) → Allows p (Returned x) → Ran device (f x) e → Ran device (and_then p f) e
   ran_then p f x allows ran = record { way = ran.way; allows = gave p f x ran.way allows ran.allows; did = ran.did }
 
   -- a fault did not come
-  pub ran_later : (fault : Fault) (s : SoFar) (p : Plan SoFar ⊥) → Ran device p e → Ran device (May fault s p) e
+  pub ran_later : (fault : Interruption) (s : Progress) (p : CommandPlan Progress ⊥) → Ran device p e → Ran device (May fault s p) e
   ran_later fault s p ran = record { way = ran.way; allows = inr ran.allows; did = ran.did }
 
   -- a text was printed
-  pub ran_printed : (s : SoFar) (text : List ℕ) (refusal : Option Refusal) → s.failed OfOutput ≡ false → s.failed OfDisk ≡ false →
+  pub ran_printed : (s : Progress) (text : List ℕ) (refusal : Option Refusal) → s.failed OfOutput ≡ false → s.failed OfDisk ≡ false →
       IsFinished refusal e.output.written e.output'.written text → e.output.faults ≤ e.output'.faults → WritesCounted refusal e.output.faults e.output'.faults →
-      e.report ≡ record s.report { refusal = refusal } → Became device e.disk e.disk' false s.disk → Ran device (prints s text) e
+      e.report ≡ record s.report { refusal = refusal } → HasOutcome device e.disk e.disk' false s.disk → Ran device (printing_plan s text) e
   ran_printed s text None no_output no_disk text_is later counted report disk = record {
-    way = Ended (record s { text = text; is_whole = true }) None;
+    way = Stopped (record s { text = text; is_whole = true }) None;
     allows = inr refl;
     did = record { report = report; printed = text_is; output = record { counted = rw no_output counted }; disk = rw no_disk disk };
   }
   ran_printed s text (Some WriteFault) no_output no_disk text_is later counted report disk = record {
-    way = Cut (record s { text = text; is_whole = false }) OfOutput;
+    way = Interrupted (record s { text = text; is_whole = false }) OfOutput;
     allows = inl refl;
     did = record {
       report = report;
@@ -53,18 +53,18 @@ module _ {D : Type 0} (device : Device D) (e : Effects D) where
   ran_printed s text (Some other) no_output no_disk text_is later counted report disk = absurd text_is
 
   -- the refusal at the end of the way is that of the report
-  pub ended_is : (way : Way SoFar ⊥) → Did device e way → refusal_at way ≡ e.report.refusal
-  ended_is (Gave x) did = absurd did
-  ended_is (Ended s refusal) did = sym (ap (λ (r : Report). r.refusal) did.report)
-  ended_is (Cut s fault) did = sym (ap (λ (r : Report). r.refusal) did.report)
+  pub ended_is : (way : Way Progress ⊥) → HasEffects device e way → refusal_at way ≡ e.report.refusal
+  ended_is (Returned x) did = absurd did
+  ended_is (Stopped s refusal) did = sym (ap (λ (r : Report). r.refusal) did.report)
+  ended_is (Interrupted s fault) did = sym (ap (λ (r : Report). r.refusal) did.report)
 
   -- and is the one that is due
-  pub is_due : (plan : Plan SoFar ⊥) → IsDetermined plan → Ran device plan e → IsDue plan e.report.refusal
+  pub is_due : (plan : CommandPlan Progress ⊥) → IsDetermined plan → Ran device plan e → IsDue plan e.report.refusal
   is_due plan d ran = (ran.way, required plan ran.way d ran.allows, ended_is ran.way ran.did)
 
   -- over inputs too
-  pub is_due_over : (plan : Plan SoFar ⊥) (old new : InputsState) → IsDetermined plan → RanOver device plan e old new → IsDue plan e.report.refusal
-  is_due_over plan old new d ran = is_due plan d (record { way = ran.way; allows = ran.allows; did = ran.did })
+  pub is_due_over : (plan : CommandPlan Progress ⊥) (old new : InputsState) → IsDetermined plan → RanOver device plan e old new → IsDue plan e.report.refusal
+  is_due_over plan old new d went = is_due plan d went.ran
 
 -- ---- an opening
 
@@ -80,33 +80,33 @@ module _ {D : Type 0} (device : Device D) where
     | inr one ↦ record { faults = failed.rose; writes = (1, omega arith, omega arith, one) }
   ]
 
-module _ {D : Type 0} (device : Device D) (e : Effects D) (f : Archive → Plan SoFar ⊥) (sources : ℕ) where
+module _ {D : Type 0} (device : Device D) (e : Effects D) (f : Archive → CommandPlan Progress ⊥) (sources : ℕ) where
   -- an opening was refused
   pub ran_unopened : (refusal : Refusal) → IsStoreOpenRefusal device e.disk e.disk' refusal → device.reads e.disk' ≡ device.reads e.disk →
       LeavesOnly device e.disk e.disk' (device.images e.disk) → CountsNeverFall device e.disk e.disk' → e.report ≡ unopened (Some refusal) → e.output' ≡ e.output →
-      Ran device (and_then (opens sources device e.disk) f) e
+      Ran device (and_then (opening_plan sources device e.disk) f) e
   ran_unopened NoArchive refused reads images counts report silent = record {
-    way = Ended (looked sources) (Some NoArchive);
-    allows = inr (inr (NoneHeld, refused.0, refl));
+    way = Stopped (looked sources) (Some NoArchive);
+    allows = inr (inr (NoneFound, refused.none, refl));
     did = record {
       report = report;
       printed = rw silent (no_text e.output.written);
       output = record { counted = rw silent refl };
-      disk = (looked_only device e.disk e.disk' counts refused.1, λ known. record { reads = reads; images = images });
+      disk = (looked_only device e.disk e.disk' counts refused.no_failed_write, λ known. record { reads = reads; images = images });
     };
   }
   ran_unopened (Damaged file at) refused reads images counts report silent = record {
-    way = Ended (looked sources) (Some (Damaged file at));
-    allows = inr (inr (DamageHeld file at, refused.0, refl));
+    way = Stopped (looked sources) (Some (Damaged file at));
+    allows = inr (inr (DamageFound file at, refused.damaged, refl));
     did = record {
       report = report;
       printed = rw silent (no_text e.output.written);
       output = record { counted = rw silent refl };
-      disk = (looked_only device e.disk e.disk' counts refused.1, λ known. record { reads = reads; images = images });
+      disk = (looked_only device e.disk e.disk' counts refused.no_failed_write, λ known. record { reads = reads; images = images });
     };
   }
   ran_unopened DiskFault refused reads images counts report silent = record {
-    way = Cut (look_failed sources) OfDisk;
+    way = Interrupted (look_failed sources) OfDisk;
     allows = inr (inl refl);
     did = record {
       report = report;
@@ -116,7 +116,7 @@ module _ {D : Type 0} (device : Device D) (e : Effects D) (f : Archive → Plan 
     };
   }
   ran_unopened OutOfMemory refused reads images counts report silent = record {
-    way = Cut (looked sources) OfMemory;
+    way = Interrupted (looked sources) OfMemory;
     allows = inl refl;
     did = record {
       report = report;
@@ -127,6 +127,17 @@ module _ {D : Type 0} (device : Device D) (e : Effects D) (f : Archive → Plan 
   }
   ran_unopened other refused reads images counts report silent = absurd refused
 
+  -- it came behind so many sources, and no call of the inputs failed
+  pub unopened_after : (refusal : Refusal) (refused : IsStoreOpenRefusal device e.disk e.disk' refusal) (reads : device.reads e.disk' ≡ device.reads e.disk)
+      (images : LeavesOnly device e.disk e.disk' (device.images e.disk)) (counts : CountsNeverFall device e.disk e.disk') (report : e.report ≡ unopened (Some refusal)) (silent : e.output' ≡ e.output) →
+      (sources_at (ran_unopened refusal refused reads images counts report silent).way ≡ sources) × (failed_at (ran_unopened refusal refused reads images counts report silent).way OfInputs ≡ false)
+  unfolding ran_unopened
+  unopened_after NoArchive refused reads images counts report silent = (refl, refl)
+  unopened_after (Damaged file at) refused reads images counts report silent = (refl, refl)
+  unopened_after DiskFault refused reads images counts report silent = (refl, refl)
+  unopened_after OutOfMemory refused reads images counts report silent = (refl, refl)
+  unopened_after other refused reads images counts report silent = absurd refused
+
   -- an archive was opened, and what followed ran
-  pub ran_opened : (archive : Archive) → (IsTrue device.is_transparent → StandsFor (device.reads e.disk) archive) → Ran device (f archive) e → Ran device (and_then (opens sources device e.disk) f) e
-  ran_opened archive stands ran = ran_then device e (opens sources device e.disk) f archive (inr (inr (ArchiveHeld archive, stands, refl))) ran
+  pub ran_opened : (archive : Archive) → (IsTrue device.is_transparent → StandsFor (device.reads e.disk) archive) → Ran device (f archive) e → Ran device (and_then (opening_plan sources device e.disk) f) e
+  ran_opened archive stands ran = ran_then device e (opening_plan sources device e.disk) f archive (inr (inr (ArchiveFound archive, stands, refl))) ran

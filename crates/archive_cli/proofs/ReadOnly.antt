@@ -1,26 +1,18 @@
 -- The disk of a call that asks an archive.
-use Rattle.std.proofs.Common.{◌≡◌, inl, inr, ℕ, ◌≤◌, List, [], ◌∷◌, ◌++◌, length, Some, None, refl, sym, ◌∙◌, ap, subst, arith, append-nil, length-append}
-use Rattle.std.specs.Prelude.{IsTrue}
+use Rattle.std.proofs.Common.{◌≡◌, inl, inr, List, [], ◌∷◌, ◌++◌, length, None, sym, ◌∙◌, ap, subst, arith, append-nil, length-append}
 use mathlib.Core.List.{IsPrefix}
 use Rattle.arch_disk.specs.Image.{Image}
-use Rattle.arch_disk.specs.Disk.{Device, LeavesOnly, raised}
-use Rattle.arch_disk.proofs.Moments.{started, weakens}
-use Rattle.arch_types.specs.declared.refusal.Refusal.{Refusal}
-use Rattle.arch_types.specs.declared.refusal.Refusal.TheVariants.{NoArchive, Damaged, DiskFault, OutOfMemory}
+use Rattle.arch_disk.specs.Disk.{Device, LeavesOnly}
+use Rattle.arch_disk.proofs.Moments.{weakens}
 use Rattle.archive_core.specs.declared.fills.Fill.{Fill}
-use Rattle.archive_core.specs.Fills.{rows_of_faults}
+use Rattle.archive_core.specs.Fills.{rows_of_faults, unacknowledged_rows}
 use Rattle.archive_core.specs.Items.{Item}
 use Rattle.archive_store.specs.declared.head.Head.{Head}
-use Rattle.archive_store.specs.Calls.{IsStoreOpenRefusal}
 use Rattle.archive_store.specs.Entries.{Archive, archive}
-use Rattle.archive_store.specs.StoreView.{StoreView, archive_of, IsNow, IsSince, CrashInvariant, unacknowledged_rows}
+use Rattle.archive_store.specs.StoreView.{StoreView, archive_of, IsNow, IsSince, CrashInvariant}
 use Rattle.archive_store.specs.Stands.{StandsFor}
 use Rattle.archive_store.proofs.Exact.{stands_once}
-use Rattle.mdb_sheets.specs.Sheets.{ReadsCounted}
-use Rattle.dump_lines.specs.Output.{WritesCounted}
-use Rattle.archive_cli.specs.declared.report.Report.{Report}
-use Rattle.archive_cli.specs.ReadOnly.{IsReadOnly, IsOpeningRefusal, IsReadAsBefore}
-use Rattle.archive_cli.specs.Report.{unopened}
+use Rattle.archive_cli.specs.ReadOnly.{IsReadOnly}
 
 nothing_more : {A : Type 0} (xs ys t : List A) → xs ++ t ≡ ys → (u : List A) → ys ++ u ≡ xs → ys ≡ xs
 nothing_more xs ys [] e u f = sym e ∙ append-nil xs
@@ -29,10 +21,6 @@ nothing_more xs ys (x ∷ t) e u f = absurd (omega (arith, ap length e, length-a
 -- two beginnings of each other are the same
 pub same_prefix : {A : Type 0} (xs ys : List A) → IsPrefix xs ys → IsPrefix ys xs → ys ≡ xs
 same_prefix xs ys p q = nothing_more xs ys p.0 p.1 q.0 q.1
-
--- no call of the disk was made
-pub untouched : {D : Type 0} (device : Device D) (disk : D) → IsReadAsBefore device disk disk
-untouched device disk = record { reads = refl; images = started device disk (device.images disk) (λ c now. now) }
 
 only_since : (head : Head) (history : List Item) (c : Image) → IsSince head history history [] c → StandsFor c (archive head history)
 only_since head history c i =
@@ -62,34 +50,3 @@ read_only_store device disk s stands same opening fills handed_in keeps =
       };
       now = now;
     }
-
--- why an archive wasn't opened
-pub opening_cause : {D : Type 0} (device : Device D) (old new : D) (refusal : Refusal) → IsTrue device.is_transparent → IsStoreOpenRefusal device old new refusal → IsOpeningRefusal device old new refusal
-opening_cause device old new NoArchive known h = h.0 known
-opening_cause device old new (Damaged file at) known h = h.0 known
-opening_cause device old new DiskFault known h = h.rose
-opening_cause device old new OutOfMemory known h = tt
-opening_cause device old new other known h = absurd h
-
--- a refusal of an opening is of no input and of no sink
-pub open_reads : {D : Type 0} (device : Device D) (old new : D) (refusal : Refusal) → IsStoreOpenRefusal device old new refusal → (faults : ℕ) → ReadsCounted (Some refusal) faults faults
-open_reads device old new NoArchive h faults = refl
-open_reads device old new (Damaged file at) h faults = refl
-open_reads device old new DiskFault h faults = refl
-open_reads device old new OutOfMemory h faults = refl
-open_reads device old new other h faults = absurd h
-
-pub open_writes : {D : Type 0} (device : Device D) (old new : D) (refusal : Refusal) → IsStoreOpenRefusal device old new refusal → (faults : ℕ) → WritesCounted (Some refusal) faults faults
-open_writes device old new NoArchive h faults = refl
-open_writes device old new (Damaged file at) h faults = refl
-open_writes device old new DiskFault h faults = refl
-open_writes device old new OutOfMemory h faults = refl
-open_writes device old new other h faults = absurd h
-
--- a fault of the disk was counted
-pub unopened_fault : {D : Type 0} (device : Device D) (old new : D) (refusal : Refusal) (report : Report) → report ≡ unopened (Some refusal) → IsStoreOpenRefusal device old new refusal →
-    report.refusal ≡ Some DiskFault → raised (device.fault_count old) ≤ device.fault_count new
-unopened_fault device old new refusal report is refused fault =
-    let same : Some refusal ≡ Some DiskFault = sym (ap (λ (r : Report). r.refusal) is) ∙ fault in
-    let which : refusal ≡ DiskFault = cc (same) in
-    (subst (IsStoreOpenRefusal device old new) which refused).rose

@@ -4,71 +4,82 @@ use Rattle.arch_disk.specs.Image.{Image}
 use Rattle.arch_disk.specs.Disk.{Device}
 use Rattle.arch_types.specs.declared.refusal.Refusal.{Refusal}
 use Rattle.arch_types.specs.declared.refusal.Refusal.TheVariants.{NoArchive, Damaged}
+use Rattle.arch_types.specs.declared.row.Row.{Row}
 use Rattle.disk_journal.specs.Format.{HoldsNone}
 use Rattle.outer_traits.specs.Outside.{WritesSome}
-use Rattle.outer_ledgers.specs.Ledger.{InputsState, OutputState, UsedDisk, UsedInputs, UsedOutput}
+use Rattle.outer_ledgers.specs.Ledger.{InputsState, UsedWithoutFailedWrite, OutputState, UsedDisk, UsedInputs, UsedOutput, WritesFailedAtMost}
 use Rattle.dump_lines.specs.Output.{Appends}
-use Rattle.command_plans.specs.Plan.{Faults, OfMemory, OfInputs, OfOutput, OfDisk, fault_refusal, no_faults, with_fault, Plan, Return, Stop, May, Ask, Way, Gave, Ended, Cut, Allows}
+use Rattle.command_plans.specs.Plan.{FailedCalls, OfMemory, OfInputs, OfOutput, OfDisk, interruption_refusal, no_failed_calls, with_failed_call, CommandPlan, Return, Stop, May, Question, Way, Returned, Stopped, Interrupted, Allows}
 use Rattle.archive_store.specs.declared.head.Head.{Head}
+use Rattle.archive_core.specs.Items.{Item}
 use Rattle.archive_store.specs.Entries.{Archive}
 use Rattle.archive_store.specs.Stands.{StandsFor, IsArchiveDamagedAt}
 use Rattle.archive_cli.specs.declared.report.Report.{Report}
-use Rattle.archive_cli.specs.CreateEnding.{IsMade, IsMakingFailed}
+use Rattle.archive_cli.specs.create_command.Creation.{IsMade, IsMakingFailed}
 use Rattle.archive_cli.specs.ReadOnly.{IsReadAsBefore, IsReadOnly}
 use Rattle.archive_cli.specs.Report.{unopened, read_only}
+use Rattle.archive_cli.specs.load_command.Session.{IsExtended, IsExtensionFailed}
 
 -- ---- what was done
 
 -- what became of a disk
-pub data Fate : Type 0 where
+pub data DiskOutcome : Type 0 where
   -- nothing was asked of it
-  Same : Fate
-  -- an archive was looked for
-  Looked : Fate
-  -- and a call of the disk failed in that
-  LookFailed : Fate
+  NotAsked : DiskOutcome
+  -- an archive was looked for, and none was opened or made
+  Looked : DiskOutcome
+  -- an archive was looked for, and a call of the disk failed
+  LookFailed : DiskOutcome
   -- this archive was opened, and left as it was
-  Opened : Archive → Fate
-  -- the making of an archive of this head failed,
-  MakingFailed : Head → Fate
-  -- or one was made
-  Made : Head → Fate
+  Opened : Archive → DiskOutcome
+  -- the making of an archive of this head failed
+  MakingFailed : Head → DiskOutcome
+  -- an archive of this head was made
+  Made : Head → DiskOutcome
+  -- this archive was opened, and its history extended to this
+  Extended : Archive → List Item → DiskOutcome
+  -- it was extended to this, and the disk failed as these rows were to stand behind it
+  ExtensionFailed : Archive → List Item → List Row → DiskOutcome
 
--- the fate of a disk: what it holds by then is known where it is transparent, its counts of faults on any disk
-abbrev pub Became : {D : Type 0} → Device D → D → D → Bool → Fate → Type 0
-Became device old new failed Same = new ≡ old
-Became device old new failed Looked = UsedDisk device old new failed 0 0 × (IsTrue device.is_transparent → IsReadAsBefore device old new)
-Became device old new failed LookFailed = UsedDisk device old new failed 0 1 × (IsTrue device.is_transparent → IsReadAsBefore device old new)
-Became device old new failed (Opened archive) = UsedDisk device old new failed 0 0 × (IsTrue device.is_transparent → IsReadOnly device old new archive)
-Became device old new failed (MakingFailed head) = UsedDisk device old new failed 0 2 × (IsTrue device.is_transparent → IsMakingFailed device old new head)
-Became device old new failed (Made head) = UsedDisk device old new failed 0 0 × (IsTrue device.is_transparent → IsMade device old new head)
+-- a disk has this outcome: what it holds by then is known where it is transparent, and its counts on any disk
+abbrev pub HasOutcome : {D : Type 0} → Device D → D → D → Bool → DiskOutcome → Type 0
+HasOutcome device old new failed NotAsked = new ≡ old
+HasOutcome device old new failed Looked = UsedWithoutFailedWrite device old new failed × (IsTrue device.is_transparent → IsReadAsBefore device old new)
+HasOutcome device old new failed LookFailed = WritesFailedAtMost 1 device old new failed × (IsTrue device.is_transparent → IsReadAsBefore device old new)
+HasOutcome device old new failed (Opened archive) = UsedWithoutFailedWrite device old new failed × (IsTrue device.is_transparent → IsReadOnly device old new archive)
+HasOutcome device old new failed (MakingFailed head) = WritesFailedAtMost 2 device old new failed × (IsTrue device.is_transparent → IsMakingFailed device old new head)
+HasOutcome device old new failed (Made head) = UsedWithoutFailedWrite device old new failed × (IsTrue device.is_transparent → IsMade device old new head)
+HasOutcome device old new failed (Extended archive reached) =
+    UsedWithoutFailedWrite device old new failed × (IsTrue device.is_transparent → IsExtended device old new archive reached)
+HasOutcome device old new failed (ExtensionFailed archive reached rows) =
+    UsedDisk device old new failed 1 2 × (IsTrue device.is_transparent → IsExtensionFailed device old new archive reached rows)
 
--- What a command has done so far: the text that it printed, whole, or that it was printing; the report but for its refusal; the fate of the disk; how
+-- What a command has done so far: the text that it printed, whole, or that it was printing; the report but for its refusal; the outcome of the disk; how
 -- many sources the inputs gave; and which calls of the outside failed before, though it went on.
-pub record SoFar : Type 0 where
+pub record Progress : Type 0 where
   pub text : List ℕ
   pub is_whole : Bool
   pub report : Report
-  pub disk : Fate
+  pub disk : DiskOutcome
   pub sources : ℕ
-  pub failed : Faults
+  pub failed : FailedCalls
 
--- after so many sources were given: nothing,
-abbrev pub nothing_done : ℕ → SoFar
-nothing_done sources = record { text = []; is_whole = true; report = unopened None; disk = Same; sources = sources; failed = no_faults }
+-- nothing was done but that so many sources were given
+abbrev pub nothing_done : ℕ → Progress
+nothing_done sources = record { text = []; is_whole = true; report = unopened None; disk = NotAsked; sources = sources; failed = no_failed_calls }
 
--- an archive was looked for,
-abbrev pub looked : ℕ → SoFar
-looked sources = record { text = []; is_whole = true; report = unopened None; disk = Looked; sources = sources; failed = no_faults }
+-- an archive was looked for after so many sources were given, and none was opened
+abbrev pub looked : ℕ → Progress
+looked sources = record { text = []; is_whole = true; report = unopened None; disk = Looked; sources = sources; failed = no_failed_calls }
 
--- and a call of the disk failed in that,
-abbrev pub look_failed : ℕ → SoFar
-look_failed sources = record { text = []; is_whole = true; report = unopened None; disk = LookFailed; sources = sources; failed = no_faults }
+-- an archive was looked for after so many sources were given, and a call of the disk failed
+abbrev pub look_failed : ℕ → Progress
+look_failed sources = record { text = []; is_whole = true; report = unopened None; disk = LookFailed; sources = sources; failed = no_failed_calls }
 
--- or this archive was opened
-abbrev pub opened_so_far : ℕ → Archive → SoFar
-opened_so_far sources archive =
-    record { text = []; is_whole = true; report = read_only None (length archive.history); disk = Opened archive; sources = sources; failed = no_faults }
+-- this archive was opened after so many sources were given
+abbrev pub archive_opened : ℕ → Archive → Progress
+archive_opened sources archive =
+    record { text = []; is_whole = true; report = read_only None (length archive.history); disk = Opened archive; sources = sources; failed = no_failed_calls }
 
 -- What a call of the program did: the disk that was handed in and the one that is handed back, the output before and after, and the report.
 pub record Effects (D : Type 0) : Type 0 where
@@ -87,70 +98,80 @@ abbrev pub AppendsAs : Bool → Option (List ℕ) → Option (List ℕ) → List
 AppendsAs true old new text = Appends old new text
 AppendsAs false old new text = WritesSome old new text
 
--- it ended here, by this refusal, with what was done so far, and these calls had failed
-pub record EndedAt {D : Type 0} (device : Device D) (e : Effects D) (s : SoFar) (refusal : Option Refusal) (failed : Faults) : Type 0 where
+-- a call ended by this refusal with this done so far, and these calls of the outside had failed
+pub record EndedAt {D : Type 0} (device : Device D) (e : Effects D) (s : Progress) (refusal : Option Refusal) (failed : FailedCalls) : Type 0 where
   pub report : e.report ≡ record s.report { refusal = refusal }
   pub printed : AppendsAs s.is_whole e.output.written e.output'.written s.text
   pub output : UsedOutput e.output e.output' (failed OfOutput)
-  pub disk : Became device e.disk e.disk' (failed OfDisk) s.disk
+  pub disk : HasOutcome device e.disk e.disk' (failed OfDisk) s.disk
 
--- where the way ended
-abbrev pub Did : {D : Type 0} → Device D → Effects D → Way SoFar ⊥ → Type 0
-Did device e (Gave x) = ⊥
-Did device e (Ended s refusal) = EndedAt device e s refusal s.failed
-Did device e (Cut s fault) = EndedAt device e s (Some (fault_refusal fault)) (with_fault fault s.failed)
+-- a call did what is said where its way ended
+abbrev pub HasEffects : {D : Type 0} → Device D → Effects D → Way Progress ⊥ → Type 0
+HasEffects device e (Returned x) = ⊥
+HasEffects device e (Stopped s refusal) = EndedAt device e s refusal s.failed
+HasEffects device e (Interrupted s fault) = EndedAt device e s (Some (interruption_refusal fault)) (with_failed_call fault s.failed)
 
--- the call went a way that the plan allows, and did what is said where it ended
-pub record Ran {D : Type 0} (device : Device D) (plan : Plan SoFar ⊥) (e : Effects D) : Type 0 where
-  pub way : Way SoFar ⊥
+-- a call took a way through its plan, and did what is said where that ended
+pub record Ran {D : Type 0} (device : Device D) (plan : CommandPlan Progress ⊥) (e : Effects D) : Type 0 where
+  pub way : Way Progress ⊥
   pub allows : Allows plan way
-  pub did : Did device e way
+  pub did : HasEffects device e way
 
--- which calls of the outside had failed at the end of a way,
-abbrev pub failed_at : Way SoFar ⊥ → Faults
-failed_at (Gave x) = no_faults
-failed_at (Ended s refusal) = s.failed
-failed_at (Cut s fault) = with_fault fault s.failed
+-- which calls of the outside had failed at the end of a way
+abbrev pub failed_at : Way Progress ⊥ → FailedCalls
+failed_at (Returned x) = no_failed_calls
+failed_at (Stopped s refusal) = s.failed
+failed_at (Interrupted s fault) = with_failed_call fault s.failed
 
--- and how many sources were given
-abbrev pub sources_at : Way SoFar ⊥ → ℕ
-sources_at (Gave x) = 0
-sources_at (Ended s refusal) = s.sources
-sources_at (Cut s fault) = s.sources
+-- how many sources were given by the end of a way
+abbrev pub sources_at : Way Progress ⊥ → ℕ
+sources_at (Returned x) = 0
+sources_at (Stopped s refusal) = s.sources
+sources_at (Interrupted s fault) = s.sources
 
--- a call over inputs went such a way, and used the inputs as the way says
-pub record RanOver {D : Type 0} (device : Device D) (plan : Plan SoFar ⊥) (e : Effects D) (old new : InputsState) : Type 0 where
-  pub way : Way SoFar ⊥
-  pub allows : Allows plan way
-  pub did : Did device e way
-  pub inputs : UsedInputs old new (sources_at way) (failed_at way OfInputs)
+-- a call over inputs took a way through its plan, did what is said where it ended, and used the inputs as far as that place
+pub record RanOver {D : Type 0} (device : Device D) (plan : CommandPlan Progress ⊥) (e : Effects D) (old new : InputsState) : Type 0 where
+  pub ran : Ran device plan e
+  pub inputs : UsedInputs old new (sources_at ran.way) (failed_at ran.way OfInputs)
 
 -- ---- the parts of plans
 
+-- prints a text, for which there's memory, and ends by this refusal or by none
+abbrev pub printing_then_plan : Progress → List ℕ → Option Refusal → CommandPlan Progress ⊥
+printing_then_plan s text refusal = May OfOutput (record s { text = text; is_whole = false }) (Stop (record s { text = text; is_whole = true }) refusal)
+
 -- prints a text, for which there's memory
-abbrev pub prints : SoFar → List ℕ → Plan SoFar ⊥
-prints s text = May OfOutput (record s { text = text; is_whole = false }) (Stop (record s { text = text; is_whole = true }) None)
+abbrev pub printing_plan : Progress → List ℕ → CommandPlan Progress ⊥
+printing_plan s text = printing_then_plan s text None
+
+-- prints a text that is made while it is printed, so that memory may be wanting behind some of it, and ends by this refusal or by none
+abbrev pub stepwise_printing_then_plan : Progress → List ℕ → Option Refusal → CommandPlan Progress ⊥
+stepwise_printing_then_plan s text refusal = May OfMemory (record s { text = text; is_whole = false }) (printing_then_plan s text refusal)
+
+-- prints a text that is made while it is printed, so that memory may be wanting behind some of it
+abbrev pub stepwise_printing_plan : Progress → List ℕ → CommandPlan Progress ⊥
+stepwise_printing_plan s text = stepwise_printing_then_plan s text None
 
 -- what an opening finds on a disk
-pub data Held : Type 0 where
-  NoneHeld : Held
-  DamageHeld : ℕ → ℕ → Held
-  ArchiveHeld : Archive → Held
+pub data OpeningResult : Type 0 where
+  NoneFound : OpeningResult
+  DamageFound : ℕ → ℕ → OpeningResult
+  ArchiveFound : Archive → OpeningResult
 
 -- the image has what was found
-abbrev pub IsHeld : Image → Held → Type 0
-IsHeld image NoneHeld = HoldsNone (image 0)
-IsHeld image (DamageHeld file at) = (file ≡ 0) × IsArchiveDamagedAt image at
-IsHeld image (ArchiveHeld archive) = StandsFor image archive
+abbrev pub IsOpeningResult : Image → OpeningResult → Type 0
+IsOpeningResult image NoneFound = HoldsNone (image 0)
+IsOpeningResult image (DamageFound file at) = (file ≡ 0) × IsArchiveDamagedAt image at
+IsOpeningResult image (ArchiveFound archive) = StandsFor image archive
 
 -- what an opening leads to, by what it found
-abbrev pub opens_held : ℕ → Held → Plan SoFar Archive
-opens_held sources NoneHeld = Stop (looked sources) (Some NoArchive)
-opens_held sources (DamageHeld file at) = Stop (looked sources) (Some (Damaged file at))
-opens_held sources (ArchiveHeld archive) = Return archive
+abbrev pub after_opening : ℕ → OpeningResult → CommandPlan Progress Archive
+after_opening sources NoneFound = Stop (looked sources) (Some NoArchive)
+after_opening sources (DamageFound file at) = Stop (looked sources) (Some (Damaged file at))
+after_opening sources (ArchiveFound archive) = Return archive
 
 -- opens the archive of a disk after so many sources were given: DiskFault; NoArchive or Damaged, where the disk says so
-abbrev pub opens : {D : Type 0} → ℕ → Device D → D → Plan SoFar Archive
-opens sources device disk =
+abbrev pub opening_plan : {D : Type 0} → ℕ → Device D → D → CommandPlan Progress Archive
+opening_plan sources device disk =
     May OfMemory (looked sources)
-    (May OfDisk (look_failed sources) (Ask (λ held. IsTrue device.is_transparent → IsHeld (device.reads disk) held) (opens_held sources)))
+    (May OfDisk (look_failed sources) (Question (λ held. IsTrue device.is_transparent → IsOpeningResult (device.reads disk) held) (after_opening sources)))

@@ -1,5 +1,5 @@
 -- A disk that is handed back in order.
-use Rattle.std.specs.Prelude.{◌≡◌, ◌+◌, ◌^◌, ◌<◌, ◌≤◌, ℕ, List, length}
+use Rattle.std.specs.Prelude.{◌+◌, ◌^◌, ◌<◌, ◌≤◌, List}
 use Rattle.arch_disk.specs.Image.{Image}
 use Rattle.arch_disk.specs.Disk.{Device}
 use Rattle.archive_core.specs.Items.{Item}
@@ -16,10 +16,3 @@ pub record FailedAtMostOnce {D : Type 0} (device : Device D) (old new : D) : Typ
 pub record IsDurableAs {D : Type 0} (device : Device D) (new : D) (head : Head) (history : List Item) : Type 0 where
   pub reads : StandsFor (device.reads new) (archive head history)
   pub now : (c : Image) → device.images new c → StandsFor c (archive head history)
-
--- the same of a history of so many rows
-pub record IsDurableWith {D : Type 0} (device : Device D) (new : D) (rows : ℕ) : Type 0 where
-  pub head : Head
-  pub history : List Item
-  pub durable : IsDurableAs device new head history
-  pub rows_are : length history ≡ rows

@@ -6,29 +6,18 @@ use Rattle.arch_types.specs.declared.refusal.Which.TheVariants.{DumpOctets}
 use Rattle.arch_types.specs.declared.refusal.BadKind.{BadKind}
 use Rattle.arch_types.specs.declared.refusal.BadKind.TheVariants.{Version, Truncated}
 use Rattle.arch_types.specs.Limits.{limit_of}
-use Rattle.arch_types.specs.Dump.{IsDump}
 use Rattle.outer_traits.specs.Outside.{Files}
-use Rattle.outer_traits.specs.Whole.{IsInput}
 use Rattle.space_packet.specs.declared.dump.Why.{Why}
 use Rattle.space_packet.specs.declared.dump.Why.TheVariants as why
 use Rattle.dump_lines.specs.declared.rows.DumpTable.{DumpTable}
-use Rattle.archive_cli.specs.Call.{Call, IsMomentOf}
+use Rattle.input_plans.specs.Inputs.{WasRead, input_plan}
+use Rattle.outer_ledgers.specs.Ledger.{InputsState}
+use Rattle.archive_cli.specs.Moment.{IsMomentOf}
 use Rattle.dump_lines.specs.DumpTable.{IsDumpTable}
 
 -- the greatest number of octets of a dump
 abbrev pub dump_limit : ℕ
 dump_limit = limit_of DumpOctets
-
--- a dump that was read to its end, the moment at which it was received, its packets and its rest
-pub record ReadDump (call : Call) (name : List ℕ) : Type 0 where
-  pub dump : List ℕ
-  pub moment : ℤ
-  pub packets : List (List ℕ)
-  pub rest : List ℕ
-  pub input : IsInput call.files name dump
-  pub short : length dump ≤ dump_limit
-  pub clock : IsMomentOf call.moment moment
-  pub parts : IsDump dump packets rest
 
 -- why octets are no packet: their packet version number isn't 000, or they end inside it
 abbrev pub bad_kind_of : ℕ → BadKind
@@ -39,13 +28,13 @@ abbrev pub IsBadRest : List ℕ → List ℕ → ℕ → BadKind → Type 0
 IsBadRest dump [] at kind = ⊥
 IsBadRest dump (octet ∷ rest) at kind = (at + length (octet ∷ rest) ≡ length dump) × (kind ≡ bad_kind_of octet)
 
--- the rows of a dump, as the program holds them
-pub record IsDumpRead (files : Option Files) (clock : Option ℤ) (name : List ℕ) (loaded : DumpTable) : Type 0 where
+-- the rows of a dump that was read by its plan and received at the moment that the clock tells, as the program holds them
+pub record IsDumpReceived (files : Option Files) (clock : Option ℤ) (name : List ℕ) (old new : InputsState) (loaded : DumpTable) : Type 0 where
   pub dump : List ℕ
   pub moment : ℤ
-  pub input : IsInput files name dump
+  pub read : WasRead (input_plan files DumpOctets (λ octets. octets) name) dump 1 old new
   pub short : length dump ≤ dump_limit
-  pub known : IsMomentOf clock moment
+  pub told : IsMomentOf clock moment
   pub rows : IsDumpTable dump moment loaded
 
 -- the ending by why no packet follows

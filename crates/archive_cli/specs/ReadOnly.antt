@@ -1,12 +1,9 @@
 -- What the commands that work on an archive say of the disk that they are handed.
-use Rattle.std.specs.Prelude.{◌≡◌, ◌≤◌}
+use Rattle.std.specs.Prelude.{◌≡◌}
 use Rattle.arch_disk.specs.Image.{Image}
-use Rattle.arch_disk.specs.Disk.{Device, LeavesOnly, raised}
-use Rattle.arch_types.specs.declared.refusal.Refusal.{Refusal}
-use Rattle.arch_types.specs.declared.refusal.Refusal.TheVariants.{NoArchive, Damaged, DiskFault, OutOfMemory}
-use Rattle.disk_journal.specs.Format.{HoldsNone}
+use Rattle.arch_disk.specs.Disk.{Device, LeavesOnly}
 use Rattle.archive_store.specs.Entries.{Archive}
-use Rattle.archive_store.specs.Stands.{StandsFor, IsArchiveDamagedAt}
+use Rattle.archive_store.specs.Stands.{StandsFor}
 
 -- The disk of a call that opened no archive: it reads as before, and a crash leaves what it could have left before.
 pub record IsReadAsBefore {D : Type 0} (device : Device D) (old new : D) : Type 0 where
@@ -26,15 +23,3 @@ pub record IsReadOnly {D : Type 0} (device : Device D) (old new : D) (archive : 
   pub reads : device.reads new ≡ device.reads old
   pub images : IsOpenedThen device old new (λ c. StandsFor c archive)
   pub now : (c : Image) → device.images new c → StandsFor c archive
-
--- the count of the disk's faults rose, or stands at the last value of its type
-abbrev pub DiskFailed : {D : Type 0} → Device D → D → D → Type 0
-DiskFailed device old new = raised (device.fault_count old) ≤ device.fault_count new
-
--- why an archive wasn't opened: there is none, or it is damaged there, or a call of the disk failed, or there was no memory
-abbrev pub IsOpeningRefusal : {D : Type 0} → Device D → D → D → Refusal → Type 0
-IsOpeningRefusal device old new NoArchive = HoldsNone (device.reads old 0)
-IsOpeningRefusal device old new (Damaged file at) = (file ≡ 0) × IsArchiveDamagedAt (device.reads old) at
-IsOpeningRefusal device old new DiskFault = DiskFailed device old new
-IsOpeningRefusal device old new OutOfMemory = Unit {0}
-IsOpeningRefusal device old new other = ⊥

@@ -3,13 +3,13 @@
 ghost use Rattle.std.specs.Prelude.{◌≡◌, [], ◌∷◌, IsSome, IsTrue, IfOk, codes};
 ghost use Rattle.outer_ledgers.specs.Ledger.{inputs_state, output_state};
 ghost use Rattle.command_plans.specs.Plan.{IsDue};
-ghost use Rattle.input_plans.specs.Inputs.{ReadAs};
+ghost use Rattle.input_plans.specs.Inputs.{AnsweredByPlan};
 ghost use Rattle.field_codec.specs.declared.entry.Entry.TheVariants as entries;
 ghost use Rattle.field_codec.specs.Entries.{IsArchiveEntry};
 ghost use Rattle.command_words.specs.JobView.{sheet_words_of};
 ghost use Rattle.archive_cli.specs.Command.{Ran, RanOver, effects_of};
-ghost use Rattle.archive_cli.specs.Create.{create_plan, head_plan, makes};
-ghost use Rattle.archive_cli.specs.CreateEnding.{create_line};
+ghost use Rattle.archive_cli.specs.create_command.Create.{create_plan, head_plan, making_plan};
+ghost use Rattle.archive_cli.specs.create_command.Creation.{create_line};
 ghost use Rattle.archive_cli.specs.Report.{status_at};
 
 use crate::report::{Ended, Report};
@@ -38,7 +38,8 @@ pub fn create<D: Disk, I: Inputs, K: Sink>(
     inputs: &mut I,
     sink: &mut K,
 ) -> Ended<D>
-    // It went as its plan may go, did what the plan says where it ended, and the inputs gave as many sources as it says.
+    // It took a way through its plan: where that ends stands what was printed, what became of the disk, what is reported, how many
+    // sources were given, and which calls failed.
     ensures ran { RanOver D.device (create_plan D.device disk (I.files inputs.old) (sheet_words_of words.entry))
         (effects_of disk result.disk (output_state (K.written sink.old) (K.faults sink.old))
         (output_state (K.written sink.new) (K.faults sink.new)) result.report)
@@ -66,8 +67,8 @@ fn read_head<I: Inputs>(
     words: SheetWords<'_>,
     inputs: &mut I,
 ) -> Result<Head, Refusal>
-    // It went as its plan may go.
-    ensures read { ReadAs 3 (head_plan (I.files inputs.old) (sheet_words_of words.entry)) result
+    // It took a way through its plan, and used the inputs as far as that went.
+    ensures read { AnsweredByPlan 3 (head_plan (I.files inputs.old) (sheet_words_of words.entry)) result
         (inputs_state (I.files inputs.old) (I.open_sources inputs.old) (I.given inputs.old)
         (I.faults inputs.old) (I.never_fails inputs.old))
         (inputs_state (I.files inputs.new) (I.open_sources inputs.new) (I.given inputs.new)
@@ -111,8 +112,8 @@ fn tables(alloc: Global) -> Result<Names, AllocError>
 /// Makes the archive, and prints what it has. Room for the line is taken before, so that no archive is made for which there's none.
 fn make<D: Disk, K: Sink>(alloc: Global, disk: D, head: Head, sink: &mut K) -> Ended<D>
     requires { IsArchiveEntry (entries.Head head.tables head.mdb) }
-    // It went as its plan may go, and did what the plan says where it ended.
-    ensures ran { Ran D.device (makes D.device disk head) (effects_of disk result.disk
+    // It took a way through its plan.
+    ensures ran { Ran D.device (making_plan D.device disk head) (effects_of disk result.disk
         (output_state (K.written sink.old) (K.faults sink.old)) (output_state (K.written sink.new) (K.faults sink.new))
         result.report) }
     ensures status { result.status ≡ status_at result.report.refusal }

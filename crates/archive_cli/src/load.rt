@@ -1,22 +1,21 @@
 //! The command `load`: the packets of a dump, ingested into an archive.
 
-ghost use Rattle.std.specs.Prelude.{◌≡◌, ◌≢◌, ◌<◌, ◌≤◌, ◌+◌, ◌-◌, ◌^◌, ℕ, [], IsTrue, IfOk, IfErr, IfSome, MatchResult, None, Some, length};
-ghost use Rattle.arch_disk.specs.Disk.{raised};
+ghost use Rattle.std.specs.Prelude.{◌≡◌, ◌≢◌, ◌<◌, ◌≤◌, ◌+◌, ◌-◌, [], IsSome, IsTrue, IfOk, IfErr, IfSome, MatchResult, None, Some, length};
+ghost use Rattle.outer_ledgers.specs.Ledger.{inputs_state, output_state};
 ghost use Rattle.outer_traits.specs.Outside.{Stays};
 ghost use Rattle.text_forms.specs.ClockTime.{IsClockTime};
 ghost use Rattle.mdb_sheets.specs.Sheets.{ReadsCounted};
+ghost use Rattle.command_plans.specs.Plan.{IsDue};
 ghost use Rattle.command_words.specs.JobView.{load_words_of};
 ghost use Rattle.dump_lines.specs.Output.{WritesCounted, IsFinished};
-ghost use Rattle.archive_cli.specs.DiskWrites.{IsLoadWrites, OneAtMost};
-ghost use Rattle.archive_cli.specs.HandedBack.{IsLoadBack, SameWithoutSource};
-ghost use Rattle.archive_cli.specs.LoadCaused.{IsLoadCaused};
-ghost use Rattle.archive_cli.specs.LoadEnding.{load_line, IsLoadEnding};
-ghost use Rattle.archive_cli.specs.Loading.{printed_report, IsStoreClosed, IsLetGo, IsReopened, IsLoadRun, IsDumpRefusal, IsDumpRefusalFor};
-ghost use Rattle.archive_cli.specs.Order.{IsLoadFault};
+ghost use Rattle.archive_cli.specs.Command.{RanOver, effects_of};
+ghost use Rattle.archive_cli.specs.DiskWrites.{OneAtMost, OneOrTwo};
+ghost use Rattle.archive_cli.specs.load_command.Load.{load_plan};
+ghost use Rattle.archive_cli.specs.load_command.LoadLine.{load_line};
+ghost use Rattle.archive_cli.specs.load_command.Loading.{printed_report, IsReopened, IsLoadRun, IsDumpRefusal, IsDumpRefusalFor};
 ghost use Rattle.archive_cli.specs.ReadDump.{dump_limit, ending_of};
-ghost use Rattle.archive_cli.specs.Report.{read_only, loaded, status_at, IsLoadReport};
+ghost use Rattle.archive_cli.specs.Report.{read_only, loaded, status_at};
 
-use crate::batches::{DumpSummary, ingest_dump};
 use crate::read::refusal_of_opening;
 use crate::report::{Ended, LoadCounts, Report};
 use crate::scan_input::bad_packet;
@@ -26,6 +25,7 @@ use arch_types::refusal::{BadKind, Refusal, Which};
 use archive_store::Store;
 use command_words::job::LoadWords;
 use dump_lines::line_buffer::LineBuffer;
+use load_session::{DumpSummary, ingest_dump};
 use outer_traits::clock::Clock;
 use outer_traits::inputs::Inputs;
 use outer_traits::sink::Sink;
@@ -51,51 +51,24 @@ pub fn load<D: Disk, I: Inputs, K: Sink, C: Clock>(
     clock: &mut C,
 ) -> Ended<D>
     requires link { 1 ≤ words.link }
-    ensures ended { IsTrue D.device.is_transparent → (given : _) → IsLoadEnding D.device (record {
-      words = given;
-      files = I.files inputs.old;
-      moment = C.next clock.old;
-      read_faults = I.faults inputs.old;
-      read_faults' = I.faults inputs.new;
-      written = K.written sink.old;
-      written' = K.written sink.new;
-      write_faults = K.faults sink.old;
-      write_faults' = K.faults sink.new;
-    }) (load_words_of words.entry) disk result.disk result.report.refusal result.report }
-    ensures caused { (given : _) → IsLoadCaused (record {
-      words = given;
-      files = I.files inputs.old;
-      moment = C.next clock.old;
-      read_faults = I.faults inputs.old;
-      read_faults' = I.faults inputs.new;
-      written = K.written sink.old;
-      written' = K.written sink.new;
-      write_faults = K.faults sink.old;
-      write_faults' = K.faults sink.new;
-    }) (load_words_of words.entry) result.report.refusal }
+    // It took a way through its plan: where that ends stands what was printed, what became of the disk, what is reported, how many
+    // sources were given, and which calls failed.
+    ensures ran { RanOver D.device (load_plan D.device disk (I.files inputs.old) (C.next clock.old)
+        (load_words_of words.entry))
+        (effects_of disk result.disk (output_state (K.written sink.old) (K.faults sink.old))
+        (output_state (K.written sink.new) (K.faults sink.new)) result.report)
+        (inputs_state (I.files inputs.old) (I.open_sources inputs.old) (I.given inputs.old)
+        (I.faults inputs.old) (I.never_fails inputs.old))
+        (inputs_state (I.files inputs.new) (I.open_sources inputs.new) (I.given inputs.new)
+        (I.faults inputs.new) (I.never_fails inputs.new)) }
+
+    // Where disk and inputs are known the answer that is due comes, or that of a fault at its place.
+    ensures due { IsTrue D.device.is_transparent → IsSome (I.files inputs.old) →
+        IsDue (load_plan D.device disk (I.files inputs.old) (C.next clock.old) (load_words_of words.entry))
+        result.report.refusal }
+
+    // The number of the refusal, and 0 exactly where there's none.
     ensures status { result.status ≡ status_at result.report.refusal }
-    ensures report { IsLoadReport (load_words_of words.entry) result.report.refusal result.report }
-    ensures same { I.files inputs.new ≡ I.files inputs.old }
-    ensures closed { I.open_sources inputs.old + 1 < 2 ^ 64 → I.open_sources inputs.new ≡ I.open_sources inputs.old }
-    ensures order { IsLoadFault (I.given inputs.old) (I.given inputs.new)
-        disk result.disk result.report result.report.refusal }
-    ensures later { I.faults inputs.old ≤ I.faults inputs.new }
-    ensures writes_later { K.faults sink.old ≤ K.faults sink.new }
-    ensures reads_counted { ReadsCounted result.report.refusal (I.faults inputs.old) (I.faults inputs.new) }
-    ensures writes_counted { WritesCounted result.report.refusal (K.faults sink.old) (K.faults sink.new) }
-    ensures reliable { I.never_fails inputs.old → Stays (I.faults inputs.old) (I.faults inputs.new) }
-    ensures disk_later { D.device.fault_count disk ≤ D.device.fault_count result.disk }
-    ensures disk_fault { result.report.refusal ≡ Some Refusal.DiskFault →
-        raised (D.device.fault_count disk) ≤ D.device.fault_count result.disk }
-    ensures disk_writes { IsLoadWrites result.report.opened result.report.refusal (D.device.failed_writes disk)
-        (D.device.failed_writes result.disk) }
-
-    // Refused before the disk was asked, it hands the very disk back.
-    ensures handed_back { IsLoadBack disk result.disk result.report.opened result.report.refusal }
-
-    // It asks nothing of the disk before a source was given, and opens the dump once at most.
-    ensures unasked { SameWithoutSource (I.given inputs.old) (I.given inputs.new) disk result.disk }
-    ensures gave { I.given inputs.new ≤ I.given inputs.old + 1 }
 {
     let Ok(line_buffer) = LineBuffer::new(alloc) else {
         return Ended::unopened(disk, Some(Refusal::OutOfMemory));
@@ -106,7 +79,7 @@ pub fn load<D: Disk, I: Inputs, K: Sink, C: Clock>(
             return Ended::unopened(disk, Some(refusal_of_opening(alloc, fault, words.dump)));
         }
     };
-    let store = match Store::open(alloc, disk) {
+    let mut store = match Store::open(alloc, disk) {
         Ok(store) => store,
         Err((disk, refusal)) => {
             inputs.close(source);
@@ -118,9 +91,13 @@ pub fn load<D: Disk, I: Inputs, K: Sink, C: Clock>(
     match received {
         Ok(received) => {
             let moment = clock.now();
-            load_dump(alloc, store, &received, moment, line_buffer, sink)
+            let report = load_dump(alloc, &mut store, &received, moment, line_buffer, sink);
+            Ended::of(store.into_disk(), report)
         }
-        Err(unread) => nothing_loaded(store, unread),
+        Err(unread) => {
+            let report = nothing_loaded(&store, unread);
+            Ended::of(store.into_disk(), report)
+        }
     }
 }
 
@@ -205,50 +182,47 @@ fn unread_for(fault: ReadFault, link: u16) -> DumpRefusal
     }
 }
 
-/// The ending of a load that ingested nothing, since its dump wasn't read.
-fn nothing_loaded<D: Disk>(store: Store<D>, unread: DumpRefusal) -> Ended<D>
-    ensures closed_store { IsStoreClosed D.device store result.disk }
-    ensures report { result.report ≡ record (read_only (Some unread.refusal) (length store.history))
-        { link = unread.link } }
-    ensures status { result.status ≡ status_at (Some unread.refusal) }
+/// The report of a load that ingested nothing, since its dump wasn't read.
+fn nothing_loaded<D: Disk>(store: &Store<D>, unread: DumpRefusal) -> Report
+    ensures { result ≡ record (read_only (Some unread.refusal) (length store.now.history)) { link = unread.link } }
 {
-    let rows = store.front();
-    let mut report = Report::read_only(Some(unread.refusal), rows);
+    let mut report = Report::read_only(Some(unread.refusal), store.front());
     report.link = unread.link;
-    Ended::of(store.into_disk(), report)
+    report
 }
 
-/// Ingests the packets of a dump that was received at a moment, in milliseconds since 1970, and prints what became of them.
+/// Ingests the packets of a dump that was received at a moment, in milliseconds since 1970, and prints what became of them. Where a batch is refused
+/// because the disk failed, the write is taken back, so that a program that opens the archive after it reads no gate that the medium may lack.
 fn load_dump<D: Disk, K: Sink>(
     alloc: Global,
-    store: Store<D>,
+    store: &mut Store<D>,
     received: &LinkedDump,
     moment: i64,
     line_buffer: LineBuffer,
     sink: &mut K,
-) -> Ended<D>
+) -> Report
     requires short { length received.now.dump ≤ dump_limit }
     requires link { (1 ≤ received.now.link) × (received.now.link ≤ 255) }
     requires moment { IsClockTime moment }
     requires empty { line_buffer ≡ [] }
-    requires no_failed_write { store.fills ≡ [] }
-    ensures session { IsLoadRun D.device store received.now.dump received.now.link moment (K.written sink.old)
-        (K.written sink.new) result.disk result.report }
-    ensures status { result.status ≡ status_at result.report.refusal }
-    ensures reads_counted { (faults : ℕ) → ReadsCounted result.report.refusal faults faults }
-    ensures writes_counted { WritesCounted result.report.refusal (K.faults sink.old) (K.faults sink.new) }
+    requires no_failed_write { store.old.fills ≡ [] }
+    ensures session { IsLoadRun D.device store.old store.new received.now.dump received.now.link moment
+        (K.written sink.old) (K.written sink.new) result }
+    ensures writes_counted { WritesCounted result.refusal (K.faults sink.old) (K.faults sink.new) }
     ensures writes_later { K.faults sink.old ≤ K.faults sink.new }
-    ensures disk_writes { IsLoadWrites result.report.opened result.report.refusal
-        (D.device.failed_writes store.disk) (D.device.failed_writes result.disk) }
+    ensures disk_writes { OneOrTwo result.refusal (D.device.failed_writes store.old.disk)
+        (D.device.failed_writes store.new.disk) }
 {
-    let mut store = store;
     let before = store.front();
-    match ingest_dump(alloc, &mut store, &received.dump, received.link, moment) {
+    match ingest_dump(alloc, store, &received.dump, received.link, moment) {
         Ok(whole) => match refusal_of_rest(&whole) {
             None => print(store, before, whole, line_buffer, sink),
             Some(refusal) => stopped(store, before, Some(received.link), refusal),
         },
-        Err(refusal) => refused(store, before, refusal),
+        Err(refusal) => {
+            heal(store, &refusal);
+            stopped(store, before, None, refusal)
+        }
     }
 }
 
@@ -263,31 +237,13 @@ fn refusal_of_rest(whole: &DumpSummary) -> Option<Refusal>
     }
 }
 
-/// The ending of a load that was refused after some packets were ingested.
-fn stopped<D: Disk>(store: Store<D>, before: u64, link: Option<u16>, refusal: Refusal) -> Ended<D>
-    requires { before ≤ length store.history }
-    ensures closed_store { IsStoreClosed D.device store result.disk }
-    ensures report { result.report ≡ loaded (Some refusal) link before (length store.history) 0 0 0 }
-    ensures status { result.status ≡ status_at (Some refusal) }
+/// The report of a load that was refused after some packets were ingested.
+fn stopped<D: Disk>(store: &Store<D>, before: u64, link: Option<u16>, refusal: Refusal) -> Report
+    requires { before ≤ length store.now.history }
+    ensures { result ≡ loaded (Some refusal) link before (length store.now.history) 0 0 0 }
 {
-    let after = store.front();
-    let report = Report::loaded(Some(refusal), link, before, after, LoadCounts::default());
-    Ended::of(store.into_disk(), report)
-}
-
-/// The ending of a load of which a batch was refused. A write that failed is taken back first, so that a program that opens
-/// the archive after it reads no gate that the medium may lack.
-fn refused<D: Disk>(store: Store<D>, before: u64, refusal: Refusal) -> Ended<D>
-    requires { before ≤ length store.history }
-    ensures let_go { IsLetGo D.device store (Some refusal) result.disk }
-    ensures disk_writes { OneAtMost (Some refusal) (D.device.failed_writes store.disk)
-        (D.device.failed_writes result.disk) }
-    ensures report { result.report ≡ loaded (Some refusal) None before (length store.history) 0 0 0 }
-    ensures status { result.status ≡ status_at (Some refusal) }
-{
-    let mut store = store;
-    heal(&mut store, &refusal);
-    stopped(store, before, None, refusal)
+    let counts = LoadCounts::default();
+    Report::loaded(Some(refusal), link, before, store.front(), counts)
 }
 
 /// Takes a failed write back where the disk failed. It is tried once, and the refusal stays, whether it succeeds or not.
@@ -306,22 +262,19 @@ fn heal<D: Disk>(store: &mut Store<D>, refusal: &Refusal)
 
 /// Prints what became of the packets of a whole dump.
 fn print<D: Disk, K: Sink>(
-    store: Store<D>,
+    store: &Store<D>,
     before: u64,
     whole: DumpSummary,
     line_buffer: LineBuffer,
     sink: &mut K,
-) -> Ended<D>
+) -> Report
     requires empty { line_buffer ≡ [] }
-    requires grown { before ≤ length store.history }
-    requires counts { whole.idle + length store.history ≤ whole.packets + before }
-    ensures closed_store { IsStoreClosed D.device store result.disk }
-    ensures finished { IsFinished result.report.refusal (K.written sink.old) (K.written sink.new)
-        (load_line whole.packets (length store.history - before) (whole.packets - whole.idle - (length store.history - before)) whole.idle (length store.history)) }
-    ensures report { result.report ≡ printed_report result.report.refusal before (length store.history) whole.packets
-        whole.idle }
-    ensures status { result.status ≡ status_at result.report.refusal }
-    ensures writes_counted { WritesCounted result.report.refusal (K.faults sink.old) (K.faults sink.new) }
+    requires grown { before ≤ length store.now.history }
+    requires counts { whole.idle + length store.now.history ≤ whole.packets + before }
+    ensures finished { IsFinished result.refusal (K.written sink.old) (K.written sink.new)
+        (load_line whole.packets (length store.now.history - before) (whole.packets - whole.idle - (length store.now.history - before)) whole.idle (length store.now.history)) }
+    ensures report { result ≡ printed_report result.refusal before (length store.now.history) whole.packets whole.idle }
+    ensures writes_counted { WritesCounted result.refusal (K.faults sink.old) (K.faults sink.new) }
     ensures writes_later { K.faults sink.old ≤ K.faults sink.new }
 {
     let mut line_buffer = line_buffer;
@@ -333,10 +286,7 @@ fn print<D: Disk, K: Sink>(
     };
     put_line(&mut line_buffer, counts, after - before, after);
     match line_buffer.finish(sink) {
-        None => Ended::of(
-            store.into_disk(),
-            Report::loaded(None, None, before, after, counts),
-        ),
+        None => Report::loaded(None, None, before, after, counts),
         Some(refusal) => stopped(store, before, None, refusal),
     }
 }

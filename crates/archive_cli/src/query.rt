@@ -1,33 +1,29 @@
 //! The command `query`: the answers of an archive to a sheet of asks.
 
-ghost use Rattle.std.specs.Prelude.{◌≡◌, ◌≤◌, ◌<◌, ◌+◌, ◌^◌, ◌++◌, ℕ, List, [], IsTrue, None, Some, OnOk, OnErr, IfOk, IfErr, length, true};
+ghost use Rattle.std.specs.Prelude.{◌≡◌, ◌≤◌, ◌<◌, ◌++◌, [], IsSome, IsTrue, None, OnOk, OnErr, IfOk, length};
 ghost use Rattle.std.specs.Result.{result_err};
-ghost use Rattle.arch_disk.specs.Disk.{raised};
-ghost use Rattle.arch_types.specs.declared.refusal.Refusal.TheVariants.{DiskFault};
-ghost use Rattle.mdb_sheets.specs.Sheets.{ReadsCounted};
-ghost use Rattle.outer_traits.specs.Outside.{Stays, WritesSome};
+ghost use Rattle.outer_ledgers.specs.Ledger.{inputs_state, output_state};
+ghost use Rattle.outer_traits.specs.Outside.{WritesSome};
 ghost use Rattle.retrieval.specs.AnswerText.{IsParameterAnswer, ask_refusal, ask_text, asks_refusal, asks_text, range_refusal, request_refusal};
-ghost use Rattle.archive_cli.specs.Call.{Call};
-ghost use Rattle.dump_lines.specs.Output.{WritesCounted, IsBuffered};
-ghost use Rattle.archive_cli.specs.Caused.{IsQueryCaused};
-ghost use Rattle.archive_cli.specs.DiskWrites.{OneAtMost};
-ghost use Rattle.archive_cli.specs.HandedBack.{IsQueryBack, SameWithoutSource};
-ghost use Rattle.archive_cli.specs.Order.{AreInOrder, query_inputs};
-ghost use Rattle.archive_cli.specs.QueryEnding.{IsAskSheet, IsQueryEnding, IsReply, IsSheetReply, IsDeferred};
-ghost use Rattle.archive_cli.specs.Report.{status_at, IsReadOnlyReport};
-ghost use Rattle.archive_cli.specs.ValuesPrinting.{PrintCounted, refusal_of_print};
+ghost use Rattle.command_plans.specs.Plan.{IsDue};
+ghost use Rattle.dump_lines.specs.Output.{IsBuffered};
+ghost use Rattle.archive_cli.specs.Command.{Ran, RanOver, effects_of};
+ghost use Rattle.archive_cli.specs.query_command.Query.{asking_plan, query_plan};
+ghost use Rattle.archive_cli.specs.query_command.Replying.{IsReply, IsSheetReply};
+ghost use Rattle.archive_cli.specs.Report.{status_at};
+ghost use Rattle.archive_cli.specs.values_command.ValuesPrinting.{PrintCounted};
 ghost use Rattle.retrieval.specs.Parameter.{number_named};
 
-use crate::ask_sheet::{AskSheet, read_sheet};
 use crate::report::{Ended, Report};
 use arch_disk::Disk;
-use arch_types::ask::{Ask, Request};
+use arch_types::ask::{Ask, Asks, Request};
 use arch_types::refusal::Refusal;
 use arch_types::steps::Steps;
 use archive_store::Store;
 use dump_lines::line_buffer::LineBuffer;
 use dump_lines::print_fault::PrintFault;
 use mdb_model::Mdb;
+use mdb_sheets::read_asks;
 use outer_traits::inputs::Inputs;
 use outer_traits::sink::Sink;
 use retrieval::answer::{ParameterAnswer, answer_request, number_of};
@@ -47,89 +43,41 @@ pub fn query<D: Disk, I: Inputs, K: Sink>(
     inputs: &mut I,
     sink: &mut K,
 ) -> Ended<D>
-    ensures ended { IsTrue D.device.is_transparent → (given : _) (moment : _) → IsQueryEnding D.device (record {
-      words = given;
-      files = I.files inputs.old;
-      moment = moment;
-      read_faults = I.faults inputs.old;
-      read_faults' = I.faults inputs.new;
-      written = K.written sink.old;
-      written' = K.written sink.new;
-      write_faults = K.faults sink.old;
-      write_faults' = K.faults sink.new;
-    }) name.now disk result.disk result.report.refusal result.report }
-    ensures caused { (given : _) (moment : _) → IsQueryCaused (record {
-      words = given;
-      files = I.files inputs.old;
-      moment = moment;
-      read_faults = I.faults inputs.old;
-      read_faults' = I.faults inputs.new;
-      written = K.written sink.old;
-      written' = K.written sink.new;
-      write_faults = K.faults sink.old;
-      write_faults' = K.faults sink.new;
-    }) name.now result.report.refusal }
+    // It took a way through its plan: where that ends stands what was printed, what became of the disk, what is reported, how many
+    // sources were given, and which calls failed.
+    ensures ran { RanOver D.device (query_plan D.device disk (I.files inputs.old) name.now)
+        (effects_of disk result.disk (output_state (K.written sink.old) (K.faults sink.old))
+        (output_state (K.written sink.new) (K.faults sink.new)) result.report)
+        (inputs_state (I.files inputs.old) (I.open_sources inputs.old) (I.given inputs.old)
+        (I.faults inputs.old) (I.never_fails inputs.old))
+        (inputs_state (I.files inputs.new) (I.open_sources inputs.new) (I.given inputs.new)
+        (I.faults inputs.new) (I.never_fails inputs.new)) }
+
+    // Where disk and inputs are known the answer that is due comes, or that of a fault at its place.
+    ensures due { IsTrue D.device.is_transparent → IsSome (I.files inputs.old) →
+        IsDue (query_plan D.device disk (I.files inputs.old) name.now) result.report.refusal }
+
+    // The number of the refusal, and 0 exactly where there's none.
     ensures status { result.status ≡ status_at result.report.refusal }
-    ensures report { IsReadOnlyReport result.report.refusal result.report }
-    ensures same { I.files inputs.new ≡ I.files inputs.old }
-    ensures closed { I.open_sources inputs.old + 1 < 2 ^ 64 → I.open_sources inputs.new ≡ I.open_sources inputs.old }
-    ensures order { AreInOrder (I.files inputs.old) (query_inputs name.now)
-        (I.given inputs.old) (I.given inputs.new) result.report.refusal }
-    ensures later { I.faults inputs.old ≤ I.faults inputs.new }
-    ensures writes_later { K.faults sink.old ≤ K.faults sink.new }
-    ensures reads_counted { ReadsCounted result.report.refusal (I.faults inputs.old) (I.faults inputs.new) }
-    ensures writes_counted { WritesCounted result.report.refusal (K.faults sink.old) (K.faults sink.new) }
-    ensures reliable { I.never_fails inputs.old → Stays (I.faults inputs.old) (I.faults inputs.new) }
-    ensures disk_later { D.device.fault_count disk ≤ D.device.fault_count result.disk }
-    ensures disk_fault { result.report.refusal ≡ Some DiskFault →
-        raised (D.device.fault_count disk) ≤ D.device.fault_count result.disk }
-    ensures disk_writes { OneAtMost result.report.refusal (D.device.failed_writes disk)
-        (D.device.failed_writes result.disk) }
-
-    // Refused before the disk was asked, it hands the very disk back.
-    ensures handed_back { IsQueryBack disk result.disk result.report.refusal }
-
-    // It asks nothing of the disk before a source was given, and opens the sheet once at most.
-    ensures unasked { SameWithoutSource (I.given inputs.old) (I.given inputs.new) disk result.disk }
-    ensures gave { I.given inputs.new ≤ I.given inputs.old + 1 }
 {
-    match read_sheet(alloc, name, inputs) {
-        Ok(sheet) => ask_archive(alloc, sheet, disk, sink),
+    match read_asks(alloc, inputs, name) {
+        Ok(asks) => ask_archive(alloc, asks, disk, sink),
         Err(refusal) => Ended::unopened(disk, Some(refusal)),
     }
 }
 
-/// Opens the archive of a disk, and answers the asks of a sheet.
-fn ask_archive<D: Disk, K: Sink>(alloc: Global, sheet: AskSheet, disk: D, sink: &mut K) -> Ended<D>
-    requires { IsDeferred sheet }
-    ensures ended { IsTrue D.device.is_transparent → (given : _) (files : _) (moment : _) (read_faults : _)
-        (read_faults' : _) (name : _) →
-        IsAskSheet files name sheet → IsQueryEnding D.device (record {
-          words = given;
-          files = files;
-          moment = moment;
-          read_faults = read_faults;
-          read_faults' = read_faults';
-          written = K.written sink.old;
-          written' = K.written sink.new;
-          write_faults = K.faults sink.old;
-          write_faults' = K.faults sink.new;
-        }) name disk result.disk result.report.refusal result.report }
-    ensures caused { (call : Call) (name : List ℕ) → IsAskSheet call.files name sheet →
-        IsQueryCaused call name result.report.refusal }
+/// Opens the archive of a disk, and answers the asks of a sheet, or says why the sheet is refused.
+fn ask_archive<D: Disk, K: Sink>(
+    alloc: Global,
+    asks: Result<Asks, Refusal>,
+    disk: D,
+    sink: &mut K,
+) -> Ended<D>
+    // It took a way through its plan.
+    ensures ran { Ran D.device (asking_plan D.device disk asks) (effects_of disk result.disk
+        (output_state (K.written sink.old) (K.faults sink.old)) (output_state (K.written sink.new) (K.faults sink.new))
+        result.report) }
     ensures status { result.status ≡ status_at result.report.refusal }
-    ensures report { IsReadOnlyReport result.report.refusal result.report }
-    ensures reads_counted { (faults : ℕ) → ReadsCounted result.report.refusal faults faults }
-    ensures writes_counted { WritesCounted result.report.refusal (K.faults sink.old) (K.faults sink.new) }
-    ensures writes_later { K.faults sink.old ≤ K.faults sink.new }
-    ensures disk_later { D.device.fault_count disk ≤ D.device.fault_count result.disk }
-    ensures disk_fault { result.report.refusal ≡ Some DiskFault →
-        raised (D.device.fault_count disk) ≤ D.device.fault_count result.disk }
-    ensures disk_writes { OneAtMost result.report.refusal (D.device.failed_writes disk)
-        (D.device.failed_writes result.disk) }
-
-    // Refused before the disk was asked, it hands the very disk back.
-    ensures handed_back { IsQueryBack disk result.disk result.report.refusal }
 {
     let Ok(line_buffer) = LineBuffer::new(alloc) else {
         return Ended::unopened(disk, Some(Refusal::OutOfMemory));
@@ -139,33 +87,33 @@ fn ask_archive<D: Disk, K: Sink>(alloc: Global, sheet: AskSheet, disk: D, sink: 
         Err((disk, refusal)) => return Ended::unopened(disk, Some(refusal)),
     };
     let rows = store.front();
-    let refusal = answer_sheet(alloc, sheet, &mut store, line_buffer, sink);
+    let refusal = answer_sheet(alloc, asks, &mut store, line_buffer, sink);
     Ended::of(store.into_disk(), Report::read_only(refusal, rows))
 }
 
 /// Prints the answers to a sheet, or says why it is refused.
 fn answer_sheet<D: Disk, K: Sink>(
     alloc: Global,
-    sheet: AskSheet,
+    asks: Result<Asks, Refusal>,
     store: &mut Store<D>,
     line_buffer: LineBuffer,
     sink: &mut K,
 ) -> Option<Refusal>
     requires { line_buffer ≡ [] }
-    ensures reply { IsSheetReply store.old.head.mdb store.old.history sheet result (K.written sink.old)
+    ensures reply { IsSheetReply store.old.head.mdb store.old.history asks result (K.written sink.old)
         (K.written sink.new) (K.faults sink.old) (K.faults sink.new) }
     ensures writes_later { K.faults sink.old ≤ K.faults sink.new }
     ensures same { store.new ≡ store.old }
 {
-    match sheet {
-        AskSheet::Refused(refusal) => Some(refusal),
-        AskSheet::Read(asks) => {
+    match asks {
+        Ok(asks) => {
             let asks = asks.as_slice();
             match asks_refusal(&store.head().mdb, asks) {
                 Some(refusal) => Some(refusal),
                 None => answer_asks(alloc, asks, store, line_buffer, sink),
             }
         }
+        Err(refusal) => Some(refusal),
     }
 }
 

@@ -1,12 +1,11 @@
 //! Reads an input, and names what went wrong.
 
-ghost use Rattle.std.specs.Prelude.{◌≡◌, ◌+◌, ◌<◌, ◌≤◌, ◌^◌, IfOk, IfErr, vec_len, ◌⊎◌};
+ghost use Rattle.std.specs.Prelude.{◌≡◌, ◌≤◌, IfOk, IfErr, ◌⊎◌, vec_len};
 ghost use Rattle.arch_types.specs.Limits.{limit_of};
-ghost use Rattle.std.specs.Result.{result_err};
-ghost use Rattle.mdb_sheets.specs.Sheets.{ReadsCounted};
-ghost use Rattle.outer_traits.specs.Outside.{Stays};
 ghost use Rattle.outer_traits.specs.Whole.{IsInput};
-ghost use Rattle.archive_cli.specs.Reading.{IsOpeningFault, IsInputRefusal, IsInputRefusalOf};
+ghost use Rattle.outer_ledgers.specs.Ledger.{inputs_state};
+ghost use Rattle.input_plans.specs.Inputs.{IsFaultRefusal, WasRead, input_plan};
+ghost use Rattle.archive_cli.specs.Reading.{IsInputUnread, IsOpeningFault};
 
 use arch_types::octets::Octets;
 use arch_types::refusal::{Refusal, Which};
@@ -23,17 +22,20 @@ pub fn read_limited<I: Inputs>(
     name: &str,
     which: Which,
 ) -> Result<Vec<u8>, Refusal>
+    // It took a way through its plan, and used the inputs as far as that went.
+    ensures read { IfOk result (λ octets. WasRead (input_plan (I.files inputs.old) which (λ read. read) name.now)
+        octets.items 1
+        (inputs_state (I.files inputs.old) (I.open_sources inputs.old)
+        (I.given inputs.old) (I.faults inputs.old) (I.never_fails inputs.old))
+        (inputs_state (I.files inputs.new) (I.open_sources inputs.new)
+        (I.given inputs.new) (I.faults inputs.new) (I.never_fails inputs.new))) }
     ensures whole { IfOk result (λ octets. IsInput (I.files inputs.old) name.now octets.items) }
     ensures short { IfOk result (λ octets. vec_len octets ≤ limit_of which) }
-    ensures refused { IfErr result (IsInputRefusal (I.files inputs.old) name.now which (I.faults inputs.old)
-        (I.faults inputs.new)) }
-    ensures same { I.files inputs.new ≡ I.files inputs.old }
-    ensures closed { I.open_sources inputs.old + 1 < 2 ^ 64 → I.open_sources inputs.new ≡ I.open_sources inputs.old }
-    ensures gave { I.given inputs.new ≤ I.given inputs.old + 1 }
-    ensures counted { ReadsCounted (result_err result) (I.faults inputs.old) (I.faults inputs.new) }
-    ensures later { I.faults inputs.old ≤ I.faults inputs.new }
-    ensures reliable { I.never_fails inputs.old → I.never_fails inputs.new ×
-        Stays (I.faults inputs.old) (I.faults inputs.new) }
+    ensures unread { IfErr result (IsInputUnread (I.files inputs.old) which name.now
+        (inputs_state (I.files inputs.old) (I.open_sources inputs.old)
+        (I.given inputs.old) (I.faults inputs.old) (I.never_fails inputs.old))
+        (inputs_state (I.files inputs.new) (I.open_sources inputs.new)
+        (I.given inputs.new) (I.faults inputs.new) (I.never_fails inputs.new))) }
 {
     match read_input(alloc, inputs, name, which.limit() as usize) {
         Ok(octets) => Ok(octets),
@@ -43,7 +45,7 @@ pub fn read_limited<I: Inputs>(
 
 /// The refusal of a fault.
 fn refusal_of(alloc: Global, fault: ReadFault, name: &str, which: Which) -> Refusal
-    ensures { IsInputRefusalOf name.now which fault result }
+    ensures { IsFaultRefusal name.now which fault result }
 {
     match fault {
         ReadFault::Missing => missing(alloc, name),

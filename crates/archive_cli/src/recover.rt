@@ -4,8 +4,8 @@ ghost use Rattle.std.specs.Prelude.{◌≡◌, [], IsTrue};
 ghost use Rattle.outer_ledgers.specs.Ledger.{output_state};
 ghost use Rattle.command_plans.specs.Plan.{IsDue};
 ghost use Rattle.archive_cli.specs.Command.{Ran, effects_of};
-ghost use Rattle.archive_cli.specs.Recover.{recover_plan};
-ghost use Rattle.archive_cli.specs.RecoverEnding.{recover_line};
+ghost use Rattle.archive_cli.specs.recover_command.Recover.{recover_plan};
+ghost use Rattle.archive_cli.specs.recover_command.RecoverLine.{recover_line};
 ghost use Rattle.archive_cli.specs.Report.{status_at};
 
 use crate::report::{Ended, Report};
@@ -20,7 +20,8 @@ use std::alloc::Global;
 ///
 /// Refuses, in this order: by `DiskFault`, `NoArchive` or `Damaged`; by `WriteFault`. `OutOfMemory` may come anywhere before the line.
 pub fn recover<D: Disk, K: Sink>(alloc: Global, disk: D, sink: &mut K) -> Ended<D>
-    // It went as its plan may go, and did what the plan says where it ended.
+    // It took a way through its plan: where that ends stands what was printed, what became of the disk, what is reported, and which
+    // calls failed.
     ensures ran { Ran D.device (recover_plan D.device disk) (effects_of disk result.disk
         (output_state (K.written sink.old) (K.faults sink.old)) (output_state (K.written sink.new) (K.faults sink.new))
         result.report) }

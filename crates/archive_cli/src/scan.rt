@@ -1,17 +1,20 @@
 //! The command `scan`: the rows of a dump, as text.
 
-ghost use Rattle.std.specs.Prelude.{◌≡◌, ◌<◌, ◌≤◌, OnOk, OnErr, IsErr, length, ◌++◌, ◌+◌, ◌^◌, []};
-ghost use Rattle.std.specs.Result.{result_err};
+ghost use Rattle.std.specs.Prelude.{◌≡◌, ◌<◌, ◌≤◌, OnOk, OnErr, IsErr, IsSome, length, ◌++◌, []};
 ghost use Rattle.outer_traits.specs.Outside.{HasRisen, Stays, WritesSome};
-ghost use Rattle.mdb_sheets.specs.Sheets.{ReadsCounted};
-ghost use Rattle.dump_lines.specs.Output.{Appends, WritesCounted, IsBuffered};
-ghost use Rattle.archive_cli.specs.Order.{AreInOrder, scan_inputs};
-ghost use Rattle.archive_cli.specs.ScanEnding.{IsScanEnding};
+ghost use Rattle.outer_ledgers.specs.Ledger.{inputs_state, output_state};
+ghost use Rattle.command_plans.specs.Plan.{IsDue};
+ghost use Rattle.dump_lines.specs.Output.{Appends, IsBuffered};
 ghost use Rattle.dump_lines.specs.Printing.{lines_of, end_of, text_of_loaded};
 ghost use Rattle.std.specs.List.{AllByRecursion};
 ghost use Rattle.dump_lines.specs.DumpTable.{IsVisible};
+ghost use Rattle.archive_cli.specs.Command.{RanOver, effects_of};
+ghost use Rattle.archive_cli.specs.Report.{status_at};
+ghost use Rattle.archive_cli.specs.scan_command.Scan.{scan_plan};
 
+use crate::report::Ended;
 use crate::scan_input::{ended, read_scan_input};
+use arch_disk::Disk;
 use arch_types::refusal::Refusal;
 use dump_lines::line_buffer::LineBuffer;
 use dump_lines::rows::DumpTable;
@@ -25,39 +28,38 @@ use yarch_table::table::Table;
 
 /// Reads the dump of a name to its end, and prints its rows in key order, duplicates dropped. All memory is taken before the first
 /// write.
-pub fn scan<I: Inputs, K: Sink, C: Clock>(
+pub fn scan<D: Disk, I: Inputs, K: Sink, C: Clock>(
     alloc: Global,
     name: &str,
+    disk: D,
     inputs: &mut I,
     sink: &mut K,
     clock: &mut C,
-) -> Result<(), Refusal>
-    ensures ended { (words : _) → IsScanEnding (record {
-      words = words;
-      files = I.files inputs.old;
-      moment = C.next clock.old;
-      read_faults = I.faults inputs.old;
-      read_faults' = I.faults inputs.new;
-      written = K.written sink.old;
-      written' = K.written sink.new;
-      write_faults = K.faults sink.old;
-      write_faults' = K.faults sink.new;
-    }) name.now (result_err result) }
-    ensures same { I.files inputs.new ≡ I.files inputs.old }
-    ensures closed { I.open_sources inputs.old + 1 < 2 ^ 64 → I.open_sources inputs.new ≡ I.open_sources inputs.old }
-    ensures order { AreInOrder (I.files inputs.old) (scan_inputs name.now)
-        (I.given inputs.old) (I.given inputs.new) (result_err result) }
-    ensures gave { I.given inputs.new ≤ I.given inputs.old + 1 }
-    ensures reads_counted { ReadsCounted (result_err result) (I.faults inputs.old) (I.faults inputs.new) }
-    ensures writes_counted { WritesCounted (result_err result) (K.faults sink.old) (K.faults sink.new) }
-    ensures later { I.faults inputs.old ≤ I.faults inputs.new }
-    ensures writes_later { K.faults sink.old ≤ K.faults sink.new }
-    ensures reliable { I.never_fails inputs.old → Stays (I.faults inputs.old) (I.faults inputs.new) }
+) -> Ended<D>
+    // It took a way through its plan: where that ends stands what was printed, what is reported, how many sources were given, and
+    // which calls failed. Nothing is asked of the disk.
+    ensures ran { RanOver D.device (scan_plan (I.files inputs.old) (C.next clock.old) name.now)
+        (effects_of disk result.disk (output_state (K.written sink.old) (K.faults sink.old))
+        (output_state (K.written sink.new) (K.faults sink.new)) result.report)
+        (inputs_state (I.files inputs.old) (I.open_sources inputs.old) (I.given inputs.old)
+        (I.faults inputs.old) (I.never_fails inputs.old))
+        (inputs_state (I.files inputs.new) (I.open_sources inputs.new) (I.given inputs.new)
+        (I.faults inputs.new) (I.never_fails inputs.new)) }
+
+    // Where the inputs are known the answer that is due comes, or that of a fault at its place.
+    ensures due { IsSome (I.files inputs.old) →
+        IsDue (scan_plan (I.files inputs.old) (C.next clock.old) name.now) result.report.refusal }
+
+    // The number of the refusal, and 0 exactly where there's none.
+    ensures status { result.status ≡ status_at result.report.refusal }
 {
-    let mut scan_input = read_scan_input(alloc, inputs, name, clock)?;
+    let mut scan_input = match read_scan_input(alloc, inputs, name, clock) {
+        Ok(scan_input) => scan_input,
+        Err(refusal) => return Ended::unopened(disk, Some(refusal)),
+    };
     match print(&scan_input.loaded, &mut scan_input.line_buffer, sink) {
-        Ok(()) => ended(&scan_input.loaded),
-        Err(_) => Err(Refusal::WriteFault),
+        Ok(()) => Ended::unopened(disk, ended(&scan_input.loaded).err()),
+        Err(_) => Ended::unopened(disk, Some(Refusal::WriteFault)),
     }
 }
 

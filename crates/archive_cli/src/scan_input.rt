@@ -1,12 +1,11 @@
 //! The rows of a dump that is received now.
 
-ghost use Rattle.std.specs.Prelude.{◌≡◌, ◌+◌, ◌<◌, ◌≤◌, ◌^◌, [], IfOk, IfErr, vec_len};
+ghost use Rattle.std.specs.Prelude.{◌≡◌, ◌≤◌, [], IfOk, IfErr, vec_len};
 ghost use Rattle.std.specs.Result.{result_err};
-ghost use Rattle.mdb_sheets.specs.Sheets.{ReadsCounted};
-ghost use Rattle.outer_traits.specs.Outside.{Stays};
-ghost use Rattle.archive_cli.specs.Reading.{IsInputRefusal};
-ghost use Rattle.archive_cli.specs.ReadDump.{IsDumpRead, ending_of, dump_limit};
+ghost use Rattle.outer_ledgers.specs.Ledger.{inputs_state};
 ghost use Rattle.dump_lines.specs.DumpTable.{IsDumpTable};
+ghost use Rattle.archive_cli.specs.Reading.{IsInputUnread};
+ghost use Rattle.archive_cli.specs.ReadDump.{IsDumpReceived, dump_limit, ending_of};
 
 use crate::read::read_limited;
 use arch_types::octets::Octets;
@@ -32,18 +31,19 @@ pub fn read_scan_input<I: Inputs, C: Clock>(
     name: &str,
     clock: &mut C,
 ) -> Result<ScanInput, Refusal>
-    ensures received { IfOk result (λ scan_input. IsDumpRead (I.files inputs.old) (C.next clock.old) name.now
-        scan_input.loaded) }
+    // The dump was read by its plan, and received at the moment that the clock tells.
+    ensures read { IfOk result (λ scan_input. IsDumpReceived (I.files inputs.old) (C.next clock.old) name.now
+        (inputs_state (I.files inputs.old) (I.open_sources inputs.old)
+        (I.given inputs.old) (I.faults inputs.old) (I.never_fails inputs.old))
+        (inputs_state (I.files inputs.new) (I.open_sources inputs.new)
+        (I.given inputs.new) (I.faults inputs.new) (I.never_fails inputs.new)) scan_input.loaded) }
+    ensures unread { IfErr result (IsInputUnread (I.files inputs.old) Which.DumpOctets name.now
+        (inputs_state (I.files inputs.old) (I.open_sources inputs.old)
+        (I.given inputs.old) (I.faults inputs.old) (I.never_fails inputs.old))
+        (inputs_state (I.files inputs.new) (I.open_sources inputs.new)
+        (I.given inputs.new) (I.faults inputs.new) (I.never_fails inputs.new))) }
+
     ensures empty { IfOk result (λ scan_input. scan_input.line_buffer ≡ []) }
-    ensures refused { IfErr result (IsInputRefusal (I.files inputs.old) name.now Which.DumpOctets (I.faults inputs.old)
-        (I.faults inputs.new)) }
-    ensures same { I.files inputs.new ≡ I.files inputs.old }
-    ensures closed { I.open_sources inputs.old + 1 < 2 ^ 64 → I.open_sources inputs.new ≡ I.open_sources inputs.old }
-    ensures gave { I.given inputs.new ≤ I.given inputs.old + 1 }
-    ensures counted { ReadsCounted (result_err result) (I.faults inputs.old) (I.faults inputs.new) }
-    ensures later { I.faults inputs.old ≤ I.faults inputs.new }
-    ensures reliable { I.never_fails inputs.old → I.never_fails inputs.new ×
-        Stays (I.faults inputs.old) (I.faults inputs.new) }
 {
     let dump = read_limited(alloc, inputs, name, Which::DumpOctets)?;
     let moment = clock.now();

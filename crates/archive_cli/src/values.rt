@@ -1,20 +1,24 @@
 //! The command `values`: the cells of a parameter over a dump, as text.
 
-ghost use Rattle.std.specs.Prelude.{◌≡◌, ◌<◌, ◌≤◌, ◌+◌, ◌^◌, ◌++◌, [], OnOk, OnErr, IfOk, length};
+ghost use Rattle.std.specs.Prelude.{◌≡◌, ◌<◌, ◌≤◌, ◌+◌, ◌^◌, ◌++◌, [], OnOk, OnErr, IfOk, IsSome, length};
 ghost use Rattle.std.specs.List.{AllByRecursion};
 ghost use Rattle.std.specs.Result.{result_err};
-ghost use Rattle.outer_traits.specs.Outside.{Stays, WritesSome};
+ghost use Rattle.outer_traits.specs.Outside.{WritesSome};
+ghost use Rattle.outer_ledgers.specs.Ledger.{inputs_state, output_state};
+ghost use Rattle.command_plans.specs.Plan.{IsDue};
 ghost use Rattle.arch_types.specs.Table.{sorted};
-ghost use Rattle.mdb_sheets.specs.Sheets.{ReadsCounted};
 ghost use Rattle.yarch_table.specs.Stored.{rows_of};
 ghost use Rattle.command_words.specs.JobView.{words_of};
-ghost use Rattle.dump_lines.specs.Output.{Appends, WritesCounted, IsBuffered};
+ghost use Rattle.dump_lines.specs.Output.{Appends, IsBuffered};
 ghost use Rattle.dump_lines.specs.DumpTable.{IsVisible};
-ghost use Rattle.archive_cli.specs.Order.{AreInOrder, values_inputs};
-ghost use Rattle.archive_cli.specs.ValuesEnding.{IsValuesEnding};
-ghost use Rattle.archive_cli.specs.ValuesPrinting.{PrintCounted, line_of, cells_in_row, cells_of_stored, lines_of_cells, end_of_cells, text_of_cells, refusal_of_print};
+ghost use Rattle.archive_cli.specs.Command.{RanOver, effects_of};
+ghost use Rattle.archive_cli.specs.Report.{status_at};
+ghost use Rattle.archive_cli.specs.values_command.Values.{values_plan};
+ghost use Rattle.archive_cli.specs.values_command.ValuesPrinting.{PrintCounted, line_of, cells_in_row, cells_of_stored, lines_of_cells, end_of_cells, text_of_cells, refusal_of_print};
 
+use crate::report::Ended;
 use crate::scan_input::{ended, read_scan_input};
+use arch_disk::Disk;
 use arch_types::refusal::Refusal;
 use arch_types::row::Row;
 use arch_types::steps::Steps;
@@ -37,53 +41,54 @@ use std::sync::ledger::{Blank, Ledger};
 use yarch_table::table::Table;
 
 /// Reads three sheets and a dump, and prints the cells of one parameter in key order, duplicates dropped.
-pub fn values<I: Inputs, K: Sink, C: Clock>(
+pub fn values<D: Disk, I: Inputs, K: Sink, C: Clock>(
     alloc: Global,
     words: ValuesWords<'_>,
+    disk: D,
     inputs: &mut I,
     sink: &mut K,
     clock: &mut C,
-) -> Result<(), Refusal>
-    ensures ended { (given : _) → IsValuesEnding (record {
-      words = given;
-      files = I.files inputs.old;
-      moment = C.next clock.old;
-      read_faults = I.faults inputs.old;
-      read_faults' = I.faults inputs.new;
-      written = K.written sink.old;
-      written' = K.written sink.new;
-      write_faults = K.faults sink.old;
-      write_faults' = K.faults sink.new;
-    }) (words_of words.entry) (result_err result) }
-    ensures same { I.files inputs.new ≡ I.files inputs.old }
-    ensures closed { I.open_sources inputs.old + 1 < 2 ^ 64 → I.open_sources inputs.new ≡ I.open_sources inputs.old }
-    ensures order { AreInOrder (I.files inputs.old) (values_inputs (words_of words.entry))
-        (I.given inputs.old) (I.given inputs.new) (result_err result) }
-    ensures gave { I.given inputs.new ≤ I.given inputs.old + 4 }
-    ensures reads_counted { ReadsCounted (result_err result) (I.faults inputs.old) (I.faults inputs.new) }
-    ensures writes_counted { WritesCounted (result_err result) (K.faults sink.old) (K.faults sink.new) }
-    ensures later { I.faults inputs.old ≤ I.faults inputs.new }
-    ensures writes_later { K.faults sink.old ≤ K.faults sink.new }
-    ensures reliable { I.never_fails inputs.old → Stays (I.faults inputs.old) (I.faults inputs.new) }
+) -> Ended<D>
+    // It took a way through its plan: where that ends stands what was printed, what is reported, how many sources were given, and
+    // which calls failed. Nothing is asked of the disk.
+    ensures ran { RanOver D.device (values_plan (I.files inputs.old) (C.next clock.old) (words_of words.entry))
+        (effects_of disk result.disk (output_state (K.written sink.old) (K.faults sink.old))
+        (output_state (K.written sink.new) (K.faults sink.new)) result.report)
+        (inputs_state (I.files inputs.old) (I.open_sources inputs.old) (I.given inputs.old)
+        (I.faults inputs.old) (I.never_fails inputs.old))
+        (inputs_state (I.files inputs.new) (I.open_sources inputs.new) (I.given inputs.new)
+        (I.faults inputs.new) (I.never_fails inputs.new)) }
+
+    // Where the inputs are known the answer that is due comes, or that of a fault at its place.
+    ensures due { IsSome (I.files inputs.old) →
+        IsDue (values_plan (I.files inputs.old) (C.next clock.old) (words_of words.entry)) result.report.refusal }
+
+    // The number of the refusal, and 0 exactly where there's none.
+    ensures status { result.status ≡ status_at result.report.refusal }
 {
-    let sheets = read_mdb(
+    let read = read_mdb(
         alloc,
         inputs,
         words.parameters,
         words.calibrations,
         words.containers,
-    )?;
-    let mut scan_input = read_scan_input(alloc, inputs, words.dump, clock)?;
-    let known = known_parameter(alloc, &sheets, words.name)?;
-    match print(
-        alloc,
-        &known,
-        &scan_input.loaded,
-        &mut scan_input.line_buffer,
-        sink,
-    ) {
-        Ok(()) => ended(&scan_input.loaded),
-        Err(fault) => Err(refusal_of(fault)),
+    );
+    let sheets = match read {
+        Ok(sheets) => sheets,
+        Err(refusal) => return Ended::unopened(disk, Some(refusal)),
+    };
+    let mut scan_input = match read_scan_input(alloc, inputs, words.dump, clock) {
+        Ok(scan_input) => scan_input,
+        Err(refusal) => return Ended::unopened(disk, Some(refusal)),
+    };
+    let known = match known_parameter(alloc, &sheets, words.name) {
+        Ok(known) => known,
+        Err(refusal) => return Ended::unopened(disk, Some(refusal)),
+    };
+    let line_buffer = &mut scan_input.line_buffer;
+    match print(alloc, &known, &scan_input.loaded, line_buffer, sink) {
+        Ok(()) => Ended::unopened(disk, ended(&scan_input.loaded).err()),
+        Err(fault) => Ended::unopened(disk, Some(refusal_of(fault))),
     }
 }
 

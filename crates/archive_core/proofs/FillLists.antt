@@ -4,6 +4,7 @@ use Rattle.std.specs.Prelude.{fold}
 use Rattle.std.specs.Option.{option_or}
 use Rattle.std.proofs.lemmas.List.Sums.{fold-append}
 use Rattle.arch_types.specs.declared.interval.Interval.{Interval}
+use Rattle.archive_core.specs.declared.fills.Addition.TheVariants.{Nothing, Rows}
 use Rattle.archive_core.specs.declared.fills.Fill.{Fill}
 use Rattle.archive_core.specs.declared.fills.Fill.TheVariants.{Begun, Done, Freed, Fault}
 use Rattle.archive_core.specs.Items.{Item, items_of}
@@ -22,15 +23,16 @@ rows_of_faults-append [] more = refl
 rows_of_faults-append (Begun i b ∷ fills) more = rows_of_faults-append fills more
 rows_of_faults-append (Done i b ∷ fills) more = rows_of_faults-append fills more
 rows_of_faults-append (Freed i ∷ fills) more = rows_of_faults-append fills more
-rows_of_faults-append (Fault count wrote rows ∷ fills) more = ap (λ (l : List (List Item)). items_of rows ∷ l) (rows_of_faults-append fills more)
+rows_of_faults-append (Fault count wrote Nothing ∷ fills) more = rows_of_faults-append fills more
+rows_of_faults-append (Fault count wrote (Rows rows) ∷ fills) more = ap (λ (l : List (List Item)). items_of rows ∷ l) (rows_of_faults-append fills more)
 
 pub pending_fault_of-append : (fills more : List Fill) → pending_fault_of (fills ++ more) ≡ option_or (pending_fault_of fills) (pending_fault_of more)
 pending_fault_of-append [] more = refl
 pending_fault_of-append (Begun i b ∷ fills) more = pending_fault_of-append fills more
 pending_fault_of-append (Done i b ∷ fills) more = pending_fault_of-append fills more
 pending_fault_of-append (Freed i ∷ fills) more = pending_fault_of-append fills more
-pending_fault_of-append (Fault count true rows ∷ fills) more = refl
-pending_fault_of-append (Fault count false rows ∷ fills) more = pending_fault_of-append fills more
+pending_fault_of-append (Fault count true unacknowledged ∷ fills) more = refl
+pending_fault_of-append (Fault count false unacknowledged ∷ fills) more = pending_fault_of-append fills more
 
 -- ---- rising counts
 
@@ -40,7 +42,7 @@ Rising-later [] low high next le rising = tt
 Rising-later (Begun i b ∷ fills) low high next le rising = Rising-later fills low high next le rising
 Rising-later (Done i b ∷ fills) low high next le rising = Rising-later fills low high next le rising
 Rising-later (Freed i ∷ fills) low high next le rising = Rising-later fills low high next le rising
-Rising-later (Fault count wrote rows ∷ fills) low high next le rising = (rising.0, omega (arith, rising.1), Rising-later fills (above count) high next le rising.2)
+Rising-later (Fault count wrote unacknowledged ∷ fills) low high next le rising = (rising.0, omega (arith, rising.1), Rising-later fills (above count) high next le rising.2)
 
 -- an earlier beginning
 pub Rising-earlier : (fills : List Fill) (low high from : ℕ) → from ≤ low → Rising low high fills → Rising from high fills
@@ -48,14 +50,14 @@ Rising-earlier [] low high from le rising = tt
 Rising-earlier (Begun i b ∷ fills) low high from le rising = Rising-earlier fills low high from le rising
 Rising-earlier (Done i b ∷ fills) low high from le rising = Rising-earlier fills low high from le rising
 Rising-earlier (Freed i ∷ fills) low high from le rising = Rising-earlier fills low high from le rising
-Rising-earlier (Fault count wrote rows ∷ fills) low high from le rising = (omega (arith, rising.0), rising.1, rising.2)
+Rising-earlier (Fault count wrote unacknowledged ∷ fills) low high from le rising = (omega (arith, rising.0), rising.1, rising.2)
 
 pub Rising-append : (low high next : ℕ) (fills more : List Fill) → low ≤ above high → high ≤ next → Rising low high fills → Rising (above high) next more → Rising low next (fills ++ more)
 Rising-append low high next [] more first later rising after = Rising-earlier more (above high) next low first after
 Rising-append low high next (Begun i b ∷ fills) more first later rising after = Rising-append low high next fills more first later rising after
 Rising-append low high next (Done i b ∷ fills) more first later rising after = Rising-append low high next fills more first later rising after
 Rising-append low high next (Freed i ∷ fills) more first later rising after = Rising-append low high next fills more first later rising after
-Rising-append low high next (Fault count wrote rows ∷ fills) more first later rising after =
+Rising-append low high next (Fault count wrote unacknowledged ∷ fills) more first later rising after =
     (rising.0, omega (arith, rising.1), Rising-append (above count) high next fills more (omega (arith, rising.1)) later rising.2 after)
 
 -- ---- a reopen
@@ -65,14 +67,15 @@ pending_fault_of-reopened [] = refl
 pending_fault_of-reopened (Begun i b ∷ fills) = pending_fault_of-reopened fills
 pending_fault_of-reopened (Done i b ∷ fills) = pending_fault_of-reopened fills
 pending_fault_of-reopened (Freed i ∷ fills) = pending_fault_of-reopened fills
-pending_fault_of-reopened (Fault count wrote rows ∷ fills) = pending_fault_of-reopened fills
+pending_fault_of-reopened (Fault count wrote unacknowledged ∷ fills) = pending_fault_of-reopened fills
 
 pub rows_of_faults-reopened : (fills : List Fill) → rows_of_faults (reopened fills) ≡ rows_of_faults fills
 rows_of_faults-reopened [] = refl
 rows_of_faults-reopened (Begun i b ∷ fills) = rows_of_faults-reopened fills
 rows_of_faults-reopened (Done i b ∷ fills) = rows_of_faults-reopened fills
 rows_of_faults-reopened (Freed i ∷ fills) = rows_of_faults-reopened fills
-rows_of_faults-reopened (Fault count wrote rows ∷ fills) = ap (λ (l : List (List Item)). items_of rows ∷ l) (rows_of_faults-reopened fills)
+rows_of_faults-reopened (Fault count wrote Nothing ∷ fills) = rows_of_faults-reopened fills
+rows_of_faults-reopened (Fault count wrote (Rows rows) ∷ fills) = ap (λ (l : List (List Item)). items_of rows ∷ l) (rows_of_faults-reopened fills)
 
 pub length-reopened : (fills : List Fill) → length (reopened fills) ≡ length fills
 length-reopened [] = refl
@@ -83,7 +86,7 @@ Rising-reopened [] low high rising = tt
 Rising-reopened (Begun i b ∷ fills) low high rising = Rising-reopened fills low high rising
 Rising-reopened (Done i b ∷ fills) low high rising = Rising-reopened fills low high rising
 Rising-reopened (Freed i ∷ fills) low high rising = Rising-reopened fills low high rising
-Rising-reopened (Fault count wrote rows ∷ fills) low high rising = (rising.0, rising.1, Rising-reopened fills (above count) high rising.2)
+Rising-reopened (Fault count wrote unacknowledged ∷ fills) low high rising = (rising.0, rising.1, Rising-reopened fills (above count) high rising.2)
 
 -- a fold that doesn't look at the flag
 fold-reopened : (f : Option ℕ → Fill → Option ℕ) → ((base : Option ℕ) (item : Fill) → f base (cleared item) ≡ f base item) → (fills : List Fill) (base : Option ℕ) → fold f base (reopened fills) ≡ fold f base fills
@@ -94,13 +97,13 @@ base_cleared : (interval : Interval) (base : Option ℕ) (item : Fill) → base_
 base_cleared interval base (Begun i b) = refl
 base_cleared interval base (Done i b) = refl
 base_cleared interval base (Freed i) = refl
-base_cleared interval base (Fault count wrote rows) = refl
+base_cleared interval base (Fault count wrote unacknowledged) = refl
 
 flight_cleared : (interval : Interval) (base : Option ℕ) (item : Fill) → flight_after interval base (cleared item) ≡ flight_after interval base item
 flight_cleared interval base (Begun i b) = refl
 flight_cleared interval base (Done i b) = refl
 flight_cleared interval base (Freed i) = refl
-flight_cleared interval base (Fault count wrote rows) = refl
+flight_cleared interval base (Fault count wrote unacknowledged) = refl
 
 pub base_in-reopened : (interval : Interval) (fills : List Fill) → base_in interval (reopened fills) ≡ base_in interval fills
 base_in-reopened interval fills = fold-reopened (base_after interval) (base_cleared interval) fills None

@@ -3,3 +3,4 @@ pub mod Outcomes
 pub mod Late
 pub mod FillLists
 pub mod LastSaid
+pub mod Flights

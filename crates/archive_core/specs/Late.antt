@@ -2,17 +2,18 @@
 use Rattle.std.specs.Prelude.{◌≡◌, ℕ, ◌≤◌, List, slice_get, Bool, false, Option, Some, None, MatchOption, ⊤}
 use Rattle.std.specs.Option.{option_map_or}
 use Rattle.arch_types.specs.declared.interval.Interval.{Interval}
+use Rattle.arch_types.specs.declared.row.Row.{Row}
 use Rattle.arch_types.specs.Interval.{interval_of}
 use Rattle.late_marks.specs.Mark.{is_late_by}
 use Rattle.archive_core.specs.declared.fills.Fill.{Fill}
-use Rattle.archive_core.specs.Items.{Item, is_row_of_interval}
+use Rattle.archive_core.specs.Items.{Item, is_row_of_interval, row_item}
 use Rattle.archive_core.specs.Fills.{base_in}
 use Rattle.archive_core.specs.Places.{last_place}
 
 -- a row of table `tm`, the first table, with its time in the interval stands at this position
 pub record StandsIn (exponent : ℕ) (interval : Interval) (position : ℕ) (history : List Item) : Type 0 where
-  pub row : Item
-  pub there : slice_get history position ≡ Some row
+  pub row : Row
+  pub there : slice_get history position ≡ Some (row_item row)
   pub table : row.table ≡ 0
   pub time : interval_of exponent row.key.time ≡ interval.0
 

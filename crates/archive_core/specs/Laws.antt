@@ -1,16 +1,18 @@
 -- What holds of outcomes, late intervals and fill lists.
 use mathlib.Core.List.{Sublist}
 use Rattle.std.specs.Prelude.{◌≡◌, ◌↔◌, ℕ, ◌≤◌, List, [], ◌∷◌, ◌++◌, length, take, slice_get, Some, None, IsTrue, if◌then◌else◌}
-use Rattle.std.specs.Option.{option_or}
+use Rattle.std.specs.List.{list_any}
+use Rattle.std.specs.Option.{option_or, is_some}
 use Rattle.arch_types.specs.declared.interval.Interval.{Interval}
 use Rattle.arch_types.specs.declared.inserted.Inserted.{Inserted}
 use Rattle.arch_types.specs.declared.row.Row.{Row}
-use Rattle.arch_types.specs.History.{ingested, IsHistory}
+use Rattle.arch_types.specs.History.{IsHistory}
 use Rattle.archive_core.specs.declared.fills.Fill.{Fill}
 use Rattle.archive_core.specs.declared.fills.Fill.TheVariants.{Done}
-use Rattle.archive_core.specs.Items.{Item, is_row_of_interval}
+use Rattle.archive_core.specs.Items.{Item, after_rows, is_row_of_interval, items_of, rows_in}
 use Rattle.archive_core.specs.Outcomes.{outcomes_of, fresh_of, Says}
-use Rattle.archive_core.specs.Fills.{base_in, base_after, in_flight, flight_after, IsLastDone, IsBegunLast, rows_of_faults, pending_fault_of, reopened, above, Rising}
+use Rattle.archive_core.specs.FillList.{flights_of}
+use Rattle.archive_core.specs.Fills.{is_same, base_in, base_after, in_flight, flight_after, IsLastDone, IsBegunLast, rows_of_faults, pending_fault_of, reopened, above, Rising}
 use Rattle.archive_core.specs.Late.{IsLate, IsLastIn, last_in, is_late_in}
 
 -- ---- outcomes
@@ -21,27 +23,29 @@ OneOutcomePerRow = (history : List Item) (rows : List Row) → length (outcomes_
 
 -- an outcome is answered for a row exactly where it says the truth of the row and what stands before it
 abbrev pub OutcomesSay : Type 0
-OutcomesSay = (history : List Item) (rows : List Row) (i : ℕ) (row : Row) (outcome : Inserted) → IsHistory history → slice_get rows i ≡ Some row →
-    (slice_get (outcomes_of history rows) i ≡ Some outcome) ↔ Says (ingested history (take i rows)) row outcome
+OutcomesSay = (history : List Item) (rows : List Row) (i : ℕ) (row : Row) (outcome : Inserted) → IsHistory (rows_in history) → slice_get rows i ≡ Some row →
+    (slice_get (outcomes_of history rows) i ≡ Some outcome) ↔ Says (after_rows history (take i rows)) row outcome
 
 -- an ingest puts the rows that are new behind the history
 abbrev pub FreshRowsAreAdded : Type 0
-FreshRowsAreAdded = (history : List Item) (rows : List Row) → ingested history rows ≡ history ++ fresh_of history rows
+FreshRowsAreAdded = (history : List Item) (rows : List Row) → after_rows history rows ≡ history ++ items_of (fresh_of history rows)
 
 -- what an ingest puts behind the history are rows of the batch, in its order
 abbrev pub IngestAddsRowsInOrder : Type 0
 IngestAddsRowsInOrder = (history : List Item) (rows : List Row) →
-    (more : List Row) × (ingested history rows ≡ history ++ more) × Sublist more rows
+    (more : List Row) × (after_rows history rows ≡ history ++ items_of more) × Sublist more rows
 
 -- the rows that are new are a batch of which each is new
 abbrev pub FreshRowsAreNew : Type 0
 FreshRowsAreNew = (history : List Item) (rows : List Row) →
-    (ingested history (fresh_of history rows) ≡ history ++ fresh_of history rows) × (length (fresh_of history rows) ≤ length rows)
+    (after_rows history (fresh_of history rows) ≡ history ++ items_of (fresh_of history rows)) × (length (fresh_of history rows) ≤ length rows)
 
 -- each row of two batches is new exactly where each of the first is, and each of the second after them
 abbrev pub NewInTurn : Type 0
 NewInTurn = (history : List Item) (first second : List Row) →
-    (ingested history (first ++ second) ≡ history ++ (first ++ second)) ↔ ((ingested history first ≡ history ++ first) × (ingested (history ++ first) second ≡ (history ++ first) ++ second))
+    (after_rows history (first ++ second) ≡ history ++ items_of (first ++ second))
+    ↔ ((after_rows history first ≡ history ++ items_of first)
+    × (after_rows (history ++ items_of first) second ≡ (history ++ items_of first) ++ items_of second))
 
 -- ---- late intervals
 
@@ -70,6 +74,10 @@ BaseIsOfLastDone = (interval : Interval) (fills : List Fill) →
 abbrev pub FlightIsBegunLast : Type 0
 FlightIsBegunLast = (interval : Interval) (base : ℕ) (fills : List Fill) →
     (in_flight interval fills ≡ Some base) ↔ IsBegunLast interval base fills
+
+-- the list of flights has an interval exactly where it is in flight
+abbrev pub FlightsAreInFlight : Type 0
+FlightsAreInFlight = (interval : Interval) (fills : List Fill) → list_any (is_same interval) (flights_of fills) ≡ is_some (in_flight interval fills)
 
 -- one item more
 abbrev pub BasesAfterItem : Type 0

@@ -3,8 +3,7 @@ use Rattle.std.specs.Prelude.{◌≡◌, ℕ, List, [], ◌∷◌, ◌++◌, len
 use Rattle.arch_types.specs.declared.row.Row.{Row}
 use Rattle.arch_types.specs.declared.inserted.Inserted.{Inserted}
 use Rattle.arch_types.specs.declared.inserted.Inserted.TheVariants.{New, Duplicate}
-use Rattle.arch_types.specs.History.{is_duplicate_of, with_row}
-use Rattle.archive_core.specs.Items.{Item}
+use Rattle.archive_core.specs.Items.{Item, after_row, has_key_of, row_item}
 use Rattle.archive_core.specs.Places.{first_place}
 
 -- by the position of the row that has its table and key, or by the length of the history
@@ -14,18 +13,18 @@ outcome_at None length = New length
 
 -- a row is new, and stands at the end of the history, or the row at a position has its table and key
 abbrev pub outcome_of : List Item → Row → Inserted
-outcome_of history row = outcome_at (first_place (is_duplicate_of row) history) (length history)
+outcome_of history row = outcome_at (first_place (has_key_of row) history) (length history)
 
 -- the outcomes of rows, each after those before it
 abbrev pub outcomes_of : List Item → List Row → List Inserted
 outcomes_of history [] = []
-outcomes_of history (row ∷ rows) = outcome_of history row ∷ outcomes_of (with_row history row) rows
+outcomes_of history (row ∷ rows) = outcome_of history row ∷ outcomes_of (after_row history row) rows
 
 -- what an outcome says of a row that comes to a history: it is appended at this position, or the row at this position has its table
 -- and key
 abbrev pub Says : List Item → Row → Inserted → Type 0
-Says history row (New position) = (with_row history row ≡ history ++ row ∷ []) × (position ≡ length history)
-Says history row (Duplicate position) = (there : Item) × (slice_get history position ≡ Some there) × (is_duplicate_of row there ≡ true)
+Says history row (New position) = (after_row history row ≡ history ++ row_item row ∷ []) × (position ≡ length history)
+Says history row (Duplicate position) = (there : Item) × (slice_get history position ≡ Some there) × (has_key_of row there ≡ true)
 
 -- the rows that are answered New
 abbrev pub answered_new : List Inserted → List Row → List Row

@@ -6,6 +6,15 @@ ghost use Rattle.archive_core.specs.Fills.{reopened, cleared};
 use arch_types::interval::Interval;
 use arch_types::row::Rows;
 
+/// What a call would have added to an archive.
+#[derive(Debug, Drop)]
+pub enum Addition {
+    /// No entry: only files that no entry names yet, if any.
+    Nothing,
+    /// Rows of a batch, in one entry.
+    Rows(Rows),
+}
+
 /// An item of a fill list.
 #[derive(Debug, Drop)]
 pub enum Fill {
@@ -29,8 +38,8 @@ pub enum Fill {
         count: u64,
         /// Whether a write, cut or sync failed in the call, and no reopen has succeeded since.
         wrote: bool,
-        /// The new rows of the batch whose append failed, or none.
-        rows: Rows,
+        /// What the call would have added.
+        unacknowledged: Addition,
     },
 }
 

@@ -1,6 +1,6 @@
 //! Laws of the definitions, carried by functions that do nothing.
 
-ghost use Rattle.archive_core.specs.Laws.{OneOutcomePerRow, OutcomesSay, FreshRowsAreAdded, IngestAddsRowsInOrder, FreshRowsAreNew, NewInTurn, LastIsGreatest, LastAfterItem, LateByLast, BaseIsOfLastDone, FlightIsBegunLast, BasesAfterItem, FaultsAfterItems, CountsGoOn, ReopenSettles};
+ghost use Rattle.archive_core.specs.Laws.{OneOutcomePerRow, OutcomesSay, FreshRowsAreAdded, IngestAddsRowsInOrder, FreshRowsAreNew, NewInTurn, LastIsGreatest, LastAfterItem, LateByLast, BaseIsOfLastDone, FlightIsBegunLast, FlightsAreInFlight, BasesAfterItem, FaultsAfterItems, CountsGoOn, ReopenSettles};
 
 /// A batch has one outcome per row.
 pub fn one_outcome_per_row()
@@ -56,6 +56,11 @@ pub fn base_is_of_last_done()
 /// An interval is in flight exactly where a Begun of it is the last that is said of its flight.
 pub fn flight_is_begun_last()
     ensures { FlightIsBegunLast }
+{}
+
+/// The list of flights has the intervals that are in flight.
+pub fn flights_are_in_flight()
+    ensures { FlightsAreInFlight }
 {}
 
 /// Bases and flights after one more item.

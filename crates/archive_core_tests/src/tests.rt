@@ -1,8 +1,9 @@
-//! A reopen over each kind of item.
+//! A reopen over each kind of item, and a fault in a fill list.
 
 use arch_types::interval::Interval;
 use arch_types::row::Rows;
-use archive_core::fills::{Fill, clear_failed_writes};
+use archive_core::FillList;
+use archive_core::fills::{Addition, Fill, clear_failed_writes};
 use std::test::*;
 
 #[test]
@@ -15,7 +16,7 @@ fn a_reopen_clears_faults(rt: HostRuntime) -> Result<(), Fail> {
         fills.push(Fill::Fault {
             count,
             wrote,
-            rows: Rows::new(alloc),
+            unacknowledged: Addition::Rows(Rows::new(alloc)),
         })?;
     }
     fills.push(Fill::Done { interval, base: 1 })?;
@@ -27,5 +28,37 @@ fn a_reopen_clears_faults(rt: HostRuntime) -> Result<(), Fail> {
     }
     assert!(rt; matches!(fills[3], Fill::Fault { count: 4, .. }));
     assert!(rt; matches!(fills[4], Fill::Done { base: 1, .. }));
+    Ok(())
+}
+
+#[test]
+fn a_fault_is_noted_and_cleared(rt: HostRuntime) -> Result<(), Fail> {
+    let alloc = rt.alloc();
+    let mut fills = FillList::new(alloc);
+    fills.reserve_fault()?;
+    fills.note_fault(7, true, Addition::Nothing);
+    let noted = fills.as_slice();
+    assert_eq!(rt; noted.len(), 1);
+    assert!(rt;
+        matches!(
+            noted[0],
+            Fill::Fault {
+                count: 7,
+                wrote: true,
+                unacknowledged: Addition::Nothing
+            }
+        )
+    );
+    fills.clear_failed_writes();
+    assert!(rt;
+        matches!(
+            fills.as_slice()[0],
+            Fill::Fault {
+                count: 7,
+                wrote: false,
+                ..
+            }
+        )
+    );
     Ok(())
 }

@@ -10,7 +10,8 @@ use Rattle.block_map.proofs.KeyedLists.{lookup-insert_entry_same, lookup-insert_
 use Rattle.arch_types.specs.declared.interval.Interval.{Interval}
 use Rattle.arch_types.specs.Interval.{interval_cmp}
 use Rattle.arch_types.proofs.Ranks.{interval_cmp_total, exact_intervals}
-use Rattle.archive_history.specs.LimitCounts.{HasAtMost, or_zero, interval_row_count, one_at}
+use Rattle.block_map.specs.Index.{tally}
+use Rattle.archive_history.specs.LimitCounts.{HasAtMost, interval_row_count, one_at}
 
 pub together : (a b : Interval) → a.0 ≡ b.0 → a ≡ b
 together a b numbers = ap (λ (n : ℤ). let i : Interval = record { 0 = n } in i) numbers
@@ -26,11 +27,11 @@ counted es i other v is = here (int_eq i.0 other.0) refl
     here true e =
         let same : i ≡ other = together i other ((Decides-int_eq i.0 other.0).0 e) in
         subst (λ (o : Interval). interval_row_count (insert_entry interval_cmp es i v) o ≡ interval_row_count es o + 1) same
-        (ap or_zero (lookup-insert_entry_same interval_cmp_total i v es) ∙ is)
+        (ap tally (lookup-insert_entry_same interval_cmp_total i v es) ∙ is)
     here false e =
         let ne : is_at (interval_cmp i) other ≡ false = apart i other (λ same. true≢false (sym ((Decides-int_eq i.0 other.0).1 (ap (λ (x : Interval). x.0) (sym same))) ∙ e)) in
         let none : interval_row_count es other ≡ interval_row_count es other + 0 = omega arith in
-        ap or_zero (lookup-insert_entry_other interval_cmp_total other i v es ne) ∙ none
+        ap tally (lookup-insert_entry_other interval_cmp_total other i v es ne) ∙ none
 
 -- the most rows of an interval, once one interval has one more
 pub at_most : (old new : List (Interval × ℕ)) (i : Interval) (most next : ℕ) → HasAtMost most old → ((other : Interval) → interval_row_count new other ≡ interval_row_count old other + one_at i other)

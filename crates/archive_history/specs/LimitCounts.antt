@@ -1,7 +1,6 @@
 -- What the limits count.
-use Rattle.std.specs.Prelude.{ℕ, ◌≤◌, List, Option, Some, None, if◌then◌else◌}
-use Rattle.std.specs.Map.{lookup}
-use Rattle.std.specs.BTreeMap.{is_at}
+use Rattle.std.specs.Prelude.{ℕ, ◌≤◌, List, if◌then◌else◌}
+use Rattle.block_map.specs.Index.{tally_of}
 use Rattle.arch_types.specs.declared.interval.Interval.{Interval}
 use Rattle.arch_types.specs.Interval.{interval_cmp}
 use Rattle.archive_core.specs.Fills.{is_same}
@@ -12,14 +11,9 @@ pub record LimitCountsView : Type 0 where
   pub rows : List (Interval × ℕ)
   pub room : ℕ
 
--- a count, 0 where there is none
-abbrev pub or_zero : Option ℕ → ℕ
-or_zero None = 0
-or_zero (Some count) = count
-
 -- how many rows an interval has
 abbrev pub interval_row_count : List (Interval × ℕ) → Interval → ℕ
-interval_row_count rows interval = or_zero (lookup (is_at (interval_cmp interval)) rows)
+interval_row_count rows interval = tally_of interval_cmp rows interval
 
 -- no interval has more rows than this
 abbrev pub HasAtMost : ℕ → List (Interval × ℕ) → Type 0

@@ -5,7 +5,7 @@ ghost use Rattle.arch_types.specs.declared.interval.Interval.{Interval as AnInte
 ghost use Rattle.archive_history.specs.LimitCounts.{HasAtMost, interval_row_count, one_at};
 
 use arch_types::interval::Interval;
-use block_map::index::Index;
+use block_map::growing_index::GrowingIndex;
 use std::alloc::{AllocError, Global};
 use std::marker::Model;
 
@@ -14,7 +14,7 @@ use std::marker::Model;
 pub struct LimitCounts {
     octets: u64,
     /// The number of rows of each interval that has any.
-    rows: Index<Interval, u64>,
+    rows: GrowingIndex<Interval, u64>,
     /// The number of rows of the interval that has most.
     most: u64,
 }
@@ -36,7 +36,7 @@ impl LimitCounts {
     {
         Ok(LimitCounts {
             octets: 0,
-            rows: Index::new(alloc),
+            rows: GrowingIndex::new(alloc),
             most: 0,
         })
     }
@@ -92,15 +92,7 @@ impl LimitCounts {
         ensures octets { self.new.octets ≡ self.old.octets }
         ensures room { self.old.room ≤ self.new.room + 1 }
     {
-        match self.rows.get(interval) {
-            Some(rows) => {
-                self.rows.replace(interval, rows + 1);
-                self.most = self.most.max(rows + 1);
-            }
-            None => {
-                self.rows.insert(interval, 1);
-                self.most = self.most.max(1);
-            }
-        }
+        let rows = self.rows.add_one(interval);
+        self.most = self.most.max(rows);
     }
 }

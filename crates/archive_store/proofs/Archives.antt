@@ -9,7 +9,7 @@ use Rattle.field_codec.specs.declared.entry.Entry.{Entry}
 use Rattle.field_codec.specs.Spelling.{entry_octets}
 use Rattle.archive_store.specs.declared.reading.PartialArchive.{PartialArchive}
 use Rattle.archive_store.specs.declared.reading.ReadArchive.{ReadArchive}
-use Rattle.archive_store.specs.Entries.{Archive, archive, Replays}
+use Rattle.archive_store.specs.Entries.{Archive, archive, HasArchivedRows, Replays}
 use Rattle.archive_store.specs.PartialArchive.{archive_made, HasTables, IsReadArchive}
 use Rattle.archive_store.specs.Stands.{Breaks, IsArchiveDamagedAt}
 
@@ -78,6 +78,9 @@ found_is content opening es made f is finished has at replays = record {
   extents = finished.extents ∙ at.extents;
   end = finished.end ∙ at.up_to.at_is;
 }
+
+pub rows_found : (made : Option PartialArchive) (f : ReadArchive) → Some f.made ≡ made → HasArchivedRows (archive_made made) → HasArchivedRows (archive_made (Some f.made))
+rows_found made f is has = subst (λ (m : Option PartialArchive). HasArchivedRows (archive_made m)) (sym is) has
 
 pub tables_found : (made : Option PartialArchive) (f : ReadArchive) → Some f.made ≡ made → HasTables made → HasTables (Some f.made)
 tables_found made f is has = subst HasTables (sym is) has

@@ -9,6 +9,7 @@ use Rattle.arch_types.specs.declared.refusal.Which.{Which}
 use Rattle.arch_types.specs.declared.row.Row.{Row}
 use Rattle.arch_types.specs.History.{ingested}
 use Rattle.arch_types.specs.Limits.{limit_of}
+use Rattle.archive_core.specs.declared.fills.Addition.TheVariants.{Rows}
 use Rattle.archive_core.specs.Fills.{pending_fault_of}
 use Rattle.archive_core.specs.Outcomes.{fresh_of}
 use Rattle.archive_history.specs.Limits.{IsLimit, IsBelowLimits}
@@ -34,7 +35,7 @@ module _ {D : Type 0} (device : Device D) where
   -- rows that were not appended are those of a batch
   pub rows_refused : (old new : StoreView D) (rows fresh : List Row) (e : Refusal) → fresh ≡ fresh_of old.history rows → pending_fault_of old.fills ≡ None → fresh_of old.history rows ≢ []
       → IsBelowLimits 22 old.records old.history rows → IsRowsRefusal device old new fresh e → IsIngestRefusal device old new rows e
-  rows_refused old new rows fresh DiskFault is healed some_new below refusal = record { healed = healed; some_new = some_new; below = below; fault = subst (AddsFault device old new) is refusal }
+  rows_refused old new rows fresh DiskFault is healed some_new below refusal = record { healed = healed; some_new = some_new; below = below; fault = subst (λ (l : List Row). AddsFault device old new (Rows l)) is refusal }
   rows_refused old new rows fresh OutOfMemory is healed some_new below refusal = (healed, refusal)
   rows_refused old new rows fresh _ is healed some_new below refusal = absurd refusal
 
@@ -81,7 +82,7 @@ module _ {D : Type 0} (device : Device D) where
   ingest_untouched old new rows e is = ingest_cases old new rows (λ r. (r ≡ DiskFault) ⊎ (new ≡ old)) e is (λ faults r. inr r.1) (λ which number r. inr r.1) (λ r. inl refl) (λ r. inr r.1)
 
   -- which then leaves the new rows in a fault
-  pub ingest_fault : (old new : StoreView D) (rows : List Row) (e : Refusal) → IsIngestRefusal device old new rows e → e ≡ DiskFault → AddsFault device old new (fresh_of old.history rows)
+  pub ingest_fault : (old new : StoreView D) (rows : List Row) (e : Refusal) → IsIngestRefusal device old new rows e → e ≡ DiskFault → AddsFault device old new (Rows (fresh_of old.history rows))
   ingest_fault old new rows e is fault = (subst (IsIngestRefusal device old new rows) fault is).fault
 
   -- a limit is named rightly, and only where rows are new
@@ -184,7 +185,7 @@ module _ {D : Type 0} (device : Device D) where
       → (device.failed_writes after ≡ device.failed_writes before) ⊎ ((e ≡ DiskFault) × (device.failed_writes after ≡ raised (device.failed_writes before)))
   open_counted before after e is =
       open_cases before after (λ r. (device.failed_writes after ≡ device.failed_writes before) ⊎ ((r ≡ DiskFault) × (device.failed_writes after ≡ raised (device.failed_writes before)))) e is
-      (λ r. inl r.1) (λ file at r. inl r.1) (λ r. ⊎_elim (λ same. inl same) (λ rose. inr (refl, rose)) r.wrote_most) (λ r. inl r)
+      (λ r. inl r.no_failed_write) (λ file at r. inl r.no_failed_write) (λ r. ⊎_elim (λ same. inl same) (λ rose. inr (refl, rose)) r.wrote_most) (λ r. inl r)
 
   -- which was counted
   pub open_cause : (before after : D) (e : Refusal) → IsStoreOpenRefusal device before after e → e ≡ DiskFault → raised (device.fault_count before) ≤ device.fault_count after
@@ -193,10 +194,10 @@ module _ {D : Type 0} (device : Device D) where
   -- the disk decides
   pub decided_refused : (before after : D) (e : Refusal) → IsTrue device.is_transparent → IsStoreOpenRefusal device before after e → IsDecidedByImage (device.reads before) (Err (after, e))
   decided_refused before after e transparent is = let reads = device.reads before in record {
-    none = λ none. open_cases before after (λ r. (r ≡ NoArchive) ⊎ IsFailure r) e is (λ r. inl refl) (λ file at r. absurd (none_not_damaged reads at none (r.0 transparent).1)) (λ r. inr (inl refl)) (λ r. inr (inr refl));
-    damaged = λ at there. open_cases before after (λ r. (r ≡ Damaged 0 at) ⊎ IsFailure r) e is (λ r. absurd (none_not_damaged reads at (r.0 transparent) there))
-        (λ file other r. inl (ap (λ (f : ℕ). Damaged f other) (r.0 transparent).0 ∙ ap (λ (n : ℕ). Damaged 0 n) (damaged_once reads other at (r.0 transparent).1 there))) (λ r. inr (inl refl)) (λ r. inr (inr refl));
-    stands = λ x there. open_cases before after IsFailure e is (λ r. absurd (none_not_stands reads x (r.0 transparent) there)) (λ file other r. absurd (stands_not_damaged reads x other there (r.0 transparent).1))
+    none = λ none. open_cases before after (λ r. (r ≡ NoArchive) ⊎ IsFailure r) e is (λ r. inl refl) (λ file at r. absurd (none_not_damaged reads at none (r.damaged transparent).1)) (λ r. inr (inl refl)) (λ r. inr (inr refl));
+    damaged = λ at there. open_cases before after (λ r. (r ≡ Damaged 0 at) ⊎ IsFailure r) e is (λ r. absurd (none_not_damaged reads at (r.none transparent) there))
+        (λ file other r. inl (ap (λ (f : ℕ). Damaged f other) (r.damaged transparent).0 ∙ ap (λ (n : ℕ). Damaged 0 n) (damaged_once reads other at (r.damaged transparent).1 there))) (λ r. inr (inl refl)) (λ r. inr (inr refl));
+    stands = λ x there. open_cases before after IsFailure e is (λ r. absurd (none_not_stands reads x (r.none transparent) there)) (λ file other r. absurd (stands_not_damaged reads x other there (r.damaged transparent).1))
         (λ r. inl refl) (λ r. inr refl);
   }
 
@@ -242,8 +243,8 @@ module _ {D : Type 0} (device : Device D) where
 
   -- a write failed only then, and two at most
   pub store_create_counted : (before after : D) (e : Refusal) → IsStoreCreateRefusal device before after e → device.failed_writes after ≢ device.failed_writes before → e ≡ DiskFault
-  store_create_counted before after e is differs = create_cases before after (λ r. r ≡ DiskFault) e is (λ r. absurd (differs r.1)) (λ r. refl) (λ r. absurd (differs (ap device.failed_writes r)))
+  store_create_counted before after e is differs = create_cases before after (λ r. r ≡ DiskFault) e is (λ r. absurd (differs r.no_failed_write)) (λ r. refl) (λ r. absurd (differs (ap device.failed_writes r)))
 
   pub store_create_most : (before after : D) (e : Refusal) → IsStoreCreateRefusal device before after e → device.failed_writes after ≤ raised (raised (device.failed_writes before))
   store_create_most before after e is =
-      create_cases before after (λ _. device.failed_writes after ≤ raised (raised (device.failed_writes before))) e is (λ r. omega (arith, r.1)) (λ r. r.wrote_most) (λ r. omega (arith, ap device.failed_writes r))
+      create_cases before after (λ _. device.failed_writes after ≤ raised (raised (device.failed_writes before))) e is (λ r. omega (arith, r.no_failed_write)) (λ r. r.wrote_most) (λ r. omega (arith, ap device.failed_writes r))

@@ -15,13 +15,13 @@ use Rattle.field_codec.specs.declared.entry.Entry.TheVariants as entries
 use Rattle.field_codec.specs.Entries.{IsArchiveEntry}
 use Rattle.field_codec.specs.Spelling.{entry_octets}
 use Rattle.archive_store.specs.declared.head.Head.{Head}
-use Rattle.archive_store.specs.Entries.{Archive, archive, Replays}
+use Rattle.archive_store.specs.Entries.{Archive, archive, HasArchivedRows, Replays}
 use Rattle.archive_store.specs.Stands.{StandsFor}
 use Rattle.archive_store.specs.Calls.{IsCreateImage}
 use Rattle.archive_store.specs.PartialArchive.{IsReadArchive}
 use Rattle.archive_store.specs.Inside.{StoreInvariant}
 use Rattle.archive_store.proofs.PendingFaults.{without_fault_state, keeps_without_fault, prefix_self}
-use Rattle.archive_store.proofs.Kept.{since_whole}
+use Rattle.archive_store.proofs.PlainLog.{StandsPlain, stands_over, found_whole}
 
 pub stands_found : (image : Image) (content : List ℕ) (journal : Journal) (a : Archive) → image 0 ≡ content → IsReadArchive content journal a → StandsFor image a
 stands_found image content journal a is found = record { entries = found.entries; has = subst (λ (l : List ℕ). HasRecords l (map entry_octets found.entries)) (sym is) found.has; replays = found.replays }
@@ -47,43 +47,53 @@ module _ {D : Type 0} (device : Device D) where
 
   pub kept_open : (disk opened : D) (journal : Journal) (head : Head) (history : List Item)
       → IsArchiveEntry (entries.Head head.tables head.mdb)
+      → HasArchivedRows (Some (archive head history))
       → (IsTrue device.is_transparent → IsReadArchive (device.reads opened 0) journal (archive head history))
       → unhealed_fault journal ≡ None
       → file_of journal ≡ 0
       → IsDurable device 0 (device.reads opened 0) opened
       → OnlyReads device opened disk
       → StoreInvariant device disk opened journal head history [] None
-  kept_open disk opened journal head history fits found no_pending_fault file only looked = record {
+  kept_open disk opened journal head history fits rows found no_pending_fault file only looked = record {
     faults = record { rising = tt; later = looked.later; writes_later = omega (arith, looked.no_write); wrote = λ faults is. absurd (cc (is)) };
-    images = λ transparent. record {
-      before = history;
-      opening = stands_found (device.reads opened) (device.reads opened 0) journal (archive head history) refl (found transparent);
-      begins = prefix_self history;
-      now = λ c left. stands_found c (device.reads opened 0) journal (archive head history) (only c (looked.images c left)) (found transparent);
-      since = weakens device opened disk _ _ looked.moments (λ c left. since_whole head history history [] c (prefix_self history) (stands_found c (device.reads opened 0) journal (archive head history) (only c left) (found transparent)));
-    };
-    entries = λ transparent. let f = found transparent in record {
-      entries = f.entries;
-      pending = [];
-      replays = f.replays;
-      keeps = record {
-        extents = f.extents;
-        end = f.end;
-        state = subst (λ (n : ℕ). StateIs device journal.pending_fault n (map entry_octets f.entries) [] disk) (sym file)
-            (without_fault journal.pending_fault 0 (map entry_octets f.entries) disk no_pending_fault
-            (subst (λ (l : List ℕ). HasRecords l (map entry_octets f.entries)) (sym (same_file 0)) f.has)
-            (λ c left. only c (looked.images c left) ∙ sym (same_file 0)));
+    before = history;
+    begins = prefix_self history;
+    opening = λ transparent. stands_found (device.reads opened) (device.reads opened 0) journal (archive head history) refl (found transparent);
+    archives = record {
+      none_unacknowledged = λ is after none. none;
+      images = λ transparent. record {
+        now = λ c left. inl (stands transparent c (only c (looked.images c left)));
+        since = weakens device opened disk _ _ looked.moments (λ c left. record { found = archive head history; stands = stands transparent c (only c left); holds = found_whole head history history [] (prefix_self history) });
       };
-      unacknowledged = λ faults is. absurd (cc (is, no_pending_fault));
+      log = λ transparent. let f = found transparent in record {
+        first = [];
+        base = None;
+        entries = f.entries;
+        pending = [];
+        below = λ c left. (file, refl, refl);
+        replays = f.replays;
+        keeps = record {
+          extents = f.extents;
+          end = f.end;
+          state = subst (λ (n : ℕ). StateIs device journal.pending_fault n (map entry_octets f.entries) [] disk) (sym file)
+              (without_fault journal.pending_fault 0 (map entry_octets f.entries) disk no_pending_fault
+              (subst (λ (l : List ℕ). HasRecords l (map entry_octets f.entries)) (sym (same_file 0)) f.has)
+              (λ c left. only c (looked.images c left) ∙ sym (same_file 0)));
+        };
+        unacknowledged = λ faults is. absurd (cc (is, no_pending_fault));
+      };
     };
-    file = file;
     pending_fault_is = refl;
     unhealed_fault_is = no_pending_fault;
     head_is = fits;
+    rows = rows;
   }
     where
       same_file : (f : ℕ) → device.reads disk f ≡ device.reads opened f
       same_file f = ap (λ (x : Image). x f) looked.reads_same
+
+      stands : IsTrue device.is_transparent → (c : Image) → c 0 ≡ device.reads opened 0 → StandsPlain c (archive head history)
+      stands transparent c is = stands_over c (archive head history) (stands_found c (device.reads opened 0) journal (archive head history) is (found transparent))
 
   -- an archive that was just made
   pub kept_made : (disk : D) (journal : Journal) (head : Head)
@@ -94,24 +104,30 @@ module _ {D : Type 0} (device : Device D) where
       → StoreInvariant device disk disk journal head [] [] None
   kept_made disk journal head fits no_pending_fault file keeps = record {
     faults = record { rising = tt; later = omega arith; writes_later = omega arith; wrote = λ faults is. absurd (cc (is)) };
-    images = λ transparent. record {
-      before = [];
-      opening = stands (device.reads disk) (without_fault_state device journal.pending_fault journal.file (head_octets head ∷ []) [] disk no_pending_fault (keeps transparent).state).0;
-      begins = prefix_self [];
-      now = λ c left. stands c (in_file c transparent left);
-      since = started device disk _ (λ c left. since_whole head [] [] [] c (prefix_self []) (stands c (in_file c transparent left)));
+    before = [];
+    begins = prefix_self [];
+    opening = λ transparent. stands (device.reads disk) (without_fault_state device journal.pending_fault journal.file (head_octets head ∷ []) [] disk no_pending_fault (keeps transparent).state).0;
+    archives = record {
+      none_unacknowledged = λ is after none. none;
+      images = λ transparent. record {
+        now = λ c left. inl (stands_over c (archive head []) (stands c (in_file c transparent left)));
+        since = started device disk _ (λ c left. record { found = archive head []; stands = stands_over c (archive head []) (stands c (in_file c transparent left)); holds = found_whole head [] [] [] (prefix_self []) });
+      };
+      log = λ transparent. record {
+        first = [];
+        base = None;
+        entries = entries.Head head.tables head.mdb ∷ [];
+        pending = [];
+        below = λ c left. (file, refl, refl);
+        replays = replays_head head fits;
+        keeps = keeps transparent;
+        unacknowledged = λ faults is. absurd (cc (is, no_pending_fault));
+      };
     };
-    entries = λ transparent. record {
-      entries = entries.Head head.tables head.mdb ∷ [];
-      pending = [];
-      replays = replays_head head fits;
-      keeps = keeps transparent;
-      unacknowledged = λ faults is. absurd (cc (is, no_pending_fault));
-    };
-    file = file;
     pending_fault_is = refl;
     unhealed_fault_is = no_pending_fault;
     head_is = fits;
+    rows = tt;
   }
     where
       in_file : (c : Image) → IsTrue device.is_transparent → device.images disk c → HasRecords (c (file_of journal)) (head_octets head ∷ [])

@@ -1,51 +1,58 @@
 -- Which refusals are which.
-use Rattle.std.proofs.Common.{◌≡◌, ◌⊎◌, inl, inr, ⊎_elim, ◌≤◌, ℕ, refl}
-use Rattle.std.specs.Prelude.{IsTrue}
-use Rattle.arch_disk.specs.Disk.{Device, raised}
+use Rattle.std.proofs.Common.{◌≡◌, inl, ◌≤◌, ℕ, refl, subst, arith}
+use Rattle.std.specs.Prelude.{IsTrue, Result, Ok, Err, IfErr, OnErr}
+use Rattle.arch_disk.specs.Disk.{Device}
+use Rattle.arch_disk.specs.Image.{Image}
 use Rattle.arch_types.specs.declared.refusal.Refusal.{Refusal}
 use Rattle.arch_types.specs.declared.refusal.Refusal.TheVariants as refused
-use Rattle.disk_journal.specs.Calls.{IsJournalCreateRefusal}
-use Rattle.disk_journal.specs.Format.{HoldsNone}
+use Rattle.disk_journal.specs.Calls.{IsBeginRefusal, IsJournalCreateRefusal, IsNextRefusal, content_read, read_so_far}
+use Rattle.disk_journal.specs.Reading.{IsCutShortAt, gate_of}
+use Rattle.disk_journal.specs.declared.opening.Opening.{Opening}
 use Rattle.disk_journal.specs.declared.fault.JournalFault.{JournalFault}
 use Rattle.disk_journal.specs.declared.fault.JournalFault.TheVariants.{Exists, NoArchive, Damaged, NeedsReopen, Limit, DiskFault, OutOfMemory}
 use Rattle.archive_store.specs.Stands.{IsArchiveDamagedAt}
 use Rattle.archive_store.specs.Calls.{IsStoreCreateRefusal, IsStoreOpenRefusal}
-use Rattle.archive_store.specs.PartialArchive.{read_refusal, refusal_of_create, IsReadRefusal}
+use Rattle.archive_store.specs.PartialArchive.{read_refusal, refusal_of_create, IsArchiveReadRefusal}
 
--- which fault a damage comes from
-pub read_damaged : (fault : JournalFault) (file at : ℕ) → read_refusal fault ≡ refused.Damaged file at → (file ≡ 0) × (fault ≡ Damaged at)
-read_damaged Exists file at is = absurd cc
-read_damaged NoArchive file at is = absurd cc
-read_damaged (Damaged place) file at is = (cc, cc)
-read_damaged (NeedsReopen faults) file at is = absurd cc
-read_damaged Limit file at is = absurd cc
-read_damaged DiskFault file at is = absurd cc
-read_damaged OutOfMemory file at is = absurd cc
+-- what holds of the only refusal that there is
+pub only_refusal : {T E : Type 0} (r : Result T E) (cause : Type 0) (e : E) (P : E → Type 0) → OnErr r (cause × (r ≡ Err e)) → (cause → P e) → IfErr r P
+only_refusal (Ok x) cause e P refused holds = tt
+only_refusal (Err f) cause e P refused holds = let same : e ≡ f = cc (refused.1) in subst P same (holds refused.0)
 
 module _ {D : Type 0} (device : Device D) where
-  -- a reading's refusals are an opening's,
-  pub read_refused : (before after : D) (e : Refusal) → IsReadRefusal e → (IsTrue device.is_transparent → (file at : ℕ) → e ≡ refused.Damaged file at → (file ≡ 0) × IsArchiveDamagedAt (device.reads before) at)
-      → (e ≡ refused.DiskFault → raised (device.fault_count before) ≤ device.fault_count after) → device.failed_writes after ≡ device.failed_writes before → IsStoreOpenRefusal device before after e
-  read_refused before after (refused.Damaged file at) only damaged cause writes = (λ transparent. damaged transparent file at refl, writes)
-  read_refused before after refused.DiskFault only damaged cause writes = record { rose = cause refl; wrote_most = inl writes }
-  read_refused before after refused.OutOfMemory only damaged cause writes = writes
-  read_refused before after _ only damaged cause writes = absurd only
+  -- why the next record was not read is why no archive was,
+  pub next_refused : (opening : Opening) (old before after : D) (fault : JournalFault) → IsNextRefusal device opening before after fault → device.fault_count old ≤ device.fault_count before
+      → (IsTrue device.is_transparent → (at : ℕ) → (at ≡ gate_of opening) × IsCutShortAt (content_read device opening before) (read_so_far device opening before) → IsArchiveDamagedAt (device.reads old) at)
+      → IsArchiveReadRefusal device old after (read_refusal fault)
+  next_refused opening old before after Exists refusal later cut = absurd refusal
+  next_refused opening old before after NoArchive refusal later cut = absurd refusal
+  next_refused opening old before after (Damaged at) refusal later cut = λ transparent. (refl, cut transparent at (refusal transparent))
+  next_refused opening old before after (NeedsReopen faults) refusal later cut = absurd refusal
+  next_refused opening old before after Limit refusal later cut = absurd refusal
+  next_refused opening old before after DiskFault refusal later cut = omega (arith, refusal, later)
+  next_refused opening old before after OutOfMemory refusal later cut = tt
 
-  -- and so are a beginning's
-  pub begin_refused : (before after : D) (fault : JournalFault) → (fault ≡ NoArchive) ⊎ (fault ≡ DiskFault) → (IsTrue device.is_transparent → fault ≡ NoArchive → HoldsNone (device.reads before 0))
-      → (fault ≡ DiskFault → raised (device.fault_count before) ≤ device.fault_count after)
-      → (device.failed_writes after ≡ device.failed_writes before) ⊎ ((fault ≡ DiskFault) × (device.failed_writes after ≡ raised (device.failed_writes before))) → IsStoreOpenRefusal device before after (read_refusal fault)
-  begin_refused before after NoArchive only none cause writes = (λ transparent. none transparent refl, ⊎_elim (λ same. same) (λ failed. absurd (cc (failed.0))) writes)
-  begin_refused before after DiskFault only none cause writes = record { rose = cause refl; wrote_most = ⊎_elim (λ same. inl same) (λ failed. inr failed.1) writes }
-  begin_refused before after Exists only none cause writes = ⊎_elim (λ is. absurd (cc (is))) (λ is. absurd (cc (is))) only
-  begin_refused before after (Damaged at) only none cause writes = ⊎_elim (λ is. absurd (cc (is))) (λ is. absurd (cc (is))) only
-  begin_refused before after (NeedsReopen faults) only none cause writes = ⊎_elim (λ is. absurd (cc (is))) (λ is. absurd (cc (is))) only
-  begin_refused before after Limit only none cause writes = ⊎_elim (λ is. absurd (cc (is))) (λ is. absurd (cc (is))) only
-  begin_refused before after OutOfMemory only none cause writes = ⊎_elim (λ is. absurd (cc (is))) (λ is. absurd (cc (is))) only
+  -- why no archive was read is why none was opened,
+  pub read_refused : (old before after : D) (e : Refusal) → IsArchiveReadRefusal device before after e → device.reads before ≡ device.reads old → device.fault_count old ≤ device.fault_count before → device.failed_writes after ≡ device.failed_writes old
+      → IsStoreOpenRefusal device old after e
+  read_refused old before after (refused.Damaged file at) refusal reads later writes = record { damaged = λ transparent. subst (λ (x : Image). (file ≡ 0) × IsArchiveDamagedAt x at) reads (refusal transparent); no_failed_write = writes }
+  read_refused old before after refused.DiskFault refusal reads later writes = record { rose = omega (arith, refusal, later); wrote_most = inl writes }
+  read_refused old before after refused.OutOfMemory refusal reads later writes = writes
+  read_refused old before after _ refusal reads later writes = absurd refusal
+
+  -- and so is why no reading began
+  pub begin_refused : (before after : D) (fault : JournalFault) → IsBeginRefusal device 0 before after fault → IsStoreOpenRefusal device before after (read_refusal fault)
+  begin_refused before after Exists refusal = absurd refusal
+  begin_refused before after NoArchive refusal = record { none = refusal.0; no_failed_write = refusal.1 }
+  begin_refused before after (Damaged at) refusal = absurd refusal
+  begin_refused before after (NeedsReopen faults) refusal = absurd refusal
+  begin_refused before after Limit refusal = absurd refusal
+  begin_refused before after DiskFault refusal = refusal
+  begin_refused before after OutOfMemory refusal = absurd refusal
 
   -- the refusals of a journal that is made are a creation's
   pub making_refused : (before after : D) (fault : JournalFault) → IsJournalCreateRefusal device 0 before after fault → IsStoreCreateRefusal device before after (refusal_of_create fault)
-  making_refused before after Exists refusal = refusal
+  making_refused before after Exists refusal = record { held = λ transparent. (refusal.0 transparent).0; reads = λ transparent. (refusal.0 transparent).1; no_failed_write = refusal.1 }
   making_refused before after NoArchive refusal = absurd refusal
   making_refused before after (Damaged at) refusal = absurd refusal
   making_refused before after (NeedsReopen faults) refusal = absurd refusal

@@ -4,6 +4,7 @@ use denote.Param.Send.{IsSend, IsSync, sendable}
 use Rattle.std.proofs.Crossing.{crosses}
 use Rattle.arch_disk.specs.declared.disk.Disk as disk
 use Rattle.arch_types.specs.contracts.row.Row as Row
+use Rattle.archive_core.specs.contracts.fill_list.FillList as FillList
 use Rattle.archive_core.specs.contracts.fills.Fill as Fill
 use Rattle.archive_history.specs.contracts.history.History as History
 use Rattle.archive_history.specs.contracts.limit_counts.LimitCounts as LimitCounts
@@ -75,8 +76,11 @@ history_send : IsSend History.the_row
 history_send = search (crosses, table_set_send, counts_send, sendable) depth 60
 
 fill_send : IsSend Fill.the_row
-fill_send = search (crosses, row_send, sendable) depth 60
+fill_send = search (crosses, row_send, sendable) depth 60 fits 10000
+
+fill_list_send : IsSend FillList.the_row
+fill_list_send = search (crosses, fill_send, sendable) depth 60
 
 -- ---- the store: it may go where its disk may
 pub store_send : (D : RattleType) (device : disk.Ghosts D.Denot) → IsSend D → IsSend (Store.the_row D device)
-store_send D device sent = search (crosses, mdb_send, mdb_sync, history_send, fill_send, sendable) depth 60
+store_send D device sent = search (crosses, mdb_send, mdb_sync, history_send, fill_list_send, sendable) depth 60

@@ -7,10 +7,10 @@ use Rattle.arch_types.specs.declared.refusal.Refusal.{Refusal}
 use Rattle.arch_types.specs.declared.refusal.Refusal.TheVariants.{NoArchive, Exists, Damaged, DiskFault, NeedsReopen, Limit, OutOfMemory}
 use Rattle.arch_types.specs.declared.refusal.Which.{Which}
 use Rattle.arch_types.specs.declared.row.Row.{Row}
-use Rattle.arch_types.specs.History.{ingested}
 use Rattle.arch_types.specs.Limits.{limit_of}
-use Rattle.archive_core.specs.Fills.{pending_fault_of, reopened}
-use Rattle.archive_core.specs.Items.{items_of}
+use Rattle.archive_core.specs.declared.fills.Addition.TheVariants.{Rows}
+use Rattle.archive_core.specs.Fills.{pending_fault_of, reopened, unacknowledged_rows}
+use Rattle.archive_core.specs.Items.{after_rows, items_of}
 use Rattle.archive_core.specs.Outcomes.{outcomes_of, fresh_of}
 use Rattle.archive_history.specs.Limits.{IsLimit, IsBelowLimits}
 use Rattle.disk_journal.specs.Calls.{BeginsOpen, IsJournalCreateFailed, IsJournalOpenFailed}
@@ -18,56 +18,69 @@ use Rattle.disk_journal.specs.Format.{HasRecords, HoldsNone}
 use Rattle.archive_store.specs.declared.head.Head.{Head}
 use Rattle.archive_store.specs.Entries.{Archive, archive}
 use Rattle.archive_store.specs.Stands.{StandsFor, IsArchiveDamagedAt}
-use Rattle.archive_store.specs.StoreView.{StoreView, AddsFault, IsNow, archive_of, unacknowledged_rows}
+use Rattle.archive_store.specs.StoreView.{StoreView, AddsFault, IsNow, archive_of}
+
+-- no write, cut or sync failed
+abbrev pub NoWriteFailed : {D : Type 0} → Device D → D → D → Type 0
+NoWriteFailed device before after = device.failed_writes after ≡ device.failed_writes before
 
 -- ---- crashes
 
 -- what a store stands for once rows came to it
 abbrev pub archive_with : {D : Type 0} → StoreView D → List Row → Archive
-archive_with store rows = archive store.head (ingested store.history rows)
+archive_with store rows = archive store.head (after_rows store.history rows)
 
 -- Where the disk is transparent, power lost at any moment of a call leaves one archive or the other.
 abbrev pub CrashLeavesEither : {D : Type 0} → Device D → D → D → Archive → Archive → Type 0
-CrashLeavesEither device before after old new = IsTrue device.is_transparent → LeavesOnly device before after (λ c. StandsFor c old ⊎ StandsFor c new)
+CrashLeavesEither device before after old new =
+    IsTrue device.is_transparent → LeavesOnly device before after (λ c. StandsFor c old ⊎ StandsFor c new)
 
--- Where the disk is transparent, power lost at any moment of a call leaves the store's archive, or after a failed write also the one with the unacknowledged rows.
+-- Where the disk is transparent, power lost at any moment of a call leaves the store's archive, or after a failed write
+-- also the one with the unacknowledged rows.
 abbrev pub CrashLeavesNow : {D : Type 0} → Device D → StoreView D → D → Type 0
-CrashLeavesNow device store after = IsTrue device.is_transparent → LeavesOnly device store.disk after (IsNow store.head store.history (unacknowledged_rows store.fills))
+CrashLeavesNow device store after =
+    IsTrue device.is_transparent →
+    LeavesOnly device store.disk after (IsNow store.head store.history (unacknowledged_rows store.fills))
 
 -- an image of before, or one that holds no archive, or one of the head alone
 abbrev pub IsCreateImage : (Image → Type 0) → Head → Image → Type 0
 IsCreateImage before head image = before image ⊎ (HoldsNone (image 0) ⊎ StandsFor image (archive head []))
 
--- Where a disk held no archive, power lost at any moment leaves it without one or with the head alone, or what it could have left before.
+-- Where a disk held no archive, power lost at any moment leaves it without one or with the head alone, or what it could
+-- have left before.
 abbrev pub CrashLeavesHead : {D : Type 0} → Device D → D → D → Head → Type 0
-CrashLeavesHead device before after head = IsTrue device.is_transparent → HoldsNone (device.reads before 0) → LeavesOnly device before after (IsCreateImage (device.images before) head)
+CrashLeavesHead device before after head =
+    IsTrue device.is_transparent → HoldsNone (device.reads before 0) →
+    LeavesOnly device before after (IsCreateImage (device.images before) head)
 
 -- ---- ingests
 
--- those of the rows whose key their table lacked stand behind the history, in one record more; without such rows nothing changed
-pub record AreIngested {D : Type 0} (device : Device D) (old new : StoreView D) (rows : List Row) (outcomes : List Inserted) : Type 0 where
+-- those of the rows whose key their table lacked stand behind the history, in one record more; without such rows
+-- nothing changed
+pub record AreIngested {D : Type 0} (device : Device D) (old new : StoreView D) (rows : List Row)
+    (outcomes : List Inserted) : Type 0 where
   pub healed : pending_fault_of old.fills ≡ None
   pub below : IsBelowLimits 22 old.records old.history rows
   pub outcomes_are : outcomes ≡ outcomes_of old.history rows
-  pub history : new.history ≡ ingested old.history rows
+  pub history : new.history ≡ after_rows old.history rows
   pub fills : new.fills ≡ old.fills
   pub one_record : fresh_of old.history rows ≢ [] → new.records ≡ old.records + 1
   pub no_call : fresh_of old.history rows ≡ [] → new ≡ old
-  pub no_failed_write : device.failed_writes new.disk ≡ device.failed_writes old.disk
+  pub no_failed_write : NoWriteFailed device old.disk new.disk
 
 -- some rows are new, and this is the first limit that is passed with them
 pub record PassesLimit {D : Type 0} (old : StoreView D) (rows : List Row) (which : Which) (number : ℕ) : Type 0 where
   pub healed : pending_fault_of old.fills ≡ None
   pub some_new : fresh_of old.history rows ≢ []
   pub number_is : number ≡ limit_of which
-  pub first : IsLimit 22 which old.records (ingested old.history rows)
+  pub first : IsLimit 22 which old.records (after_rows old.history rows)
 
 -- the disk failed at the record of the new rows: one fault more holds these, and all else but the disk is as before
 pub record IsIngestFailed {D : Type 0} (device : Device D) (old new : StoreView D) (rows : List Row) : Type 0 where
   pub healed : pending_fault_of old.fills ≡ None
   pub some_new : fresh_of old.history rows ≢ []
   pub below : IsBelowLimits 22 old.records old.history rows
-  pub fault : AddsFault device old new (fresh_of old.history rows)
+  pub fault : AddsFault device old new (Rows (fresh_of old.history rows))
 
 -- why a batch is refused, in the order in which it looks, and what that leaves
 abbrev pub IsIngestRefusal : {D : Type 0} → Device D → StoreView D → StoreView D → List Row → Refusal → Type 0
@@ -82,23 +95,24 @@ pub record AreAppended {D : Type 0} (device : Device D) (old new : StoreView D) 
   pub history : new.history ≡ old.history ++ items_of rows
   pub fills : new.fills ≡ old.fills
   pub records : new.records ≡ old.records + 1
-  pub no_failed_write : device.failed_writes new.disk ≡ device.failed_writes old.disk
+  pub no_failed_write : NoWriteFailed device old.disk new.disk
 
 -- why rows were not appended, and what that leaves
 abbrev pub IsRowsRefusal : {D : Type 0} → Device D → StoreView D → StoreView D → List Row → Refusal → Type 0
-IsRowsRefusal device old new rows DiskFault = AddsFault device old new rows
+IsRowsRefusal device old new rows DiskFault = AddsFault device old new (Rows rows)
 IsRowsRefusal device old new rows OutOfMemory = new ≡ old
 IsRowsRefusal device old new rows _ = ⊥
 
 -- ---- reopens
 
--- the failed writes of the fill list are cleared, and every image stands for the history; where none was pending no call of the disk was made
+-- the failed writes of the fill list are cleared, and every image stands for the history; where none was pending no call
+-- of the disk was made
 pub record IsStoreReopened {D : Type 0} (device : Device D) (old new : StoreView D) : Type 0 where
   pub store : new ≡ record old { fills = reopened old.fills; disk = new.disk }
-  pub no_pending_fault : pending_fault_of new.fills ≡ None
+  pub healed : pending_fault_of new.fills ≡ None
   pub images : IsTrue device.is_transparent → (c : Image) → device.images new.disk c → StandsFor c (archive_of new)
   pub no_call : pending_fault_of old.fills ≡ None → new.disk ≡ old.disk
-  pub no_failed_write : device.failed_writes new.disk ≡ device.failed_writes old.disk
+  pub no_failed_write : NoWriteFailed device old.disk new.disk
 
 -- the disk failed again: all but the disk is as before
 pub record IsReopenFailed {D : Type 0} (device : Device D) (old new : StoreView D) : Type 0 where
@@ -127,18 +141,28 @@ opened_disk_of (Err refused) = refused.0
 -- the store is what the disk stands for, of as many records as file 0 has, without a fault
 pub record IsStoreOpened {D : Type 0} (device : Device D) (disk : D) (store : StoreView D) : Type 0 where
   pub stands : IsTrue device.is_transparent → StandsFor (device.reads disk) (archive_of store)
-  pub records : IsTrue device.is_transparent → (bodies : List (List ℕ)) × HasRecords (device.reads disk 0) bodies × (store.records ≡ length bodies)
+  pub records : IsTrue device.is_transparent →
+      (bodies : List (List ℕ)) × HasRecords (device.reads disk 0) bodies × (store.records ≡ length bodies)
   pub fills : store.fills ≡ []
   pub opening : device.reads store.opened ≡ device.reads disk
-  pub no_failed_write : device.failed_writes store.disk ≡ device.failed_writes disk
+  pub no_failed_write : NoWriteFailed device disk store.disk
+
+-- the disk holds no archive
+pub record FindsNoArchive {D : Type 0} (device : Device D) (before after : D) : Type 0 where
+  pub none : IsTrue device.is_transparent → HoldsNone (device.reads before 0)
+  pub no_failed_write : NoWriteFailed device before after
+
+-- the archive is damaged in file 0, at this gate
+pub record FindsDamage {D : Type 0} (device : Device D) (before after : D) (file at : ℕ) : Type 0 where
+  pub damaged : IsTrue device.is_transparent → (file ≡ 0) × IsArchiveDamagedAt (device.reads before) at
+  pub no_failed_write : NoWriteFailed device before after
 
 -- why an archive is not opened: none is there, it is damaged at a gate of file 0, the disk failed, or memory is wanting
 abbrev pub IsStoreOpenRefusal : {D : Type 0} → Device D → D → D → Refusal → Type 0
-IsStoreOpenRefusal device before after NoArchive = (IsTrue device.is_transparent → HoldsNone (device.reads before 0)) × (device.failed_writes after ≡ device.failed_writes before)
-IsStoreOpenRefusal device before after (Damaged file at) = (IsTrue device.is_transparent → (file ≡ 0) × IsArchiveDamagedAt (device.reads before) at)
-    × (device.failed_writes after ≡ device.failed_writes before)
+IsStoreOpenRefusal device before after NoArchive = FindsNoArchive device before after
+IsStoreOpenRefusal device before after (Damaged file at) = FindsDamage device before after file at
 IsStoreOpenRefusal device before after DiskFault = IsJournalOpenFailed device before after
-IsStoreOpenRefusal device before after OutOfMemory = device.failed_writes after ≡ device.failed_writes before
+IsStoreOpenRefusal device before after OutOfMemory = NoWriteFailed device before after
 IsStoreOpenRefusal device before after _ = ⊥
 
 -- a refusal that may come whatever the disk holds
@@ -159,12 +183,17 @@ pub record IsStoreCreated {D : Type 0} (device : Device D) (disk : D) (head : He
   pub head_is : store.head ≡ head
   pub records : store.records ≡ 1
   pub opened : store.opened ≡ store.disk
-  pub no_failed_write : device.failed_writes store.disk ≡ device.failed_writes disk
+  pub no_failed_write : NoWriteFailed device disk store.disk
 
--- why no archive is made, and what that leaves: Exists where file 0 begins with an open gate
+-- file 0 begins with an open gate, and the disk reads as before
+pub record FindsArchive {D : Type 0} (device : Device D) (before after : D) : Type 0 where
+  pub held : IsTrue device.is_transparent → BeginsOpen (device.reads before 0)
+  pub reads : IsTrue device.is_transparent → device.reads after ≡ device.reads before
+  pub no_failed_write : NoWriteFailed device before after
+
+-- why no archive is made, and what that leaves
 abbrev pub IsStoreCreateRefusal : {D : Type 0} → Device D → D → D → Refusal → Type 0
-IsStoreCreateRefusal device before after Exists = (IsTrue device.is_transparent → BeginsOpen (device.reads before 0) × (device.reads after ≡ device.reads before))
-    × (device.failed_writes after ≡ device.failed_writes before)
+IsStoreCreateRefusal device before after Exists = FindsArchive device before after
 IsStoreCreateRefusal device before after DiskFault = IsJournalCreateFailed device 0 before after
 IsStoreCreateRefusal device before after OutOfMemory = after ≡ before
 IsStoreCreateRefusal device before after _ = ⊥

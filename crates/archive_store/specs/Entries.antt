@@ -1,13 +1,13 @@
 -- What the entries of a journal make, one after the other.
-use Rattle.std.specs.Prelude.{◌≡◌, ◌<◌, List, [], ◌∷◌, ◌++◌, length, Option, Some, None}
+use Rattle.std.specs.Prelude.{◌≡◌, ◌<◌, List, [], ◌++◌, length, Option, Some, None}
 use Rattle.std.specs.List.{AllByRecursion}
 use Rattle.arch_types.specs.declared.row.Row.{Row}
-use Rattle.arch_types.specs.History.{ingested}
-use Rattle.archive_core.specs.Items.{Item, items_of}
+use Rattle.archive_core.specs.Items.{Item, after_rows, items_of, rows_in}
 use Rattle.field_codec.specs.declared.entry.Entry.{Entry}
 use Rattle.field_codec.specs.declared.entry.Entry.TheVariants as entries
-use Rattle.field_codec.specs.Entries.{IsArchiveEntry}
+use Rattle.field_codec.specs.Entries.{IsArchiveEntry, IsStored}
 use Rattle.archive_store.specs.declared.head.Head.{Head}
+use Rattle.archive_store.specs.Images.{ReplaysBy}
 use Rattle.archive_history.specs.Limits.{IsWithin}
 
 -- what a disk stands for: the head of its archive, and the history
@@ -24,11 +24,22 @@ pub record IsPlaced (head : Head) (row : Row) : Type 0 where
   pub table : row.table < length head.tables
   pub pname : row.pname < length head.mdb.containers
 
+-- A row that a store gives: a whole packet that isn't idle, received within the clock's range, with the key that it gives then,
+-- in a table that the head has, and of a container that its database names
+pub record IsArchivedRow (head : Head) (row : Row) : Type 0 where
+  pub stored : IsStored row
+  pub placed : IsPlaced head row
+
+-- all rows of an archive are such rows, if there is an archive
+abbrev pub HasArchivedRows : Option Archive → Type 0
+HasArchivedRows None = Unit {0}
+HasArchivedRows (Some archive) = AllByRecursion (IsArchivedRow archive.head) (rows_in archive.history)
+
 -- Rows that a record may add: they have a spelling, their tables and names are there, no table has one of the keys, and no limit is passed.
 pub record AreAdmitted (old : Archive) (rows : List Row) : Type 0 where
   pub spelled : IsArchiveEntry (entries.Rows rows)
   pub placed : AllByRecursion (IsPlaced old.head) rows
-  pub fresh : ingested old.history rows ≡ old.history ++ items_of rows
+  pub fresh : after_rows old.history rows ≡ old.history ++ items_of rows
   pub within : IsWithin 22 (old.history ++ items_of rows)
 
 -- An entry makes an archive of nothing or of what there was: the first is a head, no other is, and rows are admitted.
@@ -40,5 +51,4 @@ Applies (Some old) (entries.Rows rows) new = AreAdmitted old rows × (new ≡ ar
 
 -- these entries, one after the other
 abbrev pub Replays : Option Archive → List Entry → Option Archive → Type 0
-Replays old [] new = new ≡ old
-Replays old (entry ∷ entries) new = (mid : Archive) × Applies old entry mid × Replays (Some mid) entries new
+Replays old entries new = ReplaysBy Applies old entries new

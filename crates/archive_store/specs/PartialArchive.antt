@@ -1,9 +1,10 @@
 -- What a reading of an archive gives.
-use Rattle.std.specs.Prelude.{◌≡◌, List, Option, Some, None, ℕ, map, length, option_map}
+use Rattle.std.specs.Prelude.{◌≡◌, ◌≤◌, IsTrue, List, Option, Some, None, ℕ, map, length, option_map}
+use Rattle.arch_disk.specs.Disk.{Device, raised}
 use Rattle.arch_types.specs.declared.refusal.Refusal.{Refusal}
 use Rattle.arch_types.specs.declared.refusal.Refusal.TheVariants as refused
 use Rattle.disk_journal.specs.Format.{HasRecords, written}
-use Rattle.disk_journal.specs.State.{extents_from}
+use Rattle.disk_journal.specs.State.{extents_from, file_of, unhealed_fault}
 use Rattle.disk_journal.specs.declared.journal.Journal.{Journal}
 use Rattle.disk_journal.specs.declared.fault.JournalFault.{JournalFault}
 use Rattle.disk_journal.specs.declared.fault.JournalFault.TheVariants as faults
@@ -12,7 +13,9 @@ use Rattle.field_codec.specs.declared.entry.Entry.TheVariants as entries
 use Rattle.field_codec.specs.Entries.{IsArchiveEntry}
 use Rattle.field_codec.specs.Spelling.{entry_octets}
 use Rattle.archive_store.specs.declared.reading.PartialArchive.{PartialArchive}
-use Rattle.archive_store.specs.Entries.{Archive, archive, Replays}
+use Rattle.archive_store.specs.declared.reading.ReadArchive.{ReadArchive}
+use Rattle.archive_store.specs.Entries.{Archive, archive, HasArchivedRows, Replays}
+use Rattle.archive_store.specs.Stands.{IsArchiveDamagedAt}
 
 -- what the entries so far have made
 abbrev pub archive_made : Option PartialArchive → Option Archive
@@ -51,9 +54,17 @@ refusal_of_create faults.Limit = refused.DiskFault
 refusal_of_create faults.DiskFault = refused.DiskFault
 refusal_of_create faults.OutOfMemory = refused.OutOfMemory
 
--- the refusals of reading entries
-abbrev pub IsReadRefusal : Refusal → Type 0
-IsReadRefusal (refused.Damaged file at) = Unit {0}
-IsReadRefusal refused.DiskFault = Unit {0}
-IsReadRefusal refused.OutOfMemory = Unit {0}
-IsReadRefusal _ = ⊥
+-- the journal of file 0 whole, and the archive that its entries make, with all that the type of a store keeps of it
+pub record IsArchiveRead {D : Type 0} (device : Device D) (disk : D) (read : ReadArchive) : Type 0 where
+  pub archive_is : IsTrue device.is_transparent → IsReadArchive (device.reads disk 0) read.journal (archive read.made.head read.made.history.items)
+  pub in_file : file_of read.journal ≡ 0
+  pub no_pending_fault : unhealed_fault read.journal ≡ None
+  pub tables : HasTables (Some read.made)
+  pub rows : HasArchivedRows (archive_made (Some read.made))
+
+-- why no archive was read: an open record passes the file's end or breaks a rule, a read failed, or memory is wanting
+abbrev pub IsArchiveReadRefusal : {D : Type 0} → Device D → D → D → Refusal → Type 0
+IsArchiveReadRefusal device before after (refused.Damaged file at) = IsTrue device.is_transparent → (file ≡ 0) × IsArchiveDamagedAt (device.reads before) at
+IsArchiveReadRefusal device before after refused.DiskFault = raised (device.fault_count before) ≤ device.fault_count after
+IsArchiveReadRefusal device before after refused.OutOfMemory = Unit {0}
+IsArchiveReadRefusal device before after _ = ⊥

@@ -13,6 +13,7 @@ use Rattle.mdb_items.specs.Texts.{place_of}
 use Rattle.archive_store.specs.declared.head.Head.{Head}
 use Rattle.archive_store.specs.declared.plan.Part.{Part}
 use Rattle.archive_store.specs.declared.plan.Plan.{Plan}
+use Rattle.archive_store.specs.Entries.{IsArchivedRow}
 
 -- the rows of parts, one part after the other
 abbrev pub rows_of_parts : List Part → List Row
@@ -29,12 +30,14 @@ AreRisingIntervals [] = Unit {0}
 AreRisingIntervals (part ∷ parts) = AllByRecursion (λ later. part.interval.0 <ℤ later.interval.0) parts × AreRisingIntervals parts
 
 -- The rows of `tm` with low <= time < high in the whole history, in the order of their keys, in one part for each interval that has any.
+-- Each of them is a row that a store gives, also over a disk that isn't transparent.
 pub record IsPlan (exponent : ℕ) (head : Head) (history : List Item) (low high : ℤ) (plan : Plan) : Type 0 where
   pub front : plan.front ≡ length history
   pub mdb : arc_value plan.mdb ≡ head.mdb
   pub rows : rows_of_parts plan.parts ≡ range_of 0 low high (rows_in history)
   pub each : AllByRecursion (IsPlanPart exponent) plan.parts
   pub rising : AreRisingIntervals plan.parts
+  pub archived : AllByRecursion (IsArchivedRow head) (rows_of_parts plan.parts)
 
 -- the database has no parameter of the name
 abbrev pub LacksParameter : Head → Request → Type 0

@@ -1,13 +1,13 @@
 -- What contracts see of a store, and what its type keeps.
-use Rattle.std.specs.Prelude.{◌≡◌, ◌⊎◌, ℕ, ◌^◌, ◌≤◌, ◌-◌, true, false, List, [], ◌∷◌, ◌++◌, min, Contains, Option, Some, None}
+use Rattle.std.specs.Prelude.{◌≡◌, ◌⊎◌, ℕ, ◌^◌, ◌≤◌, ◌-◌, true, List, [], ◌∷◌, ◌++◌, min, Contains, Option, Some, None}
 use mathlib.Core.List.{IsPrefix}
 use Rattle.arch_disk.specs.Image.{Image}
 use Rattle.arch_disk.specs.Disk.{Device, LeavesOnly, raised}
-use Rattle.arch_types.specs.declared.row.Row.{Row}
 use Rattle.archive_core.specs.declared.fills.Fill.{Fill}
-use Rattle.archive_core.specs.declared.fills.Fill.TheVariants.{Begun, Done, Freed, Fault}
-use Rattle.archive_core.specs.Items.{Item, items_of}
-use Rattle.archive_core.specs.Fills.{rows_of_faults, pending_fault_of, Rising, above}
+use Rattle.archive_core.specs.declared.fills.Addition.{Addition}
+use Rattle.archive_core.specs.declared.fills.Fill.TheVariants.{Fault}
+use Rattle.archive_core.specs.Items.{Item}
+use Rattle.archive_core.specs.Fills.{rows_of_faults, pending_fault_of, unacknowledged_rows, Rising, above}
 use Rattle.archive_store.specs.declared.head.Head.{Head}
 use Rattle.archive_store.specs.Entries.{Archive, archive}
 use Rattle.archive_store.specs.Stands.{StandsFor}
@@ -32,15 +32,6 @@ pub record IsSince (head : Head) (before history : List Item) (in_faults : List 
   pub begins : IsPrefix front history
   pub stands : StandsFor image (archive head front) ⊎ ((more : List Item) × Contains in_faults more × StandsFor image (archive head (front ++ more)))
 
--- the rows of the first fault after whose failed write no reopen has succeeded
-abbrev pub unacknowledged_rows : List Fill → Option (List Item)
-unacknowledged_rows [] = None
-unacknowledged_rows (Begun interval base ∷ fills) = unacknowledged_rows fills
-unacknowledged_rows (Done interval base ∷ fills) = unacknowledged_rows fills
-unacknowledged_rows (Freed interval ∷ fills) = unacknowledged_rows fills
-unacknowledged_rows (Fault count true rows ∷ fills) = Some (items_of rows)
-unacknowledged_rows (Fault count false rows ∷ fills) = unacknowledged_rows fills
-
 -- What a crash now may leave: what stands for the history, and after a failed write also for the history with the unacknowledged rows.
 abbrev pub IsNow : Head → List Item → Option (List Item) → Image → Type 0
 IsNow head history None image = StandsFor image (archive head history)
@@ -62,13 +53,13 @@ pub record FaultInvariant {D : Type 0} (device : Device D) (store : StoreView D)
   pub writes_later : device.failed_writes store.opened ≤ device.failed_writes store.disk
   pub wrote : (faults : ℕ) → pending_fault_of store.fills ≡ Some faults → raised (device.failed_writes store.opened) ≤ device.failed_writes store.disk
 
--- a call whose write failed adds one fault, which holds these rows, and leaves the history and the number of records
-pub record AddsFault {D : Type 0} (device : Device D) (old new : StoreView D) (rows : List Row) : Type 0 where
+-- a call whose write failed adds one fault, which holds what it would have added, and leaves history and records
+pub record AddsFault {D : Type 0} (device : Device D) (old new : StoreView D) (addition : Addition) : Type 0 where
   pub history : new.history ≡ old.history
   pub records : new.records ≡ old.records
   pub count : ℕ
   pub count_is : count ≡ min (device.fault_count new.disk) (2 ^ 64 - 1)
-  pub fills : new.fills ≡ old.fills ++ Fault count true rows ∷ []
+  pub fills : new.fills ≡ old.fills ++ Fault count true addition ∷ []
   pub rose : raised (device.fault_count old.disk) ≤ device.fault_count new.disk
   pub wrote : device.failed_writes new.disk ≡ raised (device.failed_writes old.disk)
 

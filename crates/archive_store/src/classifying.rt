@@ -17,7 +17,7 @@ use arch_types::inserted::{Inserted, Outcomes};
 use arch_types::key::Key;
 use arch_types::row::{Row, Rows};
 use archive_history::history::History;
-use block_map::index::Index;
+use block_map::growing_index::GrowingIndex;
 use space_packet::key::key_of;
 use std::alloc::{AllocError, Global};
 
@@ -34,7 +34,7 @@ pub(crate) struct ClassifiedBatch {
     pub outcomes: Outcomes,
     pub fresh: Rows,
     /// The place of each new row among them.
-    pub places: Index<TableKey, usize>,
+    pub places: GrowingIndex<TableKey, usize>,
 }
 
 /// What becomes of the row of that table and key.
@@ -156,7 +156,7 @@ pub(crate) fn classify(
     let mut classified = ClassifiedBatch {
         outcomes: Outcomes::new(alloc),
         fresh: Rows::new(alloc),
-        places: Index::new(alloc),
+        places: GrowingIndex::new(alloc),
     };
     for arrival in batch.arrivals.as_slice() {
         classify_arrival(history, &mut classified, batch, arrival)?;

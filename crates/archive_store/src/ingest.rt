@@ -1,6 +1,6 @@
 //! Batches, and what is done after a write that failed.
 
-ghost use Rattle.std.specs.Prelude.{◌≡◌, ◌<◌, ◌≤◌, ◌++◌, None, length, OnOk, IfOk, IfErr, IfSome, IfNone, vec_len, vec_capacity};
+ghost use Rattle.std.specs.Prelude.{◌≡◌, ◌<◌, ◌≤◌, ◌++◌, None, length, OnOk, IfOk, IfErr, IfSome, IfNone};
 ghost use Rattle.archive_core.specs.Fills.{pending_fault_of};
 ghost use Rattle.disk_journal.specs.State.{HasRoom, IsSame};
 ghost use Rattle.field_codec.specs.declared.entry.Entry.TheVariants as entries;
@@ -19,7 +19,8 @@ use crate::store::Store;
 use arch_disk::Disk;
 use arch_types::refusal::{Refusal, Which};
 use arch_types::row::{Row, Rows};
-use archive_core::fills::{Fill, clear_failed_writes};
+use archive_core::FillList;
+use archive_core::fills::Addition;
 use archive_history::history::History;
 use disk_journal::{Frame, Journal};
 use field_codec::{put_rows, rows_entry_len};
@@ -40,18 +41,18 @@ fn prepare(
     alloc: Global,
     journal: &mut Journal,
     history: &mut History,
-    fills: &mut Vec<Fill>,
+    fills: &mut FillList,
     fresh: &[Row],
 ) -> Result<Frame, AllocError>
     requires { IsArchiveEntry (entries.Rows fresh.now) }
     ensures frame { IfOk result (λ frame. frame ≡ entry_octets (entries.Rows fresh.now)) }
     ensures room { OnOk result (HasRoom journal.new × (length fresh.now ≤ history.new.room) ×
-        (vec_len fills.new < vec_capacity fills.new)) }
+        (0 < fills.new.room)) }
     ensures journal { IsSame journal.old journal.new }
     ensures history { (history.new.items ≡ history.old.items) × (history.new.tables ≡ history.old.tables) }
-    ensures fills { (fills.new.items ≡ fills.old.items) × (vec_len fills.new ≡ vec_len fills.old) }
+    ensures fills { fills.new.items ≡ fills.old.items }
 {
-    fills.reserve(1)?;
+    fills.reserve_fault()?;
     history.reserve(fresh.len())?;
     journal.reserve()?;
     rows_frame(alloc, fresh)
@@ -107,11 +108,7 @@ impl<D: Disk> Store<D> {
             }
             Err(_) => {
                 let count = self.disk.faults();
-                self.fills.push_reserved(Fill::Fault {
-                    count,
-                    wrote: true,
-                    rows: fresh,
-                });
+                self.fills.note_fault(count, true, Addition::Rows(fresh));
                 self.pending_fault = Some(count);
                 Err(Refusal::DiskFault)
             }
@@ -182,7 +179,7 @@ impl<D: Disk> Store<D> {
     {
         match self.journal.heal(&mut self.disk) {
             Ok(()) => {
-                clear_failed_writes(self.fills.as_mut_slice());
+                self.fills.clear_failed_writes();
                 self.pending_fault = None;
                 Ok(())
             }

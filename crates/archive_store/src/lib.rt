@@ -7,11 +7,12 @@
 // answers, and what each answer leaves, stands in specs/Calls.antt.
 // Callers: the commands that create, load, ask and recover an archive, and the store that many callers take in turns.
 //
-// The one idea of the proof is in the store's type: it keeps what a crash at any moment since the opening may have left (`CrashInvariant`), and how the
-// faults stand to the disk's counts (`FaultInvariant`), of the value alone. So `front` and `into_disk` hand both out, and each call proves one step:
+// The one idea of the proof is in the store's type: it keeps which archives a crash at any moment since the opening may have left, whatever archives and
+// entries are (`ArchiveInvariant` in specs/Images.antt; file 0 is its log, specs/PlainLog.antt), and how the faults stand to the disk's counts
+// (`FaultInvariant`), of the value alone. So `front` and `into_disk` hand both out (`CrashInvariant`), and each call proves one step:
 // a record more, an unacknowledged record, a record taken back (proofs/Kept.antt, proofs/Healing.antt).
 //
-// In memory the rows stand in a `Table` for each table, and a list of places names them in the order of the history (archive_history).
+// In memory the rows stand in a `Table` for each table; their order is kept for contracts alone (archive_history).
 // To be changed together: `Applies` in specs/Entries.antt, src/reading.rt and `IsBatch`; the limits, in archive_history.
 #![tactic(auto)]
 

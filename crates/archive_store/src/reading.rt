@@ -1,19 +1,19 @@
 //! Reading an archive, record by record.
 
-ghost use Rattle.std.specs.Prelude.{◌≡◌, ◌<◌, ◌≤◌, ◌⊎◌, ◌++◌, [], ◌∷◌, List, ℕ, None, Some, IsTrue, true, false, length, map, get_or, OnOk, OnErr, IfOk, IfErr, IfSome, Err};
+ghost use Rattle.std.specs.Prelude.{◌≡◌, ◌++◌, [], None, Some, IsTrue, true, false, length, OnErr, IfOk, IfErr, Err};
 ghost use Rattle.std.specs.List.{AllByRecursion};
-ghost use Rattle.arch_disk.specs.Disk.{OnlyReads, raised};
-ghost use Rattle.disk_journal.specs.State.{unhealed_fault, file_of};
+ghost use Rattle.arch_disk.specs.Disk.{OnlyReads};
+ghost use Rattle.disk_journal.specs.Calls.{BeginsOpen};
 ghost use Rattle.disk_journal.specs.Reading.{IsAt, file_read, IsReadJournal};
-ghost use Rattle.arch_types.specs.declared.refusal.Refusal.TheVariants.{Damaged, DiskFault};
+ghost use Rattle.arch_types.specs.declared.refusal.Refusal.TheVariants.{Damaged};
 ghost use Rattle.arch_types.specs.declared.row.Row.{Row as ARow};
 ghost use Rattle.field_codec.specs.declared.entry.Entry.{Entry as AnEntry};
 ghost use Rattle.field_codec.specs.declared.entry.Entry.TheVariants as entries;
 ghost use Rattle.field_codec.specs.Entries.{IsArchiveEntry};
 ghost use Rattle.field_codec.specs.Spelling.{entry_octets};
 ghost use Rattle.archive_store.specs.Entries.{archive, Applies, AreAdmitted, IsPlaced, Archive};
-ghost use Rattle.archive_store.specs.PartialArchive.{archive_made, HasTables, read_refusal, IsReadRefusal, IsReadArchive};
-ghost use Rattle.archive_store.specs.Stands.{IsArchiveDamagedAt, Breaks};
+ghost use Rattle.archive_store.specs.PartialArchive.{archive_made, HasTables, read_refusal, IsArchiveRead, IsArchiveReadRefusal};
+ghost use Rattle.archive_store.specs.Stands.{Breaks};
 
 use crate::head::Head;
 use arch_disk::Disk;
@@ -142,20 +142,16 @@ pub(crate) fn read_archive<D: Disk>(
     disk: &mut D,
     opening: Opening,
 ) -> Result<ReadArchive, Refusal>
-    requires at { IsTrue D.device.is_transparent → IsAt opening (D.device.reads disk.old 0) [] }
+    requires begun { IsTrue D.device.is_transparent →
+        BeginsOpen (D.device.reads disk.old 0) × IsAt opening (D.device.reads disk.old 0) [] }
     requires file { file_read opening ≡ 0 }
-    requires first { IsTrue D.device.is_transparent → (2 ≤ length (D.device.reads disk.old 0)) ×
-        (get_or (D.device.reads disk.old 0) 0 0 ≡ 1) }
-    ensures found { IsTrue D.device.is_transparent →
-        IfOk result (λ f. IsReadArchive (D.device.reads disk.old 0) f.journal
-        (archive f.made.head f.made.history.items)) }
-    ensures no_pending_fault { IfOk result (λ f. (unhealed_fault f.journal ≡ None) × (file_of f.journal ≡ 0)) }
-    ensures tables { IfOk result (λ f. HasTables (Some f.made)) }
-    ensures damaged { IsTrue D.device.is_transparent → (file at : ℕ) → result ≡ Err (Damaged file at) → (file ≡ 0) ×
-        IsArchiveDamagedAt (D.device.reads disk.old) at }
-    ensures only { IfErr result IsReadRefusal }
+
+    // Ok: the journal has all records of the file, and each is an entry that may follow those before it.
+    ensures read { IfOk result (IsArchiveRead D.device disk.old) }
+
+    // Refused: at the first record that passes the file's end or breaks a rule, for a read that failed, or want of memory.
+    ensures refused { IfErr result (IsArchiveReadRefusal D.device disk.old disk.new) }
     ensures looked { OnlyReads D.device disk.old disk.new }
-    ensures cause { result ≡ Err DiskFault → raised (D.device.fault_count disk.old) ≤ D.device.fault_count disk.new }
 {
     let mut opening = opening;
     let mut made = None;

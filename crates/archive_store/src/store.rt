@@ -7,7 +7,10 @@ ghost use Rattle.field_codec.specs.declared.entry.Entry.TheVariants as entries;
 ghost use Rattle.field_codec.specs.Entries.{IsArchiveEntry};
 ghost use Rattle.field_codec.specs.Spelling.{entry_octets};
 ghost use Rattle.arch_types.specs.History.{IsHistory};
+ghost use Rattle.archive_core.specs.Items.{rows_in};
 ghost use Rattle.archive_history.specs.Limits.{IsWithin};
+ghost use Rattle.archive_store.specs.Entries.{IsArchivedRow};
+ghost use Rattle.std.specs.List.{AllByRecursion};
 ghost use Rattle.archive_store.specs.PartialArchive.{refusal_of_create};
 ghost use Rattle.std.specs.Arc.{arc_value};
 
@@ -15,7 +18,7 @@ use crate::head::Head;
 use crate::reading::{PartialArchive, ReadArchive, read_archive, refusal_of};
 use arch_disk::Disk;
 use arch_types::refusal::Refusal;
-use archive_core::fills::Fill;
+use archive_core::FillList;
 use archive_history::history::History;
 use disk_journal::{Frame, Journal, JournalFault, Opening};
 use field_codec::write_head;
@@ -35,7 +38,7 @@ pub struct Store<D: Disk> {
     /// The head's database, which plans share.
     pub(crate) mdb: Arc<Mdb, Global>,
     pub(crate) history: History,
-    pub(crate) fills: Vec<Fill>,
+    pub(crate) fills: FillList,
     /// The disk's count of faults at the first failed write that isn't healed.
     pub(crate) pending_fault: Option<u64>,
 }
@@ -150,7 +153,7 @@ impl<D: Disk> Store<D> {
                     head,
                     mdb,
                     history,
-                    fills: Vec::new(alloc),
+                    fills: FillList::new(alloc),
                     pending_fault: None,
                 })
             }
@@ -196,7 +199,7 @@ impl<D: Disk> Store<D> {
             head,
             mdb,
             history,
-            fills: Vec::new(alloc),
+            fills: FillList::new(alloc),
             pending_fault: None,
         })
     }
@@ -223,7 +226,8 @@ impl<D: Disk> Store<D> {
     /// The length of the history.
     pub fn front(&self) -> u64
         ensures front { result ≡ length self.now.history }
-        ensures history { IsHistory self.now.history × IsWithin 22 self.now.history }
+        ensures history { IsHistory (rows_in self.now.history) × IsWithin 22 self.now.history }
+        ensures rows { AllByRecursion (IsArchivedRow self.now.head) (rows_in self.now.history) }
         ensures images { IsTrue D.device.is_transparent → CrashInvariant D.device self.now }
         ensures faults { FaultInvariant D.device self.now }
     {

@@ -8,15 +8,29 @@ use std::test::Fail;
 
 const TWICE: [Step; 3] = [
     Step::Ingest(
-        (9_000, &[0, 1, 0], &[0]),
-        &[Inserted::New(0), Inserted::New(1), Inserted::Duplicate(0)],
+        (9_000, &[0, 1, 0], &[0, 1]),
+        &[
+            Inserted::New(0),
+            Inserted::New(1),
+            Inserted::New(2),
+            Inserted::New(3),
+            Inserted::Duplicate(0),
+            Inserted::Duplicate(1),
+        ],
     ),
     Step::Ingest(
-        (9_000, &[4, 1], &[0]),
-        &[Inserted::Duplicate(0), Inserted::Duplicate(1)],
+        (9_000, &[4, 1], &[1, 0]),
+        &[
+            Inserted::Duplicate(1),
+            Inserted::Duplicate(0),
+            Inserted::Duplicate(3),
+            Inserted::Duplicate(2),
+        ],
     ),
-    Step::Plan(0, 2_000, 2, &[(0, &[0, 1])]),
+    Step::Plan(0, 2_000, 4, &[(0, &[0, 1])]),
 ];
+
+// A row tells the place of the one that has its key in its table.
 
 #[test]
 fn a_packet_comes_twice(rt: HostRuntime) -> Result<(), Fail> {

@@ -52,7 +52,7 @@ fn other_after<D: Disk>(
 ) -> Result<Option<usize>, Fail>
     requires { pending_fault_of store.old.fills ≡ None }
 {
-    let batch = batch(alloc, store.head(), &(9_000, &[0], &[0]))?;
+    let batch = batch(alloc, store.head(), &(9_000, &[0], &[0, 1]))?;
     ingest_and_reopen(alloc, store, &batch);
     other_answer(alloc, store, steps)
 }
@@ -84,7 +84,10 @@ fn of_new_healed<D: Disk + Drop>(
 
 const TAKEN_BACK: [Step; 2] = [
     Step::Plan(0, 2_000, 0, &[]),
-    Step::Ingest((9_000, &[0], &[0]), &[Inserted::New(0)]),
+    Step::Ingest(
+        (9_000, &[0], &[1, 0]),
+        &[Inserted::New(0), Inserted::New(1)],
+    ),
 ];
 
 // The third call of the first ingest opens the gate.
@@ -97,14 +100,17 @@ fn a_batch_that_failed_is_taken_back(rt: HostRuntime) -> Result<(), Fail> {
 }
 
 const GATE_FAILS: &[Step] = &[
-    Step::Refused((9_000, &[0], &[0]), "disk fault"),
+    Step::Refused((9_000, &[0], &[0, 1]), "disk fault"),
     Step::Plan(0, 2_000, 0, &[]),
-    Step::Refused((9_000, &[0], &[0]), "needs reopen 1"),
+    Step::Refused((9_000, &[0], &[0, 1]), "needs reopen 1"),
     Step::NoReopen,
-    Step::Refused((9_000, &[1], &[0]), "needs reopen 1"),
+    Step::Refused((9_000, &[1], &[1]), "needs reopen 1"),
     Step::Reopen,
-    Step::Ingest((9_000, &[0], &[0]), &[Inserted::New(0)]),
-    Step::Plan(0, 2_000, 1, &[(0, &[0])]),
+    Step::Ingest(
+        (9_000, &[0], &[0, 1]),
+        &[Inserted::New(0), Inserted::New(1)],
+    ),
+    Step::Plan(0, 2_000, 2, &[(0, &[0])]),
 ];
 
 /// A function, so that they stand in no goal of its callers.

@@ -7,7 +7,7 @@ use archive_store::Store;
 use std::alloc::Global;
 use std::test::Fail;
 
-/// What an archive of the first packets shows, by their number.
+/// What an archive of the first packets shows, by their number. Each is a row of either table.
 const SHOWN: [&[IntervalPackets]; 5] = [
     &[],
     &[(0, &[0])],
@@ -16,10 +16,11 @@ const SHOWN: [&[IntervalPackets]; 5] = [
     &[(0, &[0, 1, 2, 3])],
 ];
 
-/// The entry for a number. A function, so that the table stands in no goal of its callers.
-fn shown(count: u64) -> Option<&'static [IntervalPackets]> {
-    if count < 5 {
-        Some(SHOWN[count as usize])
+/// The entry for a number of rows: those of one packet come in one record, so it is even. A function, so that the table
+/// stands in no goal of its callers.
+fn shown(rows: u64) -> Option<&'static [IntervalPackets]> {
+    if rows % 2 == 0 && rows / 2 < 5 {
+        Some(SHOWN[(rows / 2) as usize])
     } else {
         None
     }
@@ -28,23 +29,23 @@ fn shown(count: u64) -> Option<&'static [IntervalPackets]> {
 /// Each of the first packets.
 const NEXT: [&[u64]; 4] = [&[0], &[1], &[2], &[3]];
 
-/// The packet of a number, as above.
+/// The packet behind so many rows, as above.
 fn next(front: u64) -> &'static [u64] {
-    NEXT[(front % 4) as usize]
+    NEXT[(front / 2 % 4) as usize]
 }
 
 /// The calls that are made of a new archive: `i` an ingest of the next packet and `r` a reopen.
 const CALLS: &[u8] = b"iirri";
 
-/// Whether a store shows the first packets, so many.
-fn shows_first<D: Disk>(alloc: Global, store: &mut Store<D>, count: u64) -> Result<bool, Fail> {
-    match shown(count) {
-        Some(parts) => shows(alloc, store, 0, 2_000, count, parts),
+/// Whether a store shows the first packets, in so many rows.
+fn shows_first<D: Disk>(alloc: Global, store: &mut Store<D>, rows: u64) -> Result<bool, Fail> {
+    match shown(rows) {
+        Some(parts) => shows(alloc, store, 0, 2_000, rows, parts),
         None => Ok(false),
     }
 }
 
-/// Whether a store shows the first packets, so many or one more; where no number is given, no packet.
+/// Whether a store shows the first packets, in so many rows or with one packet more; where no number is given, no packet.
 fn shows_either<D: Disk>(
     alloc: Global,
     store: &mut Store<D>,
@@ -53,7 +54,7 @@ fn shows_either<D: Disk>(
     match low {
         None => shows_first(alloc, store, 0),
         Some(low) => Ok(
-            shows_first(alloc, store, low)? || shows_first(alloc, store, low.saturating_add(1))?,
+            shows_first(alloc, store, low)? || shows_first(alloc, store, low.saturating_add(2))?,
         ),
     }
 }
@@ -138,7 +139,7 @@ fn make_call<D: Disk>(
     front: u64,
 ) -> Result<(), Fail> {
     if call == b'i' {
-        let _ = ingest_answer(alloc, store, &(9_000, next(front), &[0]))?;
+        let _ = ingest_answer(alloc, store, &(9_000, next(front), &[0, 1]))?;
     } else {
         let _ = is_reopened(store);
     }

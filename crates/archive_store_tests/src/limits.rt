@@ -40,11 +40,11 @@ fn journal_of(alloc: Global, records: &[u16]) -> Result<Vec<u8>, Fail> {
     Ok(journal)
 }
 
-/// One row more is refused, and so is one behind a duplicate.
+/// One row more is refused, and so is one behind a duplicate and rows of the other table.
 const FULL: [Step; 2] = [
     Step::Refused((9_000, &[262_152], &[0]), "limit IntervalRows 262144"),
     Step::Refused(
-        (9_000, &[262_151, 262_152], &[0]),
+        (9_000, &[262_151, 262_152], &[1, 0]),
         "limit IntervalRows 262144",
     ),
 ];

@@ -40,7 +40,7 @@ const BROKEN: [Records; 11] = [
     ),
     (
         "a key twice in a record",
-        &[Body::Head, Body::Rows(2, &[(0, 0), (0, 0)], 0)],
+        &[Body::Head, Body::Rows(2, &[(0, 0), (1, 0), (0, 0)], 0)],
         "damaged 0 58",
     ),
     (

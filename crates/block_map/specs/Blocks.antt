@@ -1,5 +1,5 @@
 -- Entries in blocks.
-use Rattle.std.specs.Prelude.{◌≡◌, ◌≢◌, ℕ, ◌+◌, ◌<◌, ◌≤◌, List, [], length, take, drop, slice_index_or, vec_capacity}
+use Rattle.std.specs.Prelude.{◌≡◌, ◌≢◌, ℕ, ◌+◌, ◌-◌, ◌<◌, ◌≤◌, List, [], ◌∷◌, length, take, drop, slice_index_or, vec_capacity}
 use Rattle.std.specs.Global.{Vec}
 use Rattle.std.specs.List.{flat_map, All}
 use Rattle.std.specs.declared.cmp.Ordering.{Ordering}
@@ -14,6 +14,15 @@ entries_of blocks = flat_map (λ b. b.items) blocks
 abbrev pub HaveFirsts : {K V : Type 0} → List (Vec (K × V)) → Type 0
 HaveFirsts {K} {V} blocks = (i : ℕ) (d : Vec (K × V)) → 0 < i → i < length blocks → 0 < length (slice_index_or blocks i d).items
 
+-- each block but the first has at least so many entries
+abbrev pub AreFilled : {K V : Type 0} → ℕ → List (Vec (K × V)) → Type 0
+AreFilled {K} {V} fill blocks = (i : ℕ) (d : Vec (K × V)) → 0 < i → i < length blocks → fill ≤ length (slice_index_or blocks i d).items
+
+-- how many entries blocks have beyond so many each
+abbrev pub excess_of : {K V : Type 0} → ℕ → List (Vec (K × V)) → ℕ
+excess_of keep [] = 0
+excess_of keep (b ∷ bs) = (length b.items - keep) + excess_of keep bs
+
 -- a key belongs in the block b
 pub record IsBlockFor {K V : Type 0} (cmp : K → K → Ordering) (key : K) (blocks : List (Vec (K × V))) (b : ℕ) : Type 0 where
   pub within : b < length blocks
@@ -24,11 +33,18 @@ pub record IsBlockFor {K V : Type 0} (cmp : K → K → Ordering) (key : K) (blo
 abbrev pub IsSized : {K V : Type 0} → Vec (K × V) → Type 0
 IsSized b = (length b.items ≤ CAPACITY) × (CAPACITY ≤ vec_capacity b)
 
+-- blocks in the order of their keys, each but the first with an entry
+pub record AreRisingBlocks {K V : Type 0} (cmp : K → K → Ordering) (blocks : List (Vec (K × V))) : Type 0 where
+  pub some : 0 < length blocks
+  pub rising : IsRising cmp (entries_of blocks)
+  pub begun : HaveFirsts blocks
+  pub sized : All IsSized blocks
+
 -- blocks in the order of their keys, each but the first with at least MIN_FILL
 pub record IsBlocks {K V : Type 0} (cmp : K → K → Ordering) (blocks : List (Vec (K × V))) : Type 0 where
   pub some : 0 < length blocks
   pub rising : IsRising cmp (entries_of blocks)
-  pub filled : (i : ℕ) (d : Vec (K × V)) → 0 < i → i < length blocks → MIN_FILL ≤ length (slice_index_or blocks i d).items
+  pub filled : AreFilled MIN_FILL blocks
   pub sized : All IsSized blocks
 
 -- blocks in order, but for one of them, which may lack an entry of MIN_FILL

@@ -1,7 +1,8 @@
 -- What contracts see of an index, and what is true of its fields.
 use Rattle.std.specs.Prelude.{◌≡◌, ℕ, ◌+◌, ◌*◌, ◌^◌, ◌<◌, ◌≤◌, List, [], Option, Some, None, length, vec_len, vec_capacity}
 use Rattle.std.specs.Global.{Vec}
-use Rattle.std.specs.BTreeMap.{insert_entry}
+use Rattle.std.specs.Map.{lookup}
+use Rattle.std.specs.BTreeMap.{is_at, insert_entry}
 use Rattle.std.specs.declared.cmp.Ordering.{Ordering}
 use Rattle.block_map.specs.declared.blocks.TheConstants.{MIN_FILL}
 use Rattle.block_map.specs.Blocks.{entries_of, IsBlocks, AreReady}
@@ -25,6 +26,15 @@ pub record IsIndex {K V : Type 0} (cmp : K → K → Ordering) (blocks spare : V
   pub counted : len ≡ length (entries_of blocks.items)
   pub spared : len + room < (vec_len blocks + vec_len spare) * MIN_FILL
   pub small : len + room < 2 ^ 64
+
+-- how many were counted of a key: none where it isn't there
+abbrev pub tally : Option ℕ → ℕ
+tally None = 0
+tally (Some count) = count
+
+-- how many were counted of a key among entries
+abbrev pub tally_of : {K : Type 0} → (K → K → Ordering) → List (K × ℕ) → K → ℕ
+tally_of cmp entries key = tally (lookup (is_at (cmp key)) entries)
 
 -- one more entry, at its key, in the place of one of the room
 abbrev pub IsAdded : {K V : Type 0} → (K → K → Ordering) → Listing K V → Listing K V → K → V → Type 0

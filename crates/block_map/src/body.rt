@@ -8,10 +8,11 @@ ghost use Rattle.block_map.specs.Rising.{IsRising};
 ghost use Rattle.block_map.specs.Blocks.{AreReady};
 ghost use Rattle.block_map.specs.Index.{IsAdded};
 
-use crate::blocks::{Block, CAPACITY, MIN_FILL, open_block, put, set_value};
+use crate::blocks::{Block, CAPACITY, MIN_FILL, SPLIT_AT, open_block, put};
 use crate::entries::Entries;
 use crate::removal::{rebalance, take_out};
 use crate::search::{block_for, place_in};
+use crate::values::{entries_from_key, replace_value, value_of};
 use std::alloc::{AllocError, Global};
 use std::marker::Model;
 
@@ -41,7 +42,7 @@ impl<K: Ord + Copy, V: Copy> Model for Body<K, V> {
 }
 
 /// Adds empty blocks until there are as many as wanted, used and spare together.
-fn add_spare<K: Copy, V: Copy>(
+pub(crate) fn add_spare<K: Copy, V: Copy>(
     alloc: Global,
     blocks: &mut Vec<Block<K, V>>,
     spare: &mut Vec<Block<K, V>>,
@@ -136,7 +137,7 @@ impl<K: Ord + Copy, V: Copy> Body<K, V> {
         ensures left { self.old.room ≤ self.new.room + 1 }
         ensures rising { IsRising K.cmp self.new.entries }
     {
-        let b = open_block(&mut self.blocks, &mut self.spare, key);
+        let b = open_block(&mut self.blocks, &mut self.spare, key, SPLIT_AT);
         let block = self.blocks[b].as_slice();
         match place_in(block, key) {
             Ok(at) => Some(block[at].1),
@@ -153,12 +154,7 @@ impl<K: Ord + Copy, V: Copy> Body<K, V> {
     pub(crate) fn get(&self, key: K) -> Option<V>
         ensures { result ≡ lookup (is_at (K.cmp key)) self.now.entries }
     {
-        let b = block_for(self.blocks.as_slice(), key);
-        let block = self.blocks[b].as_slice();
-        match place_in(block, key) {
-            Ok(at) => Some(block[at].1),
-            Err(_) => None,
-        }
+        value_of(self.blocks.as_slice(), key)
     }
 
     /// Gives a key that is there another value, and answers the old one. A key that isn't there stays away.
@@ -171,16 +167,7 @@ impl<K: Ord + Copy, V: Copy> Body<K, V> {
         ensures absent { IfNone result (self.new ≡ self.old) }
         ensures rising { IsRising K.cmp self.new.entries }
     {
-        let b = block_for(self.blocks.as_slice(), key);
-        let block = self.blocks[b].as_slice();
-        match place_in(block, key) {
-            Ok(at) => {
-                let old = block[at].1;
-                set_value(&mut self.blocks, b, at, key, value);
-                Some(old)
-            }
-            Err(_) => None,
-        }
+        replace_value(&mut self.blocks, key, value)
     }
 
     /// Takes out a key that is there, and answers its value. Its place can be used again without memory.
@@ -222,12 +209,6 @@ impl<K: Ord + Copy, V: Copy> Body<K, V> {
         ensures entries { result ≡ entries_from (K.cmp key) self.now.entries }
         ensures rising { IsRising K.cmp result }
     {
-        let b = block_for(self.blocks.as_slice(), key);
-        let block = self.blocks[b].as_slice();
-        let (_, rest) = self.blocks.as_slice().split_at(b + 1);
-        match place_in(block, key) {
-            Ok(at) => Entries::new(block.split_at(at).1, rest),
-            Err(at) => Entries::new(block.split_at(at).1, rest),
-        }
+        entries_from_key(self.blocks.as_slice(), key)
     }
 }

@@ -1,5 +1,6 @@
 //! What no clause says: that calls succeed where memory is ample, and that an index may be shared between threads.
 
+use block_map::growing_index::GrowingIndex;
 use block_map::index::Index;
 use std::alloc::{AllocError, Global};
 use std::test::Fail;
@@ -118,5 +119,61 @@ fn takes_keys_again(rt: HostRuntime) -> Result<(), Fail> {
         assert_eq!(rt; inserted(&mut index, key, key), Some(None));
     }
     assert_eq!(rt; (index.get(86), index.get(600)), (Some(86), Some(515)));
+    Ok(())
+}
+
+/// Keys of which 1,501 come in order and then 1,500 between them, so that blocks are split at their ends and in halves.
+fn two_runs(alloc: Global) -> Result<GrowingIndex<u64, u64>, AllocError> {
+    let mut index = GrowingIndex::new(alloc);
+    for value in 0..3001 {
+        index.reserve(1)?;
+        let key = if value <= 1500 {
+            value * 2
+        } else {
+            (value - 1501) * 2 + 1
+        };
+        if index.room() > 0 {
+            index.insert(key, value);
+        }
+    }
+    Ok(index)
+}
+
+#[test]
+fn grows(rt: HostRuntime) -> Result<(), Fail> {
+    let mut index = two_runs(rt.alloc())?;
+    is_shared(&index);
+    assert_eq!(rt; (index.len(), index.room()), (3001, 0));
+    assert_eq!(rt; (index.get(2999), index.get(3001)), (Some(3000), None));
+    assert_eq!(rt; (index.replace(7, 0), index.get(7)), (Some(1504), Some(0)));
+    let mut above = index.from_key(2999);
+    for want in [Some((2999, 3000)), Some((3000, 1500)), None] {
+        assert_eq!(rt; above.next().copied(), want);
+    }
+    let mut next: u64 = 0;
+    for (key, _) in index.iter() {
+        assert_eq!(rt; *key, next);
+        next = next.wrapping_add(1);
+    }
+    assert_eq!(rt; next, 3001);
+    Ok(())
+}
+
+/// What a count comes to, where there is room for it.
+fn counted(index: &mut GrowingIndex<u64, u64>, key: u64) -> Option<u64> {
+    if index.room() == 0 || index.get(key) == Some(u64::MAX) {
+        return None;
+    }
+    Some(index.add_one(key))
+}
+
+#[test]
+fn counts(rt: HostRuntime) -> Result<(), Fail> {
+    let mut index = GrowingIndex::new(rt.alloc());
+    index.reserve(3)?;
+    for (key, want) in [(8, 1), (3, 1), (8, 2), (8, 3)] {
+        assert_eq!(rt; counted(&mut index, key), Some(want));
+    }
+    assert_eq!(rt; (index.len(), index.room()), (2, 1));
     Ok(())
 }

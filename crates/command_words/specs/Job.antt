@@ -4,9 +4,10 @@ use Rattle.std.specs.Str.{bytes_eq}
 use Rattle.arch_types.specs.declared.refusal.Refusal.{Refusal}
 use Rattle.arch_types.specs.declared.refusal.Refusal.TheVariants.{Usage, OutOfMemory}
 use Rattle.clap.specs.Walk.{Row, first_of}
-use Rattle.clap.specs.Simple.{App, with_rule}
+use Rattle.clap.specs.Simple.{App}
 use Rattle.text_forms.specs.Digits.{digits_at_most}
-use Rattle.command_words.specs.Words.{option_rule, plain_app, words_app, rows_of_words}
+use Rattle.command_words.specs.Words.{rows_of_words}
+use Rattle.command_words.specs.Arguments.{command_app, option_rule, word_rule}
 
 -- the names of three sheets and of a dump, and the name of a parameter
 pub record ValuesWords : Type 0 where
@@ -39,7 +40,7 @@ pub data Job : Type 0 where
 
 -- the words of `scan`
 abbrev pub scan_app : App
-scan_app = words_app (codes "scan") (codes "dump" ∷ [])
+scan_app = command_app (codes "scan") (word_rule (codes "dump") ∷ [])
 
 -- the job of `scan DUMP`, by the words that clap found
 abbrev pub scan_job : List Row → Option Job
@@ -47,7 +48,9 @@ scan_job rows = option_map Scan (first_of (codes "dump") rows)
 
 -- the words of `values`
 abbrev pub values_app : App
-values_app = words_app (codes "values") (codes "parameters" ∷ codes "calibrations" ∷ codes "containers" ∷ codes "dump" ∷ codes "name" ∷ [])
+values_app =
+    command_app (codes "values")
+    (word_rule (codes "parameters") ∷ word_rule (codes "calibrations") ∷ word_rule (codes "containers") ∷ word_rule (codes "dump") ∷ word_rule (codes "name") ∷ [])
 
 -- the job of `values`, where each of its words is there
 abbrev pub values_words : Option (List ℕ) → Option (List ℕ) → Option (List ℕ) → Option (List ℕ) → Option (List ℕ) → Option Job
@@ -62,7 +65,7 @@ values_job rows =
 
 -- the words of `create`
 abbrev pub create_app : App
-create_app = words_app (codes "create") (codes "parameters" ∷ codes "calibrations" ∷ codes "containers" ∷ [])
+create_app = command_app (codes "create") (word_rule (codes "parameters") ∷ word_rule (codes "calibrations") ∷ word_rule (codes "containers") ∷ [])
 
 -- the job of `create`, where each of its words is there
 abbrev pub sheet_words : Option (List ℕ) → Option (List ℕ) → Option (List ℕ) → Option Job
@@ -75,7 +78,7 @@ create_job rows = sheet_words (first_of (codes "parameters") rows) (first_of (co
 
 -- the words of `load`: a dump, and an option for the number of its link
 abbrev pub load_app : App
-load_app = with_rule (words_app (codes "load") (codes "dump" ∷ [])) (option_rule (codes "link") false)
+load_app = command_app (codes "load") (word_rule (codes "dump") ∷ option_rule (codes "link") false ∷ [])
 
 -- the numbers from 1 on
 abbrev pub from_one : ℕ → Option ℕ
@@ -97,7 +100,7 @@ load_job rows = load_words (first_of (codes "dump") rows) (link_of (first_of (co
 
 -- the words of `query`: an option for a sheet of asks, which has to come
 abbrev pub query_app : App
-query_app = with_rule (plain_app (codes "query")) (option_rule (codes "ask") true)
+query_app = command_app (codes "query") (option_rule (codes "ask") true ∷ [])
 
 -- the job of `query --ask FILE`, by the words that clap found
 abbrev pub query_job : List Row → Option Job
@@ -105,7 +108,7 @@ query_job rows = option_map Query (first_of (codes "ask") rows)
 
 -- `recover` has no words
 abbrev pub recover_app : App
-recover_app = plain_app (codes "recover")
+recover_app = command_app (codes "recover") []
 
 -- the job of `recover`, which has no words
 abbrev pub recover_job : List Row → Option Job

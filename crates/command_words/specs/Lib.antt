@@ -1,3 +1,4 @@
 pub mod Words
+pub mod Arguments
 pub mod Job
 pub mod JobView

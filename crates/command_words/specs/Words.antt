@@ -1,14 +1,13 @@
 -- The words behind a command, as clap reads them.
-use Rattle.std.specs.Prelude.{◌≡◌, ℕ, ◌+◌, ◌==◌, ◌&&◌, ◌||◌, Bool, true, false, not, List, [], ◌∷◌, length, fold, position, codes, nat_eq, Option, Some, None, if◌then◌else◌}
+use Rattle.std.specs.Prelude.{◌≡◌, ℕ, ◌+◌, ◌==◌, ◌&&◌, ◌||◌, Bool, true, false, not, List, [], ◌∷◌, length, position, codes, nat_eq, Option, Some, None, if◌then◌else◌}
 use Rattle.std.specs.List.{list_all, starts_with}
 use Rattle.std.specs.Str.{bytes_eq}
 use Rattle.arch_types.specs.declared.refusal.Refusal.{Refusal}
 use Rattle.arch_types.specs.declared.refusal.Refusal.TheVariants.{Usage, OutOfMemory}
-use Rattle.clap.specs.Walk.{Row, Rule, Text, is_empty}
-use Rattle.clap.specs.Simple.{App, Shape, matches_of, new_app, new_rule, on_top, with_rule}
+use Rattle.clap.specs.Walk.{Row, Text, is_empty}
+use Rattle.clap.specs.Simple.{App, Shape, matches_of, new_app, on_top}
 use Rattle.clap.specs.Faults.{fault_of}
 use Rattle.clap.specs.Kinds.{Kinds}
-use Rattle.clap.specs.declared.builder.action.ArgAction.TheVariants.{Set}
 
 -- whether the first `=` is the last octet of a word
 abbrev pub is_last : Option ℕ → Text → Bool
@@ -36,21 +35,9 @@ are_plain words = are_filled words && are_whole words
 abbrev pub plain_shape : Shape → Shape
 plain_shape shape = record shape { no_binary_name = true; disable_help_flag = true; disable_version_flag = true }
 
--- a command as clap knows it, before its words are added: without help and version
+-- a command as clap knows it, before its arguments are added: without help and version
 abbrev pub plain_app : Text → App
 plain_app name = on_top plain_shape (new_app name)
-
--- a word that has to come
-abbrev pub word_rule : Text → Rule
-word_rule id = record (new_rule id) { action = Some Set; required = true }
-
--- an option `--name value` or `--name=value`, which may have to come
-abbrev pub option_rule : Text → Bool → Rule
-option_rule id wanted = record (new_rule id) { action = Some Set; long = Some id; required = wanted }
-
--- a command that wants these words, and has no options
-abbrev pub words_app : Text → List Text → App
-words_app name ids = fold (λ app id. with_rule app (word_rule id)) (plain_app name) ids
 
 -- clap found no fault in the words
 abbrev pub has_no_fault : Kinds → Bool

@@ -6,7 +6,7 @@ ghost use Rattle.command_words.specs.Job.{job_of, scan_app, scan_job, values_app
 ghost use Rattle.command_words.specs.JobView.{job_view};
 ghost use Rattle.command_words.specs.Words.{rows_of_words};
 
-use crate::words::{found_option, found_words, found_words_and_option, given_word, word_of};
+use crate::words::{Argument, given_word, read_arguments, word_of};
 use arch_types::refusal::Refusal;
 use std::alloc::Global;
 use text_forms::number_of;
@@ -90,7 +90,7 @@ fn scan_job<'a>(alloc: Global, words: &'a [String]) -> Result<Job<'a>, Refusal>
     ensures none { IfErr result
         (IsNoJob (option_and_then scan_job (rows_of_words scan_app (map (λ w. string_bytes w) words.entry.now)))) }
 {
-    let found = found_words(alloc, "scan", &["dump"], words)?;
+    let found = read_arguments(alloc, "scan", &[Argument::Word("dump")], words)?;
     let dump = word_of(&found, "dump")?;
     Ok(Job::Scan { dump })
 }
@@ -103,12 +103,14 @@ fn values_job<'a>(alloc: Global, words: &'a [String]) -> Result<Job<'a>, Refusal
     ensures none { IfErr result
         (IsNoJob (option_and_then values_job (rows_of_words values_app (map (λ w. string_bytes w) words.entry.now)))) }
 {
-    let found = found_words(
-        alloc,
-        "values",
-        &["parameters", "calibrations", "containers", "dump", "name"],
-        words,
-    )?;
+    let arguments = [
+        Argument::Word("parameters"),
+        Argument::Word("calibrations"),
+        Argument::Word("containers"),
+        Argument::Word("dump"),
+        Argument::Word("name"),
+    ];
+    let found = read_arguments(alloc, "values", &arguments, words)?;
     let parameters = word_of(&found, "parameters")?;
     let calibrations = word_of(&found, "calibrations")?;
     let containers = word_of(&found, "containers")?;
@@ -131,12 +133,12 @@ fn create_job<'a>(alloc: Global, words: &'a [String]) -> Result<Job<'a>, Refusal
     ensures none { IfErr result
         (IsNoJob (option_and_then create_job (rows_of_words create_app (map (λ w. string_bytes w) words.entry.now)))) }
 {
-    let found = found_words(
-        alloc,
-        "create",
-        &["parameters", "calibrations", "containers"],
-        words,
-    )?;
+    let arguments = [
+        Argument::Word("parameters"),
+        Argument::Word("calibrations"),
+        Argument::Word("containers"),
+    ];
+    let found = read_arguments(alloc, "create", &arguments, words)?;
     let parameters = word_of(&found, "parameters")?;
     let calibrations = word_of(&found, "calibrations")?;
     let containers = word_of(&found, "containers")?;
@@ -155,7 +157,14 @@ fn load_job<'a>(alloc: Global, words: &'a [String]) -> Result<Job<'a>, Refusal>
     ensures none { IfErr result
         (IsNoJob (option_and_then load_job (rows_of_words load_app (map (λ w. string_bytes w) words.entry.now)))) }
 {
-    let found = found_words_and_option(alloc, "load", &["dump"], "link", words)?;
+    let arguments = [
+        Argument::Word("dump"),
+        Argument::Option {
+            id: "link",
+            required: false,
+        },
+    ];
+    let found = read_arguments(alloc, "load", &arguments, words)?;
     let dump = word_of(&found, "dump")?;
     let Some(link) = link_of(given_word(&found, "link")) else {
         return Err(Refusal::Usage);
@@ -171,7 +180,11 @@ fn query_job<'a>(alloc: Global, words: &'a [String]) -> Result<Job<'a>, Refusal>
     ensures none { IfErr result
         (IsNoJob (option_and_then query_job (rows_of_words query_app (map (λ w. string_bytes w) words.entry.now)))) }
 {
-    let found = found_option(alloc, "query", "ask", words)?;
+    let arguments = [Argument::Option {
+        id: "ask",
+        required: true,
+    }];
+    let found = read_arguments(alloc, "query", &arguments, words)?;
     let asks = word_of(&found, "ask")?;
     Ok(Job::Query { asks })
 }
@@ -185,7 +198,7 @@ fn recover_job<'a>(alloc: Global, words: &'a [String]) -> Result<Job<'a>, Refusa
         (IsNoJob (option_and_then recover_job
         (rows_of_words recover_app (map (λ w. string_bytes w) words.entry.now)))) }
 {
-    let _found = found_words(alloc, "recover", &[], words)?;
+    let _found = read_arguments(alloc, "recover", &[], words)?;
     Ok(Job::Recover)
 }
 

@@ -1,6 +1,6 @@
 //! The words of a command line, and the job that they ask for.
 //!
-//! Stands for: which words are a command's words and its option, as `clap` finds them (`specs/Words.antt`), and which job they ask for
+//! Stands for: which arguments a command takes (`specs/Arguments.antt`), what `clap` finds in its words (`specs/Words.antt`), and which job they ask for
 //! (`specs/Job.antt`); words that are none are Usage. Called by the top call. A later command adds its case.
 #![tactic(auto)]
 

@@ -6,30 +6,59 @@ ghost use Rattle.std.specs.Str.{bytes_eq};
 ghost use Rattle.clap.specs.Words.{app_of, is_simple, rows_of, found_of};
 ghost use Rattle.clap.specs.Faults.{is_simple_and_free};
 ghost use Rattle.clap.specs.Walk.{rule_of, is_empty, first_of};
-ghost use Rattle.command_words.specs.Words.{option_rule, are_plain, are_filled, are_whole, is_whole_word, word_rule, words_app, rows_of_words, IsNotFound, plain_app, is_last};
-ghost use Rattle.clap.specs.Simple.{with_rule};
+ghost use Rattle.command_words.specs.Words.{are_plain, are_filled, are_whole, is_whole_word, rows_of_words, IsNotFound, plain_app, is_last};
+ghost use Rattle.command_words.specs.Arguments.{argument_rule, command_app};
 
 use arch_types::refusal::Refusal;
 use clap::error::ErrorKind;
 use clap::{Arg, ArgAction, ArgMatches, Command};
 use std::alloc::{AllocError, Global};
 
-/// A command of one level that wants these words, and has no options.
-fn words_command<'a>(
+/// An argument that a command takes.
+#[derive(Clone, Copy, Debug)]
+pub enum Argument<'a> {
+    /// A word that has to come.
+    Word(&'a str),
+    /// An option `--id value` or `--id=value`, which may have to come.
+    Option { id: &'a str, required: bool },
+}
+
+/// What clap finds in the words behind a command that takes these arguments.
+pub fn read_arguments<'a>(
     alloc: Global,
     name: &'a str,
-    ids: &[&'a str],
+    arguments: &[Argument<'a>],
+    words: &'a [String],
+) -> Result<ArgMatches<'a>, Refusal>
+    requires simple { is_simple (command_app name.now (map argument_rule arguments.now)) ≡ true }
+    requires free { is_simple_and_free (command_app name.now (map argument_rule arguments.now)) ≡ true }
+    ensures found { IfOk result (λ found. rows_of_words (command_app name.entry.now (map argument_rule arguments.now))
+        (map (λ w. string_bytes w) words.entry.now) ≡ Some (rows_of (found_of found))) }
+    ensures none { IfErr result (IsNotFound (rows_of_words (command_app name.entry.now
+        (map argument_rule arguments.now)) (map (λ w. string_bytes w) words.entry.now))) }
+{
+    match command_of(alloc, name, arguments) {
+        Ok(command) => read_words(command, words),
+        Err(_) => Err(Refusal::OutOfMemory),
+    }
+}
+
+/// A command of one level that takes these arguments.
+fn command_of<'a>(
+    alloc: Global,
+    name: &'a str,
+    arguments: &[Argument<'a>],
 ) -> Result<Command<'a>, AllocError>
-    ensures { IfOk result (λ command. app_of command ≡ words_app name.entry.now (map (λ id. id.now) ids.now)) }
+    ensures { IfOk result (λ command. app_of command ≡ command_app name.entry.now (map argument_rule arguments.now)) }
 {
     let mut command = plain_command(alloc, name);
-    for id in ids {
-        command = command.arg(word(alloc, id))?;
+    for argument in arguments {
+        command = command.arg(arg_of(alloc, *argument))?;
     }
     Ok(command)
 }
 
-/// A command without words. It has no flags of clap's own.
+/// A command without arguments. It has no flags of clap's own.
 fn plain_command<'a>(alloc: Global, name: &'a str) -> Command<'a>
     ensures { app_of result ≡ plain_app name.entry.now }
 {
@@ -39,112 +68,17 @@ fn plain_command<'a>(alloc: Global, name: &'a str) -> Command<'a>
         .disable_version_flag(true)
 }
 
-/// A word that has to come.
-fn word<'a>(alloc: Global, id: &'a str) -> Arg<'a>
-    ensures rule { rule_of result ≡ word_rule id.entry.now }
+/// An argument as clap takes it.
+fn arg_of<'a>(alloc: Global, argument: Argument<'a>) -> Arg<'a>
+    ensures rule { rule_of result ≡ argument_rule argument.entry }
     ensures local { result.global ≡ false }
 {
-    Arg::new(alloc, id).action(ArgAction::Set).required(true)
-}
-
-/// An option `--name value` or `--name=value`, which may have to come.
-fn option<'a>(alloc: Global, id: &'a str, wanted: bool) -> Arg<'a>
-    ensures rule { rule_of result ≡ option_rule id.entry.now wanted }
-    ensures local { result.global ≡ false }
-{
-    Arg::new(alloc, id)
-        .long(id)
-        .action(ArgAction::Set)
-        .required(wanted)
-}
-
-/// A command of one level that wants an option, and has no words.
-fn option_command<'a>(alloc: Global, name: &'a str, id: &'a str) -> Result<Command<'a>, AllocError>
-    ensures { IfOk result (λ command. app_of command ≡ with_rule (plain_app name.entry.now)
-        (option_rule id.entry.now true)) }
-{
-    plain_command(alloc, name).arg(option(alloc, id, true))
-}
-
-/// A command of one level that wants these words, and takes an option.
-fn words_and_option_command<'a>(
-    alloc: Global,
-    name: &'a str,
-    ids: &[&'a str],
-    id: &'a str,
-) -> Result<Command<'a>, AllocError>
-    ensures { IfOk result (λ command.
-        app_of command ≡ with_rule (words_app name.entry.now (map (λ id. id.now) ids.now))
-        (option_rule id.entry.now false)) }
-{
-    words_command(alloc, name, ids)?.arg(option(alloc, id, false))
-}
-
-/// What clap finds in the words behind a command that wants an option, and has no words.
-pub fn found_option<'a>(
-    alloc: Global,
-    name: &'a str,
-    id: &'a str,
-    words: &'a [String],
-) -> Result<ArgMatches<'a>, Refusal>
-    requires simple { is_simple (with_rule (plain_app name.now) (option_rule id.now true)) ≡ true }
-    requires free { is_simple_and_free (with_rule (plain_app name.now) (option_rule id.now true)) ≡ true }
-    ensures found { IfOk result (λ found.
-        rows_of_words (with_rule (plain_app name.entry.now) (option_rule id.entry.now true)) (map (λ w.
-        string_bytes w) words.entry.now) ≡ Some (rows_of (found_of found))) }
-    ensures none { IfErr result
-        (IsNotFound (rows_of_words (with_rule (plain_app name.entry.now) (option_rule id.entry.now true)) (map (λ w.
-        string_bytes w) words.entry.now))) }
-{
-    match option_command(alloc, name, id) {
-        Ok(command) => read_words(command, words),
-        Err(_) => Err(Refusal::OutOfMemory),
-    }
-}
-
-/// What clap finds in the words behind a command that wants these words, and has no options.
-pub fn found_words<'a>(
-    alloc: Global,
-    name: &'a str,
-    ids: &[&'a str],
-    words: &'a [String],
-) -> Result<ArgMatches<'a>, Refusal>
-    requires simple { is_simple (words_app name.now (map (λ id. id.now) ids.now)) ≡ true }
-    requires free { is_simple_and_free (words_app name.now (map (λ id. id.now) ids.now)) ≡ true }
-    ensures found { IfOk result (λ found. rows_of_words (words_app name.entry.now (map (λ id. id.now) ids.now))
-        (map (λ w. string_bytes w) words.entry.now) ≡ Some (rows_of (found_of found))) }
-    ensures none { IfErr result (IsNotFound (rows_of_words (words_app name.entry.now (map (λ id. id.now) ids.now))
-        (map (λ w. string_bytes w) words.entry.now))) }
-{
-    match words_command(alloc, name, ids) {
-        Ok(command) => read_words(command, words),
-        Err(_) => Err(Refusal::OutOfMemory),
-    }
-}
-
-/// What clap finds in the words behind a command that wants these words, and takes an option.
-pub fn found_words_and_option<'a>(
-    alloc: Global,
-    name: &'a str,
-    ids: &[&'a str],
-    id: &'a str,
-    words: &'a [String],
-) -> Result<ArgMatches<'a>, Refusal>
-    requires simple { is_simple (with_rule (words_app name.now (map (λ id. id.now) ids.now))
-        (option_rule id.now false)) ≡ true }
-    requires free { is_simple_and_free (with_rule (words_app name.now (map (λ id. id.now) ids.now))
-        (option_rule id.now false)) ≡ true }
-    ensures found { IfOk result (λ found.
-        rows_of_words (with_rule (words_app name.entry.now (map (λ id. id.now) ids.now))
-        (option_rule id.entry.now false)) (map (λ w. string_bytes w) words.entry.now) ≡ Some
-        (rows_of (found_of found))) }
-    ensures none { IfErr result
-        (IsNotFound (rows_of_words (with_rule (words_app name.entry.now (map (λ id. id.now) ids.now))
-        (option_rule id.entry.now false)) (map (λ w. string_bytes w) words.entry.now))) }
-{
-    match words_and_option_command(alloc, name, ids, id) {
-        Ok(command) => read_words(command, words),
-        Err(_) => Err(Refusal::OutOfMemory),
+    match argument {
+        Argument::Word(id) => Arg::new(alloc, id).action(ArgAction::Set).required(true),
+        Argument::Option { id, required } => Arg::new(alloc, id)
+            .long(id)
+            .action(ArgAction::Set)
+            .required(required),
     }
 }
 

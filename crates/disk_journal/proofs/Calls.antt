@@ -4,13 +4,15 @@ use Rattle.std.specs.Prelude.{◌↔◌, IsTrue, Result, Ok, Err, IfOk, IfErr, I
 use Rattle.std.specs.Int.{w32, from_be_bytes}
 use Rattle.std.proofs.lemmas.List.{append-nil, take_at, drop_at, drop-drop}
 use Rattle.arch_disk.specs.Image.{Image}
-use Rattle.arch_disk.specs.Disk.{Device, LeavesOnly, raised}
+use Rattle.arch_disk.specs.Disk.{Device, LeavesOnly, OnlyReads, raised}
 use Rattle.arch_disk.proofs.Moments.{weakens, at_end}
-use Rattle.disk_journal.specs.Format.{framed, written, HasRecords, HasStaged, HoldsNone, IsBeforeOrAfter}
-use Rattle.disk_journal.specs.State.{HasOnDisk, IsOnDisk, HasRoom, StateIs, extents_from, faults_of, file_of, count_of, unhealed_fault}
-use Rattle.disk_journal.specs.Calls.{BeginsOpen, body_of, records_of, body_behind, next_body_of, if_gate_written, unhealed_records_of, CrashLeavesRecords, LeavesOthers, IsAppended, IsAppendFailed, IsAppendRefusal, IsHealed, IsHealFailed, IsHealRefusal, IsJournalCreateRefusal}
+use Rattle.disk_journal.specs.Format.{framed, written, HasRecords, HasStaged, HoldsNone, IsBeforeOrAfter, IsDamagedAt}
+use Rattle.disk_journal.specs.Reading.{IsAt, IsCutShortAt, gate_of, file_read}
+use Rattle.disk_journal.specs.State.{HasOnDisk, IsOnDisk, HasRoom, IsReadFault, StateIs, extents_from, faults_of, file_of, count_of, unhealed_fault}
+use Rattle.disk_journal.specs.Calls.{BeginsOpen, body_of, records_of, body_behind, next_body_of, if_gate_written, unhealed_records_of, CrashLeavesRecords, LeavesOthers, IsAppended, IsAppendFailed, IsAppendRefusal, IsHealed, IsHealFailed, IsHealRefusal, IsJournalCreateRefusal, IsJournalOpenRefusal, IsOpeningBegun, IsBeginRefusal, IsNextRefusal, IsReadWholeRefusal, StandsAtGate, content_read, read_so_far}
 use Rattle.disk_journal.specs.declared.journal.Extent.{Extent}
 use Rattle.disk_journal.specs.declared.journal.Journal.{Journal}
+use Rattle.disk_journal.specs.declared.opening.Opening.{Opening}
 use Rattle.disk_journal.specs.declared.journal.PendingFault.{PendingFault}
 use Rattle.disk_journal.specs.declared.journal.PendingFault.TheVariants.{Absent, GateClosed, GateWritten}
 use Rattle.disk_journal.specs.declared.fault.JournalFault.{JournalFault}
@@ -46,6 +48,11 @@ body_behind_is content bodies body tail gate end is end_is small =
     let five : drop (end + 5) content ≡ body ++ tail = ap (λ (n : ℕ). drop n content) sum ∙ sym (drop-drop 4 (end + 1) content) ∙ ap (drop 4) one ∙ frame_tail body tail in
     let len : from_be_bytes w32 (take 4 (drop (end + 1) content)) ≡ length body = ap (λ (l : List ℕ). from_be_bytes w32 (take 4 l)) one ∙ frame_size body tail small in
     ap (λ (n : ℕ). take n (drop (end + 5) content)) len ∙ ap (take (length body)) five ∙ take_at body tail (length body) refl
+
+-- what was read so far are the records at the opening's extents
+pub read_are : (content : List ℕ) (opening : Opening) (bodies : List (List ℕ)) → IsAt opening content bodies → map (body_of content) opening.extents.items ≡ bodies
+read_are content opening bodies at =
+    ap (λ (l : List Extent). map (body_of content) l) at.extents ∙ ap (λ (l : List ℕ). map (body_of l) (extents_from 0 bodies)) at.up_to.file_is ∙ bodies_at bodies [] at.up_to.rest 0 refl
 
 -- what holds of the error that a `?` hands on
 pub handed_on : {T : Type 0} (r : Result T JournalFault) (fault : JournalFault) (P : JournalFault → Type 0) → IsErrAnd r (λ e. e ≡ fault) → P fault → IfErr r P
@@ -227,6 +234,60 @@ module _ {D : Type 0} (device : Device D) where
     reads = λ transparent g ne. second.reads transparent g ne ∙ first.reads transparent g ne;
     crash = elsewhere_on device old mid new file first.crash second.crash;
   }
+
+  -- an opening that has read some records of its file stands at the gate behind them
+  pub stands_at_gate : (old new : Opening) (before after : D) (bodies : List (List ℕ)) → file_read new ≡ file_read old → device.reads after ≡ device.reads before
+      → (IsTrue device.is_transparent → IsAt new (content_read device old before) bodies) → StandsAtGate device new after
+  stands_at_gate old new before after bodies file reads at transparent =
+      let same : content_read device new after ≡ content_read device old before = ap (λ (x : Image). x (file_read new)) reads ∙ ap (device.reads before) file in
+      let there : IsAt new (content_read device new after) bodies = subst (λ (l : List ℕ). IsAt new l bodies) (sym same) (at transparent) in
+      subst (IsAt new (content_read device new after)) (sym (read_are (content_read device new after) new bodies there)) there
+
+  -- a reading that couldn't begin opens no journal
+  pub not_begun : (file : ℕ) (before after : D) (fault : JournalFault) → IsBeginRefusal device file before after fault → IsJournalOpenRefusal device file before after fault
+  not_begun file before after Exists refusal = absurd refusal
+  not_begun file before after NoArchive refusal = refusal
+  not_begun file before after (Damaged at) refusal = absurd refusal
+  not_begun file before after (NeedsReopen faults) refusal = absurd refusal
+  not_begun file before after Limit refusal = absurd refusal
+  not_begun file before after DiskFault refusal = refusal
+  not_begun file before after OutOfMemory refusal = absurd refusal
+
+  -- nor does one that didn't come to the end of the file
+  pub not_read : (file : ℕ) (old mid new : D) (opening : Opening) (fault : JournalFault) → IsOpeningBegun device file old mid opening → device.reads mid ≡ device.reads old → device.fault_count old ≤ device.fault_count mid → OnlyReads device mid new
+      → IsReadWholeRefusal device opening mid new fault → IsJournalOpenRefusal device file old new fault
+  not_read file old mid new opening Exists begun reads later looked refusal = absurd refusal
+  not_read file old mid new opening NoArchive begun reads later looked refusal = absurd refusal
+  not_read file old mid new opening (Damaged at) begun reads later looked refusal = (
+    λ transparent. (begun.open_gate transparent, subst (λ (l : List ℕ). IsDamagedAt l at) (ap (λ (x : Image). x (file_read opening)) reads ∙ ap (device.reads old) begun.in_file) (refusal transparent)),
+    looked.no_write ∙ begun.no_failed_write,
+  )
+  not_read file old mid new opening (NeedsReopen faults) begun reads later looked refusal = absurd refusal
+  not_read file old mid new opening Limit begun reads later looked refusal = absurd refusal
+  not_read file old mid new opening DiskFault begun reads later looked refusal = record { rose = omega (arith, later, refusal); wrote_most = inl (looked.no_write ∙ begun.no_failed_write) }
+  not_read file old mid new opening OutOfMemory begun reads later looked refusal = looked.no_write ∙ begun.no_failed_write
+
+  -- why no header of a record was read
+  pub no_header : (opening : Opening) (before after : D) (fault : JournalFault) → IsReadFault fault → (fault ≡ DiskFault → raised (device.fault_count before) ≤ device.fault_count after)
+      → (IsTrue device.is_transparent → (at : ℕ) → fault ≡ Damaged at → (at ≡ gate_of opening) × IsCutShortAt (content_read device opening before) (read_so_far device opening before)) → IsNextRefusal device opening before after fault
+  no_header opening before after Exists only cause damaged = absurd only
+  no_header opening before after NoArchive only cause damaged = absurd only
+  no_header opening before after (Damaged at) only cause damaged = λ transparent. damaged transparent at refl
+  no_header opening before after (NeedsReopen faults) only cause damaged = absurd only
+  no_header opening before after Limit only cause damaged = absurd only
+  no_header opening before after DiskFault only cause damaged = cause refl
+  no_header opening before after OutOfMemory only cause damaged = tt
+
+  -- or no file whole
+  pub not_whole : (opening : Opening) (before after : D) (fault : JournalFault) → IsReadFault fault → (fault ≡ DiskFault → raised (device.fault_count before) ≤ device.fault_count after)
+      → (IsTrue device.is_transparent → (at : ℕ) → fault ≡ Damaged at → IsDamagedAt (content_read device opening before) at) → IsReadWholeRefusal device opening before after fault
+  not_whole opening before after Exists only cause damaged = absurd only
+  not_whole opening before after NoArchive only cause damaged = absurd only
+  not_whole opening before after (Damaged at) only cause damaged = λ transparent. damaged transparent at refl
+  not_whole opening before after (NeedsReopen faults) only cause damaged = absurd only
+  not_whole opening before after Limit only cause damaged = absurd only
+  not_whole opening before after DiskFault only cause damaged = cause refl
+  not_whole opening before after OutOfMemory only cause damaged = tt
 
   module _ (old : Journal) (bodies : List (List ℕ)) (pending : List ℕ) (before : D) (transparent : IsTrue device.is_transparent) (keeps : HasOnDisk device old bodies pending before) where
     -- an append, where these are the records before it

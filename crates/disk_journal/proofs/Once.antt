@@ -4,10 +4,11 @@ use Rattle.std.proofs.lemmas.List.{take_at, drop_at}
 use Rattle.std.proofs.lemmas.Nat.{from_be_bytes-to_be_bytes_4}
 use Rattle.std.specs.Int.{w32, to_be_bytes, from_be_bytes}
 use Rattle.disk_journal.specs.Format.{framed, written, AreSmall, IsClosed, HasRecords, IsDamagedAt, HoldsNone}
-use Rattle.std.specs.Prelude.{Result, Ok, Err, IfOk, IfErr, IsErrAnd}
-use Rattle.disk_journal.specs.State.{IsReadFrom, IsReadFault}
-use Rattle.disk_journal.specs.Calls.{BeginsOpen, IsOrFails}
+use Rattle.std.specs.Prelude.{Result, Ok, Err, IfOk, IfErr, IsErrAnd, IsTrue}
+use Rattle.arch_disk.specs.Disk.{Device}
+use Rattle.disk_journal.specs.Calls.{BeginsOpen, IsOrFails, IsReadWhole, IsReadWholeRefusal, content_read}
 use Rattle.disk_journal.specs.declared.journal.Journal.{Journal}
+use Rattle.disk_journal.specs.declared.opening.Opening.{Opening}
 use Rattle.disk_journal.specs.declared.fault.JournalFault.{JournalFault}
 use Rattle.disk_journal.specs.declared.fault.JournalFault.TheVariants.{Exists, NoArchive, Damaged, NeedsReopen, Limit, DiskFault, OutOfMemory}
 use Rattle.disk_journal.proofs.Files.{length-framed}
@@ -94,27 +95,28 @@ same_place (x ∷ a) (y ∷ b) p r small_a small_b short_p short_r same =
 pub place_once : (file : List ℕ) (at other : ℕ) → IsDamagedAt file at → IsDamagedAt file other → at ≡ other
 place_once file at other d e = d.at_is ∙ same_place d.bodies e.bodies d.rest e.rest d.small e.small d.short e.short (sym d.file_is ∙ e.file_is) ∙ sym e.at_is
 
--- what reading a damaged file answers
-pub exactly : (at : ℕ) (content : List ℕ) (r : Result Journal JournalFault) → IsDamagedAt content at → IfOk r (IsReadFrom content) → ((other : ℕ) → r ≡ Err (Damaged other) → IsDamagedAt content other) → IfErr r IsReadFault → IsErrAnd r (IsOrFails (Damaged at))
-exactly at content (Ok journal) d ok damaged only = absurd (no_records content ok.bodies at ok.has d)
-exactly at content (Err Exists) d ok damaged only = absurd only
-exactly at content (Err NoArchive) d ok damaged only = absurd only
-exactly at content (Err (Damaged other)) d ok damaged only = inl (ap Damaged (place_once content other at (damaged other refl) d))
-exactly at content (Err (NeedsReopen faults)) d ok damaged only = absurd only
-exactly at content (Err Limit) d ok damaged only = absurd only
-exactly at content (Err DiskFault) d ok damaged only = inr (inl refl)
-exactly at content (Err OutOfMemory) d ok damaged only = inr (inr refl)
+module _ {D : Type 0} (device : Device D) (opening : Opening) (before after : D) (transparent : IsTrue device.is_transparent) where
+  -- what reading a damaged file answers
+  pub exactly : (at : ℕ) (r : Result Journal JournalFault) → IsDamagedAt (content_read device opening before) at → IfOk r (IsReadWhole device opening before) → IfErr r (IsReadWholeRefusal device opening before after) → IsErrAnd r (IsOrFails (Damaged at))
+  exactly at (Ok journal) d ok refused = let r = ok.records transparent in absurd (no_records (content_read device opening before) r.bodies at r.has d)
+  exactly at (Err Exists) d ok refused = absurd refused
+  exactly at (Err NoArchive) d ok refused = absurd refused
+  exactly at (Err (Damaged other)) d ok refused = inl (ap Damaged (place_once (content_read device opening before) other at (refused transparent) d))
+  exactly at (Err (NeedsReopen faults)) d ok refused = absurd refused
+  exactly at (Err Limit) d ok refused = absurd refused
+  exactly at (Err DiskFault) d ok refused = inr (inl refl)
+  exactly at (Err OutOfMemory) d ok refused = inr (inr refl)
 
--- and reading one with records
-pub undamaged : (bodies : List (List ℕ)) (content : List ℕ) (r : Result Journal JournalFault) → HasRecords content bodies → ((other : ℕ) → r ≡ Err (Damaged other) → IsDamagedAt content other) → IfErr r IsReadFault → IfErr r (λ fault. (fault ≡ DiskFault) ⊎ (fault ≡ OutOfMemory))
-undamaged bodies content (Ok journal) has damaged only = tt
-undamaged bodies content (Err Exists) has damaged only = absurd only
-undamaged bodies content (Err NoArchive) has damaged only = absurd only
-undamaged bodies content (Err (Damaged other)) has damaged only = absurd (no_records content bodies other has (damaged other refl))
-undamaged bodies content (Err (NeedsReopen faults)) has damaged only = absurd only
-undamaged bodies content (Err Limit) has damaged only = absurd only
-undamaged bodies content (Err DiskFault) has damaged only = inl refl
-undamaged bodies content (Err OutOfMemory) has damaged only = inr refl
+  -- and reading one with records
+  pub undamaged : (bodies : List (List ℕ)) (r : Result Journal JournalFault) → HasRecords (content_read device opening before) bodies → IfErr r (IsReadWholeRefusal device opening before after) → IfErr r (λ fault. (fault ≡ DiskFault) ⊎ (fault ≡ OutOfMemory))
+  undamaged bodies (Ok journal) has refused = tt
+  undamaged bodies (Err Exists) has refused = absurd refused
+  undamaged bodies (Err NoArchive) has refused = absurd refused
+  undamaged bodies (Err (Damaged other)) has refused = absurd (no_records (content_read device opening before) bodies other has (refused transparent))
+  undamaged bodies (Err (NeedsReopen faults)) has refused = absurd refused
+  undamaged bodies (Err Limit) has refused = absurd refused
+  undamaged bodies (Err DiskFault) has refused = inl refl
+  undamaged bodies (Err OutOfMemory) has refused = inr refl
 
 -- a file without a journal doesn't begin with an open gate
 pub none_not_open : (content : List ℕ) → HoldsNone content → BeginsOpen content → ⊥

@@ -1,14 +1,16 @@
 -- What the calls of a journal answer, and what each answer leaves on the disk.
-use Rattle.std.specs.Prelude.{◌≡◌, ◌≢◌, ◌⊎◌, ℕ, ◌+◌, ◌-◌, ◌^◌, ◌<◌, ◌≤◌, ◌++◌, List, [], ◌∷◌, length, take, drop, map, get_or, min, IsTrue, Some, None, Result, IfErr, IsErrAnd}
+use Rattle.std.specs.Prelude.{◌≡◌, ◌≢◌, ◌⊎◌, ℕ, ◌+◌, ◌-◌, ◌^◌, ◌<◌, ◌≤◌, ◌++◌, List, [], ◌∷◌, length, take, drop, map, get_or, min, IsTrue, Option, Some, None, Result, IfErr, IsErrAnd}
 use Rattle.std.specs.Int.{w32, from_be_bytes}
 use Rattle.arch_disk.specs.Image.{Image, AgreesBut}
-use Rattle.arch_disk.specs.Disk.{Device, LeavesOnly, raised}
+use Rattle.arch_disk.specs.Disk.{Device, IsDurable, LeavesOnly, raised}
 use Rattle.disk_journal.specs.Format.{HasRecords, IsDamagedAt, HoldsNone}
-use Rattle.disk_journal.specs.State.{HasOnDisk, HasRoom, IsOldBut, count_of, file_of, unhealed_fault}
+use Rattle.disk_journal.specs.Reading.{IsAt, IsCutShortAt, gate_of, file_read}
+use Rattle.disk_journal.specs.State.{HasOnDisk, HasRoom, IsOldBut, IsReadFrom, count_of, file_of, unhealed_fault}
 use Rattle.disk_journal.specs.declared.journal.Extent.{Extent}
 use Rattle.disk_journal.specs.declared.journal.Journal.{Journal}
 use Rattle.disk_journal.specs.declared.journal.PendingFault.{PendingFault}
 use Rattle.disk_journal.specs.declared.journal.PendingFault.TheVariants.{Absent, GateClosed, GateWritten}
+use Rattle.disk_journal.specs.declared.opening.Opening.{Opening}
 use Rattle.disk_journal.specs.declared.fault.JournalFault.{JournalFault}
 use Rattle.disk_journal.specs.declared.fault.JournalFault.TheVariants.{Exists, NoArchive, Damaged, NeedsReopen, Limit, DiskFault, OutOfMemory}
 
@@ -169,3 +171,74 @@ pub record IsDecidedByFile (content : List ℕ) (result : Result Journal Journal
   pub none : HoldsNone content → IsErrAnd result (IsOrFails NoArchive)
   pub damaged : (at : ℕ) → BeginsOpen content → IsDamagedAt content at → IsErrAnd result (IsOrFails (Damaged at))
   pub records : (bodies : List (List ℕ)) → BeginsOpen content → HasRecords content bodies → IfErr result (λ fault. (fault ≡ DiskFault) ⊎ (fault ≡ OutOfMemory))
+
+-- ---- a reading record by record
+
+-- what the file that is being opened reads as
+abbrev pub content_read : {D : Type 0} → Device D → Opening → D → List ℕ
+content_read device opening disk = device.reads disk (file_read opening)
+
+-- the bodies of the records that were read so far, which the opening's extents name
+abbrev pub read_so_far : {D : Type 0} → Device D → Opening → D → List (List ℕ)
+read_so_far device opening disk = map (body_of (content_read device opening disk)) opening.extents.items
+
+-- an opening stands at the gate behind the records that it has read
+abbrev pub StandsAtGate : {D : Type 0} → Device D → Opening → D → Type 0
+StandsAtGate device opening disk = IsTrue device.is_transparent → IsAt opening (content_read device opening disk) (read_so_far device opening disk)
+
+-- the opening stands at the first gate of the file, which is open, and what the file reads as is durable
+pub record IsOpeningBegun {D : Type 0} (device : Device D) (file : ℕ) (before after : D) (opening : Opening) : Type 0 where
+  pub in_file : file_read opening ≡ file
+  pub first : IsTrue device.is_transparent → IsAt opening (device.reads before file) []
+  pub open_gate : IsTrue device.is_transparent → BeginsOpen (device.reads before file)
+  pub at_gate : StandsAtGate device opening after
+  pub durable : IsDurable device file (device.reads after file) after
+  pub no_failed_write : device.failed_writes after ≡ device.failed_writes before
+
+-- why no reading began: the file holds no journal, or the disk failed
+abbrev pub IsBeginRefusal : {D : Type 0} → Device D → ℕ → D → D → JournalFault → Type 0
+IsBeginRefusal device file before after NoArchive = (IsTrue device.is_transparent → HoldsNone (device.reads before file)) × (device.failed_writes after ≡ device.failed_writes before)
+IsBeginRefusal device file before after DiskFault = IsJournalOpenFailed device before after
+IsBeginRefusal device file before after _ = ⊥
+
+-- the body is that of the next record, and the opening stands at the gate behind it
+pub record IsNextRecord {D : Type 0} (device : Device D) (old new : Opening) (disk : D) (body : List ℕ) : Type 0 where
+  pub short : length body < 2 ^ 32
+  pub moves : gate_of old < gate_of new
+  pub read : IsTrue device.is_transparent → IsAt new (content_read device old disk) (read_so_far device old disk ++ body ∷ [])
+
+-- the gate is closed: the file has just the records that were read
+pub record IsLastGate {D : Type 0} (device : Device D) (old new : Opening) (disk : D) : Type 0 where
+  pub has : IsTrue device.is_transparent → HasRecords (content_read device old disk) (read_so_far device old disk)
+  pub stays : IsTrue device.is_transparent → IsAt new (content_read device old disk) (read_so_far device old disk)
+
+-- the body of the next record, or that there is none
+abbrev pub IsNextAnswer : {D : Type 0} → Device D → Opening → Opening → D → Option (List ℕ) → Type 0
+IsNextAnswer device old new disk (Some body) = IsNextRecord device old new disk body
+IsNextAnswer device old new disk None = IsLastGate device old new disk
+
+-- why the next record was not read: it passes the file's end, a read failed, or memory is wanting
+abbrev pub IsNextRefusal : {D : Type 0} → Device D → Opening → D → D → JournalFault → Type 0
+IsNextRefusal device old before after (Damaged at) = IsTrue device.is_transparent → (at ≡ gate_of old) × IsCutShortAt (content_read device old before) (read_so_far device old before)
+IsNextRefusal device old before after DiskFault = raised (device.fault_count before) ≤ device.fault_count after
+IsNextRefusal device old before after OutOfMemory = Unit {0}
+IsNextRefusal device old before after _ = ⊥
+
+-- the journal of all records of a file
+pub record IsReadWhole {D : Type 0} (device : Device D) (opening : Opening) (disk : D) (journal : Journal) : Type 0 where
+  pub in_file : file_of journal ≡ file_read opening
+  pub no_pending_fault : unhealed_fault journal ≡ None
+  pub records : IsTrue device.is_transparent → IsReadFrom (content_read device opening disk) journal
+
+-- why a file was not read to its end: an open record passes it, a read failed, or memory is wanting
+abbrev pub IsReadWholeRefusal : {D : Type 0} → Device D → Opening → D → D → JournalFault → Type 0
+IsReadWholeRefusal device opening before after (Damaged at) = IsTrue device.is_transparent → IsDamagedAt (content_read device opening before) at
+IsReadWholeRefusal device opening before after DiskFault = raised (device.fault_count before) ≤ device.fault_count after
+IsReadWholeRefusal device opening before after OutOfMemory = Unit {0}
+IsReadWholeRefusal device opening before after _ = ⊥
+
+-- why a record was not read again: a read failed, or memory is wanting
+abbrev pub IsRecordRefusal : {D : Type 0} → Device D → D → D → JournalFault → Type 0
+IsRecordRefusal device before after DiskFault = raised (device.fault_count before) ≤ device.fault_count after
+IsRecordRefusal device before after OutOfMemory = Unit {0}
+IsRecordRefusal device before after _ = ⊥

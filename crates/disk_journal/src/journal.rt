@@ -93,7 +93,7 @@ fn prepare<D: Disk>(disk: &mut D, file: u32) -> Result<(), JournalFault>
 
 impl Journal {
     ghost use Rattle.disk_journal.specs.State.{HasOnDisk, IsOnDisk, HasRoom, count_of, file_of, unhealed_fault, IsSame};
-    ghost use Rattle.disk_journal.specs.Calls.{CountsNeverFall, CrashLeavesFirst, IsDecidedByFile, IsJournalCreated, IsJournalCreateRefusal, IsJournalOpened, IsJournalOpenRefusal, records_of};
+    ghost use Rattle.disk_journal.specs.Calls.{CountsNeverFall, CrashLeavesFirst, IsDecidedByFile, IsJournalCreated, IsJournalCreateRefusal, IsJournalOpened, IsJournalOpenRefusal, IsRecordRefusal, records_of};
 
     /// Makes a journal with one record in a file that holds none. It begins with a sync. Where the record can't be
     /// written it closes the gate again, as far as the disk lets it.
@@ -211,10 +211,8 @@ impl Journal {
         requires sound { IsTrue D.device.is_transparent → IsOnDisk D.device self.now disk.old }
         ensures body { IsTrue D.device.is_transparent →
             IfOk result (λ body. slice_get (records_of D.device self.now disk.old) i ≡ Some body.items) }
+        ensures refused { IfErr result (IsRecordRefusal D.device disk.old disk.new) }
         ensures looked { OnlyReads D.device disk.old disk.new }
-        ensures only { IfErr result (λ e. (e ≡ JournalFault.DiskFault) ⊎ (e ≡ JournalFault.OutOfMemory)) }
-        ensures cause { result ≡ Err JournalFault.DiskFault →
-            raised (D.device.fault_count disk.old) ≤ D.device.fault_count disk.new }
     {
         let extent = self.extents[i as usize];
         octets_at(alloc, disk, self.file, extent.at, extent.len)

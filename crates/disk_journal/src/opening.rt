@@ -1,9 +1,7 @@
 // A journal that is being read, record after record, in one pass.
 ghost use Rattle.std.specs.Prelude.{◌≡◌, ◌≢◌, ◌+◌, ◌<◌, ◌^◌, ◌≤◌, ◌⊎◌, ◌++◌, [], ◌∷◌, List, ℕ, IsTrue, length, get_or, take, drop, OnOk, IfOk, IfErr, IfSome, None};
-ghost use Rattle.arch_disk.specs.Disk.{AddsNoImage, IsDurable, LeavesOnly, OnlyReads, raised};
-ghost use Rattle.disk_journal.specs.Format.{HasRecords, IsDamagedAt, HoldsNone};
-ghost use Rattle.disk_journal.specs.declared.fault.JournalFault.TheVariants.{NoArchive, DiskFault};
-ghost use Rattle.disk_journal.specs.State.{IsReadFault, unhealed_fault, file_of};
+ghost use Rattle.arch_disk.specs.Disk.{OnlyReads, raised};
+ghost use Rattle.disk_journal.specs.State.{IsReadFault, IsUntouched};
 
 use crate::JournalFault;
 use crate::journal::{Extent, Journal, PendingFault, begins_open};
@@ -24,28 +22,17 @@ pub struct Opening {
 
 impl Opening {
     ghost use Rattle.disk_journal.specs.Reading.{IsAt, IsWholeAt, IsCutShortAt, gate_of, file_read, IsReadJournal};
-    ghost use Rattle.disk_journal.specs.State.{IsReadFrom};
+    ghost use Rattle.disk_journal.specs.Calls.{CountsNeverFall, IsBeginRefusal, IsNextAnswer, IsNextRefusal, IsOpeningBegun, IsReadWhole, IsReadWholeRefusal, StandsAtGate, content_read};
 
     /// Begins at the first record, with a sync.
     pub fn begin<D: Disk>(alloc: Global, disk: &mut D, file: u32) -> Result<Opening, JournalFault>
-        ensures at { IsTrue D.device.is_transparent →
-            IfOk result (λ opening. IsAt opening (D.device.reads disk.old file) []) }
-        ensures file { IfOk result (λ opening. file_read opening ≡ file) }
-        ensures open { IsTrue D.device.is_transparent → OnOk result ((2 ≤ length (D.device.reads disk.old file)) ×
-            (get_or (D.device.reads disk.old file) 0 0 ≡ 1)) }
-        ensures none { IsTrue D.device.is_transparent → result ≡ Err JournalFault.NoArchive →
-            HoldsNone (D.device.reads disk.old file) }
-        ensures durable { OnOk result (IsDurable D.device file (D.device.reads disk.new file) disk.new) }
-        ensures reads { D.device.reads disk.new ≡ D.device.reads disk.old }
-        ensures moments { LeavesOnly D.device disk.old disk.new (D.device.images disk.old) }
-        ensures only { IfErr result (λ e. (e ≡ NoArchive) ⊎ (e ≡ DiskFault)) }
-        ensures cause { result ≡ Err JournalFault.DiskFault →
-            raised (D.device.fault_count disk.old) ≤ D.device.fault_count disk.new }
-        ensures later { D.device.fault_count disk.old ≤ D.device.fault_count disk.new }
-        ensures writes { (D.device.failed_writes disk.new ≡ D.device.failed_writes disk.old)
-            ⊎ ((result ≡ Err JournalFault.DiskFault) × (D.device.failed_writes disk.new ≡ raised (D.device.failed_writes disk.old))) }
-        ensures writes_later { D.device.failed_writes disk.old ≤ D.device.failed_writes disk.new }
-        ensures images { AddsNoImage D.device disk.old disk.new }
+        // Ok: it stands at the first gate of the file, which is open, and what the file reads as is durable.
+        ensures begun { IfOk result (IsOpeningBegun D.device file disk.old disk.new) }
+
+        // Refused: the file doesn't begin with an open gate, or the disk failed.
+        ensures refused { IfErr result (IsBeginRefusal D.device file disk.old disk.new) }
+        ensures untouched { IsUntouched D.device disk.old disk.new }
+        ensures counts { CountsNeverFall D.device disk.old disk.new }
     {
         flush(disk, file)?;
         match begins_open(disk, file)? {
@@ -118,24 +105,17 @@ impl Opening {
         alloc: Global,
         disk: &mut D,
     ) -> Result<Option<Octets>, JournalFault>
-        requires { IsTrue D.device.is_transparent → (bodies : List (List ℕ)) ×
-            IsAt self.old (D.device.reads disk.old (file_read self.old)) bodies }
-        ensures some { IsTrue D.device.is_transparent → (bodies : List (List ℕ)) →
-            IsAt self.old (D.device.reads disk.old (file_read self.old)) bodies
-            → IfOk result (λ next. IfSome next (λ body. IsAt self.new (D.device.reads disk.old (file_read self.old)) (bodies ++ body ∷ []))) }
-        ensures none { IsTrue D.device.is_transparent → (bodies : List (List ℕ)) →
-            IsAt self.old (D.device.reads disk.old (file_read self.old)) bodies
-            → IfOk result (λ next. next ≡ None → HasRecords (D.device.reads disk.old (file_read self.old)) bodies × IsAt self.new (D.device.reads disk.old (file_read self.old)) bodies) }
-        ensures damaged { IsTrue D.device.is_transparent → (bodies : List (List ℕ)) →
-            IsAt self.old (D.device.reads disk.old (file_read self.old)) bodies
-            → (at : ℕ) → result ≡ Err (JournalFault.Damaged at) → (at ≡ gate_of self.old) × IsCutShortAt (D.device.reads disk.old (file_read self.old)) bodies }
-        ensures moves { IfOk result (λ next. IfSome next (λ body. (gate_of self.old < gate_of self.new) ×
-            (length body < 2 ^ 32))) }
-        ensures file { file_read self.new ≡ file_read self.old }
+        requires at_gate { StandsAtGate D.device self.old disk.old }
+
+        // Some: it stands at the gate behind one record more. None: the file has just the records that were read.
+        ensures next { IfOk result (IsNextAnswer D.device self.old self.new disk.old) }
+
+        ensures at_gate { OnOk result (StandsAtGate D.device self.new disk.new) }
+
+        // Refused: the next record, with the gate octet after it, passes the file's end; a read failed; or memory is wanting.
+        ensures refused { IfErr result (IsNextRefusal D.device self.old disk.old disk.new) }
         ensures looked { OnlyReads D.device disk.old disk.new }
-        ensures only { IfErr result IsReadFault }
-        ensures cause { result ≡ Err JournalFault.DiskFault →
-            raised (D.device.fault_count disk.old) ≤ D.device.fault_count disk.new }
+        ensures file { file_read self.new ≡ file_read self.old }
     {
         match self.read_header(disk)? {
             None => Ok(None),
@@ -150,17 +130,10 @@ impl Opening {
     // Reads on to the closed gate that ends the records, over the bodies. Behind a body that passes the end of a piece it
     // takes a whole one for the next header: 256 KiB a record at most, and for all together about the file's length.
     pub(crate) fn finish_all<D: Disk>(mut self, disk: &mut D) -> Result<Journal, JournalFault>
-        requires { IsTrue D.device.is_transparent → IsAt self (D.device.reads disk.old (file_read self)) [] }
-        ensures records { IsTrue D.device.is_transparent →
-            IfOk result (IsReadFrom (D.device.reads disk.old (file_read self))) }
-        ensures no_pending_fault { IfOk result (λ journal. (unhealed_fault journal ≡ None) ×
-            (file_of journal ≡ file_read self)) }
-        ensures damaged { IsTrue D.device.is_transparent → (at : ℕ) → result ≡ Err (JournalFault.Damaged at) →
-            IsDamagedAt (D.device.reads disk.old (file_read self)) at }
-        ensures only { IfErr result IsReadFault }
+        requires first { IsTrue D.device.is_transparent → IsAt self (content_read D.device self disk.old) [] }
+        ensures read { IfOk result (IsReadWhole D.device self disk.old) }
+        ensures refused { IfErr result (IsReadWholeRefusal D.device self disk.old disk.new) }
         ensures looked { OnlyReads D.device disk.old disk.new }
-        ensures cause { result ≡ Err JournalFault.DiskFault →
-            raised (D.device.fault_count disk.old) ≤ D.device.fault_count disk.new }
     {
         'records: while let Some(extent) = self.read_header(disk)? {
             self.advance(extent)?;

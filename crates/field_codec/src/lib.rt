@@ -3,7 +3,8 @@
 // An entry is a head, which has the archive's tables and its mission database, or rows. `IsArchiveEntry` of specs/Entries.antt says which values the
 // format admits by itself, and `entry_octets` of specs/Spelling.antt what each is spelled as: `write_entry` gives just that, and `read_entry`
 // accepts these spellings and nothing else, so that an entry has one (`laws`). That a row's table and packet name exist, and that its key is
-// new, is asked by the store, which alone calls this crate: it writes one entry a record, and reads them all when it opens.
+// new, is asked by the store, which alone calls this crate: it writes one entry a record (`write_head` and `put_rows`; `write_entry` is both in one),
+// and reads them all when it opens.
 //
 // The one idea of the proof: what is read is a composition of exact readers (octet_fields), one for a row and one for the opening of a head;
 // the code mirrors it. Behind the opening stands the database to the end of the octets, read by mdb_model.

@@ -7,26 +7,26 @@ use Rattle.arch_types.specs.declared.refusal.Which.{Which}
 use Rattle.arch_types.specs.Limits.{limit_of}
 use Rattle.outer_traits.specs.Outside.{Files}
 use Rattle.outer_traits.specs.Whole.{IsInput, IsThere}
-use Rattle.command_plans.specs.Plan.{OfMemory, OfInputs, Gave, Ended, Cut, Allows, IsDetermined}
-use Rattle.input_plans.specs.Inputs.{InputRead, OverLimit, WithinLimit, IsInputAs, IsThereAs, input_read, input_there, reads}
+use Rattle.command_plans.specs.Plan.{OfMemory, OfInputs, Returned, Stopped, Interrupted, Allows, IsDetermined}
+use Rattle.input_plans.specs.Inputs.{InputRead, OverLimit, WithinLimit, IsInputAs, IsThereAs, input_read, input_there, input_plan}
 
 module _ {X : Type 0} (files : Option Files) (which : Which) (of : List ℕ → X) (name : List ℕ) (sources : ℕ) where
   -- no memory, before a source was given or after,
-  pub no_memory : Allows (reads files which of name sources) (Cut sources OfMemory)
+  pub no_memory : Allows (input_plan files which of name sources) (Interrupted sources OfMemory)
   no_memory = inl refl
 
-  pub no_memory_then : IsThere files name → Allows (reads files which of name sources) (Cut (sources + 1) OfMemory)
+  pub no_memory_then : IsThere files name → Allows (input_plan files which of name sources) (Interrupted (sources + 1) OfMemory)
   no_memory_then there = inr (true, there, inr (inl refl))
 
   -- none of the name,
-  pub input_missing : IfSome files (λ all. IsNone (get all name)) → Allows (reads files which of name sources) (Ended sources (Some (refused.Missing name)))
+  pub input_missing : IfSome files (λ all. IsNone (get all name)) → Allows (input_plan files which of name sources) (Stopped sources (Some (refused.Missing name)))
   input_missing none = inr (false, none, refl)
 
   -- a call that failed: that of the opening, or a read,
-  pub opening_failed : IsThere files name → Allows (reads files which of name sources) (Cut sources OfInputs)
+  pub opening_failed : IsThere files name → Allows (input_plan files which of name sources) (Interrupted sources OfInputs)
   opening_failed there = inr (true, there, inl refl)
 
-  pub read_failed : IsThere files name → Allows (reads files which of name sources) (Cut (sources + 1) OfInputs)
+  pub read_failed : IsThere files name → Allows (input_plan files which of name sources) (Interrupted (sources + 1) OfInputs)
   read_failed there = inr (true, there, inr (inr (inl refl)))
 
 some_long : (most : ℕ) (o : Option (List ℕ)) → IsSomeAnd o (λ octets. most < length octets) → IsSome o
@@ -41,21 +41,16 @@ pub there_some : (files : Option Files) (name octets : List ℕ) → IsInput fil
 there_some None name octets h = tt
 there_some (Some all) name octets h = rw h refl
 
-has_some : {X : Type 0} (files : Option Files) (which : Which) (of : List ℕ → X) (name octets : List ℕ) → IsInput files name octets → length octets ≤ limit_of which →
-    IsInputAs files which of name (WithinLimit (of octets))
-has_some None which of name octets h short = tt
-has_some (Some all) which of name octets h short = rw h (short, refl)
-
 -- one that is too long,
 pub input_long : {X : Type 0} (files : Option Files) (which : Which) (of : List ℕ → X) (name : List ℕ) (sources : ℕ) →
-    IfSome files (λ all. IsSomeAnd (get all name) (λ octets. limit_of which < length octets)) → Allows (reads files which of name sources) (Ended (sources + 1) (Some (refused.Limit which (limit_of which))))
+    IfSome files (λ all. IsSomeAnd (get all name) (λ octets. limit_of which < length octets)) → Allows (input_plan files which of name sources) (Stopped (sources + 1) (Some (refused.Limit which (limit_of which))))
 input_long files which of name sources long = inr (true, there_long files name (limit_of which) long, inr (inr (inr (OverLimit, long, refl))))
 
 -- and one that was read
 pub input_was_read : {X : Type 0} (files : Option Files) (which : Which) (of : List ℕ → X) (name octets : List ℕ) (sources : ℕ) → IsInput files name octets → length octets ≤ limit_of which →
-    Allows (reads files which of name sources) (Gave (of octets))
+    Allows (input_plan files which of name sources) (Returned (of octets))
 input_was_read files which of name octets sources h short =
-    inr (true, there_some files name octets h, inr (inr (inr (WithinLimit (of octets), has_some files which of name octets h short, refl))))
+    inr (true, there_some files name octets h, inr (inr (inr (WithinLimit (of octets), (octets, h, short, refl), refl))))
 
 -- ---- known inputs
 
@@ -69,21 +64,24 @@ there_once all name false false h k = refl
 there_once all name true false h k = absurd (there_or (get all name) h k)
 there_once all name false true h k = absurd (there_or (get all name) k h)
 
-module _ {X : Type 0} (which : Which) (of : List ℕ → X) where
-  long_or : (o : Option (List ℕ)) (x : X) → IsSomeAnd o (λ octets. limit_of which < length octets) → IsSomeAnd o (λ octets. (length octets ≤ limit_of which) × (x ≡ of octets)) → ⊥
-  long_or None x h k = absurd h
-  long_or (Some octets) x h k = let few = k.0 in omega (arith, h, few)
+-- a known input was read as its octets are
+pub read_as : {X : Type 0} (files : Option Files) (which : Which) (of : List ℕ → X) (name : List ℕ) (x : X) (P : List ℕ → Type 0) → IsInputAs files which of name (WithinLimit x) →
+    ((octets : List ℕ) → length octets ≤ limit_of which → x ≡ of octets → P octets) → IfSome files (λ all. IsSomeAnd (get all name) P)
+read_as None which of name x P h each = tt
+read_as (Some all) which of name x P h each = rw h.1 (each h.0 h.2 h.3)
 
-  one_of : (o : Option (List ℕ)) (x y : X) → IsSomeAnd o (λ octets. (length octets ≤ limit_of which) × (x ≡ of octets)) →
-      IsSomeAnd o (λ octets. (length octets ≤ limit_of which) × (y ≡ of octets)) → x ≡ y
-  one_of None x y h k = absurd h
-  one_of (Some octets) x y h k = h.1 ∙ sym k.1
+some_once : (o : Option (List ℕ)) (a b : List ℕ) → o ≡ Some a → o ≡ Some b → a ≡ b
+some_once o a b h k = let same : ◌≡◌ {A = Option (List ℕ)} (Some a) (Some b) = sym h ∙ k in cc
+
+module _ {X : Type 0} (which : Which) (of : List ℕ → X) where
+  long_or : (o : Option (List ℕ)) (octets : List ℕ) → IsSomeAnd o (λ octets. limit_of which < length octets) → o ≡ Some octets → length octets ≤ limit_of which → ⊥
+  long_or o octets h is few = let long : limit_of which < length octets = rw is at h in omega (arith, long, few)
 
   input_once : (all : Files) (name : List ℕ) (a b : InputRead X) → IsInputAs (Some all) which of name a → IsInputAs (Some all) which of name b → a ≡ b
   input_once all name OverLimit OverLimit h k = refl
-  input_once all name OverLimit (WithinLimit x) h k = absurd (long_or (get all name) x h k)
-  input_once all name (WithinLimit x) OverLimit h k = absurd (long_or (get all name) x k h)
-  input_once all name (WithinLimit x) (WithinLimit y) h k = ap WithinLimit (one_of (get all name) x y h k)
+  input_once all name OverLimit (WithinLimit x) h k = absurd (long_or (get all name) k.0 h k.1 k.2)
+  input_once all name (WithinLimit x) OverLimit h k = absurd (long_or (get all name) h.0 k h.1 h.2)
+  input_once all name (WithinLimit x) (WithinLimit y) h k = ap WithinLimit (h.3 ∙ ap of (some_once (get all name) h.0 k.0 h.1 k.1) ∙ sym k.3)
 
   each_input : (sources : ℕ) (a : InputRead X) → IsDetermined (input_read which sources a)
   each_input sources OverLimit = tt
@@ -94,5 +92,5 @@ module _ {X : Type 0} (which : Which) (of : List ℕ → X) where
   each_there all name sources false = tt
 
   -- a known input is read in one way
-  pub reads_determined : (all : Files) (name : List ℕ) (sources : ℕ) → IsDetermined (reads (Some all) which of name sources)
+  pub reads_determined : (all : Files) (name : List ℕ) (sources : ℕ) → IsDetermined (input_plan (Some all) which of name sources)
   reads_determined all name sources = (there_once all name, λ b h. each_there all name sources b)

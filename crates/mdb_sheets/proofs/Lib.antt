@@ -1,4 +1,5 @@
 pub mod Fields
 pub mod Reached
 pub mod AskRows
+pub mod AskSheets
 pub mod Sheets

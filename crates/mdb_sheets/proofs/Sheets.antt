@@ -9,13 +9,13 @@ use Rattle.mdb_items.specs.declared.sheet.RawMdb.{RawMdb}
 use Rattle.outer_traits.specs.Outside.{Files}
 use Rattle.outer_traits.specs.declared.whole.ReadFault.{ReadFault}
 use Rattle.outer_traits.specs.declared.whole.ReadFault.TheVariants.{Missing, Failed, TooLong, OutOfMemory}
-use Rattle.command_plans.specs.Plan.{Gave, IsDetermined}
+use Rattle.command_plans.specs.Plan.{Returned, IsDetermined}
 use Rattle.command_plans.proofs.Plans.{determined, gave}
 use Rattle.outer_ledgers.specs.Ledger.{InputsState}
-use Rattle.input_plans.specs.Inputs.{IsFaultRefusal, ReadAs, WasRead}
-use Rattle.input_plans.proofs.Inputs.{reads_determined}
+use Rattle.input_plans.specs.Inputs.{IsFaultRefusal, IsInputAs, AnsweredByPlan, WasRead, WithinLimit}
+use Rattle.input_plans.proofs.Inputs.{read_as, reads_determined}
 use Rattle.input_plans.proofs.Readings.{first_not_read, then_not_read, then_read}
-use Rattle.mdb_sheets.specs.Plans.{gives_sheets, reads_second, reads_sheet, reads_third, sheets_plan}
+use Rattle.mdb_sheets.specs.Plans.{giving_plan, second_sheet_plan, sheet_plan, third_sheet_plan, sheets_plan}
 use Rattle.mdb_sheets.specs.Refusal.{IsRefusalOf}
 use Rattle.mdb_sheets.specs.Sheets.{Fields, HasSheet, IsSheet, IsSheetRefused, sheet_of}
 
@@ -28,35 +28,35 @@ sheet_refusal_is OutOfMemory name refusal is = is
 
 module _ (files : Option Files) (parameters calibrations containers : List ℕ) where
   -- the first wasn't read,
-  pub first_unread : (refusal : Refusal) (a b : InputsState) → ReadAs {X = List Fields} 1 (reads_sheet files parameters) (Err refusal) a b →
-      ReadAs {X = RawMdb} 3 (sheets_plan files parameters calibrations containers) (Err refusal) a b
-  first_unread refusal a b first = first_not_read (reads_sheet files parameters) (λ before. reads_second files calibrations containers (before + 1)) refusal 1 3 a b first
+  pub first_unread : (refusal : Refusal) (a b : InputsState) → AnsweredByPlan {X = List Fields} 1 (sheet_plan files parameters) (Err refusal) a b →
+      AnsweredByPlan {X = RawMdb} 3 (sheets_plan files parameters calibrations containers) (Err refusal) a b
+  first_unread refusal a b first = first_not_read (sheet_plan files parameters) (λ before. second_sheet_plan files calibrations containers (before + 1)) refusal 1 3 a b first
 
-  module _ (raw : RawMdb) (a b : InputsState) (first : WasRead (reads_sheet files parameters) raw.parameters 1 a b) where
+  module _ (raw : RawMdb) (a b : InputsState) (first : WasRead (sheet_plan files parameters) raw.parameters 1 a b) where
     -- the second wasn't,
-    pub second_unread : (refusal : Refusal) (c : InputsState) → ReadAs {X = List Fields} 1 (reads_sheet files calibrations) (Err refusal) b c →
-        ReadAs {X = RawMdb} 3 (sheets_plan files parameters calibrations containers) (Err refusal) a c
-    second_unread refusal c second = then_not_read (reads_sheet files parameters) (reads_second files calibrations containers) 1 raw.parameters a b c first refusal 2
-        (first_not_read (reads_sheet files calibrations) (λ before. reads_third files containers raw.parameters (before + 1)) refusal 1 2 b c second)
+    pub second_unread : (refusal : Refusal) (c : InputsState) → AnsweredByPlan {X = List Fields} 1 (sheet_plan files calibrations) (Err refusal) b c →
+        AnsweredByPlan {X = RawMdb} 3 (sheets_plan files parameters calibrations containers) (Err refusal) a c
+    second_unread refusal c second = then_not_read (sheet_plan files parameters) (second_sheet_plan files calibrations containers) 1 raw.parameters a b c first refusal 2
+        (first_not_read (sheet_plan files calibrations) (λ before. third_sheet_plan files containers raw.parameters (before + 1)) refusal 1 2 b c second)
 
-    module _ (c d : InputsState) (second : WasRead (reads_sheet files calibrations) raw.calibrations 1 b c) where
+    module _ (c d : InputsState) (second : WasRead (sheet_plan files calibrations) raw.calibrations 1 b c) where
       -- the third wasn't,
-      pub third_unread : (refusal : Refusal) → ReadAs {X = List Fields} 1 (reads_sheet files containers) (Err refusal) c d →
-          ReadAs {X = RawMdb} 3 (sheets_plan files parameters calibrations containers) (Err refusal) a d
-      third_unread refusal third = then_not_read (reads_sheet files parameters) (reads_second files calibrations containers) 1 raw.parameters a b d first refusal 2
-          (then_not_read (reads_sheet files calibrations) (reads_third files containers raw.parameters) 1 raw.calibrations b c d second refusal 1
-          (first_not_read (reads_sheet files containers) (λ before. gives_sheets raw.parameters raw.calibrations) refusal 1 1 c d third))
+      pub third_unread : (refusal : Refusal) → AnsweredByPlan {X = List Fields} 1 (sheet_plan files containers) (Err refusal) c d →
+          AnsweredByPlan {X = RawMdb} 3 (sheets_plan files parameters calibrations containers) (Err refusal) a d
+      third_unread refusal third = then_not_read (sheet_plan files parameters) (second_sheet_plan files calibrations containers) 1 raw.parameters a b d first refusal 2
+          (then_not_read (sheet_plan files calibrations) (third_sheet_plan files containers raw.parameters) 1 raw.calibrations b c d second refusal 1
+          (first_not_read (sheet_plan files containers) (λ before. giving_plan raw.parameters raw.calibrations) refusal 1 1 c d third))
 
-      last_read : WasRead (reads_sheet files containers) raw.containers 1 c d → WasRead (λ before. reads_third files containers raw.parameters before raw.calibrations) raw 1 c d
+      last_read : WasRead (sheet_plan files containers) raw.containers 1 c d → WasRead (λ before. third_sheet_plan files containers raw.parameters before raw.calibrations) raw 1 c d
       last_read third = record {
-        allows = λ before. gave (reads_sheet files containers before) (gives_sheets raw.parameters raw.calibrations) raw.containers (Gave raw) (third.allows before) refl;
+        allows = λ before. gave (sheet_plan files containers before) (giving_plan raw.parameters raw.calibrations) raw.containers (Returned raw) (third.allows before) refl;
         used = third.used;
       }
 
       -- or all were
-      pub all_read : WasRead (reads_sheet files containers) raw.containers 1 c d → WasRead (sheets_plan files parameters calibrations containers) raw 3 a d
-      all_read third = then_read (reads_sheet files parameters) (reads_second files calibrations containers) 1 raw.parameters a b d first raw 2
-          (then_read (reads_sheet files calibrations) (reads_third files containers raw.parameters) 1 raw.calibrations b c d second raw 1 (last_read third))
+      pub all_read : WasRead (sheet_plan files containers) raw.containers 1 c d → WasRead (sheets_plan files parameters calibrations containers) raw 3 a d
+      all_read third = then_read (sheet_plan files parameters) (second_sheet_plan files calibrations containers) 1 raw.parameters a b d first raw 2
+          (then_read (sheet_plan files calibrations) (third_sheet_plan files containers raw.parameters) 1 raw.calibrations b c d second raw 1 (last_read third))
 
 -- a sheet that was read is there, and isn't too long
 pub has_sheet : (files : Option Files) (name : List ℕ) (sheet : List Fields) → IsSheet files name sheet → HasSheet files name
@@ -77,8 +77,13 @@ refused_after files files' name faults faults' now given given' after refusal sa
 -- three known sheets are read in one way
 pub sheets_determined : (all : Files) (parameters calibrations containers : List ℕ) (sources : ℕ) → IsDetermined (sheets_plan (Some all) parameters calibrations containers sources)
 sheets_determined all parameters calibrations containers sources =
-    determined (reads_sheet (Some all) parameters sources) (reads_second (Some all) calibrations containers (sources + 1)) (reads_determined SheetOctets (λ octets. sheet_of octets) all parameters sources)
-    (λ first. determined (reads_sheet (Some all) calibrations (sources + 1)) (reads_third (Some all) containers first (sources + 1 + 1))
+    determined (sheet_plan (Some all) parameters sources) (second_sheet_plan (Some all) calibrations containers (sources + 1)) (reads_determined SheetOctets (λ octets. sheet_of octets) all parameters sources)
+    (λ first. determined (sheet_plan (Some all) calibrations (sources + 1)) (third_sheet_plan (Some all) containers first (sources + 1 + 1))
     (reads_determined SheetOctets (λ octets. sheet_of octets) all calibrations (sources + 1))
-    (λ second. determined (reads_sheet (Some all) containers (sources + 1 + 1)) (gives_sheets first second)
+    (λ second. determined (sheet_plan (Some all) containers (sources + 1 + 1)) (giving_plan first second)
     (reads_determined SheetOctets (λ octets. sheet_of octets) all containers (sources + 1 + 1)) (λ third. tt)))
+
+-- a sheet that was read is that of its name
+pub sheet_was_read : (files : Option Files) (name : List ℕ) (sheet : List Fields) → IsInputAs files SheetOctets (λ octets. sheet_of octets) name (WithinLimit sheet) → IsSheet files name sheet
+sheet_was_read files name sheet is =
+    read_as files SheetOctets (λ octets. sheet_of octets) name sheet (λ octets. (length octets ≤ limit_of SheetOctets) × (sheet ≡ sheet_of octets)) is (λ octets short same. (short, same))

@@ -1,5 +1,5 @@
 -- The sheet of asks: one row an ask.
-use Rattle.std.specs.Prelude.{◌≡◌, ℕ, suc, ◌<◌, ◌≤◌, ◌==◌, ◌&&◌, ◌||◌, not, Bool, true, false, List, [], ◌∷◌, length, map, drop, Option, Some, None, IfSome, is_some, option_map, unwrap_or, if◌then◌else◌, codes, pos, Result, Ok, Err}
+use Rattle.std.specs.Prelude.{◌≡◌, ◌⊎◌, ℕ, suc, ◌<◌, ◌≤◌, ◌==◌, ◌&&◌, ◌||◌, not, Bool, true, false, List, [], ◌∷◌, length, map, drop, Option, Some, None, IfSome, is_some, option_map, unwrap_or, nat_lt, if◌then◌else◌, codes, pos, Result, Ok, Err}
 use Rattle.std.specs.Str.{bytes_eq}
 use Rattle.arch_types.specs.declared.ask.Ask.{Ask}
 use Rattle.arch_types.specs.declared.ask.Ask.TheVariants.{Values}
@@ -17,6 +17,7 @@ use Rattle.mdb_items.specs.Texts.{field}
 use Rattle.text_forms.specs.Digits.{digits_at_most}
 use Rattle.outer_traits.specs.Outside.{HasRisen}
 use Rattle.time_text.specs.TimeText.{time_of}
+use Rattle.command_plans.specs.Plan.{is_interruption}
 use Rattle.mdb_sheets.specs.declared.ask_row.AskFault.{AskFault}
 use Rattle.mdb_sheets.specs.declared.ask_row.AskFault.TheVariants as fault
 use Rattle.mdb_sheets.specs.Sheets.{Fields, sheet_of}
@@ -86,6 +87,21 @@ abbrev pub ask_sheet_fault : List Fields → Option (ℕ × ℕ)
 ask_sheet_fault [] = Some (1, 1)
 ask_sheet_fault (header ∷ rows) = if is_ask_header header then rows_fault 2 rows else Some (1, 1)
 
+-- why a sheet of asks is refused: the first rule that it breaks, or else that it has too many asks
+abbrev pub ask_sheet_refusal : List Fields → Option Refusal
+ask_sheet_refusal records =
+    or_else (option_map (λ (broken : ℕ × ℕ). BadSheet sheet.Asks broken.0 broken.1) (ask_sheet_fault records))
+    (if nat_lt (limit_of which.Asks) (length (drop 1 records)) then Some (Limit which.Asks (limit_of which.Asks)) else None)
+
+-- the asks of the rows below the header, where the sheet isn't refused
+abbrev pub asks_unless : Option Refusal → List Fields → Result (List Ask) Refusal
+asks_unless None records = Ok (map ask_of (drop 1 records))
+asks_unless (Some refusal) records = Err refusal
+
+-- the asks of a sheet's octets, or why it is refused
+unfoldable pub asks_of : List ℕ → Result (List Ask) Refusal
+asks_of octets = asks_unless (ask_sheet_refusal (sheet_of octets)) (sheet_of octets)
+
 -- the asks of the rows below the header, or the first rule that they break
 abbrev pub IsAskRowsResult : List Fields → Result (List Ask) Refusal → Type 0
 IsAskRowsResult rows (Ok asks) = (rows_fault 2 rows ≡ None) × (asks ≡ map ask_of rows)
@@ -101,6 +117,12 @@ IsAsksResult records (Err (Limit quantity number)) =
     (quantity ≡ which.Asks) × (number ≡ limit_of which.Asks) × (ask_sheet_fault records ≡ None) × (limit_of which.Asks < length (drop 1 records))
 IsAsksResult records (Err OutOfMemory) = Unit {0}
 IsAsksResult records (Err other) = ⊥
+
+-- what was made of a sheet is what it says, but where a fault interrupted that
+abbrev pub IsSheetAnswer : Result (List Ask) Refusal → Result (Result (List Ask) Refusal) Refusal → Type 0
+IsSheetAnswer (Ok asks) answer = answer ≡ Ok (Ok asks)
+IsSheetAnswer (Err refusal) answer =
+    ((is_interruption refusal ≡ true) × (answer ≡ Err refusal)) ⊎ ((is_interruption refusal ≡ false) × (answer ≡ Ok (Err refusal)))
 
 -- the asks of the sheet that a source has left
 abbrev pub AreAsks : Option (List ℕ) → List Ask → Type 0

@@ -1,22 +1,22 @@
 //! The sheet of asks.
 
-ghost use Rattle.std.specs.Prelude.{◌≡◌, ◌<◌, ◌≤◌, ◌^◌, drop, IfOk, IfErr, IsErrOf};
-ghost use Rattle.arch_types.specs.declared.refusal.Which.TheVariants.{SheetOctets};
-ghost use Rattle.arch_types.specs.Limits.{limit_of};
+ghost use Rattle.std.specs.Prelude.{◌≡◌, ◌<◌, ◌^◌, drop};
 ghost use Rattle.mdb_model.specs.Sheets.{are_texts};
-ghost use Rattle.std.specs.Result.{result_err};
-ghost use Rattle.outer_traits.specs.Outside.{Stays};
-ghost use Rattle.outer_traits.specs.Whole.{TookAtMost};
-ghost use Rattle.mdb_sheets.specs.Asks.{AreAsks, IsAsksResult, IsAsksRefusal, IsAskRowsResult, is_ask_header};
-ghost use Rattle.mdb_sheets.specs.Sheets.{ReadsCounted, sheet_of};
+ghost use Rattle.outer_ledgers.specs.Ledger.{inputs_state};
+ghost use Rattle.input_plans.specs.Inputs.{AnsweredByPlan};
+ghost use Rattle.mdb_sheets.specs.Asks.{IsAsksResult, IsAskRowsResult, IsSheetAnswer, is_ask_header};
+ghost use Rattle.mdb_sheets.specs.Plans.{asks_plan};
+ghost use Rattle.mdb_sheets.specs.Sheets.{sheet_of};
 
 use crate::ask_row::{AskFault, read_ask};
 use crate::records::records;
+use crate::refusal::refusal;
 use arch_types::ask::Asks;
 use arch_types::refusal::{Refusal, Sheet as Named, Which};
+use command_plans::is_interruption;
 use mdb_model::{Sheet, SheetRecord};
-use outer_traits::source::Source;
-use outer_traits::whole::{ReadFault, read_whole};
+use outer_traits::inputs::Inputs;
+use outer_traits::whole::read_input;
 use std::alloc::Global;
 
 /// Two neighbouring fields are these texts.
@@ -91,27 +91,39 @@ fn asks_in(alloc: Global, octets: &[u8]) -> Result<Asks, Refusal>
     }
 }
 
-/// The asks of the sheet that a source has left, in its order. It answers `ReadFault` where a read failed, `Limit` of `SheetOctets` where the
-/// sheet is longer than 4,194,304 octets, whichever its reads meet first; then `BadSheet` with the first rule broken, by rows and in a row
-/// from the left; then `Limit` of `Asks` where there are more than 256. The count of faults rises exactly where the answer is `ReadFault`.
-pub fn read_asks<S: Source>(alloc: Global, source: &mut S) -> Result<Asks, Refusal>
-    ensures asks { IfOk result (AreAsks (S.left source.old)) }
-    ensures refused { IfErr result (IsAsksRefusal (S.left source.old) (S.faults source.old) (S.faults source.new)) }
-    ensures within { IsErrOf result Refusal.ReadFault → TookAtMost (limit_of SheetOctets) (S.left source.old)
-        (S.left source.new) }
-    ensures counted { ReadsCounted (result_err result) (S.faults source.old) (S.faults source.new) }
-    ensures later { S.faults source.old ≤ S.faults source.new }
-    ensures reliable { S.never_fails source.old → S.never_fails source.new ×
-        Stays (S.faults source.old) (S.faults source.new) }
+/// The asks of the named sheet, or why they are refused: `BadSheet` with the first rule broken, by rows and in a row from the left; then `Limit` of
+/// `Asks` where there are more than 256. A sheet that isn't read is refused by `Missing`, by `ReadFault`, or by `Limit` of `SheetOctets` where it is
+/// longer than 4,194,304 octets, whichever its reads meet first. It is opened once, and its source is closed whatever comes.
+pub fn read_asks<I: Inputs>(
+    alloc: Global,
+    inputs: &mut I,
+    name: &str,
+) -> Result<Result<Asks, Refusal>, Refusal>
+    // It took a way through its plan, and used the inputs as far as that went.
+    ensures read { AnsweredByPlan 1 (asks_plan (I.files inputs.old) name.now) result
+        (inputs_state (I.files inputs.old) (I.open_sources inputs.old)
+        (I.given inputs.old) (I.faults inputs.old) (I.never_fails inputs.old))
+        (inputs_state (I.files inputs.new) (I.open_sources inputs.new)
+        (I.given inputs.new) (I.faults inputs.new) (I.never_fails inputs.new)) }
 {
-    match read_whole(alloc, source, Which::SheetOctets.limit() as usize) {
-        Ok(octets) => asks_in(alloc, octets.as_slice()),
-        Err(ReadFault::Failed) => Err(Refusal::ReadFault),
-        Err(ReadFault::TooLong) => Err(Refusal::Limit {
-            which: Which::SheetOctets,
-            number: Which::SheetOctets.limit(),
-        }),
-        Err(ReadFault::OutOfMemory) => Err(Refusal::OutOfMemory),
-        Err(ReadFault::Missing) => unreachable!(),
+    match read_input(alloc, inputs, name, Which::SheetOctets.limit() as usize) {
+        Ok(octets) => sheet_asks(asks_in(alloc, octets.as_slice())),
+        Err(fault) => Err(refusal(alloc, fault, name)),
+    }
+}
+
+/// The asks of a sheet or why they are refused, but for want of memory, which interrupts the reading.
+fn sheet_asks(asks: Result<Asks, Refusal>) -> Result<Result<Asks, Refusal>, Refusal>
+    ensures { IsSheetAnswer asks result }
+{
+    match asks {
+        Ok(asks) => Ok(Ok(asks)),
+        Err(refusal) => {
+            if is_interruption(&refusal) {
+                Err(refusal)
+            } else {
+                Ok(Err(refusal))
+            }
+        }
     }
 }

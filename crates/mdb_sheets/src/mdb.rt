@@ -4,7 +4,7 @@ ghost use Rattle.std.specs.Prelude.{◌≡◌, ◌+◌, ◌<◌, ◌≤◌, ◌^
 ghost use Rattle.std.specs.Result.{result_err};
 ghost use Rattle.outer_traits.specs.Outside.{Stays};
 ghost use Rattle.outer_ledgers.specs.Ledger.{inputs_state};
-ghost use Rattle.input_plans.specs.Inputs.{ReadAs};
+ghost use Rattle.input_plans.specs.Inputs.{AnsweredByPlan};
 ghost use Rattle.mdb_sheets.specs.Plans.{sheets_plan};
 ghost use Rattle.mdb_sheets.specs.Sheets.{AreSheets, IsRefusal, ReadsCounted, more};
 
@@ -25,8 +25,8 @@ pub fn read_mdb<I: Inputs>(
     calibrations: &str,
     containers: &str,
 ) -> Result<RawMdb, Refusal>
-    // It went as its plan may go.
-    ensures read { ReadAs 3 (sheets_plan (I.files inputs.old) parameters.now calibrations.now containers.now) result
+    // It took a way through its plan, and used the inputs as far as that went.
+    ensures read { AnsweredByPlan 3 (sheets_plan (I.files inputs.old) parameters.now calibrations.now containers.now) result
         (inputs_state (I.files inputs.old) (I.open_sources inputs.old)
         (I.given inputs.old) (I.faults inputs.old) (I.never_fails inputs.old))
         (inputs_state (I.files inputs.new) (I.open_sources inputs.new)

@@ -4,8 +4,8 @@ ghost use Rattle.std.specs.Prelude.{◌≡◌, ◌+◌, ◌<◌, ◌≤◌, ◌^
 ghost use Rattle.std.specs.Result.{result_err};
 ghost use Rattle.outer_traits.specs.Outside.{Stays, one_more};
 ghost use Rattle.outer_ledgers.specs.Ledger.{inputs_state};
-ghost use Rattle.input_plans.specs.Inputs.{ReadAs};
-ghost use Rattle.mdb_sheets.specs.Plans.{reads_sheet};
+ghost use Rattle.input_plans.specs.Inputs.{AnsweredByPlan};
+ghost use Rattle.mdb_sheets.specs.Plans.{sheet_plan};
 ghost use Rattle.mdb_sheets.specs.Sheets.{IsSheet, IsSheetRefused, ReadsCounted};
 
 use crate::records::records;
@@ -23,8 +23,8 @@ pub(crate) fn read_sheet<I: Inputs>(
     inputs: &mut I,
     name: &str,
 ) -> Result<Sheet, Refusal>
-    // It went as its plan may go.
-    ensures read { ReadAs 1 (reads_sheet (I.files inputs.old) name.now) result
+    // It took a way through its plan, and used the inputs as far as that went.
+    ensures read { AnsweredByPlan 1 (sheet_plan (I.files inputs.old) name.now) result
         (inputs_state (I.files inputs.old) (I.open_sources inputs.old)
         (I.given inputs.old) (I.faults inputs.old) (I.never_fails inputs.old))
         (inputs_state (I.files inputs.new) (I.open_sources inputs.new)

@@ -4,7 +4,6 @@ use arch_types::ask::{Ask, Asks};
 use arch_types::refusal::{Refusal, Sheet as Named, Which};
 use mdb_model::{RawMdb, Sheet};
 use mdb_sheets::{read_asks, read_mdb};
-use outer_traits::inputs::Inputs;
 use outer_traits::mem_inputs::{FailingCall, File, MemInputs};
 use std::alloc::{AllocError, Global};
 use std::test::Fail;
@@ -146,8 +145,7 @@ fn refuses_at_the_first_sheet(rt: HostRuntime) -> Result<(), Fail> {
 /// The asks of a sheet of these octets.
 fn asks(alloc: Global, octets: &[u8]) -> Result<Result<Asks, Refusal>, Fail> {
     let mut inputs = MemInputs::new(alloc, files(alloc, octets)?);
-    let mut source = inputs.open(alloc, "c")?;
-    Ok(read_asks(alloc, &mut source))
+    Ok(read_asks(alloc, &mut inputs, "c")?)
 }
 
 /// How many asks there are and 0, or the row and the rule that it breaks, or the limit and 255.

@@ -6,7 +6,7 @@ use Rattle.outer_traits.specs.Outside.{Files}
 
 -- ---- counts
 
--- a count of faults rose where a call failed, and else is as before
+-- a count of faults rose where a call failed, and else is what it was before
 abbrev pub Counted : Bool → ℕ → ℕ → Type 0
 Counted true before now = raised before ≤ now
 Counted false before now = now ≡ before
@@ -28,7 +28,7 @@ given_more (suc n) count = min (count + suc n) (2 ^ 64 - 1)
 
 -- ---- inputs
 
--- their files where they are known, how many sources are open and were given, how often they failed, and whether they never do
+-- what is known of inputs: their files, how many sources are open and were given, how often they failed, and whether they never do
 pub record InputsState : Type 1 where
   pub files : Option Files
   pub open_sources : ℕ
@@ -41,7 +41,7 @@ abbrev pub inputs_state : Option Files → ℕ → ℕ → ℕ → Type 0 → In
 inputs_state files open_sources given faults never_fails =
     record { files = files; open_sources = open_sources; given = given; faults = faults; never_fails = never_fails }
 
--- A use of inputs that gave so many sources, and in which a call failed or none did: each source is closed again, and the files are as they were.
+-- What a call did to inputs that gave so many sources, by whether a call of them failed: each source is closed again, and the files are as they were.
 pub record UsedInputs (old new : InputsState) (sources : ℕ) (failed : Bool) : Type 0 where
   pub files : new.files ≡ old.files
   pub closed : old.open_sources + 1 < 2 ^ 64 → new.open_sources ≡ old.open_sources
@@ -51,7 +51,7 @@ pub record UsedInputs (old new : InputsState) (sources : ℕ) (failed : Bool) : 
 
 -- ---- an output
 
--- what was written, where that is known, and how often it failed
+-- what is known of an output: what was written to it, and how often it failed
 pub record OutputState : Type 0 where
   pub written : Option (List ℕ)
   pub faults : ℕ
@@ -60,25 +60,34 @@ pub record OutputState : Type 0 where
 abbrev pub output_state : Option (List ℕ) → ℕ → OutputState
 output_state written faults = record { written = written; faults = faults }
 
--- A use of an output in which a write failed or none did.
+-- What a call did to an output's count of faults, by whether a write failed.
 pub record UsedOutput (old new : OutputState) (failed : Bool) : Type 0 where
   pub counted : Counted failed old.faults new.faults
 
 -- ---- a disk
 
--- A use of a disk in which a call failed or none that had to succeed did; so many writes failed, one of between two numbers.
+-- What a call did to a disk's counts: that of faults rose where the call answers that the disk failed, and never falls; of its writes at least `fewest`
+-- failed, and at most `most`.
 pub record UsedDisk {D : Type 0} (device : Device D) (old new : D) (failed : Bool) (fewest most : ℕ) : Type 0 where
   pub faults : RoseIf failed (device.fault_count old) (device.fault_count new)
   pub writes : (n : ℕ) × (fewest ≤ n) × (n ≤ most) × (device.failed_writes new ≡ raised_by n (device.failed_writes old))
 
+-- what a call did to a disk's counts in which no write of the disk failed
+abbrev pub UsedWithoutFailedWrite : {D : Type 0} → Device D → D → D → Bool → Type 0
+UsedWithoutFailedWrite device old new failed = UsedDisk device old new failed 0 0
+
+-- what a call did to a disk's counts in which no more than so many writes of the disk failed
+abbrev pub WritesFailedAtMost : {D : Type 0} → ℕ → Device D → D → D → Bool → Type 0
+WritesFailedAtMost most device old new failed = UsedDisk device old new failed 0 most
+
 -- ---- a clock
 
--- the moment that comes next, where it is known, and whether it stands still
+-- what is known of a clock: the moment that comes next, and whether it stands still
 pub record ClockState : Type 1 where
   pub next : Option ℤ
   pub stands : Type 0
 
--- A use of a clock.
+-- What a call did to a clock: its next moment is known where it was, and a clock that stands still goes on standing at the same moment.
 pub record UsedClock (old new : ClockState) : Type 0 where
   pub known : is_some new.next ≡ is_some old.next
   pub stands : old.stands → new.stands × (new.next ≡ old.next)

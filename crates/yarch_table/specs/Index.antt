@@ -1,5 +1,5 @@
 -- The index of a table: its entries name the stored rows in the order of their keys.
-use Rattle.std.specs.Prelude.{◌≡◌, ℕ, ℤ, ◌+◌, ◌<◌, ◌≤◌, vec_len, vec_capacity, List, map, length, slice_index_or, slice_get, filter_map, Bool, true, Option, Some, None, ◌&&◌, if◌then◌else◌, nat_lt, int_lt}
+use Rattle.std.specs.Prelude.{◌≡◌, ℕ, ℤ, ◌+◌, ◌^◌, ◌<◌, ◌≤◌, vec_len, vec_capacity, List, map, length, slice_index_or, slice_get, filter_map, Bool, true, Option, Some, None, ◌&&◌, if◌then◌else◌, nat_lt, int_lt}
 use Rattle.std.specs.Global.{Vec}
 use Rattle.std.specs.List.{AllByRecursion}
 use Rattle.arch_types.specs.declared.row.Row.{Row}
@@ -26,10 +26,11 @@ pub record IsKeyIndex (stored : List Stored) (entries : List (Key × ℕ)) : Typ
   pub each : AllByRecursion (Names stored) entries
   pub order : (d : Stored) → map (stored_at stored d) entries ≡ order_by comes_before stored
 
--- an index of the stored rows, with room in their vector for as many more as in the index
+-- an index of the stored rows, with room in their vector for as many more as in the index, whose places have 32 bits
 pub record IsIndexedTable (stored : Vec Stored) (index : Listing Key ℕ) : Type 0 where
   pub names : IsKeyIndex stored.items index.entries
   pub has_room : vec_len stored + index.room ≤ vec_capacity stored
+  pub has_places : vec_len stored + index.room < 2 ^ 32
 
 -- entries in the order of their keys, each of which names a stored row of its key
 pub record AreRisingKeys (stored : List Stored) (entries : List (Key × ℕ)) : Type 0 where

@@ -1,3 +1,4 @@
+pub mod PackedKey
 pub mod Stored
 pub mod Index
 pub mod Placed

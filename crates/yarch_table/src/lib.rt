@@ -15,5 +15,6 @@
 #![tactic(auto)]
 
 pub mod laws;
+mod packed_key;
 pub mod rows;
 pub mod table;

@@ -5,8 +5,8 @@ ghost use Rattle.std.specs.Iterator.{at_most};
 ghost use Rattle.std.specs.Map.Iter.{TakesFirst, deref};
 ghost use Rattle.yarch_table.specs.Index.{is_before_end, rows_left, AreRisingKeys};
 
+use crate::packed_key::PackedKey;
 use crate::table::Stored;
-use arch_types::key::Key;
 use arch_types::row::Row;
 use block_map::entries::Entries;
 use std::marker::Model;
@@ -24,7 +24,7 @@ pub(crate) struct Window {
 #[derive(Drop)]
 pub struct TableRows<'a> {
     stored: &'a [Stored],
-    entries: Entries<'a, Key, usize>,
+    entries: Entries<'a, PackedKey, u32>,
     window: Window,
 }
 
@@ -43,7 +43,7 @@ impl<'a> Model for TableRows<'a> {
 impl<'a> TableRows<'a> {
     pub(crate) fn new(
         stored: &'a [Stored],
-        entries: Entries<'a, Key, usize>,
+        entries: Entries<'a, PackedKey, u32>,
         window: Window,
     ) -> Self
         requires { AreRisingKeys stored.now entries }
@@ -70,19 +70,22 @@ impl<'a> Iterator for TableRows<'a> {
 }
 
 /// Whether the time of an entry is below the end.
-fn is_within(entry: &(Key, usize), window: &Window) -> bool
+fn is_within(entry: &(PackedKey, u32), window: &Window) -> bool
     ensures { result ≡ is_before_end window.now.end entry.now.0.time }
 {
     match window.end {
         None => true,
-        Some(end) => entry.0.time < end,
+        Some(end) => {
+            let key = &entry.0;
+            key.is_before(end)
+        }
     }
 }
 
 /// The next row that is seen. Past the end of the window there is none, since the keys of the entries rise.
 fn next_seen<'a>(
     stored: &'a [Stored],
-    entries: &mut Entries<'a, Key, usize>,
+    entries: &mut Entries<'a, PackedKey, u32>,
     window: &Window,
 ) -> Option<&'a Row>
     requires { AreRisingKeys stored.now entries.old }
@@ -94,7 +97,7 @@ fn next_seen<'a>(
         if !is_within(entry, window) {
             return None;
         }
-        let found = &stored[entry.1];
+        let found = &stored[entry.1 as usize];
         if found.position < window.front {
             return Some(&found.row);
         }

@@ -5,11 +5,12 @@ ghost use Rattle.std.specs.List.{list_any};
 ghost use Rattle.arch_types.specs.History.{has_key};
 ghost use Rattle.yarch_table.specs.Stored.{seen_at, seen_between, rows_of, IsInserted, IsKeptAt};
 
+use crate::packed_key::PackedKey;
 use crate::rows::{TableRows, Window};
 use arch_types::inserted::Inserted;
 use arch_types::key::Key;
 use arch_types::row::Row;
-use block_map::index::Index;
+use block_map::growing_index::GrowingIndex;
 use std::alloc::{AllocError, Global};
 use std::marker::Model;
 
@@ -25,8 +26,8 @@ pub struct Stored {
 pub struct Table {
     /// The rows in the order of their insertion.
     stored: Vec<Stored>,
-    /// The place of each row in `stored`, by its key.
-    index: Index<Key, usize>,
+    /// The place of each row in `stored`, by its key. An entry has 16 octets.
+    index: GrowingIndex<PackedKey, u32>,
 }
 
 impl Model for Table {
@@ -47,11 +48,11 @@ impl Table {
     {
         Ok(Table {
             stored: Vec::new(alloc),
-            index: Index::new(alloc),
+            index: GrowingIndex::new(alloc),
         })
     }
 
-    /// Makes room for at least so many more rows. The one error is want of memory, and then all is as before.
+    /// Makes room for at least so many more rows. The one error is want of memory, or of places of 32 bits, and then all is as before.
     pub fn reserve(&mut self, rows: u64) -> Result<(), AllocError>
         ensures ok { OnOk result (self.new ≡ record { stored = self.old.stored; room = max self.old.room rows }) }
         ensures err { OnErr result (self.new ≡ self.old) }
@@ -60,6 +61,11 @@ impl Table {
         let rows = rows as usize;
         if rows <= self.index.room() {
             return Ok(());
+        }
+        // Places have 32 bits.
+        match self.stored.len().checked_add(rows) {
+            Some(total) if total <= u32::MAX as usize => {}
+            _ => return Err(AllocError),
         }
         self.stored.reserve(rows)?;
         self.index.reserve(rows)
@@ -72,8 +78,9 @@ impl Table {
         ensures inserted { IsInserted self.old self.new row position result }
         ensures left { self.old.room ≤ self.new.room + 1 }
     {
-        match self.index.insert(row.key, self.stored.len()) {
-            Some(i) => Inserted::Duplicate(self.stored[i].position),
+        let place = self.stored.len() as u32;
+        match self.index.insert(PackedKey::of(row.key), place) {
+            Some(i) => Inserted::Duplicate(self.stored[i as usize].position),
             None => {
                 self.stored.push_reserved(Stored { row, position });
                 Inserted::New(position)
@@ -86,8 +93,8 @@ impl Table {
         ensures some { IfSome result (IsKeptAt self.now.stored key) }
         ensures none { IfNone result (list_any (has_key key) (rows_of self.now.stored) ≡ false) }
     {
-        match self.index.get(key) {
-            Some(i) => Some(self.stored[i].position),
+        match self.index.get(PackedKey::of(key)) {
+            Some(i) => Some(self.stored[i as usize].position),
             None => None,
         }
     }
@@ -96,7 +103,9 @@ impl Table {
     pub fn range_at(&self, front: u64, from: i64, to: i64) -> TableRows<'_>
         ensures { result ≡ seen_between front from to self.now.stored }
     {
-        let entries = self.index.from_key(Key { time: from, seq: 0 });
+        let entries = self
+            .index
+            .from_key(PackedKey::of(Key { time: from, seq: 0 }));
         let window = Window {
             front,
             end: Some(to),

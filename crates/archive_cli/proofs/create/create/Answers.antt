@@ -2,9 +2,9 @@ use Rattle.std.proofs.Common.{refl}
 use Rattle.command_words.specs.JobView.{sheet_words_of}
 use Rattle.outer_ledgers.specs.Ledger.{inputs_state, output_state}
 use Rattle.archive_cli.specs.Command.{effects_of}
-use Rattle.archive_cli.specs.Create.{create_plan}
+use Rattle.archive_cli.specs.create_command.Create.{create_plan}
 use Rattle.archive_cli.proofs.Commands.{is_due_over}
-use Rattle.archive_cli.proofs.CreatePlan.{create_determined, ran_headed, ran_headless}
+use Rattle.archive_cli.proofs.create_command.CreatePlan.{create_determined, ran_headed, ran_headless}
 use Rattle.archive_cli.proofs.create.create.Goals as goal
 
 pub returns-in-Ok-clause-ran : goal.returns-in-Ok-clause-ran

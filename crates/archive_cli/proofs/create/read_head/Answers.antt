@@ -2,8 +2,8 @@ use Rattle.std.proofs.Common.{refl}
 use Rattle.std.proofs.lemmas.Result.{err_from_is_err_and}
 use Rattle.command_words.specs.JobView.{sheet_words_of}
 use Rattle.outer_ledgers.specs.Ledger.{inputs_state}
-use Rattle.archive_cli.proofs.CreatePlan.{head_bad, head_unread, head_unmade, head_was_read}
-use Rattle.archive_cli.proofs.Created.{sheets_bad, sheets_good}
+use Rattle.archive_cli.proofs.create_command.CreatePlan.{head_bad, head_unread, head_unmade, head_was_read}
+use Rattle.archive_cli.proofs.create_command.Created.{sheets_bad, sheets_good}
 use Rattle.archive_cli.proofs.create.read_head.Goals as goal
 
 pub returns-in_err-sheets-clause-read : goal.returns-in_err-sheets-clause-read

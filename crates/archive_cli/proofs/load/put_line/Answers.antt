@@ -1,5 +1,5 @@
 use Rattle.std.specs.Prelude.{codes, decimal}
-use Rattle.archive_cli.proofs.LoadReports.{six_put}
+use Rattle.archive_cli.proofs.load_command.LoadReports.{six_put}
 use Rattle.archive_cli.proofs.load.put_line.Goals as goal
 
 pub returns : goal.returns

@@ -1,4 +1,4 @@
-use Rattle.archive_cli.proofs.Replies.{finished_reply}
+use Rattle.archive_cli.proofs.query_command.Replies.{finished_reply}
 use Rattle.archive_cli.proofs.query.answer_asks.Goals as goal
 
 pub returns-in-Ok-clause-reply : goal.returns-in-Ok-clause-reply

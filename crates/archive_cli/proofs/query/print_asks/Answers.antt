@@ -7,7 +7,7 @@ use Rattle.outer_traits.specs.Outside.{WritesSome}
 use Rattle.retrieval.specs.AnswerText.{ask_text, asks_text}
 use Rattle.dump_lines.specs.Output.{IsBuffered}
 use Rattle.dump_lines.proofs.LineBuffers.{buffered_more, buffered_some}
-use Rattle.archive_cli.proofs.Replies.{first_known, next_text}
+use Rattle.archive_cli.proofs.query_command.Replies.{first_known, next_text}
 use Rattle.archive_cli.proofs.query.print_asks.Goals as goal
 
 pub loop-i-preserved : goal.loop-i-preserved

@@ -1,22 +1,22 @@
 use Rattle.std.proofs.Common.{◌≡◌, ◌≤◌, ◌∙◌, false, length, refl, sym, ap, subst, inl, arith}
 use Rattle.archive_store.specs.StoreView.{archive_of}
 use Rattle.dump_lines.specs.Output.{IsFinished}
-use Rattle.command_plans.specs.Plan.{OfMemory, Cut, and_then}
+use Rattle.command_plans.specs.Plan.{OfMemory, Interrupted, and_then}
 use Rattle.outer_ledgers.specs.Ledger.{output_state}
-use Rattle.archive_cli.specs.Command.{Became, Opened, Ran, effects_of, nothing_done, opened_so_far, opens}
-use Rattle.archive_cli.specs.Recover.{recover_plan, recovers}
-use Rattle.archive_cli.specs.RecoverEnding.{recover_line}
+use Rattle.archive_cli.specs.Command.{HasOutcome, Opened, Ran, effects_of, nothing_done, archive_opened, opening_plan}
+use Rattle.archive_cli.specs.recover_command.Recover.{recover_plan, recovering_plan}
+use Rattle.archive_cli.specs.recover_command.RecoverLine.{recover_line}
 use Rattle.archive_cli.specs.Report.{read_only}
 use Rattle.archive_cli.proofs.Commands.{is_due, no_text, ran_later, ran_opened, ran_printed, ran_unopened}
 use Rattle.archive_cli.proofs.ReadOnly.{read_only_store}
-use Rattle.archive_cli.proofs.RecoverPlan.{recover_determined}
+use Rattle.archive_cli.proofs.recover_command.RecoverPlan.{recover_determined}
 use Rattle.archive_cli.proofs.recover.recover.Goals as goal
 
 -- the way that its plan went
 
 pub returns-in_default-clause-ran : goal.returns-in_default-clause-ran
 returns-in_default-clause-ran g c = record {
-  way = Cut (nothing_done 0) OfMemory;
+  way = Interrupted (nothing_done 0) OfMemory;
   allows = inl refl;
   did = record {
     report = c.unopened.ensures.report;
@@ -34,8 +34,8 @@ returns-in-Err-clause-ran g c =
     let report = c.unopened-in-Err.result.report in
     let went = effects_of c.args.disk c.in-Err.disk output output report in
     subst (λ (d : g.row.D.Denot). Ran device (recover_plan device c.args.disk) (effects_of c.args.disk d output output report)) (sym c.unopened-in-Err.ensures.disk)
-    (ran_later device went OfMemory (nothing_done 0) (and_then (opens 0 device c.args.disk) recovers)
-    (ran_unopened device went recovers 0 c.in-Err.refusal e.refused e.reads e.crash e.counts c.unopened-in-Err.ensures.report refl))
+    (ran_later device went OfMemory (nothing_done 0) (and_then (opening_plan 0 device c.args.disk) recovering_plan)
+    (ran_unopened device went recovering_plan 0 c.in-Err.refusal e.refused e.reads e.crash e.counts c.unopened-in-Err.ensures.report refl))
 
 pub returns-clause-ran : goal.returns-clause-ran
 returns-clause-ran g c =
@@ -54,14 +54,14 @@ returns-clause-ran g c =
     let text = subst (IsFinished refusal written written') line c.finish-refusal.ensures.finished in
     let first : device.fault_count c.args.disk ≤ device.fault_count s.opened = e.counts.faults in
     let next : device.fault_count s.opened ≤ device.fault_count s.disk = c.into_disk.ensures.faults.later in
-    let disk : Became device c.args.disk s.disk false (Opened (archive_of s)) = (
+    let disk : HasOutcome device c.args.disk s.disk false (Opened (archive_of s)) = (
       record { faults = omega (arith, first, next); writes = (0, omega arith, omega arith, e.opened.no_failed_write) },
       λ known. read_only_store device c.args.disk s (e.opened.stands known) e.reads e.opened.opening e.opened.fills e.crash (c.into_disk.ensures.images known),
     ) in
     subst (λ (d : g.row.D.Denot). Ran device (recover_plan device c.args.disk) (effects_of c.args.disk d output output' report)) (sym (c.of.ensures.disk ∙ c.into_disk.ensures.disk))
-    (ran_later device went OfMemory (nothing_done 0) (and_then (opens 0 device c.args.disk) recovers)
-    (ran_opened device went recovers 0 (archive_of s) (λ known. e.opened.stands known)
-    (ran_printed device went (opened_so_far 0 (archive_of s)) (recover_line (length s.history)) refusal refl refl text c.finish-refusal.ensures.later c.finish-refusal.ensures.counted is disk)))
+    (ran_later device went OfMemory (nothing_done 0) (and_then (opening_plan 0 device c.args.disk) recovering_plan)
+    (ran_opened device went recovering_plan 0 (archive_of s) (λ known. e.opened.stands known)
+    (ran_printed device went (archive_opened 0 (archive_of s)) (recover_line (length s.history)) refusal refl refl text c.finish-refusal.ensures.later c.finish-refusal.ensures.counted is disk)))
 
 -- the answer that is due
 

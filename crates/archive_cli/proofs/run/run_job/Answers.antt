@@ -1,463 +1,71 @@
-use Rattle.std.proofs.Common.{◌≡◌, ◌∙◌, ◌+◌, ◌≤◌, [], Option, Some, ap, refl, subst, sym}
-use Rattle.std.specs.Result.{result_err}
 use Rattle.outer_ledgers.specs.Ledger.{inputs_state, output_state}
-use Rattle.arch_types.specs.declared.refusal.Refusal.{Refusal}
-use Rattle.archive_cli.specs.declared.report.Report.{Report}
-use Rattle.archive_cli.specs.Order.{AreInOrder, IsInOrder, inputs_of, scan_inputs, values_inputs}
-use Rattle.command_words.specs.declared.job.Job.{Job}
-use Rattle.command_words.specs.JobView.{job_view, sheet_words_of, words_of}
-use Rattle.archive_cli.specs.DiskWrites.{DiskWritesCounted}
-use Rattle.archive_cli.specs.HandedBack.{IsHandedBack, IsUnasked}
-use Rattle.archive_cli.specs.Ending.{IsCaused, IsJobEnding}
-use Rattle.archive_cli.specs.ScanEnding.{IsScanEnding}
-use Rattle.archive_cli.specs.ValuesEnding.{IsValuesEnding}
-use Rattle.archive_cli.proofs.Diskless.{scan_disk, scan_job_ended, values_disk, values_job_ended}
 use Rattle.archive_cli.specs.Command.{effects_of}
-use Rattle.archive_cli.specs.Report.{IsReport}
-use Rattle.archive_cli.proofs.CreateEnds.{create_caused, create_disk_fault, create_disk_later, create_disk_writes, create_ended, create_gave, create_handed_back, create_later, create_order, create_reads_counted, create_report, create_unasked, create_writes_counted, create_writes_later}
-use Rattle.archive_cli.proofs.RecoverPlan.{recover_caused, recover_disk_fault, recover_disk_later, recover_disk_writes, recover_ended, recover_reads, recover_report, recover_writes, recover_writes_later}
-use Rattle.archive_cli.proofs.Scanned.{call_of}
+use Rattle.archive_cli.proofs.recover_command.RecoverPlan.{recover_over}
+use Rattle.archive_cli.proofs.RunPlan.{job_due, job_ran}
 use Rattle.archive_cli.proofs.run.run_job.Goals as goal
 
-pub returns-in-Scan-clause-ended : goal.returns-in-Scan-clause-ended
-returns-in-Scan-clause-ended g c = λ words.
-    let device = g.D.Disk.device in
-    let call = call_of words (g.I.Inputs.files c.args.inputs.now) (g.C.Clock.next c.args.clock.now) (g.I.Inputs.faults c.args.inputs.now) (g.I.Inputs.faults c.scan.new.inputs)
-    (g.K.Sink.written c.args.sink.now) (g.K.Sink.written c.scan.new.sink) (g.K.Sink.faults c.args.sink.now) (g.K.Sink.faults c.scan.new.sink) in
-    let ended = subst (IsScanEnding call c.in-Scan.dump.now) (sym c.err.ensures.value) (c.scan.ensures.ended words) in
-    subst (λ (job : Job). IsJobEnding device call c.args.disk c.unopened.result.disk (Some (job_view job)) c.unopened.result.report) (sym c.in-Scan.is)
-    (scan_job_ended device call c.args.disk c.unopened.result.disk c.in-Scan.dump.now c.err.result c.unopened.result.report c.unopened.ensures.disk c.unopened.ensures.report ended)
-
-pub returns-in-Scan-clause-disk_fault : goal.returns-in-Scan-clause-disk_fault
-returns-in-Scan-clause-disk_fault g c = λ is.
-    let call = call_of [] (g.I.Inputs.files c.args.inputs.now) (g.C.Clock.next c.args.clock.now) (g.I.Inputs.faults c.args.inputs.now) (g.I.Inputs.faults c.scan.new.inputs)
-    (g.K.Sink.written c.args.sink.now) (g.K.Sink.written c.scan.new.sink) (g.K.Sink.faults c.args.sink.now) (g.K.Sink.faults c.scan.new.sink) in
-    let ended = subst (IsScanEnding call c.in-Scan.dump.now) (sym c.err.ensures.value) (c.scan.ensures.ended []) in
-    absurd (scan_disk call c.in-Scan.dump.now c.err.result c.unopened.result.report c.unopened.ensures.report ended is)
-
-pub returns-in-Values-clause-ended : goal.returns-in-Values-clause-ended
-returns-in-Values-clause-ended g c = λ words.
-    let device = g.D.Disk.device in
-    let call = call_of words (g.I.Inputs.files c.args.inputs.now) (g.C.Clock.next c.args.clock.now) (g.I.Inputs.faults c.args.inputs.now) (g.I.Inputs.faults c.values.new.inputs)
-    (g.K.Sink.written c.args.sink.now) (g.K.Sink.written c.values.new.sink) (g.K.Sink.faults c.args.sink.now) (g.K.Sink.faults c.values.new.sink) in
-    let ended = subst (IsValuesEnding call (words_of c.in-Values.words)) (sym c.err-in-Values.ensures.value) (c.values.ensures.ended words) in
-    subst (λ (job : Job). IsJobEnding device call c.args.disk c.unopened-in-Values.result.disk (Some (job_view job)) c.unopened-in-Values.result.report) (sym c.in-Values.is)
-    (values_job_ended device call c.args.disk c.unopened-in-Values.result.disk (words_of c.in-Values.words) c.err-in-Values.result c.unopened-in-Values.result.report c.unopened-in-Values.ensures.disk c.unopened-in-Values.ensures.report ended)
-
-pub returns-in-Values-clause-disk_fault : goal.returns-in-Values-clause-disk_fault
-returns-in-Values-clause-disk_fault g c = λ is.
-    let call = call_of [] (g.I.Inputs.files c.args.inputs.now) (g.C.Clock.next c.args.clock.now) (g.I.Inputs.faults c.args.inputs.now) (g.I.Inputs.faults c.values.new.inputs)
-    (g.K.Sink.written c.args.sink.now) (g.K.Sink.written c.values.new.sink) (g.K.Sink.faults c.args.sink.now) (g.K.Sink.faults c.values.new.sink) in
-    let ended = subst (IsValuesEnding call (words_of c.in-Values.words)) (sym c.err-in-Values.ensures.value) (c.values.ensures.ended []) in
-    absurd (values_disk call (words_of c.in-Values.words) c.err-in-Values.result c.unopened-in-Values.result.report c.unopened-in-Values.ensures.report ended is)
-
-pub returns-in-Load-clause-caused : goal.returns-in-Load-clause-caused
-returns-in-Load-clause-caused g c = λ words.
-    let call = call_of words (g.I.Inputs.files c.args.inputs.now) (g.C.Clock.next c.args.clock.now) (g.I.Inputs.faults c.args.inputs.now) (g.I.Inputs.faults c.load.new.inputs)
-    (g.K.Sink.written c.args.sink.now) (g.K.Sink.written c.load.new.sink) (g.K.Sink.faults c.args.sink.now) (g.K.Sink.faults c.load.new.sink) in
-    subst (λ (job : Job). IsCaused call (Some (job_view job)) c.load.result.report.refusal) (sym c.in-Load.is) (c.load.ensures.caused words)
-
-pub returns-in-Query-clause-caused : goal.returns-in-Query-clause-caused
-returns-in-Query-clause-caused g c = λ words.
-    let call = call_of words (g.I.Inputs.files c.args.inputs.now) (g.C.Clock.next c.args.clock.now) (g.I.Inputs.faults c.args.inputs.now) (g.I.Inputs.faults c.query.new.inputs)
-    (g.K.Sink.written c.args.sink.now) (g.K.Sink.written c.query.new.sink) (g.K.Sink.faults c.args.sink.now) (g.K.Sink.faults c.query.new.sink) in
-    subst (λ (job : Job). IsCaused call (Some (job_view job)) c.query.result.report.refusal) (sym c.in-Query.is) (c.query.ensures.caused words (g.C.Clock.next c.args.clock.now))
-
-pub returns-in-Load-clause-handed_back : goal.returns-in-Load-clause-handed_back
-returns-in-Load-clause-handed_back g c =
-    subst (λ (job : Job). IsHandedBack (Some (job_view job)) c.args.disk c.load.result.disk c.load.result.report) (sym c.in-Load.is) c.load.ensures.handed_back
-
-pub returns-in-Query-clause-handed_back : goal.returns-in-Query-clause-handed_back
-returns-in-Query-clause-handed_back g c =
-    subst (λ (job : Job). IsHandedBack (Some (job_view job)) c.args.disk c.query.result.disk c.query.result.report) (sym c.in-Query.is) c.query.ensures.handed_back
-
-pub returns-in-Load-clause-order : goal.returns-in-Load-clause-order
-returns-in-Load-clause-order g c =
-    subst (λ (job : Job). IsInOrder (g.I.Inputs.files c.args.inputs.now) (Some (job_view job)) (g.I.Inputs.given c.args.inputs.now) (g.I.Inputs.given c.load.new.inputs) c.args.disk
-    c.load.result.disk c.load.result.report) (sym c.in-Load.is) c.load.ensures.order
-
-pub returns-in-Query-clause-order : goal.returns-in-Query-clause-order
-returns-in-Query-clause-order g c =
-    subst (λ (job : Job). IsInOrder (g.I.Inputs.files c.args.inputs.now) (Some (job_view job)) (g.I.Inputs.given c.args.inputs.now) (g.I.Inputs.given c.query.new.inputs) c.args.disk
-    c.query.result.disk c.query.result.report) (sym c.in-Query.is) c.query.ensures.order
-
-pub returns-in-Scan-clause-order : goal.returns-in-Scan-clause-order
-returns-in-Scan-clause-order g c =
-    let files = g.I.Inputs.files c.args.inputs.now in
-    let given = g.I.Inputs.given c.args.inputs.now in
-    let given' = g.I.Inputs.given c.scan.new.inputs in
-    let ending = c.unopened.result.report.refusal in
-    let is : ending ≡ result_err c.scan.result = ap (λ (r : Report). r.refusal) c.unopened.ensures.report ∙ c.err.ensures.value in
-    subst (λ (job : Job). IsInOrder files (Some (job_view job)) given given' c.args.disk c.unopened.result.disk c.unopened.result.report) (sym c.in-Scan.is)
-    (subst (λ (o : Option Refusal). AreInOrder files (scan_inputs c.in-Scan.dump.now) given given' o) (sym is) c.scan.ensures.order)
-
-pub returns-in-Values-clause-order : goal.returns-in-Values-clause-order
-returns-in-Values-clause-order g c =
-    let files = g.I.Inputs.files c.args.inputs.now in
-    let given = g.I.Inputs.given c.args.inputs.now in
-    let given' = g.I.Inputs.given c.values.new.inputs in
-    let ending = c.unopened-in-Values.result.report.refusal in
-    let is : ending ≡ result_err c.values.result = ap (λ (r : Report). r.refusal) c.unopened-in-Values.ensures.report ∙ c.err-in-Values.ensures.value in
-    subst (λ (job : Job). IsInOrder files (Some (job_view job)) given given' c.args.disk c.unopened-in-Values.result.disk c.unopened-in-Values.result.report) (sym c.in-Values.is)
-    (subst (λ (o : Option Refusal). AreInOrder files (values_inputs (words_of c.in-Values.words)) given given' o) (sym is) c.values.ensures.order)
-
--- before a source was given
-
-pub returns-in-Load-clause-unasked : goal.returns-in-Load-clause-unasked
-returns-in-Load-clause-unasked g c =
-    subst (λ (job : Job). IsUnasked (Some (job_view job)) (g.I.Inputs.given c.args.inputs.now) (g.I.Inputs.given c.load.new.inputs) c.args.disk c.load.result.disk) (sym c.in-Load.is)
-    c.load.ensures.unasked
-
-pub returns-in-Query-clause-unasked : goal.returns-in-Query-clause-unasked
-returns-in-Query-clause-unasked g c =
-    subst (λ (job : Job). IsUnasked (Some (job_view job)) (g.I.Inputs.given c.args.inputs.now) (g.I.Inputs.given c.query.new.inputs) c.args.disk c.query.result.disk) (sym c.in-Query.is)
-    c.query.ensures.unasked
-
-pub returns-in-Scan-clause-unasked : goal.returns-in-Scan-clause-unasked
-returns-in-Scan-clause-unasked g c =
-    subst (λ (job : Job). IsUnasked (Some (job_view job)) (g.I.Inputs.given c.args.inputs.now) (g.I.Inputs.given c.scan.new.inputs) c.args.disk c.unopened.result.disk) (sym c.in-Scan.is)
-    (λ below same. c.unopened.ensures.disk)
-
-pub returns-in-Values-clause-unasked : goal.returns-in-Values-clause-unasked
-returns-in-Values-clause-unasked g c =
-    subst (λ (job : Job). IsUnasked (Some (job_view job)) (g.I.Inputs.given c.args.inputs.now) (g.I.Inputs.given c.values.new.inputs) c.args.disk c.unopened-in-Values.result.disk)
-    (sym c.in-Values.is) (λ below same. c.unopened-in-Values.ensures.disk)
-
--- how many sources were given
-
-pub returns-in-Scan-clause-gave : goal.returns-in-Scan-clause-gave
-returns-in-Scan-clause-gave g c =
-    subst (λ (job : Job). g.I.Inputs.given c.scan.new.inputs ≤ g.I.Inputs.given c.args.inputs.now + inputs_of (Some (job_view job))) (sym c.in-Scan.is) c.scan.ensures.gave
-
-pub returns-in-Values-clause-gave : goal.returns-in-Values-clause-gave
-returns-in-Values-clause-gave g c =
-    subst (λ (job : Job). g.I.Inputs.given c.values.new.inputs ≤ g.I.Inputs.given c.args.inputs.now + inputs_of (Some (job_view job))) (sym c.in-Values.is) c.values.ensures.gave
-
-pub returns-in-Load-clause-gave : goal.returns-in-Load-clause-gave
-returns-in-Load-clause-gave g c =
-    subst (λ (job : Job). g.I.Inputs.given c.load.new.inputs ≤ g.I.Inputs.given c.args.inputs.now + inputs_of (Some (job_view job))) (sym c.in-Load.is) c.load.ensures.gave
-
-pub returns-in-Query-clause-gave : goal.returns-in-Query-clause-gave
-returns-in-Query-clause-gave g c =
-    subst (λ (job : Job). g.I.Inputs.given c.query.new.inputs ≤ g.I.Inputs.given c.args.inputs.now + inputs_of (Some (job_view job))) (sym c.in-Query.is) c.query.ensures.gave
-
--- how many writes of the disk failed
-
-pub returns-in-Scan-clause-disk_writes : goal.returns-in-Scan-clause-disk_writes
-returns-in-Scan-clause-disk_writes g c =
-    let failed = g.D.Disk.device.failed_writes in
-    subst (λ (job : Job). DiskWritesCounted (Some (job_view job)) c.unopened.result.report (failed c.args.disk) (failed c.unopened.result.disk)) (sym c.in-Scan.is)
-    (ap (λ (d : g.row.D.Denot). g.D.Disk.device.failed_writes d) c.unopened.ensures.disk)
-
-pub returns-in-Values-clause-disk_writes : goal.returns-in-Values-clause-disk_writes
-returns-in-Values-clause-disk_writes g c =
-    let failed = g.D.Disk.device.failed_writes in
-    subst (λ (job : Job). DiskWritesCounted (Some (job_view job)) c.unopened-in-Values.result.report (failed c.args.disk) (failed c.unopened-in-Values.result.disk)) (sym c.in-Values.is)
-    (ap (λ (d : g.row.D.Denot). g.D.Disk.device.failed_writes d) c.unopened-in-Values.ensures.disk)
-
-pub returns-in-Load-clause-disk_writes : goal.returns-in-Load-clause-disk_writes
-returns-in-Load-clause-disk_writes g c =
-    let failed = g.D.Disk.device.failed_writes in
-    subst (λ (job : Job). DiskWritesCounted (Some (job_view job)) c.load.result.report (failed c.args.disk) (failed c.load.result.disk)) (sym c.in-Load.is) c.load.ensures.disk_writes
-
-pub returns-in-Query-clause-disk_writes : goal.returns-in-Query-clause-disk_writes
-returns-in-Query-clause-disk_writes g c =
-    let failed = g.D.Disk.device.failed_writes in
-    subst (λ (job : Job). DiskWritesCounted (Some (job_view job)) c.query.result.report (failed c.args.disk) (failed c.query.result.disk)) (sym c.in-Query.is) c.query.ensures.disk_writes
-
--- `recover`: what its plan says
-
-pub returns-in-Recover-clause-ended : goal.returns-in-Recover-clause-ended
-returns-in-Recover-clause-ended g c = λ words.
-    let device = g.D.Disk.device in
-    let r = c.recover.result in
-    let output = output_state (g.K.Sink.written c.args.sink.now) (g.K.Sink.faults c.args.sink.now) in
-    let output' = output_state (g.K.Sink.written c.recover.new.sink) (g.K.Sink.faults c.recover.new.sink) in
-    let went = effects_of c.args.disk r.disk output output' r.report in
-    let call = call_of words (g.I.Inputs.files c.args.inputs.now) (g.C.Clock.next c.args.clock.now) (g.I.Inputs.faults c.args.inputs.now) (g.I.Inputs.faults c.args.inputs.now)
-    (g.K.Sink.written c.args.sink.now) (g.K.Sink.written c.recover.new.sink) (g.K.Sink.faults c.args.sink.now) (g.K.Sink.faults c.recover.new.sink) in
-    subst (λ (job : Job). IsJobEnding device call c.args.disk r.disk (Some (job_view job)) r.report) (sym c.in-Recover.is) (recover_ended device went c.recover.ensures.ran call refl refl refl refl)
-
-pub returns-in-Recover-clause-caused : goal.returns-in-Recover-clause-caused
-returns-in-Recover-clause-caused g c = λ words.
-    let device = g.D.Disk.device in
-    let r = c.recover.result in
-    let output = output_state (g.K.Sink.written c.args.sink.now) (g.K.Sink.faults c.args.sink.now) in
-    let output' = output_state (g.K.Sink.written c.recover.new.sink) (g.K.Sink.faults c.recover.new.sink) in
-    let went = effects_of c.args.disk r.disk output output' r.report in
-    let call = call_of words (g.I.Inputs.files c.args.inputs.now) (g.C.Clock.next c.args.clock.now) (g.I.Inputs.faults c.args.inputs.now) (g.I.Inputs.faults c.args.inputs.now)
-    (g.K.Sink.written c.args.sink.now) (g.K.Sink.written c.recover.new.sink) (g.K.Sink.faults c.args.sink.now) (g.K.Sink.faults c.recover.new.sink) in
-    subst (λ (job : Job). IsCaused call (Some (job_view job)) r.report.refusal) (sym c.in-Recover.is) (recover_caused device went c.recover.ensures.ran)
-
-pub returns-in-Recover-clause-report : goal.returns-in-Recover-clause-report
-returns-in-Recover-clause-report g c =
-    let device = g.D.Disk.device in
-    let r = c.recover.result in
-    let output = output_state (g.K.Sink.written c.args.sink.now) (g.K.Sink.faults c.args.sink.now) in
-    let output' = output_state (g.K.Sink.written c.recover.new.sink) (g.K.Sink.faults c.recover.new.sink) in
-    let went = effects_of c.args.disk r.disk output output' r.report in
-    subst (λ (job : Job). IsReport (Some (job_view job)) r.report) (sym c.in-Recover.is) (recover_report device went c.recover.ensures.ran)
-
-pub returns-in-Recover-clause-reads_counted : goal.returns-in-Recover-clause-reads_counted
-returns-in-Recover-clause-reads_counted g c =
-    let device = g.D.Disk.device in
-    let r = c.recover.result in
-    let output = output_state (g.K.Sink.written c.args.sink.now) (g.K.Sink.faults c.args.sink.now) in
-    let output' = output_state (g.K.Sink.written c.recover.new.sink) (g.K.Sink.faults c.recover.new.sink) in
-    let went = effects_of c.args.disk r.disk output output' r.report in
-    recover_reads device went c.recover.ensures.ran (g.I.Inputs.faults c.args.inputs.now)
-
-pub returns-in-Recover-clause-writes_counted : goal.returns-in-Recover-clause-writes_counted
-returns-in-Recover-clause-writes_counted g c =
-    let device = g.D.Disk.device in
-    let r = c.recover.result in
-    let output = output_state (g.K.Sink.written c.args.sink.now) (g.K.Sink.faults c.args.sink.now) in
-    let output' = output_state (g.K.Sink.written c.recover.new.sink) (g.K.Sink.faults c.recover.new.sink) in
-    let went = effects_of c.args.disk r.disk output output' r.report in
-    recover_writes device went c.recover.ensures.ran
-
-pub returns-in-Recover-clause-writes_later : goal.returns-in-Recover-clause-writes_later
-returns-in-Recover-clause-writes_later g c =
-    let device = g.D.Disk.device in
-    let r = c.recover.result in
-    let output = output_state (g.K.Sink.written c.args.sink.now) (g.K.Sink.faults c.args.sink.now) in
-    let output' = output_state (g.K.Sink.written c.recover.new.sink) (g.K.Sink.faults c.recover.new.sink) in
-    let went = effects_of c.args.disk r.disk output output' r.report in
-    recover_writes_later device went c.recover.ensures.ran
-
-pub returns-in-Recover-clause-disk_later : goal.returns-in-Recover-clause-disk_later
-returns-in-Recover-clause-disk_later g c =
-    let device = g.D.Disk.device in
-    let r = c.recover.result in
-    let output = output_state (g.K.Sink.written c.args.sink.now) (g.K.Sink.faults c.args.sink.now) in
-    let output' = output_state (g.K.Sink.written c.recover.new.sink) (g.K.Sink.faults c.recover.new.sink) in
-    let went = effects_of c.args.disk r.disk output output' r.report in
-    recover_disk_later device went c.recover.ensures.ran
-
-pub returns-in-Recover-clause-disk_fault : goal.returns-in-Recover-clause-disk_fault
-returns-in-Recover-clause-disk_fault g c =
-    let device = g.D.Disk.device in
-    let r = c.recover.result in
-    let output = output_state (g.K.Sink.written c.args.sink.now) (g.K.Sink.faults c.args.sink.now) in
-    let output' = output_state (g.K.Sink.written c.recover.new.sink) (g.K.Sink.faults c.recover.new.sink) in
-    let went = effects_of c.args.disk r.disk output output' r.report in
-    recover_disk_fault device went c.recover.ensures.ran
-
-pub returns-in-Recover-clause-disk_writes : goal.returns-in-Recover-clause-disk_writes
-returns-in-Recover-clause-disk_writes g c =
-    let device = g.D.Disk.device in
-    let r = c.recover.result in
-    let output = output_state (g.K.Sink.written c.args.sink.now) (g.K.Sink.faults c.args.sink.now) in
-    let output' = output_state (g.K.Sink.written c.recover.new.sink) (g.K.Sink.faults c.recover.new.sink) in
-    let went = effects_of c.args.disk r.disk output output' r.report in
-    subst (λ (job : Job). DiskWritesCounted (Some (job_view job)) r.report (device.failed_writes c.args.disk) (device.failed_writes r.disk)) (sym c.in-Recover.is) (recover_disk_writes device went c.recover.ensures.ran)
-
--- `create`: what its plan says
-
-pub returns-in-Create-clause-ended : goal.returns-in-Create-clause-ended
-returns-in-Create-clause-ended g c = λ given.
-    let device = g.D.Disk.device in
-    let r = c.create.result in
-    let files = g.I.Inputs.files c.args.inputs.now in
-    let words = sheet_words_of c.in-Create.words in
+pub returns-in-Scan-clause-ran : goal.returns-in-Scan-clause-ran
+returns-in-Scan-clause-ran g c =
     let state = λ (i : g.row.I.Denot). inputs_state (g.I.Inputs.files i) (g.I.Inputs.open_sources i) (g.I.Inputs.given i) (g.I.Inputs.faults i) (g.I.Inputs.never_fails i) in
-    let a = state c.args.inputs.now in
-    let b = state c.create.new.inputs in
-    let output = output_state (g.K.Sink.written c.args.sink.now) (g.K.Sink.faults c.args.sink.now) in
-    let output' = output_state (g.K.Sink.written c.create.new.sink) (g.K.Sink.faults c.create.new.sink) in
-    let went = effects_of c.args.disk r.disk output output' r.report in
-    let call = call_of given files (g.C.Clock.next c.args.clock.now) a.faults b.faults output.written output'.written output.faults output'.faults in
-    subst (λ (job : Job). IsJobEnding device call c.args.disk r.disk (Some (job_view job)) r.report) (sym c.in-Create.is) (create_ended device went files words a b c.create.ensures.ran given (g.C.Clock.next c.args.clock.now))
+    let went = effects_of c.args.disk c.scan.result.disk (output_state (g.K.Sink.written c.args.sink.now) (g.K.Sink.faults c.args.sink.now))
+    (output_state (g.K.Sink.written c.scan.new.sink) (g.K.Sink.faults c.scan.new.sink)) c.scan.result.report in
+    job_ran g.D.Disk.device went (g.I.Inputs.files c.args.inputs.now) (g.C.Clock.next c.args.clock.now) (state c.args.inputs.now) (state c.scan.new.inputs) c.args.job _ c.in-Scan.is c.scan.ensures.ran
 
-pub returns-in-Create-clause-caused : goal.returns-in-Create-clause-caused
-returns-in-Create-clause-caused g c = λ given.
-    let device = g.D.Disk.device in
-    let r = c.create.result in
-    let files = g.I.Inputs.files c.args.inputs.now in
-    let words = sheet_words_of c.in-Create.words in
+pub returns-in-Scan-clause-due : goal.returns-in-Scan-clause-due
+returns-in-Scan-clause-due g c = λ transparent known.
+    job_due g.D.Disk.device c.args.disk (g.I.Inputs.files c.args.inputs.now) (g.C.Clock.next c.args.clock.now) c.args.job _ c.scan.result.report.refusal c.in-Scan.is (c.scan.ensures.due known)
+
+pub returns-in-Values-clause-ran : goal.returns-in-Values-clause-ran
+returns-in-Values-clause-ran g c =
     let state = λ (i : g.row.I.Denot). inputs_state (g.I.Inputs.files i) (g.I.Inputs.open_sources i) (g.I.Inputs.given i) (g.I.Inputs.faults i) (g.I.Inputs.never_fails i) in
-    let a = state c.args.inputs.now in
-    let b = state c.create.new.inputs in
-    let output = output_state (g.K.Sink.written c.args.sink.now) (g.K.Sink.faults c.args.sink.now) in
-    let output' = output_state (g.K.Sink.written c.create.new.sink) (g.K.Sink.faults c.create.new.sink) in
-    let went = effects_of c.args.disk r.disk output output' r.report in
-    let call = call_of given files (g.C.Clock.next c.args.clock.now) a.faults b.faults output.written output'.written output.faults output'.faults in
-    subst (λ (job : Job). IsCaused call (Some (job_view job)) r.report.refusal) (sym c.in-Create.is) (create_caused device went files words a b c.create.ensures.ran given (g.C.Clock.next c.args.clock.now))
+    let went = effects_of c.args.disk c.values.result.disk (output_state (g.K.Sink.written c.args.sink.now) (g.K.Sink.faults c.args.sink.now))
+    (output_state (g.K.Sink.written c.values.new.sink) (g.K.Sink.faults c.values.new.sink)) c.values.result.report in
+    job_ran g.D.Disk.device went (g.I.Inputs.files c.args.inputs.now) (g.C.Clock.next c.args.clock.now) (state c.args.inputs.now) (state c.values.new.inputs) c.args.job _ c.in-Values.is c.values.ensures.ran
 
-pub returns-in-Create-clause-report : goal.returns-in-Create-clause-report
-returns-in-Create-clause-report g c =
-    let device = g.D.Disk.device in
-    let r = c.create.result in
-    let files = g.I.Inputs.files c.args.inputs.now in
-    let words = sheet_words_of c.in-Create.words in
+pub returns-in-Values-clause-due : goal.returns-in-Values-clause-due
+returns-in-Values-clause-due g c = λ transparent known.
+    job_due g.D.Disk.device c.args.disk (g.I.Inputs.files c.args.inputs.now) (g.C.Clock.next c.args.clock.now) c.args.job _ c.values.result.report.refusal c.in-Values.is (c.values.ensures.due known)
+
+pub returns-in-Create-clause-ran : goal.returns-in-Create-clause-ran
+returns-in-Create-clause-ran g c =
     let state = λ (i : g.row.I.Denot). inputs_state (g.I.Inputs.files i) (g.I.Inputs.open_sources i) (g.I.Inputs.given i) (g.I.Inputs.faults i) (g.I.Inputs.never_fails i) in
-    let a = state c.args.inputs.now in
-    let b = state c.create.new.inputs in
-    let output = output_state (g.K.Sink.written c.args.sink.now) (g.K.Sink.faults c.args.sink.now) in
-    let output' = output_state (g.K.Sink.written c.create.new.sink) (g.K.Sink.faults c.create.new.sink) in
-    let went = effects_of c.args.disk r.disk output output' r.report in
-    subst (λ (job : Job). IsReport (Some (job_view job)) r.report) (sym c.in-Create.is) (create_report device went files words a b c.create.ensures.ran)
+    let went = effects_of c.args.disk c.create.result.disk (output_state (g.K.Sink.written c.args.sink.now) (g.K.Sink.faults c.args.sink.now))
+    (output_state (g.K.Sink.written c.create.new.sink) (g.K.Sink.faults c.create.new.sink)) c.create.result.report in
+    job_ran g.D.Disk.device went (g.I.Inputs.files c.args.inputs.now) (g.C.Clock.next c.args.clock.now) (state c.args.inputs.now) (state c.create.new.inputs) c.args.job _ c.in-Create.is c.create.ensures.ran
 
-pub returns-in-Create-clause-order : goal.returns-in-Create-clause-order
-returns-in-Create-clause-order g c =
-    let device = g.D.Disk.device in
-    let r = c.create.result in
-    let files = g.I.Inputs.files c.args.inputs.now in
-    let words = sheet_words_of c.in-Create.words in
+pub returns-in-Create-clause-due : goal.returns-in-Create-clause-due
+returns-in-Create-clause-due g c = λ transparent known.
+    job_due g.D.Disk.device c.args.disk (g.I.Inputs.files c.args.inputs.now) (g.C.Clock.next c.args.clock.now) c.args.job _ c.create.result.report.refusal c.in-Create.is (c.create.ensures.due transparent known)
+
+pub returns-in-Load-clause-ran : goal.returns-in-Load-clause-ran
+returns-in-Load-clause-ran g c =
     let state = λ (i : g.row.I.Denot). inputs_state (g.I.Inputs.files i) (g.I.Inputs.open_sources i) (g.I.Inputs.given i) (g.I.Inputs.faults i) (g.I.Inputs.never_fails i) in
-    let a = state c.args.inputs.now in
-    let b = state c.create.new.inputs in
-    let output = output_state (g.K.Sink.written c.args.sink.now) (g.K.Sink.faults c.args.sink.now) in
-    let output' = output_state (g.K.Sink.written c.create.new.sink) (g.K.Sink.faults c.create.new.sink) in
-    let went = effects_of c.args.disk r.disk output output' r.report in
-    subst (λ (job : Job). IsInOrder files (Some (job_view job)) a.given b.given c.args.disk r.disk r.report) (sym c.in-Create.is) (create_order device went files words a b c.create.ensures.ran)
+    let went = effects_of c.args.disk c.load.result.disk (output_state (g.K.Sink.written c.args.sink.now) (g.K.Sink.faults c.args.sink.now))
+    (output_state (g.K.Sink.written c.load.new.sink) (g.K.Sink.faults c.load.new.sink)) c.load.result.report in
+    job_ran g.D.Disk.device went (g.I.Inputs.files c.args.inputs.now) (g.C.Clock.next c.args.clock.now) (state c.args.inputs.now) (state c.load.new.inputs) c.args.job _ c.in-Load.is c.load.ensures.ran
 
-pub returns-in-Create-clause-later : goal.returns-in-Create-clause-later
-returns-in-Create-clause-later g c =
-    let device = g.D.Disk.device in
-    let r = c.create.result in
-    let files = g.I.Inputs.files c.args.inputs.now in
-    let words = sheet_words_of c.in-Create.words in
+pub returns-in-Load-clause-due : goal.returns-in-Load-clause-due
+returns-in-Load-clause-due g c = λ transparent known.
+    job_due g.D.Disk.device c.args.disk (g.I.Inputs.files c.args.inputs.now) (g.C.Clock.next c.args.clock.now) c.args.job _ c.load.result.report.refusal c.in-Load.is (c.load.ensures.due transparent known)
+
+pub returns-in-Query-clause-ran : goal.returns-in-Query-clause-ran
+returns-in-Query-clause-ran g c =
     let state = λ (i : g.row.I.Denot). inputs_state (g.I.Inputs.files i) (g.I.Inputs.open_sources i) (g.I.Inputs.given i) (g.I.Inputs.faults i) (g.I.Inputs.never_fails i) in
-    let a = state c.args.inputs.now in
-    let b = state c.create.new.inputs in
-    let output = output_state (g.K.Sink.written c.args.sink.now) (g.K.Sink.faults c.args.sink.now) in
-    let output' = output_state (g.K.Sink.written c.create.new.sink) (g.K.Sink.faults c.create.new.sink) in
-    let went = effects_of c.args.disk r.disk output output' r.report in
-    create_later device went files words a b c.create.ensures.ran
+    let went = effects_of c.args.disk c.query.result.disk (output_state (g.K.Sink.written c.args.sink.now) (g.K.Sink.faults c.args.sink.now))
+    (output_state (g.K.Sink.written c.query.new.sink) (g.K.Sink.faults c.query.new.sink)) c.query.result.report in
+    job_ran g.D.Disk.device went (g.I.Inputs.files c.args.inputs.now) (g.C.Clock.next c.args.clock.now) (state c.args.inputs.now) (state c.query.new.inputs) c.args.job _ c.in-Query.is c.query.ensures.ran
 
-pub returns-in-Create-clause-writes_later : goal.returns-in-Create-clause-writes_later
-returns-in-Create-clause-writes_later g c =
-    let device = g.D.Disk.device in
-    let r = c.create.result in
-    let files = g.I.Inputs.files c.args.inputs.now in
-    let words = sheet_words_of c.in-Create.words in
+pub returns-in-Query-clause-due : goal.returns-in-Query-clause-due
+returns-in-Query-clause-due g c = λ transparent known.
+    job_due g.D.Disk.device c.args.disk (g.I.Inputs.files c.args.inputs.now) (g.C.Clock.next c.args.clock.now) c.args.job _ c.query.result.report.refusal c.in-Query.is (c.query.ensures.due transparent known)
+
+pub returns-in-Recover-clause-ran : goal.returns-in-Recover-clause-ran
+returns-in-Recover-clause-ran g c =
     let state = λ (i : g.row.I.Denot). inputs_state (g.I.Inputs.files i) (g.I.Inputs.open_sources i) (g.I.Inputs.given i) (g.I.Inputs.faults i) (g.I.Inputs.never_fails i) in
-    let a = state c.args.inputs.now in
-    let b = state c.create.new.inputs in
-    let output = output_state (g.K.Sink.written c.args.sink.now) (g.K.Sink.faults c.args.sink.now) in
-    let output' = output_state (g.K.Sink.written c.create.new.sink) (g.K.Sink.faults c.create.new.sink) in
-    let went = effects_of c.args.disk r.disk output output' r.report in
-    create_writes_later device went files words a b c.create.ensures.ran
+    let went = effects_of c.args.disk c.recover.result.disk (output_state (g.K.Sink.written c.args.sink.now) (g.K.Sink.faults c.args.sink.now))
+    (output_state (g.K.Sink.written c.recover.new.sink) (g.K.Sink.faults c.recover.new.sink)) c.recover.result.report in
+    job_ran g.D.Disk.device went (g.I.Inputs.files c.args.inputs.now) (g.C.Clock.next c.args.clock.now) (state c.args.inputs.now) (state c.args.inputs.now) c.args.job _ c.in-Recover.is (recover_over g.D.Disk.device went c.recover.ensures.ran (state c.args.inputs.now))
 
-pub returns-in-Create-clause-reads_counted : goal.returns-in-Create-clause-reads_counted
-returns-in-Create-clause-reads_counted g c =
-    let device = g.D.Disk.device in
-    let r = c.create.result in
-    let files = g.I.Inputs.files c.args.inputs.now in
-    let words = sheet_words_of c.in-Create.words in
-    let state = λ (i : g.row.I.Denot). inputs_state (g.I.Inputs.files i) (g.I.Inputs.open_sources i) (g.I.Inputs.given i) (g.I.Inputs.faults i) (g.I.Inputs.never_fails i) in
-    let a = state c.args.inputs.now in
-    let b = state c.create.new.inputs in
-    let output = output_state (g.K.Sink.written c.args.sink.now) (g.K.Sink.faults c.args.sink.now) in
-    let output' = output_state (g.K.Sink.written c.create.new.sink) (g.K.Sink.faults c.create.new.sink) in
-    let went = effects_of c.args.disk r.disk output output' r.report in
-    create_reads_counted device went files words a b c.create.ensures.ran
-
-pub returns-in-Create-clause-writes_counted : goal.returns-in-Create-clause-writes_counted
-returns-in-Create-clause-writes_counted g c =
-    let device = g.D.Disk.device in
-    let r = c.create.result in
-    let files = g.I.Inputs.files c.args.inputs.now in
-    let words = sheet_words_of c.in-Create.words in
-    let state = λ (i : g.row.I.Denot). inputs_state (g.I.Inputs.files i) (g.I.Inputs.open_sources i) (g.I.Inputs.given i) (g.I.Inputs.faults i) (g.I.Inputs.never_fails i) in
-    let a = state c.args.inputs.now in
-    let b = state c.create.new.inputs in
-    let output = output_state (g.K.Sink.written c.args.sink.now) (g.K.Sink.faults c.args.sink.now) in
-    let output' = output_state (g.K.Sink.written c.create.new.sink) (g.K.Sink.faults c.create.new.sink) in
-    let went = effects_of c.args.disk r.disk output output' r.report in
-    create_writes_counted device went files words a b c.create.ensures.ran
-
-pub returns-in-Create-clause-reliable : goal.returns-in-Create-clause-reliable
-returns-in-Create-clause-reliable g c = λ sure.
-    (c.create.ensures.ran.inputs.reliable sure).1
-
-pub returns-in-Create-clause-disk_later : goal.returns-in-Create-clause-disk_later
-returns-in-Create-clause-disk_later g c =
-    let device = g.D.Disk.device in
-    let r = c.create.result in
-    let files = g.I.Inputs.files c.args.inputs.now in
-    let words = sheet_words_of c.in-Create.words in
-    let state = λ (i : g.row.I.Denot). inputs_state (g.I.Inputs.files i) (g.I.Inputs.open_sources i) (g.I.Inputs.given i) (g.I.Inputs.faults i) (g.I.Inputs.never_fails i) in
-    let a = state c.args.inputs.now in
-    let b = state c.create.new.inputs in
-    let output = output_state (g.K.Sink.written c.args.sink.now) (g.K.Sink.faults c.args.sink.now) in
-    let output' = output_state (g.K.Sink.written c.create.new.sink) (g.K.Sink.faults c.create.new.sink) in
-    let went = effects_of c.args.disk r.disk output output' r.report in
-    create_disk_later device went files words a b c.create.ensures.ran
-
-pub returns-in-Create-clause-disk_fault : goal.returns-in-Create-clause-disk_fault
-returns-in-Create-clause-disk_fault g c =
-    let device = g.D.Disk.device in
-    let r = c.create.result in
-    let files = g.I.Inputs.files c.args.inputs.now in
-    let words = sheet_words_of c.in-Create.words in
-    let state = λ (i : g.row.I.Denot). inputs_state (g.I.Inputs.files i) (g.I.Inputs.open_sources i) (g.I.Inputs.given i) (g.I.Inputs.faults i) (g.I.Inputs.never_fails i) in
-    let a = state c.args.inputs.now in
-    let b = state c.create.new.inputs in
-    let output = output_state (g.K.Sink.written c.args.sink.now) (g.K.Sink.faults c.args.sink.now) in
-    let output' = output_state (g.K.Sink.written c.create.new.sink) (g.K.Sink.faults c.create.new.sink) in
-    let went = effects_of c.args.disk r.disk output output' r.report in
-    create_disk_fault device went files words a b c.create.ensures.ran
-
-pub returns-in-Create-clause-disk_writes : goal.returns-in-Create-clause-disk_writes
-returns-in-Create-clause-disk_writes g c =
-    let device = g.D.Disk.device in
-    let r = c.create.result in
-    let files = g.I.Inputs.files c.args.inputs.now in
-    let words = sheet_words_of c.in-Create.words in
-    let state = λ (i : g.row.I.Denot). inputs_state (g.I.Inputs.files i) (g.I.Inputs.open_sources i) (g.I.Inputs.given i) (g.I.Inputs.faults i) (g.I.Inputs.never_fails i) in
-    let a = state c.args.inputs.now in
-    let b = state c.create.new.inputs in
-    let output = output_state (g.K.Sink.written c.args.sink.now) (g.K.Sink.faults c.args.sink.now) in
-    let output' = output_state (g.K.Sink.written c.create.new.sink) (g.K.Sink.faults c.create.new.sink) in
-    let went = effects_of c.args.disk r.disk output output' r.report in
-    subst (λ (job : Job). DiskWritesCounted (Some (job_view job)) r.report (device.failed_writes c.args.disk) (device.failed_writes r.disk)) (sym c.in-Create.is) (create_disk_writes device went files words a b c.create.ensures.ran)
-
-pub returns-in-Create-clause-handed_back : goal.returns-in-Create-clause-handed_back
-returns-in-Create-clause-handed_back g c =
-    let device = g.D.Disk.device in
-    let r = c.create.result in
-    let files = g.I.Inputs.files c.args.inputs.now in
-    let words = sheet_words_of c.in-Create.words in
-    let state = λ (i : g.row.I.Denot). inputs_state (g.I.Inputs.files i) (g.I.Inputs.open_sources i) (g.I.Inputs.given i) (g.I.Inputs.faults i) (g.I.Inputs.never_fails i) in
-    let a = state c.args.inputs.now in
-    let b = state c.create.new.inputs in
-    let output = output_state (g.K.Sink.written c.args.sink.now) (g.K.Sink.faults c.args.sink.now) in
-    let output' = output_state (g.K.Sink.written c.create.new.sink) (g.K.Sink.faults c.create.new.sink) in
-    let went = effects_of c.args.disk r.disk output output' r.report in
-    subst (λ (job : Job). IsHandedBack (Some (job_view job)) c.args.disk r.disk r.report) (sym c.in-Create.is) (create_handed_back device went files words a b c.create.ensures.ran)
-
-pub returns-in-Create-clause-unasked : goal.returns-in-Create-clause-unasked
-returns-in-Create-clause-unasked g c =
-    let device = g.D.Disk.device in
-    let r = c.create.result in
-    let files = g.I.Inputs.files c.args.inputs.now in
-    let words = sheet_words_of c.in-Create.words in
-    let state = λ (i : g.row.I.Denot). inputs_state (g.I.Inputs.files i) (g.I.Inputs.open_sources i) (g.I.Inputs.given i) (g.I.Inputs.faults i) (g.I.Inputs.never_fails i) in
-    let a = state c.args.inputs.now in
-    let b = state c.create.new.inputs in
-    let output = output_state (g.K.Sink.written c.args.sink.now) (g.K.Sink.faults c.args.sink.now) in
-    let output' = output_state (g.K.Sink.written c.create.new.sink) (g.K.Sink.faults c.create.new.sink) in
-    let went = effects_of c.args.disk r.disk output output' r.report in
-    subst (λ (job : Job). IsUnasked (Some (job_view job)) a.given b.given c.args.disk r.disk) (sym c.in-Create.is) (create_unasked device went files words a b c.create.ensures.ran)
-
-pub returns-in-Create-clause-gave : goal.returns-in-Create-clause-gave
-returns-in-Create-clause-gave g c =
-    let device = g.D.Disk.device in
-    let r = c.create.result in
-    let files = g.I.Inputs.files c.args.inputs.now in
-    let words = sheet_words_of c.in-Create.words in
-    let state = λ (i : g.row.I.Denot). inputs_state (g.I.Inputs.files i) (g.I.Inputs.open_sources i) (g.I.Inputs.given i) (g.I.Inputs.faults i) (g.I.Inputs.never_fails i) in
-    let a = state c.args.inputs.now in
-    let b = state c.create.new.inputs in
-    let output = output_state (g.K.Sink.written c.args.sink.now) (g.K.Sink.faults c.args.sink.now) in
-    let output' = output_state (g.K.Sink.written c.create.new.sink) (g.K.Sink.faults c.create.new.sink) in
-    let went = effects_of c.args.disk r.disk output output' r.report in
-    subst (λ (job : Job). b.given ≤ a.given + inputs_of (Some (job_view job))) (sym c.in-Create.is) (create_gave device went files words a b c.create.ensures.ran)
-
-pub returns-in-Create-clause-same : goal.returns-in-Create-clause-same
-returns-in-Create-clause-same g c = c.create.ensures.ran.inputs.files
-
-pub returns-in-Create-clause-closed : goal.returns-in-Create-clause-closed
-returns-in-Create-clause-closed g c = c.create.ensures.ran.inputs.closed
+pub returns-in-Recover-clause-due : goal.returns-in-Recover-clause-due
+returns-in-Recover-clause-due g c = λ transparent known.
+    job_due g.D.Disk.device c.args.disk (g.I.Inputs.files c.args.inputs.now) (g.C.Clock.next c.args.clock.now) c.args.job _ c.recover.result.report.refusal c.in-Recover.is (c.recover.ensures.due transparent)

@@ -1,19 +1,27 @@
 use Rattle.std.proofs.Common.{◌≤◌, length, arith, rules, w64, SFits}
 use Rattle.std.proofs.lemmas.Int.{to_z-of_z}
 use Rattle.archive_cli.specs.ReadDump.{dump_limit}
-use Rattle.archive_cli.proofs.Scanned.{moment_of}
+use Rattle.arch_types.specs.declared.refusal.Which.TheVariants.{DumpOctets}
+use Rattle.outer_ledgers.specs.Ledger.{inputs_state}
+use Rattle.archive_cli.proofs.OverInputs.{memory_behind}
+use Rattle.archive_cli.proofs.scan_command.Scanned.{moment_of}
 use Rattle.archive_cli.proofs.scan_input.read_scan_input.Goals as goal
 
-pub returns-in-Ok-clause-received : goal.returns-in-Ok-clause-received
-returns-in-Ok-clause-received g c =
+pub returns-in-Ok-clause-read : goal.returns-in-Ok-clause-read
+returns-in-Ok-clause-read g c =
     let len = c.in_ok-dump.dump.ok.0 in
     let short : length c.in_ok-dump.dump.items ≤ dump_limit = omega (arith, len, c.in_ok-dump.ensures.short) in
     let fits : SFits w64 c.now-moment.result = search rules in
     let same = to_z-of_z w64 c.now-moment.result fits in record {
       dump = c.in_ok-dump.dump.items;
       moment = c.now-moment.result;
-      input = c.in_ok-dump.ensures.whole;
+      read = c.in_ok-dump.ensures.read;
       short = short;
-      known = moment_of (g.C.Clock.next c.args.clock.now) c.now-moment.result c.now-moment.ensures.known c.now-moment.ensures.range;
+      told = moment_of (g.C.Clock.next c.args.clock.now) c.now-moment.result c.now-moment.ensures.known c.now-moment.ensures.range;
       rows = rw same at c.in-Ok.ensures.loaded;
     }
+
+pub returns-in-Err-clause-unread : goal.returns-in-Err-clause-unread
+returns-in-Err-clause-unread g c =
+    let state = λ (i : g.row.I.Denot). inputs_state (g.I.Inputs.files i) (g.I.Inputs.open_sources i) (g.I.Inputs.given i) (g.I.Inputs.faults i) (g.I.Inputs.never_fails i) in
+    memory_behind (g.I.Inputs.files c.args.inputs.now) DumpOctets c.args.name.now (state c.args.inputs.now) (state c.read_limited.new.inputs) c.in_ok-dump.dump.items c.in_ok-dump.ensures.read c.in_ok-dump.ensures.whole

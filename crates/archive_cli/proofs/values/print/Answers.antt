@@ -2,7 +2,7 @@ use Rattle.std.proofs.Common.{◌++◌, length}
 use Rattle.std.proofs.lemmas.Result.{err_from_is_err_and}
 use Rattle.outer_traits.specs.Outside.{WritesSome}
 use Rattle.dump_lines.specs.Output.{Appends}
-use Rattle.archive_cli.specs.ValuesPrinting.{cells_of_stored, end_of_cells, lines_of_cells}
+use Rattle.archive_cli.specs.values_command.ValuesPrinting.{cells_of_stored, end_of_cells, lines_of_cells}
 use Rattle.dump_lines.proofs.LineBuffers.{buffered_end, buffered_end_some, wrote_front}
 use Rattle.archive_cli.proofs.values.print.Goals as goal
 

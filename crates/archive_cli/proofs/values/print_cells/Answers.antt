@@ -4,8 +4,8 @@ use Rattle.std.proofs.lemmas.Result.{err_from_is_err_and}
 use Rattle.arch_types.specs.Table.{sorted}
 use Rattle.yarch_table.specs.Stored.{rows_of}
 use Rattle.dump_lines.specs.Output.{IsBuffered}
-use Rattle.archive_cli.specs.ValuesPrinting.{line_of, lines_of_cells}
-use Rattle.archive_cli.proofs.CellCounts.{cells_few, count_next}
+use Rattle.archive_cli.specs.values_command.ValuesPrinting.{line_of, lines_of_cells}
+use Rattle.archive_cli.proofs.values_command.CellCounts.{cells_few, count_next}
 use Rattle.dump_lines.proofs.LineBuffers.{buffered_front, buffered_more, buffered_none, buffered_some, regroup}
 use Rattle.archive_cli.proofs.Visible.{seen-all}
 use Rattle.archive_cli.proofs.values.print_cells.Goals as goal

@@ -4,7 +4,7 @@ use Rattle.std.specs.List.{filter_map}
 use Rattle.container_extract.specs.Extraction.{cell_of}
 use Rattle.outer_traits.specs.Outside.{Stays}
 use Rattle.dump_lines.specs.Output.{IsBuffered}
-use Rattle.archive_cli.specs.ValuesPrinting.{cells_of_stored, line_of, lines_of_cells}
+use Rattle.archive_cli.specs.values_command.ValuesPrinting.{cells_of_stored, line_of, lines_of_cells}
 use Rattle.archive_cli.proofs.values.print_cells.Given as goal
 
 abbrev pub invariant-loop-row : goal.invariant-loop-row

@@ -3,7 +3,7 @@ use Rattle.arch_types.specs.declared.cell.Cell.{Cell}
 use Rattle.mdb_items.specs.declared.calibration.Calibration.{Calibration}
 use Rattle.container_extract.specs.Extraction.{cell_of}
 use Rattle.retrieval.specs.CellText.{cell_line}
-use Rattle.archive_cli.specs.ValuesPrinting.{count_if, cells_in_row, line_if, line_of}
+use Rattle.archive_cli.specs.values_command.ValuesPrinting.{count_if, cells_in_row, line_if, line_of}
 use Rattle.mdb_lookups.specs.Lookups.{calibration_of}
 use Rattle.archive_cli.proofs.values.put_cell_of.Goals as goal
 

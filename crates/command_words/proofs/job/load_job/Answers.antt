@@ -23,8 +23,8 @@ dump_in rows = first_of (codes "dump") rows
 abbrev link_in : List Row → Option ℕ
 link_in rows = link_of (first_of (codes "link") rows)
 
-pub found_words_and_option-requires : goal.found_words_and_option-requires
-found_words_and_option-requires c = record { simple = simple; free = free }
+pub read_arguments-requires : goal.read_arguments-requires
+read_arguments-requires c = record { simple = simple; free = free }
 
 pub returns-in_err-found : goal.returns-in_err-found
 returns-in_err-found c =

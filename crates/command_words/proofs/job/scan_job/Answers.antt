@@ -16,8 +16,8 @@ free : is_simple_and_free scan_app ≡ true
 unfolding clap_on_literals
 free = refl
 
-pub found_words-requires : goal.found_words-requires
-found_words-requires c = record { simple = simple; free = free }
+pub read_arguments-requires : goal.read_arguments-requires
+read_arguments-requires c = record { simple = simple; free = free }
 
 pub returns-in_err-found : goal.returns-in_err-found
 returns-in_err-found c =

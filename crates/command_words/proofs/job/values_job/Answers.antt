@@ -33,8 +33,8 @@ dump_in rows = first_of (codes "dump") rows
 abbrev name_in : List Row → Option (List ℕ)
 name_in rows = first_of (codes "name") rows
 
-pub found_words-requires : goal.found_words-requires
-found_words-requires c = record { simple = simple; free = free }
+pub read_arguments-requires : goal.read_arguments-requires
+read_arguments-requires c = record { simple = simple; free = free }
 
 pub returns-in_err-found : goal.returns-in_err-found
 returns-in_err-found c =

@@ -4,8 +4,8 @@ use Rattle.std.proofs.lemmas.Result.{err_from_is_err_and}
 use Rattle.mdb_items.specs.declared.sheet.RawMdb.{RawMdb}
 use Rattle.outer_traits.specs.Outside.{Files}
 use Rattle.outer_ledgers.specs.Ledger.{inputs_state}
-use Rattle.input_plans.specs.Inputs.{ReadAs, WasRead}
-use Rattle.mdb_sheets.specs.Plans.{reads_sheet}
+use Rattle.input_plans.specs.Inputs.{AnsweredByPlan, WasRead}
+use Rattle.mdb_sheets.specs.Plans.{sheet_plan}
 use Rattle.mdb_sheets.specs.Sheets.{Fields, IsSheet, more}
 use Rattle.mdb_sheets.proofs.Sheets.{all_read, first_unread, has_sheet, refused_after, second_unread, third_unread}
 use Rattle.mdb_sheets.proofs.mdb.read_mdb.Goals as goal
@@ -27,7 +27,7 @@ returns-in_err-calibration_sheet-clause-read g c =
     let first = c.in_ok-parameter_sheet.ensures in
     let raw : RawMdb = record { parameters = c.in_ok-parameter_sheet.parameter_sheet; calibrations = []; containers = [] } in
     let refusal = c.in_err-calibration_sheet.field-0.0 in
-    let second = subst (λ (f : Option Files). ReadAs {X = List Fields} 1 (reads_sheet f c.args.calibrations.now) (Err refusal) b c2) first.same c.in_err-calibration_sheet.ensures.read in
+    let second = subst (λ (f : Option Files). AnsweredByPlan {X = List Fields} 1 (sheet_plan f c.args.calibrations.now) (Err refusal) b c2) first.same c.in_err-calibration_sheet.ensures.read in
     let p = err_from_is_err_and c.from_residual-in_err-calibration_sheet.result c.from_residual-in_err-calibration_sheet.ensures.1 in
     rw (p.1, p.2) (second_unread files c.args.parameters.now c.args.calibrations.now c.args.containers.now raw a b first.read refusal c2 second)
 
@@ -42,8 +42,8 @@ returns-in_err-container_sheet-clause-read g c =
     let next = c.in_ok-calibration_sheet.ensures in
     let raw : RawMdb = record { parameters = c.in_ok-parameter_sheet.parameter_sheet; calibrations = c.in_ok-calibration_sheet.calibration_sheet; containers = [] } in
     let refusal = c.in_err-container_sheet.field-0.0 in
-    let second = subst (λ (f : Option Files). WasRead (reads_sheet f c.args.calibrations.now) raw.calibrations 1 b c2) first.same next.read in
-    let third = subst (λ (f : Option Files). ReadAs {X = List Fields} 1 (reads_sheet f c.args.containers.now) (Err refusal) c2 (state c.read_sheet-3.new.inputs)) (next.same ∙ first.same) c.in_err-container_sheet.ensures.read in
+    let second = subst (λ (f : Option Files). WasRead (sheet_plan f c.args.calibrations.now) raw.calibrations 1 b c2) first.same next.read in
+    let third = subst (λ (f : Option Files). AnsweredByPlan {X = List Fields} 1 (sheet_plan f c.args.containers.now) (Err refusal) c2 (state c.read_sheet-3.new.inputs)) (next.same ∙ first.same) c.in_err-container_sheet.ensures.read in
     let p = err_from_is_err_and c.from_residual-in_err-container_sheet.result c.from_residual-in_err-container_sheet.ensures.1 in
     rw (p.1, p.2) (third_unread files c.args.parameters.now c.args.calibrations.now c.args.containers.now raw a b first.read c2 (state c.read_sheet-3.new.inputs) second refusal third)
 
@@ -75,6 +75,6 @@ returns-clause-read g c =
       calibrations = c.in_ok-calibration_sheet.calibration_sheet;
       containers = c.in_ok-container_sheet.container_sheet;
     } in
-    let second = subst (λ (f : Option Files). WasRead (reads_sheet f c.args.calibrations.now) raw.calibrations 1 b c2) first.same next.read in
-    let third = subst (λ (f : Option Files). WasRead (reads_sheet f c.args.containers.now) raw.containers 1 c2 (state c.read_sheet-3.new.inputs)) (next.same ∙ first.same) c.in_ok-container_sheet.ensures.read in
+    let second = subst (λ (f : Option Files). WasRead (sheet_plan f c.args.calibrations.now) raw.calibrations 1 b c2) first.same next.read in
+    let third = subst (λ (f : Option Files). WasRead (sheet_plan f c.args.containers.now) raw.containers 1 c2 (state c.read_sheet-3.new.inputs)) (next.same ∙ first.same) c.in_ok-container_sheet.ensures.read in
     all_read files c.args.parameters.now c.args.calibrations.now c.args.containers.now raw a b first.read c2 (state c.read_sheet-3.new.inputs) second third

@@ -5,7 +5,7 @@ use Rattle.outer_traits.specs.Whole.{IsInputFault}
 use Rattle.outer_ledgers.specs.Ledger.{inputs_state}
 use Rattle.input_plans.specs.Inputs.{WasRead}
 use Rattle.input_plans.proofs.Whole.{not_read, was_read, without_memory}
-use Rattle.mdb_sheets.specs.Plans.{reads_sheet}
+use Rattle.mdb_sheets.specs.Plans.{sheet_plan}
 use Rattle.mdb_sheets.specs.Sheets.{Fields, sheet_of}
 use Rattle.mdb_sheets.proofs.Sheets.{sheet_refusal_is}
 use Rattle.mdb_sheets.proofs.sheet.read_sheet.Goals as goal
@@ -21,7 +21,7 @@ returns-in-Ok-records-clause-read g c =
     let len = c.as_slice.ensures.len in
     let items = ap (λ (octets : List ℕ). length octets) c.as_slice.ensures.value in
     let short : length c.in-Ok.octets.items ≤ limit_of SheetOctets = omega (arith, e.short, len, items, c.limit.ensures) in
-    subst (λ (sheet : List Fields). WasRead (reads_sheet files name) sheet 1 old new) (sym (c.in-Ok-records.ensures ∙ ap (λ (octets : List ℕ). sheet_of octets) c.as_slice.ensures.value))
+    subst (λ (sheet : List Fields). WasRead (sheet_plan files name) sheet 1 old new) (sym (c.in-Ok-records.ensures ∙ ap (λ (octets : List ℕ). sheet_of octets) c.as_slice.ensures.value))
     (was_read files SheetOctets (λ octets. sheet_of octets) name old new e.same e.closed e.reliable c.in-Ok.octets.items e.whole short e.gave e.counted)
 
 pub returns-in-Ok-clause-read : goal.returns-in-Ok-clause-read

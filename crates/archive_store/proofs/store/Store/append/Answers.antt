@@ -18,6 +18,7 @@ use Rattle.archive_store.specs.StoreView.{StoreView}
 use Rattle.archive_store.specs.Stands.{StandsFor}
 use Rattle.archive_store.proofs.Batching.{placed_tables}
 use Rattle.archive_store.proofs.Kept.{kept_same, kept_ok, kept_err, moments_of, fault, stands_now}
+use Rattle.archive_store.proofs.PlainLog.{crash_of}
 use Rattle.archive_store.proofs.store.Store.append.Goals as goal
 
 -- all were added, since each is new
@@ -38,18 +39,19 @@ invariant_of-self-in-Ok-append g c =
     let frame : c.in-Ok.frame ≡ body = c.in-Ok.ensures.frame ∙ ap (λ (l : List Row). entry_octets (entries.Rows l)) c.as_slice.ensures in
     let run = λ (transparent : IsTrue device.is_transparent) (bodies : List (List ℕ)) (pending : List ℕ) (keeps : JournalHasOnDisk device mid bodies pending s.disk) (no_pending_fault : unhealed_fault mid ≡ None).
     subst (λ (b : List ℕ). LeavesOnly device s.disk c.append.new.disk (λ c'. IsBeforeOrAfter bodies b (c' (file_of mid)))) frame (append_crash_on device mid bodies pending s.disk transparent keeps c.append.new.disk c.in-Ok.frame (c.append.ensures.crash no_pending_fault)) in
-    let moments = moments_of device s.disk c.append.new.disk s.opened.value s.journal mid s.head s.history.items fresh s.fills.items s.pending_fault k ok no_failed_write c.prepare-prepared.ensures.journal run in
+    let elsewhere = c.append.ensures.others.crash in
+    let moments = moments_of device s.disk c.append.new.disk s.opened.value s.journal mid s.head s.history.items fresh s.fills.items s.pending_fault k ok no_failed_write c.prepare-prepared.ensures.journal run elsewhere in
     let k_mid = kept_same device s.disk s.opened.value s.journal mid s.head s.history.items s.fills.items s.pending_fault k c.prepare-prepared.ensures.journal in
     let keeps = λ (transparent : IsTrue device.is_transparent) (bodies : List (List ℕ)) (pending : List ℕ) (keeps : JournalHasOnDisk device mid bodies pending s.disk).
     subst (λ (b : List ℕ). JournalHasOnDisk device c.append.new.self (bodies ++ b ∷ []) pending c.append.new.disk) frame (appended_on device mid bodies pending s.disk transparent keeps c.append.new.self c.append.new.disk c.in-Ok.frame _ c.in-Ok-append.ensures.appended) in
-    let done = kept_ok device s.disk c.append.new.disk s.opened.value mid c.append.new.self s.head s.history.items fresh s.fills.items s.pending_fault k_mid ok no_failed_write c.append.ensures.file c.in-Ok-append.ensures.appended.no_pending_fault keeps moments c.append.ensures.counts.faults c.in-Ok-append.ensures.appended.no_failed_write in
+    let done = kept_ok device s.disk c.append.new.disk s.opened.value mid c.append.new.self s.head s.history.items fresh s.fills.items s.pending_fault k_mid ok no_failed_write c.append.ensures.file c.in-Ok-append.ensures.appended.no_pending_fault keeps moments elsewhere c.append.ensures.counts.faults c.in-Ok-append.ensures.appended.no_failed_write in
     let prepared = c.prepare-prepared.ensures.history in
     let new : ingested c.prepare-prepared.new.history.items fresh ≡ c.prepare-prepared.new.history.items ++ fresh =
     subst (λ (l : List Item). ingested l fresh ≡ l ++ fresh) (sym prepared.0) ok.fresh in
     let grown = all_added c.add_all.result (c.add_all.new.self.items ≡ c.prepare-prepared.new.history.items ++ fresh) (λ is. (c.add_all.ensures.all is).1) (λ is. c.add_all.ensures.some is new) in
     let items : c.add_all.new.self.items ≡ s.history.items ++ fresh = grown ∙ ap (λ (l : List Item). l ++ fresh) prepared.0 in (
       subst (λ (r : List Item). StoreInvariant device c.append.new.disk s.opened.value c.append.new.self s.head r c.prepare-prepared.new.fills.items s.pending_fault) (sym items)
-          (subst (λ (f : List Fill). StoreInvariant device c.append.new.disk s.opened.value c.append.new.self s.head (s.history.items ++ fresh) f s.pending_fault) (sym c.prepare-prepared.ensures.fills.0) done),
+          (subst (λ (f : List Fill). StoreInvariant device c.append.new.disk s.opened.value c.append.new.self s.head (s.history.items ++ fresh) f s.pending_fault) (sym c.prepare-prepared.ensures.fills) done),
       c.add_all.ensures.tables ∙ prepared.1 ∙ c.self.invariant.1,
       c.self.invariant.2,
     )
@@ -67,7 +69,8 @@ returns-in-Ok-append-clause-crash g c =
     let frame : c.in-Ok.frame ≡ body = c.in-Ok.ensures.frame ∙ ap (λ (l : List Row). entry_octets (entries.Rows l)) c.as_slice.ensures in
     let run = λ (transparent : IsTrue device.is_transparent) (bodies : List (List ℕ)) (pending : List ℕ) (keeps : JournalHasOnDisk device mid bodies pending s.disk) (no_pending_fault : unhealed_fault mid ≡ None).
     subst (λ (b : List ℕ). LeavesOnly device s.disk c.append.new.disk (λ c'. IsBeforeOrAfter bodies b (c' (file_of mid)))) frame (append_crash_on device mid bodies pending s.disk transparent keeps c.append.new.disk c.in-Ok.frame (c.append.ensures.crash no_pending_fault)) in
-    let moments = moments_of device s.disk c.append.new.disk s.opened.value s.journal mid s.head s.history.items fresh s.fills.items s.pending_fault k ok no_failed_write c.prepare-prepared.ensures.journal run in
+    let elsewhere = c.append.ensures.others.crash in
+    let moments = moments_of device s.disk c.append.new.disk s.opened.value s.journal mid s.head s.history.items fresh s.fills.items s.pending_fault k ok no_failed_write c.prepare-prepared.ensures.journal run elsewhere in
     subst (λ (x : StoreView g.row.D.Denot). IsTrue device.is_transparent → LeavesOnly device x.disk c.append.new.disk (λ c'. StandsFor c' (archive x.head x.history) ⊎ StandsFor c' (archive x.head (x.history ++ fresh)))) c.self.view_is moments
 
 pub invariant_of-self-in-Err : goal.invariant_of-self-in-Err
@@ -83,17 +86,18 @@ invariant_of-self-in-Err g c =
     let frame : c.in-Ok.frame ≡ body = c.in-Ok.ensures.frame ∙ ap (λ (l : List Row). entry_octets (entries.Rows l)) c.as_slice.ensures in
     let run = λ (transparent : IsTrue device.is_transparent) (bodies : List (List ℕ)) (pending : List ℕ) (keeps : JournalHasOnDisk device mid bodies pending s.disk) (no_pending_fault : unhealed_fault mid ≡ None).
     subst (λ (b : List ℕ). LeavesOnly device s.disk c.append.new.disk (λ c'. IsBeforeOrAfter bodies b (c' (file_of mid)))) frame (append_crash_on device mid bodies pending s.disk transparent keeps c.append.new.disk c.in-Ok.frame (c.append.ensures.crash no_pending_fault)) in
-    let moments = moments_of device s.disk c.append.new.disk s.opened.value s.journal mid s.head s.history.items fresh s.fills.items s.pending_fault k ok no_failed_write c.prepare-prepared.ensures.journal run in
+    let elsewhere = c.append.ensures.others.crash in
+    let moments = moments_of device s.disk c.append.new.disk s.opened.value s.journal mid s.head s.history.items fresh s.fills.items s.pending_fault k ok no_failed_write c.prepare-prepared.ensures.journal run elsewhere in
     let k_mid = kept_same device s.disk s.opened.value s.journal mid s.head s.history.items s.fills.items s.pending_fault k c.prepare-prepared.ensures.journal in
     let none : unhealed_fault mid ≡ None = ap faults_of c.prepare-prepared.ensures.journal.pending_fault ∙ k.unhealed_fault_is ∙ no_failed_write in
     let below : count_of mid < 2 ^ 32 - 1 = omega (arith, c.requires.records, ap (λ (x : StoreView g.row.D.Denot). x.records) c.self.view_is, ap length c.prepare-prepared.ensures.journal.extents) in
     let failed = (refusal_failed device mid c.append.new.self s.disk c.append.new.disk c.in-Ok.frame c.in-Err.field-0 none below c.in-Err.ensures.refused).1 in
     let keeps = λ (transparent : IsTrue device.is_transparent) (bodies : List (List ℕ)) (pending : List ℕ) (keeps : JournalHasOnDisk device mid bodies pending s.disk).
     subst (λ (b : List ℕ). JournalHasOnDisk device c.append.new.self bodies b c.append.new.disk) frame (append_failed_on device mid bodies pending s.disk transparent keeps c.append.new.self c.append.new.disk c.in-Ok.frame failed) in
-    let done = kept_err device s.disk c.append.new.disk s.opened.value mid c.append.new.self s.head s.history.items fresh s.fills.items s.pending_fault c.faults-count.result k_mid ok no_failed_write c.append.ensures.file failed.pending_fault c.faults-count.ensures keeps moments failed.rose failed.wrote in
-    let fills : c.push_reserved.new.self.items ≡ s.fills.items ++ fault c.faults-count.result fresh ∷ [] =
-    c.push_reserved.ensures.items ∙ ap (λ (l : List Fill). l ++ fault c.faults-count.result fresh ∷ []) c.prepare-prepared.ensures.fills.0 in (
-      subst (λ (r : List Item). StoreInvariant device c.append.new.disk s.opened.value c.append.new.self s.head r c.push_reserved.new.self.items (Some c.faults-count.result)) (sym c.prepare-prepared.ensures.history.0)
+    let done = kept_err device s.disk c.append.new.disk s.opened.value mid c.append.new.self s.head s.history.items fresh s.fills.items s.pending_fault c.faults-count.result k_mid ok no_failed_write c.append.ensures.file failed.pending_fault c.faults-count.ensures keeps moments elsewhere failed.rose failed.wrote in
+    let fills : c.note_fault.new.self.items ≡ s.fills.items ++ fault c.faults-count.result fresh ∷ [] =
+    c.note_fault.ensures.items ∙ ap (λ (l : List Fill). l ++ fault c.faults-count.result fresh ∷ []) c.prepare-prepared.ensures.fills in (
+      subst (λ (r : List Item). StoreInvariant device c.append.new.disk s.opened.value c.append.new.self s.head r c.note_fault.new.self.items (Some c.faults-count.result)) (sym c.prepare-prepared.ensures.history.0)
           (subst (λ (f : List Fill). StoreInvariant device c.append.new.disk s.opened.value c.append.new.self s.head s.history.items f (Some c.faults-count.result)) (sym fills) done),
       c.prepare-prepared.ensures.history.1 ∙ c.self.invariant.1,
       c.self.invariant.2,
@@ -112,7 +116,8 @@ returns-clause-crash g c =
     let frame : c.in-Ok.frame ≡ body = c.in-Ok.ensures.frame ∙ ap (λ (l : List Row). entry_octets (entries.Rows l)) c.as_slice.ensures in
     let run = λ (transparent : IsTrue device.is_transparent) (bodies : List (List ℕ)) (pending : List ℕ) (keeps : JournalHasOnDisk device mid bodies pending s.disk) (no_pending_fault : unhealed_fault mid ≡ None).
     subst (λ (b : List ℕ). LeavesOnly device s.disk c.append.new.disk (λ c'. IsBeforeOrAfter bodies b (c' (file_of mid)))) frame (append_crash_on device mid bodies pending s.disk transparent keeps c.append.new.disk c.in-Ok.frame (c.append.ensures.crash no_pending_fault)) in
-    let moments = moments_of device s.disk c.append.new.disk s.opened.value s.journal mid s.head s.history.items fresh s.fills.items s.pending_fault k ok no_failed_write c.prepare-prepared.ensures.journal run in
+    let elsewhere = c.append.ensures.others.crash in
+    let moments = moments_of device s.disk c.append.new.disk s.opened.value s.journal mid s.head s.history.items fresh s.fills.items s.pending_fault k ok no_failed_write c.prepare-prepared.ensures.journal run elsewhere in
     subst (λ (x : StoreView g.row.D.Denot). IsTrue device.is_transparent → LeavesOnly device x.disk c.append.new.disk (λ c'. StandsFor c' (archive x.head x.history) ⊎ StandsFor c' (archive x.head (x.history ++ fresh)))) c.self.view_is moments
 
 pub returns-in_default-clause-crash : goal.returns-in_default-clause-crash
@@ -121,7 +126,7 @@ returns-in_default-clause-crash g c transparent =
     let s = c.self.inside in
     let no_failed_write : pending_fault_of s.fills.items ≡ None = subst (λ (x : StoreView g.row.D.Denot). pending_fault_of x.fills ≡ None) (sym c.self.view_is) c.requires.healed in
     subst (λ (x : StoreView g.row.D.Denot). LeavesOnly device x.disk s.disk (λ c'. StandsFor c' (archive x.head x.history) ⊎ StandsFor c' (archive x.head (x.history ++ c.args.fresh)))) c.self.view_is
-    (stands_now device (view_of s.disk s.opened.value s.journal s.head s.history.items s.fills.items) _ (c.self.invariant.0.images transparent) no_failed_write (λ c' stands. inl stands))
+    (stands_now device (view_of s.disk s.opened.value s.journal s.head s.history.items s.fills.items) _ (crash_of device s.disk s.opened.value s.journal s.head s.history.items s.fills.items s.pending_fault c.self.invariant.0 transparent) no_failed_write (λ c' stands. inl stands))
 
 pub add_all-requires-clause-tables : goal.add_all-requires-clause-tables
 add_all-requires-clause-tables g c =

@@ -14,6 +14,7 @@ use Rattle.archive_store.proofs.Batching.{admitted, sortable}
 use Rattle.archive_store.proofs.Calls.{passed_on, rows_refused}
 use Rattle.archive_store.proofs.Ingesting.{added, nothing_added, none_new, below_none, below_some}
 use Rattle.archive_store.proofs.Kept.{stands_now}
+use Rattle.archive_store.proofs.PlainLog.{crash_of}
 use Rattle.archive_store.proofs.store.Store.ingest.Goals as goal
 
 pub classify-requires : goal.classify-requires
@@ -53,17 +54,20 @@ returns-clause-crash g c no_failed_write transparent =
 pub returns-in_default-clause-crash : goal.returns-in_default-clause-crash
 returns-in_default-clause-crash g c no_failed_write transparent =
     let device = g.D.Disk.device in
-    stands_now device c.args.self.now _ (subst (λ (x : StoreView g.row.D.Denot). CrashInvariant device x) c.self.view_is (c.self.invariant.0.images transparent)) no_failed_write (λ c' stands. inl stands)
+    let s = c.self.inside in
+    stands_now device c.args.self.now _ (subst (λ (x : StoreView g.row.D.Denot). CrashInvariant device x) c.self.view_is (crash_of device s.disk s.opened.value s.journal s.head s.history.items s.fills.items s.pending_fault c.self.invariant.0 transparent)) no_failed_write (λ c' stands. inl stands)
 
 pub returns-then-len-eq0-clause-crash : goal.returns-then-len-eq0-clause-crash
 returns-then-len-eq0-clause-crash g c no_failed_write transparent =
     let device = g.D.Disk.device in
-    stands_now device c.args.self.now _ (subst (λ (x : StoreView g.row.D.Denot). CrashInvariant device x) c.self.view_is (c.self.invariant.0.images transparent)) no_failed_write (λ c' stands. inl stands)
+    let s = c.self.inside in
+    stands_now device c.args.self.now _ (subst (λ (x : StoreView g.row.D.Denot). CrashInvariant device x) c.self.view_is (crash_of device s.disk s.opened.value s.journal s.head s.history.items s.fills.items s.pending_fault c.self.invariant.0 transparent)) no_failed_write (λ c' stands. inl stands)
 
 pub returns-in-Some-limit_passed-clause-crash : goal.returns-in-Some-limit_passed-clause-crash
 returns-in-Some-limit_passed-clause-crash g c no_failed_write transparent =
     let device = g.D.Disk.device in
-    stands_now device c.args.self.now _ (subst (λ (x : StoreView g.row.D.Denot). CrashInvariant device x) c.self.view_is (c.self.invariant.0.images transparent)) no_failed_write (λ c' stands. inl stands)
+    let s = c.self.inside in
+    stands_now device c.args.self.now _ (subst (λ (x : StoreView g.row.D.Denot). CrashInvariant device x) c.self.view_is (crash_of device s.disk s.opened.value s.journal s.head s.history.items s.fills.items s.pending_fault c.self.invariant.0 transparent)) no_failed_write (λ c' stands. inl stands)
 
 pub returns-then-len-eq0-clause-ingested : goal.returns-then-len-eq0-clause-ingested
 returns-then-len-eq0-clause-ingested g c =

@@ -1,30 +1,24 @@
-use Rattle.std.proofs.Common.{◌≡◌, ◌≤◌, ◌++◌, ℕ, List, Option, None, length, take, drop, sym, ◌∙◌, ap, subst}
+use Rattle.std.proofs.Common.{◌≡◌, ◌≤◌, ℕ, List, Option, None, sym, ◌∙◌, ap, subst}
 use Rattle.std.specs.Prelude.{IsTrue}
 use Rattle.arch_disk.specs.Disk.{LeavesOnly, raised}
 use Rattle.archive_core.specs.declared.fills.Fill.{Fill}
-use Rattle.archive_core.specs.Fills.{pending_fault_of, reopened}
+use Rattle.archive_core.specs.Fills.{pending_fault_of, reopened, unacknowledged_rows}
 use Rattle.archive_core.specs.Items.{Item}
-use Rattle.archive_core.proofs.FillLists.{pending_fault_of-reopened, length-reopened}
+use Rattle.archive_core.proofs.FillLists.{pending_fault_of-reopened}
 use Rattle.disk_journal.specs.State.{HasOnDisk as JournalHasOnDisk}
 use Rattle.disk_journal.specs.State.{unhealed_fault, count_of}
 use Rattle.disk_journal.proofs.Calls.{healed_on, heal_failed_on, heal_crash_on, heal_refusal_failed}
-use Rattle.archive_store.specs.StoreView.{StoreView, IsNow, unacknowledged_rows}
+use Rattle.archive_store.specs.StoreView.{StoreView, IsNow}
 use Rattle.archive_store.specs.declared.head.Head.{Head}
 use Rattle.archive_store.specs.Inside.{StoreInvariant, view_of}
 use Rattle.archive_store.proofs.Kept.{hand-reopened}
 use Rattle.archive_store.proofs.Healing.{heal_moments, kept_healed, kept_unhealed}
-use Rattle.archive_history.proofs.Steps.{written_back}
+use Rattle.archive_store.proofs.PlainLog.{crash_of}
 use Rattle.archive_store.proofs.store.Store.reopen.Goals as goal
 
 -- what contracts see of a store of that many records
 abbrev view_of_records : {D : Type 0} → D → D → Head → List Item → List Fill → ℕ → StoreView D
 view_of_records disk opened head history fills records = record { history = history; fills = fills; head = head; records = records; disk = disk; opened = opened }
-
--- the fill list after its failed writes were cleared in their place
-cleared_in_place : (n : ℕ) (items slice now : List Fill) → n ≡ length items → slice ≡ items → now ≡ reopened slice → take n (now ++ drop (length now) items) ≡ reopened items
-cleared_in_place n items slice now same whole is =
-    let done : now ≡ reopened items = is ∙ ap reopened whole in
-    written_back n items now same (ap length done ∙ length-reopened items) ∙ done
 
 pub invariant_of-self : goal.invariant_of-self
 invariant_of-self g c =
@@ -35,9 +29,9 @@ invariant_of-self g c =
     heal_crash_on device s.journal bodies pending s.disk transparent keeps c.heal.new.disk c.heal.ensures.crash in
     let keeps = λ (transparent : IsTrue device.is_transparent) (bodies : List (List ℕ)) (pending : List ℕ) (keeps : JournalHasOnDisk device s.journal bodies pending s.disk).
     healed_on device s.journal bodies pending s.disk transparent keeps c.heal.new.self c.heal.new.disk c.in-Ok.ensures.healed in
-    let moments = heal_moments device s.disk c.heal.new.disk s.opened.value s.journal s.head s.history.items s.fills.items s.pending_fault k run c.in-Ok.ensures.healed.no_call in
-    let done = kept_healed device s.disk c.heal.new.disk s.opened.value s.journal c.heal.new.self s.head s.history.items s.fills.items s.pending_fault k moments keeps c.heal.ensures.file (ap unhealed_fault c.in-Ok.ensures.healed.journal) c.heal.ensures.counts.faults c.heal.ensures.counts.writes in
-    let fills = cleared_in_place s.fills.len s.fills.items c.as_mut_slice.result.now c.clear_failed_writes.new.fills (s.fills.ok.0) c.as_mut_slice.ensures.value c.clear_failed_writes.ensures in
+    let moments = heal_moments device s.disk c.heal.new.disk s.opened.value s.journal s.head s.history.items s.fills.items s.pending_fault k run c.heal.ensures.others.crash c.in-Ok.ensures.healed.no_call in
+    let done = kept_healed device s.disk c.heal.new.disk s.opened.value s.journal c.heal.new.self s.head s.history.items s.fills.items s.pending_fault k moments keeps c.heal.ensures.others.crash c.heal.ensures.file (ap unhealed_fault c.in-Ok.ensures.healed.journal) c.heal.ensures.counts.faults c.heal.ensures.counts.writes in
+    let fills = c.clear_failed_writes.ensures.items in
     (subst (λ (f : List Fill). StoreInvariant device c.heal.new.disk s.opened.value c.heal.new.self s.head s.history.items f None) (sym fills) done, c.self.invariant.1, c.self.invariant.2)
 
 pub invariant_of-self-in-Err : goal.invariant_of-self-in-Err
@@ -51,8 +45,8 @@ invariant_of-self-in-Err g c =
     let no_call = λ (none : unhealed_fault s.journal ≡ None). absurd (failed.unhealed none) in
     let keeps = λ (transparent : IsTrue device.is_transparent) (bodies : List (List ℕ)) (pending : List ℕ) (keeps : JournalHasOnDisk device s.journal bodies pending s.disk).
     heal_failed_on device s.journal bodies pending s.disk transparent keeps c.heal.new.self c.heal.new.disk failed in
-    let moments = heal_moments device s.disk c.heal.new.disk s.opened.value s.journal s.head s.history.items s.fills.items s.pending_fault k run no_call in
-    (kept_unhealed device s.disk c.heal.new.disk s.opened.value s.journal c.heal.new.self s.head s.history.items s.fills.items s.pending_fault k moments keeps c.heal.ensures.file (ap unhealed_fault failed.journal) c.heal.ensures.counts.faults c.heal.ensures.counts.writes, c.self.invariant.1, c.self.invariant.2)
+    let moments = heal_moments device s.disk c.heal.new.disk s.opened.value s.journal s.head s.history.items s.fills.items s.pending_fault k run c.heal.ensures.others.crash no_call in
+    (kept_unhealed device s.disk c.heal.new.disk s.opened.value s.journal c.heal.new.self s.head s.history.items s.fills.items s.pending_fault k moments keeps c.heal.ensures.others.crash c.heal.ensures.file (ap unhealed_fault failed.journal) c.heal.ensures.counts.faults c.heal.ensures.counts.writes, c.self.invariant.1, c.self.invariant.2)
 
 pub returns-in-Ok-clause-reopened : goal.returns-in-Ok-clause-reopened
 returns-in-Ok-clause-reopened g c =
@@ -63,16 +57,16 @@ returns-in-Ok-clause-reopened g c =
     heal_crash_on device s.journal bodies pending s.disk transparent keeps c.heal.new.disk c.heal.ensures.crash in
     let keeps = λ (transparent : IsTrue device.is_transparent) (bodies : List (List ℕ)) (pending : List ℕ) (keeps : JournalHasOnDisk device s.journal bodies pending s.disk).
     healed_on device s.journal bodies pending s.disk transparent keeps c.heal.new.self c.heal.new.disk c.in-Ok.ensures.healed in
-    let moments = heal_moments device s.disk c.heal.new.disk s.opened.value s.journal s.head s.history.items s.fills.items s.pending_fault k run c.in-Ok.ensures.healed.no_call in
-    let done = kept_healed device s.disk c.heal.new.disk s.opened.value s.journal c.heal.new.self s.head s.history.items s.fills.items s.pending_fault k moments keeps c.heal.ensures.file (ap unhealed_fault c.in-Ok.ensures.healed.journal) c.heal.ensures.counts.faults c.heal.ensures.counts.writes in
-    let fills = cleared_in_place s.fills.len s.fills.items c.as_mut_slice.result.now c.clear_failed_writes.new.fills (s.fills.ok.0) c.as_mut_slice.ensures.value c.clear_failed_writes.ensures in
+    let moments = heal_moments device s.disk c.heal.new.disk s.opened.value s.journal s.head s.history.items s.fills.items s.pending_fault k run c.heal.ensures.others.crash c.in-Ok.ensures.healed.no_call in
+    let done = kept_healed device s.disk c.heal.new.disk s.opened.value s.journal c.heal.new.self s.head s.history.items s.fills.items s.pending_fault k moments keeps c.heal.ensures.others.crash c.heal.ensures.file (ap unhealed_fault c.in-Ok.ensures.healed.journal) c.heal.ensures.counts.faults c.heal.ensures.counts.writes in
+    let fills = c.clear_failed_writes.ensures.items in
     let cleared = fills ∙ ap (λ (x : StoreView g.row.D.Denot). reopened x.fills) c.self.view_is in
     record {
       store = ap (λ (l : List Fill). view_of c.heal.new.disk s.opened.value c.heal.new.self s.head s.history.items l) fills
           ∙ ap (view_of_records c.heal.new.disk s.opened.value s.head s.history.items (reopened s.fills.items)) (ap count_of c.in-Ok.ensures.healed.journal)
           ∙ ap (λ (x : StoreView g.row.D.Denot). view_of_records c.heal.new.disk x.opened x.head x.history (reopened x.fills) x.records) c.self.view_is;
-      no_pending_fault = ap pending_fault_of cleared ∙ pending_fault_of-reopened c.args.self.now.fills;
-      images = λ transparent image left. subst (λ (o : Option (List Item)). IsNow s.head s.history.items o image) (hand-reopened s.fills.items) ((done.images transparent).now image left);
+      healed = ap pending_fault_of cleared ∙ pending_fault_of-reopened c.args.self.now.fills;
+      images = λ transparent image left. subst (λ (o : Option (List Item)). IsNow s.head s.history.items o image) (hand-reopened s.fills.items) ((crash_of device c.heal.new.disk s.opened.value c.heal.new.self s.head s.history.items (reopened s.fills.items) None done transparent).now image left);
       no_call = λ none. c.in-Ok.ensures.healed.no_call (k.unhealed_fault_is ∙ ap (λ (x : StoreView g.row.D.Denot). pending_fault_of x.fills) c.self.view_is ∙ none) ∙ ap (λ (x : StoreView g.row.D.Denot). x.disk) c.self.view_is;
       no_failed_write = c.in-Ok.ensures.healed.no_failed_write ∙ ap (λ (x : StoreView g.row.D.Denot). device.failed_writes x.disk) c.self.view_is;
     }
@@ -98,7 +92,7 @@ returns-in-Ok-clause-crash g c =
     let k = c.self.invariant.0 in
     let run = λ (transparent : IsTrue device.is_transparent) (bodies : List (List ℕ)) (pending : List ℕ) (keeps : JournalHasOnDisk device s.journal bodies pending s.disk).
     heal_crash_on device s.journal bodies pending s.disk transparent keeps c.heal.new.disk c.heal.ensures.crash in
-    let moments = heal_moments device s.disk c.heal.new.disk s.opened.value s.journal s.head s.history.items s.fills.items s.pending_fault k run c.in-Ok.ensures.healed.no_call in
+    let moments = heal_moments device s.disk c.heal.new.disk s.opened.value s.journal s.head s.history.items s.fills.items s.pending_fault k run c.heal.ensures.others.crash c.in-Ok.ensures.healed.no_call in
     subst (λ (x : StoreView g.row.D.Denot). IsTrue device.is_transparent → LeavesOnly device x.disk c.heal.new.disk (IsNow x.head x.history (unacknowledged_rows x.fills))) c.self.view_is moments
 
 pub returns-in-Err-clause-crash : goal.returns-in-Err-clause-crash
@@ -110,5 +104,5 @@ returns-in-Err-clause-crash g c =
     heal_crash_on device s.journal bodies pending s.disk transparent keeps c.heal.new.disk c.heal.ensures.crash in
     let failed = (heal_refusal_failed device s.journal c.heal.new.self s.disk c.heal.new.disk c.in-Err.field-0 c.in-Err.ensures.refused).1 in
     let no_call = λ (none : unhealed_fault s.journal ≡ None). absurd (failed.unhealed none) in
-    let moments = heal_moments device s.disk c.heal.new.disk s.opened.value s.journal s.head s.history.items s.fills.items s.pending_fault k run no_call in
+    let moments = heal_moments device s.disk c.heal.new.disk s.opened.value s.journal s.head s.history.items s.fills.items s.pending_fault k run c.heal.ensures.others.crash no_call in
     subst (λ (x : StoreView g.row.D.Denot). IsTrue device.is_transparent → LeavesOnly device x.disk c.heal.new.disk (IsNow x.head x.history (unacknowledged_rows x.fills))) c.self.view_is moments

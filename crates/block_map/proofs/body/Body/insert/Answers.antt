@@ -1,6 +1,15 @@
 use Rattle.std.proofs.Common.{◌≡◌, length, get_or, arith, ap, refl}
+use Rattle.block_map.specs.declared.blocks.TheConstants.{MIN_FILL, SPLIT_AT}
+use Rattle.block_map.proofs.Counted.{excess_counts}
 use Rattle.block_map.proofs.Lookups.{rising_block, lookup_there, lookup_missing}
 use Rattle.block_map.proofs.body.Body.insert.Goals as goal
+
+pub open_block-b-requires-clause-room : goal.open_block-b-requires-clause-room
+open_block-b-requires-clause-room g c =
+    let some = rw (← c.self.view_is) at c.requires in
+    let beyond = excess_counts SPLIT_AT MIN_FILL (omega arith) c.self.inside.blocks.items c.self.invariant.blocks_in_order.filled in
+    let len = c.self.inside.blocks.ok.0 in
+    omega (arith, some, beyond, len, c.self.invariant.counted, c.self.invariant.spared)
 
 pub place_in-requires : goal.place_in-requires
 place_in-requires g c =
@@ -14,7 +23,12 @@ invariant_of-self-in-Err g c =
     let some = rw (← c.self.view_is) at c.requires in
     let same = ap length c.open_block-b.ensures.same in
     record {
-      blocks_in_order = c.put.ensures.blocks;
+      blocks_in_order = record {
+        some = c.put.ensures.blocks.some;
+        rising = c.put.ensures.blocks.rising;
+        filled = c.put.ensures.filled MIN_FILL (c.open_block-b.ensures.filled MIN_FILL (omega arith) c.self.invariant.blocks_in_order.filled);
+        sized = c.put.ensures.blocks.sized;
+      };
       ready = c.open_block-b.ensures.ready;
       fits = omega (arith, c.put.ensures.len, c.put.ensures.capacity, c.open_block-b.ensures.fits);
       fits_spare = omega (arith, c.put.ensures.len, c.open_block-b.ensures.moved, c.open_block-b.ensures.spare_capacity, c.self.invariant.fits_spare);

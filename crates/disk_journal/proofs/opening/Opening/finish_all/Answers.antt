@@ -1,23 +1,29 @@
-use Rattle.std.proofs.Common.{◌≡◌, ℕ, List, Option, sym, ◌∙◌, subst, rules}
-use Rattle.std.specs.Prelude.{Err, IfSome}
+use Rattle.std.proofs.Common.{ℕ, List, Option, sym, ◌∙◌, subst, arith}
+use Rattle.std.specs.Prelude.{IfSome}
 use Rattle.arch_disk.proofs.Moments.{looked_on}
+use Rattle.disk_journal.specs.Calls.{IsReadWholeRefusal}
 use Rattle.disk_journal.specs.Format.{IsDamagedAt}
 use Rattle.disk_journal.specs.Reading.{IsAt, IsWholeAt, file_read}
 use Rattle.disk_journal.specs.declared.journal.Extent.{Extent}
-use Rattle.disk_journal.specs.declared.fault.JournalFault.TheVariants.{Damaged}
+use Rattle.disk_journal.proofs.Calls.{handed_on, not_whole}
 use Rattle.disk_journal.proofs.Opened.{content_same, cut_short}
 use Rattle.disk_journal.proofs.opening.Opening.finish_all.Goals as goal
 
-pub returns-in_err-extent-clause-damaged : goal.returns-in_err-extent-clause-damaged
-returns-in_err-extent-clause-damaged g c transparent at e =
-    let reads = g.D.Disk.device.reads in
+pub returns-in_err-extent-clause-refused : goal.returns-in_err-extent-clause-refused
+returns-in_err-extent-clause-refused g c =
+    let device = g.D.Disk.device in
+    let reads = device.reads in
     let here = c.records.self in
-    let so_far = c.records.invariant.so_far transparent in
-    let same = content_same (reads c.records.disk) (reads c.args.disk.now) (file_read here) (file_read c.args.self) c.records.invariant.looked.reads_same c.records.invariant.file in
-    let is = subst (λ (l : List ℕ). IsAt here l so_far.0) (sym same) so_far.1 in
-    let failed : c.read_header.result ≡ Err (Damaged at) = search rules in
-    let damaged = cut_short (reads c.records.disk (file_read here)) here so_far.0 at is (c.read_header.ensures.damaged transparent so_far.0 is at failed) in
-    subst (λ (l : List ℕ). IsDamagedAt l at) same damaged
+    let inv = c.records.invariant in
+    let fault = c.in_err-extent.field-0.0 in
+    let e = c.in_err-extent.ensures in
+    let same = content_same (reads c.records.disk) (reads c.args.disk.now) (file_read here) (file_read c.args.self) inv.looked.reads_same inv.file in
+    handed_on c.from_residual.result fault (IsReadWholeRefusal device c.args.self c.args.disk.now c.read_header.new.disk) c.from_residual.ensures.1
+    (not_whole device c.args.self c.args.disk.now c.read_header.new.disk fault e.only (λ is. omega (arith, e.cause (cc (is)), inv.looked.later))
+    (λ transparent at is.
+    let so_far = inv.so_far transparent in
+    let there = subst (λ (l : List ℕ). IsAt here l so_far.0) (sym same) so_far.1 in
+    subst (λ (l : List ℕ). IsDamagedAt l at) same (cut_short (reads c.records.disk (file_read here)) here so_far.0 at there (e.damaged transparent so_far.0 there at (cc (is))))))
 
 pub records-preserved : goal.records-preserved
 records-preserved g c = record {

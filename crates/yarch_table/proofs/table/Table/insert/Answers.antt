@@ -12,14 +12,14 @@ use Rattle.yarch_table.proofs.table.Table.insert.Goals as goal
 
 pub index-requires : goal.index-requires
 index-requires c =
-    let row = found_row c.args.row.key c.self.inside.stored.items c.self.inside.index.entries c.in-Some.i c.self.invariant.names.each (sym c.in-Some.ensures.found) in
+    let row = found_row c.args.row.key c.self.inside.stored.items c.self.inside.index.entries c.in-Some.i c.self.invariant.names.each (sym (rw c.of.ensures at c.in-Some.ensures.found)) in
     let len = c.self.inside.stored.ok.0 in
     omega (arith, row.0)
 
 pub returns-in-Some-clause-inserted : goal.returns-in-Some-clause-inserted
 returns-in-Some-clause-inserted c =
     let stored = c.self.inside.stored.items in
-    let found = sym c.in-Some.ensures.found in
+    let found = sym (rw c.of.ensures at c.in-Some.ensures.found) in
     let row = found_row c.args.row.key stored c.self.inside.index.entries c.in-Some.i c.self.invariant.names.each found in
     let d : Stored = record { row = c.args.row; position = c.args.position } in
     let any : list_any (has_key c.args.row.key) (rows_of stored) ≡ true = any-rows c.args.row.key d stored c.self.inside.index.entries c.self.invariant.names ∙ ap is_some found in
@@ -34,17 +34,18 @@ pub invariant_of-self-in-None : goal.invariant_of-self-in-None
 invariant_of-self-in-None c =
     let stored = c.self.inside.stored.items in
     let s : Stored = record { row = c.args.row; position = c.args.position } in
-    let index = index-insert stored s c.self.inside.index.entries c.self.invariant.names (sym c.in-None.ensures.found) in
+    let index = index-insert stored s c.self.inside.index.entries c.self.invariant.names (sym (rw c.of.ensures at c.in-None.ensures.found)) in
     let len = c.self.inside.stored.ok.0 in
-    let n : c.len.result ≡ length stored = cc in
+    let n : c.len-place.result ≡ length stored = cc in
     record {
-      names = rw (c.push_reserved.ensures.items, c.in-None.ensures.absent.0, n) index;
+      names = rw (c.push_reserved.ensures.items, c.in-None.ensures.absent.0, c.of.ensures, n) index;
       has_room = omega (arith, c.push_reserved.ensures.len, c.push_reserved.ensures.capacity, c.in-None.ensures.absent.1, c.self.invariant.has_room);
+      has_places = omega (arith, c.push_reserved.ensures.len, c.in-None.ensures.absent.1, c.self.invariant.has_places);
     }
 
 pub returns-in-None-clause-inserted : goal.returns-in-None-clause-inserted
 returns-in-None-clause-inserted c =
     let stored = c.self.inside.stored.items in
     let d : Stored = record { row = c.args.row; position = c.args.position } in
-    let any : list_any (has_key c.args.row.key) (rows_of stored) ≡ false = any-rows c.args.row.key d stored c.self.inside.index.entries c.self.invariant.names ∙ ap is_some (sym c.in-None.ensures.found) in
+    let any : list_any (has_key c.args.row.key) (rows_of stored) ≡ false = any-rows c.args.row.key d stored c.self.inside.index.entries c.self.invariant.names ∙ ap is_some (sym (rw c.of.ensures at c.in-None.ensures.found)) in
     (rw (← c.self.view_is) any, refl, rw (← c.self.view_is) c.push_reserved.ensures.items, rw (← c.self.view_is) c.in-None.ensures.absent.1)

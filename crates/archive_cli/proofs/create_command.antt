@@ -1,0 +1,3 @@
+pub mod CreatePlan
+pub mod Created
+pub mod ArchiveOrNone

@@ -1,0 +1,147 @@
+-- The disk during a load, and after it.
+use Rattle.std.proofs.Common.{◌≡◌, ◌⊎◌, inl, inr, ℕ, ℤ, ◌+◌, ◌^◌, ◌≤◌, ◌<◌, Bool, true, false, List, [], ◌∷◌, ◌++◌, length, map, Some, None, ap, subst, ◌∙◌, arith, length-append}
+use Rattle.std.specs.Prelude.{Contains, IsTrue}
+use Rattle.std.proofs.lemmas.List.{length-map}
+use mathlib.Core.List.{IsPrefix}
+use Rattle.arch_disk.specs.Image.{Image}
+use Rattle.arch_disk.specs.Disk.{Device, LeavesOnly, raised}
+use Rattle.arch_disk.proofs.Moments.{weakens}
+use Rattle.arch_types.specs.declared.row.Row.{Row}
+use Rattle.archive_core.specs.declared.fills.Addition.TheVariants.{Rows}
+use Rattle.archive_core.specs.declared.fills.Fill.{Fill}
+use Rattle.archive_core.specs.declared.fills.Fill.TheVariants.{Fault}
+use Rattle.archive_core.specs.Fills.{rows_of_faults, above, Rising, unacknowledged_rows}
+use Rattle.archive_core.specs.Items.{Item, items_of}
+use Rattle.archive_store.specs.declared.head.Head.{Head}
+use Rattle.disk_journal.specs.Format.{HasRecords}
+use Rattle.disk_journal.proofs.Once.{records_once}
+use Rattle.field_codec.specs.declared.entry.Entry.{Entry}
+use Rattle.field_codec.specs.declared.entry.Entry.TheVariants as kinds
+use Rattle.field_codec.specs.Spelling.{entry_octets}
+use Rattle.archive_store.specs.Entries.{Archive, archive, Replays}
+use Rattle.archive_store.specs.StoreView.{StoreView, archive_of, IsNow, IsSince, FaultInvariant, CrashInvariant}
+use Rattle.archive_store.specs.Stands.{StandsFor}
+use Rattle.archive_store.proofs.Exact.{stands_once}
+use Rattle.load_session.specs.Batches.{HasIngested}
+use Rattle.archive_cli.specs.ReadOnly.{IsOpenedThen}
+use Rattle.archive_cli.specs.load_command.LoadLine.{IsDuring}
+use Rattle.archive_cli.specs.Durable.{FailedAtMostOnce, IsDurableAs}
+
+-- a store that was opened on a disk
+pub record IsOpened {D : Type 0} (device : Device D) (disk : D) (store : StoreView D) : Type 0 where
+  pub stands : StandsFor (device.reads disk) (archive_of store)
+  pub reads : device.reads store.disk ≡ device.reads disk
+  pub opening : device.reads store.opened ≡ device.reads disk
+  pub before : LeavesOnly device disk store.opened (device.images disk)
+  pub few : store.records ≤ 1 + length store.history
+
+-- ---- heads
+
+-- each entry after the head has a row
+replays_few : (entries : List Entry) (first last : Archive) → Replays (Some first) entries (Some last) → length entries + length first.history ≤ length last.history
+replays_few [] first last m =
+    let same : last.history ≡ first.history = cc in
+    omega (arith, ap length same)
+replays_few (kinds.Head tables mdb ∷ entries) first last m = absurd m.1
+replays_few (kinds.Rows rows ∷ entries) first last m =
+    let some = m.1.0.spelled.some in
+    let longer = ap (λ (a : Archive). length a.history) m.1.1 ∙ length-append first.history (items_of rows) in
+    omega (arith, some, longer, replays_few entries m.0 last m.2)
+
+entries_few : (entries : List Entry) (a : Archive) → Replays None entries (Some a) → length entries ≤ 1 + length a.history
+entries_few [] a m = absurd cc
+entries_few (kinds.Rows rows ∷ entries) a m = absurd m.1
+entries_few (kinds.Head tables mdb ∷ entries) a m = omega (arith, replays_few entries m.0 a m.2)
+
+-- the journal of an archive has one record for the head, and each other one has a row
+pub records_few : (image : Image) (a : Archive) (bodies : List (List ℕ)) → StandsFor image a → HasRecords (image 0) bodies → length bodies ≤ 1 + length a.history
+records_few image a bodies s h =
+    omega (arith, ap length (records_once (image 0) bodies (map entry_octets s.entries) h s.has), length-map s.entries entry_octets, entries_few s.entries a s.replays)
+
+pub opened_store : {D : Type 0} (device : Device D) (disk : D) (s : StoreView D) → StandsFor (device.reads disk) (archive_of s) → device.reads s.disk ≡ device.reads disk →
+    device.reads s.opened ≡ device.reads disk → LeavesOnly device disk s.opened (device.images disk) → (bodies : List (List ℕ)) → HasRecords (device.reads disk 0) bodies →
+    s.records ≡ length bodies → IsOpened device disk s
+opened_store device disk s stands same opening handed_in bodies has count = record {
+  stands = stands;
+  reads = same;
+  opening = opening;
+  before = handed_in;
+  few = omega (arith, count, records_few (device.reads disk) (archive_of s) bodies stands has);
+}
+
+-- ---- images
+
+module _ {D : Type 0} (device : Device D) (disk : D) (old new : StoreView D) (opened : IsOpened device disk old) (in_hand : List (List Item)) (holds : rows_of_faults new.fills ≡ in_hand) where
+  during : (before : List Item) → before ≡ old.history → new.head ≡ old.head → (c : Image) → IsSince new.head before new.history (rows_of_faults new.fills) c
+      → IsDuring (archive_of old) new.history in_hand c
+  during before first head c i = record {
+    front = i.front;
+    holds = subst (λ (h : List Item). IsPrefix h i.front) first i.holds;
+    begins = i.begins;
+    stands = elim i.stands [
+      | inl stands ↦ inl (subst (λ (h : Head). StandsFor c (archive h i.front)) head stands)
+      | inr more ↦ inr (
+        more.0,
+        subst (λ (l : List (List Item)). Contains l more.0) holds more.1,
+        subst (λ (h : Head). StandsFor c (archive h (i.front ++ more.0))) head more.2,
+      )
+    ];
+  }
+
+  -- the images of a store's load
+  pub load_images : (link : ℕ) (moment : ℤ) (packets : List (List ℕ)) → HasIngested old new link moment packets → CrashInvariant device new
+      → IsOpenedThen device disk new.disk (IsDuring (archive_of old) new.history in_hand)
+  load_images link moment packets done keeps =
+      let first : device.reads new.opened ≡ device.reads disk = ap device.reads done.opened ∙ opened.opening in
+      let began : StandsFor (device.reads disk) (archive new.head keeps.before) = subst (λ (image : Image). StandsFor image (archive new.head keeps.before)) first keeps.opening in
+      let before : keeps.before ≡ old.history = ap (λ (a : Archive). a.history) (stands_once (device.reads disk) (archive new.head keeps.before) (archive old.head old.history) began opened.stands) in
+      record {
+        opened = old.opened;
+        before = opened.before;
+        since =
+            subst (λ (d : D). LeavesOnly device d new.disk (IsDuring (archive_of old) new.history in_hand)) done.opened
+            (weakens device new.opened new.disk (IsSince new.head keeps.before new.history (rows_of_faults new.fills)) (IsDuring (archive_of old) new.history in_hand) keeps.since
+            (during keeps.before before done.head));
+      }
+
+-- a crash now leaves the history of a store without faults
+pub durable : {D : Type 0} (device : Device D) (store : StoreView D) → IsTrue device.is_transparent → CrashInvariant device store → store.fills ≡ [] → IsDurableAs device store.disk store.head store.history
+durable device store is_transparent keeps none =
+    let now : (c : Image) → device.images store.disk c → StandsFor c (archive store.head store.history) =
+    subst (λ (fills : List Fill). (c : Image) → device.images store.disk c → IsNow store.head store.history (unacknowledged_rows fills) c) none keeps.now in
+    record { reads = now (device.reads store.disk) (device.reads_as_image store.disk is_transparent); now = now }
+
+-- and after a fault whose write stands it may also leave the rows that the fault holds
+pub left : {D : Type 0} (device : Device D) (store : StoreView D) (count : ℕ) (wrote : Bool) (rows : List Row) → CrashInvariant device store → store.fills ≡ Fault count wrote (Rows rows) ∷ [] → (c : Image) → device.images store.disk c
+    → StandsFor c (archive store.head store.history) ⊎ StandsFor c (archive store.head (store.history ++ items_of rows))
+left device store count true rows keeps one c leaves = subst (λ (fills : List Fill). IsNow store.head store.history (unacknowledged_rows fills) c) one (keeps.now c leaves)
+left device store count false rows keeps one c leaves = inl (subst (λ (fills : List Fill). IsNow store.head store.history (unacknowledged_rows fills) c) one (keeps.now c leaves))
+
+-- but not after one whose write was healed
+pub durable_again : {D : Type 0} (device : Device D) (store : StoreView D) (count : ℕ) (rows : List Row) → IsTrue device.is_transparent → CrashInvariant device store → store.fills ≡ Fault count false (Rows rows) ∷ []
+    → IsDurableAs device store.disk store.head store.history
+durable_again device store count rows is_transparent keeps one =
+    let now : (c : Image) → device.images store.disk c → StandsFor c (archive store.head store.history) =
+    subst (λ (fills : List Fill). (c : Image) → device.images store.disk c → IsNow store.head store.history (unacknowledged_rows fills) c) one keeps.now in
+    record { reads = now (device.reads store.disk) (device.reads_as_image store.disk is_transparent); now = now }
+
+-- ---- counts of faults
+
+-- a store that was closed with a fault has more faults than at its opening
+pub more_faults : {D : Type 0} (device : Device D) (disk : D) (old new : StoreView D) (count : ℕ) (wrote : Bool) (rows : List Row) → device.fault_count disk ≤ device.fault_count old.opened → new.opened ≡ old.opened
+    → FaultInvariant device new → new.fills ≡ Fault count wrote (Rows rows) ∷ [] → raised (device.fault_count disk) ≤ device.fault_count new.disk
+more_faults device disk old new count wrote rows first same keeps one =
+    let rising = subst (λ (fills : List Fill). Rising (above (device.fault_count new.opened)) (device.fault_count new.disk) fills) one keeps.rising in
+    let later = keeps.later in
+    let low = rising.0 in
+    let high = rising.1 in
+    omega (arith, first, ap device.fault_count same, later, low, high)
+
+-- a disk that failed once didn't fail again after the fault
+not_again : (first then last : ℕ) → raised first ≤ then → raised then ≤ last → last ≤ first + 1 → last + 1 < 2 ^ 64 → ⊥
+not_again first then last once again most below = omega (arith, once, again, most, below)
+
+pub failed_again : {D : Type 0} (device : Device D) (disk then last : D) → raised (device.fault_count disk) ≤ device.fault_count then
+    → raised (device.fault_count then) ≤ device.fault_count last → FailedAtMostOnce device disk last → ⊥
+failed_again device disk then last once again one =
+    not_again (device.fault_count disk) (device.fault_count then) (device.fault_count last) once again one.most one.below

@@ -1,0 +1,4 @@
+pub mod CellCounts
+pub mod Valued
+pub mod LimitTests
+pub mod ValuesPlan

@@ -1,0 +1,32 @@
+-- The program: what the words of a command line lead to.
+use Rattle.std.specs.Prelude.{◌≡◌, ℕ, ℤ, List, Option, Some, None}
+use Rattle.arch_disk.specs.Disk.{Device}
+use Rattle.arch_types.specs.declared.refusal.Refusal.TheVariants.{Usage}
+use Rattle.outer_traits.specs.Outside.{Files}
+use Rattle.command_plans.specs.Plan.{OfMemory, CommandPlan, Stop, May, Question}
+use Rattle.command_words.specs.Job.{Job, Scan, Values, Create, Load, Query, Recover, job_of}
+use Rattle.archive_cli.specs.Command.{Progress, nothing_done}
+use Rattle.archive_cli.specs.create_command.Create.{create_plan}
+use Rattle.archive_cli.specs.load_command.Load.{load_plan}
+use Rattle.archive_cli.specs.query_command.Query.{query_plan}
+use Rattle.archive_cli.specs.recover_command.Recover.{recover_plan}
+use Rattle.archive_cli.specs.scan_command.Scan.{scan_plan}
+use Rattle.archive_cli.specs.values_command.Values.{values_plan}
+
+-- does a job over a disk, over inputs whose files may be known, and at a moment that may be known
+abbrev pub job_plan : {D : Type 0} → Device D → D → Option Files → Option ℤ → Job → CommandPlan Progress ⊥
+job_plan device disk files next (Scan name) = scan_plan files next name
+job_plan device disk files next (Values words) = values_plan files next words
+job_plan device disk files next (Create words) = create_plan device disk files words
+job_plan device disk files next (Load words) = load_plan device disk files next words
+job_plan device disk files next (Query name) = query_plan device disk files name
+job_plan device disk files next Recover = recover_plan device disk
+
+-- what words lead to, by the job that they are: Usage, where they are none
+abbrev pub after_words : {D : Type 0} → Device D → D → Option Files → Option ℤ → Option Job → CommandPlan Progress ⊥
+after_words device disk files next (Some job) = job_plan device disk files next job
+after_words device disk files next None = Stop (nothing_done 0) (Some Usage)
+
+-- reads the words of a command line, and does the job that they are
+abbrev pub run_plan : {D : Type 0} → Device D → D → Option Files → Option ℤ → List (List ℕ) → CommandPlan Progress ⊥
+run_plan device disk files next words = May OfMemory (nothing_done 0) (Question (λ job. job ≡ job_of words) (after_words device disk files next))

@@ -1,0 +1,43 @@
+-- What `create` prints, and what it leaves on a disk.
+use Rattle.std.specs.Prelude.{◌⊎◌, ℕ, List, [], ◌∷◌, ◌++◌, length, codes, decimal}
+use Rattle.arch_disk.specs.Image.{Image}
+use Rattle.arch_disk.specs.Disk.{Device, LeavesOnly}
+use Rattle.mdb_items.specs.declared.sheet.RawMdb.{RawMdb}
+use Rattle.mdb_items.specs.Database.{Database}
+use Rattle.mdb_model.specs.Sheets.{sheets_database}
+use Rattle.disk_journal.specs.Calls.{BeginsOpen}
+use Rattle.disk_journal.specs.Format.{HoldsNone}
+use Rattle.archive_store.specs.declared.head.Head.{Head}
+use Rattle.archive_store.specs.Calls.{IsCreateImage}
+use Rattle.archive_store.specs.Entries.{archive}
+use Rattle.archive_store.specs.Stands.{StandsFor}
+use Rattle.archive_cli.specs.ReadOnly.{IsReadAsBefore}
+use Rattle.archive_cli.specs.Durable.{FailedAtMostOnce}
+
+-- the head of a new archive: table `tm`, and the database of the sheets
+abbrev pub new_head : RawMdb → Head
+new_head raw = record { tables = codes "tm" ∷ []; mdb = sheets_database raw }
+
+-- the one line of `create`: how many tables, parameters and containers there are
+abbrev pub create_line : Database → List ℕ
+create_line db =
+    codes "created tables 1 parameters " ++ decimal (length db.parameters) ++ codes " containers " ++ decimal (length db.containers) ++ codes "\n"
+
+-- An archive was made where there was none: the disk stands for the head without rows, and so does each image that a crash now leaves; a crash
+-- during the call leaves no archive or the head, or what it could have left before.
+pub record IsMade {D : Type 0} (device : Device D) (old new : D) (head : Head) : Type 0 where
+  pub none : HoldsNone (device.reads old 0)
+  pub stands : StandsFor (device.reads new) (archive head [])
+  pub now : (c : Image) → device.images new c → StandsFor c (archive head [])
+  pub images : LeavesOnly device old new (IsCreateImage (device.images old) head)
+
+-- each image that a crash now leaves holds no archive, or could have been left before
+abbrev pub IsStillNone : {D : Type 0} → Device D → D → D → Type 0
+IsStillNone device old new = (c : Image) → device.images new c → device.images old c ⊎ HoldsNone (c 0)
+
+-- The making of an archive of this head failed: a disk that holds one is left as it was, and on one that holds none a crash leaves what a making leaves.
+-- Where it failed once a crash now leaves no archive, or what it could have left before.
+pub record IsMakingFailed {D : Type 0} (device : Device D) (old new : D) (head : Head) : Type 0 where
+  pub kept : BeginsOpen (device.reads old 0) → IsReadAsBefore device old new
+  pub images : HoldsNone (device.reads old 0) → LeavesOnly device old new (IsCreateImage (device.images old) head)
+  pub closed : HoldsNone (device.reads old 0) → FailedAtMostOnce device old new → IsStillNone device old new

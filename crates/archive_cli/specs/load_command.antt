@@ -1,0 +1,4 @@
+pub mod LoadLine
+pub mod Loading
+pub mod Session
+pub mod Load

@@ -1,0 +1,16 @@
+use Rattle.std.proofs.Common.{subst}
+use Rattle.std.specs.List.{AllByRecursion}
+use Rattle.archive_core.specs.Items.{rows_in}
+use Rattle.archive_store.specs.Entries.{IsArchivedRow}
+use Rattle.archive_store.specs.StoreView.{StoreView, CrashInvariant}
+use Rattle.archive_store.proofs.PlainLog.{crash_of}
+use Rattle.archive_store.proofs.store.Store.front.Goals as goal
+
+pub returns-clause-images : goal.returns-clause-images
+returns-clause-images g c transparent =
+    let device = g.D.Disk.device in
+    let s = c.self.inside in
+    subst (λ (x : StoreView g.row.D.Denot). CrashInvariant device x) c.self.view_is (crash_of device s.disk s.opened.value s.journal s.head s.history.items s.fills.items s.pending_fault c.self.invariant.0 transparent)
+
+pub returns-clause-rows : goal.returns-clause-rows
+returns-clause-rows g c = subst (λ (x : StoreView g.row.D.Denot). AllByRecursion (IsArchivedRow x.head) (rows_in x.history)) c.self.view_is c.self.invariant.0.rows

@@ -1,0 +1,214 @@
+//! The blocks of a growing index that has room or had some.
+
+ghost use Rattle.std.specs.Prelude.{◌≡◌, ◌+◌, ◌-◌, ◌<◌, ◌≤◌, ◌^◌, [], length, max, IfSome, IfNone, IfOk, OnSome, OnOk, OnErr};
+ghost use Rattle.std.specs.Map.{lookup};
+ghost use Rattle.std.specs.BTreeMap.{is_at, insert_entry};
+ghost use Rattle.std.specs.BTreeMap.Range.{entries_from};
+ghost use Rattle.block_map.specs.Rising.{IsRising};
+ghost use Rattle.block_map.specs.Index.{IsAdded, tally_of};
+
+use crate::blocks::{Block, CAPACITY, open_block, put, set_value};
+use crate::body::add_spare;
+use crate::entries::Entries;
+use crate::search::place_in;
+use crate::values::{entries_from_key, replace_value, value_of};
+use std::alloc::{AllocError, Global};
+use std::marker::Model;
+
+/// The entries that pay for the split of a full block: so many went into it since it was split or begun.
+pub const FOR_A_SPLIT: usize = CAPACITY / 16;
+
+/// The entries that a full block keeps where it is split for a key above them. Keys that come in order leave blocks behind
+/// them that are so full.
+pub const NEARLY_FULL: usize = CAPACITY - FOR_A_SPLIT;
+
+/// Blocks of values by key, in the order of the keys. Each key stands once, and stays.
+#[derive(Drop)]
+pub(crate) struct GrowingBody<K: Ord + Copy, V: Copy> {
+    alloc: Global,
+    /// The entries, one block after the other. There is always a first block.
+    blocks: Vec<Block<K, V>>,
+    /// Empty blocks, for splits.
+    spare: Vec<Block<K, V>>,
+    /// How many entries stand in the blocks.
+    len: usize,
+    /// How many entries the blocks have beyond `NEARLY_FULL` each.
+    excess: usize,
+    /// How many more entries go in without memory.
+    room: usize,
+}
+
+impl<K: Ord + Copy, V: Copy> Model for GrowingBody<K, V> {
+    ghost use Rattle.block_map.specs.Blocks.{entries_of};
+    ghost use Rattle.block_map.specs.Index.{Listing};
+    ghost use Rattle.block_map.specs.Growing.{IsGrowing};
+
+    ghost Value = { Listing K V };
+
+    ghost view = { λ i. record { entries = entries_of i.blocks.items; room = i.room } };
+
+    ghost invariant = { λ i. IsGrowing K.cmp i.blocks i.spare i.len i.excess i.room };
+}
+
+/// How many entries more than before a block of so many has beyond `NEARLY_FULL` with one more.
+fn passes_nearly_full(len: usize) -> usize
+    ensures { result + (len - NEARLY_FULL) ≡ len + 1 - NEARLY_FULL }
+{
+    if len >= NEARLY_FULL {
+        return 1;
+    }
+    0
+}
+
+impl<K: Ord + Copy, V: Copy> GrowingBody<K, V> {
+    /// A first block without an entry, and no room. The one error is want of memory.
+    pub(crate) fn new(alloc: Global) -> Result<Self, AllocError>
+        ensures { IfOk result (λ i. i ≡ record { entries = []; room = 0 }) }
+    {
+        let mut blocks = Vec::with_capacity(alloc, 1)?;
+        blocks.push_reserved(Vec::with_capacity(alloc, CAPACITY)?);
+        Ok(GrowingBody {
+            alloc,
+            blocks,
+            spare: Vec::with_capacity(alloc, 1)?,
+            len: 0,
+            excess: 0,
+            room: 0,
+        })
+    }
+
+    /// How many entries there are.
+    pub(crate) fn len(&self) -> usize
+        ensures count { result ≡ length self.now.entries }
+        ensures rising { IsRising K.cmp self.now.entries }
+    {
+        self.len
+    }
+
+    /// How many more entries go in without memory.
+    pub(crate) fn room(&self) -> usize
+        ensures { result ≡ self.now.room }
+    {
+        self.room
+    }
+
+    /// Makes the room at least `additional`. The one error is want of memory, and then all is as before.
+    pub(crate) fn reserve(&mut self, additional: usize) -> Result<(), AllocError>
+        ensures ok { OnOk result (self.new ≡ record {
+          entries = self.old.entries;
+          room = max self.old.room
+              additional;
+        }) }
+        ensures err { OnErr result (self.new ≡ self.old) }
+        ensures full { OnErr result (self.old.room < additional) }
+    {
+        if additional <= self.room {
+            return Ok(());
+        }
+        if self.len.checked_add(additional).is_none() {
+            return Err(AllocError);
+        }
+        let Some(beyond) = self.excess.checked_add(additional) else {
+            return Err(AllocError);
+        };
+        let Some(wanted) = (beyond / FOR_A_SPLIT).checked_add(self.blocks.len()) else {
+            return Err(AllocError);
+        };
+        add_spare(self.alloc, &mut self.blocks, &mut self.spare, wanted)?;
+        self.room = additional;
+        Ok(())
+    }
+
+    /// Adds an entry where its key is new, and answers `None`. A key that is there already keeps its value, which is
+    /// the answer. Takes no memory.
+    pub(crate) fn insert(&mut self, key: K, value: V) -> Option<V>
+        requires { 0 < self.old.room }
+        ensures found { result ≡ lookup (is_at (K.cmp key)) self.old.entries }
+        ensures present { IfSome result (λ _. self.new ≡ self.old) }
+        ensures absent { IfNone result (IsAdded K.cmp self.old self.new key value) }
+        ensures left { self.old.room ≤ self.new.room + 1 }
+        ensures rising { IsRising K.cmp self.new.entries }
+    {
+        let spares = self.spare.len();
+        let b = open_block(&mut self.blocks, &mut self.spare, key, NEARLY_FULL);
+        self.excess -= (spares - self.spare.len()) * FOR_A_SPLIT;
+        let block = self.blocks[b].as_slice();
+        match place_in(block, key) {
+            Ok(at) => Some(block[at].1),
+            Err(at) => {
+                self.excess += passes_nearly_full(block.len());
+                put(&mut self.blocks, b, at, key, value);
+                self.len += 1;
+                self.room -= 1;
+                None
+            }
+        }
+    }
+
+    /// The value of a key.
+    pub(crate) fn get(&self, key: K) -> Option<V>
+        ensures { result ≡ lookup (is_at (K.cmp key)) self.now.entries }
+    {
+        value_of(self.blocks.as_slice(), key)
+    }
+
+    /// Gives a key that is there another value, and answers the old one. A key that isn't there stays away.
+    pub(crate) fn replace(&mut self, key: K, value: V) -> Option<V>
+        ensures found { result ≡ lookup (is_at (K.cmp key)) self.old.entries }
+        ensures replaced { OnSome result (self.new ≡ record {
+          entries = insert_entry K.cmp self.old.entries key value;
+          room = self.old.room;
+        }) }
+        ensures absent { IfNone result (self.new ≡ self.old) }
+        ensures rising { IsRising K.cmp self.new.entries }
+    {
+        replace_value(&mut self.blocks, key, value)
+    }
+
+    /// All entries, in the order of their keys.
+    pub(crate) fn iter(&self) -> Entries<'_, K, V>
+        ensures entries { result ≡ self.now.entries }
+        ensures rising { IsRising K.cmp result }
+    {
+        Entries::new(&[], self.blocks.as_slice())
+    }
+
+    /// The entries whose keys are not below this one, in the order of their keys.
+    pub(crate) fn from_key(&self, key: K) -> Entries<'_, K, V>
+        ensures entries { result ≡ entries_from (K.cmp key) self.now.entries }
+        ensures rising { IsRising K.cmp result }
+    {
+        entries_from_key(self.blocks.as_slice(), key)
+    }
+}
+
+impl<K: Ord + Copy> GrowingBody<K, u64> {
+    /// Counts one more of a key, of which none was counted where it isn't there, and answers the count. Takes no memory.
+    pub(crate) fn add_one(&mut self, key: K) -> u64
+        requires room { 0 < self.old.room }
+        requires small { tally_of K.cmp self.old.entries key + 1 < 2 ^ 64 }
+        ensures count { result ≡ tally_of K.cmp self.old.entries key + 1 }
+        ensures entries { self.new.entries ≡ insert_entry K.cmp self.old.entries key result }
+        ensures left { self.old.room ≤ self.new.room + 1 }
+        ensures rising { IsRising K.cmp self.new.entries }
+    {
+        let spares = self.spare.len();
+        let b = open_block(&mut self.blocks, &mut self.spare, key, NEARLY_FULL);
+        self.excess -= (spares - self.spare.len()) * FOR_A_SPLIT;
+        let entries = self.blocks[b].as_slice();
+        match place_in(entries, key) {
+            Ok(at) => {
+                let count = entries[at].1 + 1;
+                set_value(&mut self.blocks, b, at, key, count);
+                count
+            }
+            Err(at) => {
+                self.excess += passes_nearly_full(entries.len());
+                put(&mut self.blocks, b, at, key, 1);
+                self.len += 1;
+                self.room -= 1;
+                1
+            }
+        }
+    }
+}

@@ -1,0 +1,242 @@
+-- The batches of a dump, one after the other.
+use Rattle.std.proofs.Common.{Some, ◌≡◌, ◌⊎◌, inl, inr, ℕ, ℤ, ◌+◌, ◌-◌, ◌<◌, ◌≤◌, true, false, Bool, List, [], ◌∷◌, ◌++◌, length, take, drop, refl, sym, ap, subst, ◌∙◌, arith, append-nil, append_assoc, length-append, ltb}
+use Rattle.std.specs.Prelude.{◌≢◌, slice_range}
+use Rattle.std.proofs.Math.Seq.{take-append_seam, drop-append_seam}
+use Rattle.std.proofs.lemmas.Bool.{ltb-true, ltb-false}
+use Rattle.std.proofs.lemmas.List.{take_all}
+use Rattle.std.proofs.lemmas.List.Elements.{All-nil}
+use Rattle.arch_disk.specs.Disk.{Device, raised}
+use Rattle.arch_types.specs.declared.refusal.Refusal.{Refusal}
+use Rattle.arch_types.specs.declared.refusal.Refusal.TheVariants.{DiskFault, Limit, OutOfMemory, NeedsReopen}
+use Rattle.arch_types.specs.declared.row.Row.{Row}
+use Rattle.arch_types.specs.Dump.{IsDump, BeginsWithNoPacket}
+use Rattle.arch_types.specs.History.{ingested}
+use Rattle.arch_types.specs.Limits.{limit_of}
+use Rattle.arch_types.specs.Packet.{IsPacket}
+use Rattle.archive_core.specs.declared.fills.Addition.TheVariants.{Rows}
+use Rattle.archive_core.specs.declared.fills.Fill.{Fill}
+use Rattle.archive_core.specs.declared.fills.Fill.TheVariants.{Fault}
+use Rattle.archive_core.specs.Fills.{pending_fault_of}
+use Rattle.archive_core.specs.Items.{Item}
+use Rattle.archive_core.specs.Outcomes.{fresh_of}
+use Rattle.archive_core.proofs.Outcomes.{fresh_added, ingested-append}
+use Rattle.text_forms.specs.ClockTime.{IsClockTime}
+use Rattle.mdb_items.specs.Database.{IsDatabase}
+use Rattle.space_packet.specs.declared.dump.Why.{Why}
+use Rattle.space_packet.specs.Cut.{IsCut, IsPart}
+use Rattle.space_packet.specs.Rest.{why_of}
+use Rattle.space_packet.proofs.Cuts.{cut_whole}
+use Rattle.archive_store.specs.declared.head.Head.{Head}
+use Rattle.archive_store.specs.Calls.{IsIngestRefusal}
+use Rattle.archive_store.specs.Batches.{batch_rows}
+use Rattle.archive_history.specs.Limits.{IsLimit}
+use Rattle.archive_store.specs.StoreView.{AddsFault, StoreView}
+use Rattle.load_session.specs.declared.batches.NextBatch.{NextBatch}
+use Rattle.load_session.specs.Batches.{ExactlyOne, arrivals_with, arrived, batch_at, rows_of_link, IsNextBatch, HasIngested, IsIngested, IsStoppedAt, IsRefusedFor}
+use Rattle.load_session.proofs.Arrived.{batch_none, batch_more, rows-append, arrived-append, few_arrived}
+use Rattle.load_session.proofs.Taking.{run_none, run_more, completes}
+
+-- ---- one batch
+
+-- no packet was taken yet
+pub taken_none : (dump : List ℕ) (at : ℕ) (head : Head) (link : ℕ) (moment : ℤ) (taken : NextBatch) → taken.packets ≡ 0 → taken.batch.rectime ≡ moment → taken.batch.arrivals ≡ [] → IsClockTime moment → IsNextBatch dump at at head link moment taken
+taken_none dump at head link moment taken count received none time = record {
+  packets = [];
+  run = run_none dump at;
+  count = count;
+  few = omega arith;
+  batch = batch_none head link moment taken.batch received none time;
+}
+
+-- one packet more
+pub taken_more : (dump : List ℕ) (start mid end : ℕ) (head : Head) (link : ℕ) (moment : ℤ) (old new : NextBatch) → IsDatabase head.mdb → 1 ≤ link → link ≤ 255 → old.packets < 64
+    → IsNextBatch dump start mid head link moment old → IsPart dump mid end → new.packets ≡ old.packets + 1 → new.batch.rectime ≡ old.batch.rectime
+    → new.batch.arrivals ≡ arrivals_with head link old.batch.arrivals (slice_range dump mid end) → IsNextBatch dump start end head link moment new
+taken_more dump start mid end head link moment old new is low high left t part count received grown =
+    let packet = slice_range dump mid end in
+    let had = t.count in
+    let more = length-append t.packets (packet ∷ []) in record {
+      packets = t.packets ++ packet ∷ [];
+      run = run_more dump start t.packets mid end t.run part;
+      count = omega (arith, had, count, more);
+      few = omega (arith, had, left, more);
+      batch = batch_more head link moment t.packets packet old.batch new.batch is low high (omega (arith, had, left)) part.packet t.batch received grown;
+    }
+
+-- ---- all batches
+
+-- a record that was appended has a new row
+records_more : {D : Type 0} (mid new : StoreView D) (rows : List Row) → new.history ≡ ingested mid.history rows → (fresh_of mid.history rows ≢ [] → new.records ≡ mid.records + 1)
+    → (fresh_of mid.history rows ≡ [] → new ≡ mid) → new.records + length mid.history ≤ mid.records + length new.history
+records_more {D = D} mid new rows history some none = go (fresh_of mid.history rows) refl
+  where
+    not_none : (row : Row) (more : List Row) → fresh_of mid.history rows ≡ row ∷ more → fresh_of mid.history rows ≡ [] → ⊥
+    not_none row more e is = absurd (omega (arith, ap length e, ap length is))
+
+    go : (fresh : List Row) → fresh_of mid.history rows ≡ fresh → new.records + length mid.history ≤ mid.records + length new.history
+    go [] e =
+        let same = none e in
+        omega (arith, ap (λ (x : StoreView D). x.records) same, ap (λ (x : StoreView D). length x.history) same)
+    go (row ∷ more) e =
+        let longer = ap length (history ∙ fresh_added mid.history rows) ∙ length-append mid.history (fresh_of mid.history rows) in
+        omega (arith, some (not_none row more e), longer, ap length e)
+
+-- the packets of a dump before an octet were ingested
+pub record IsSoFar {D : Type 0} (old new : StoreView D) (dump : List ℕ) (link : ℕ) (moment : ℤ) (at packets idle : ℕ) : Type 0 where
+  pub so_far : List (List ℕ)
+  pub cut : IsCut dump so_far at
+  pub few : length so_far ≤ at
+  pub done : HasIngested old new link moment so_far
+  pub fills : new.fills ≡ []
+  pub of_packets : packets ≡ length so_far
+  pub of_idle : idle + arrived so_far ≡ length so_far
+
+module _ {D : Type 0} (old : StoreView D) (dump : List ℕ) (link : ℕ) (moment : ℤ) where
+  -- no batch yet
+  pub so_far_none : old.fills ≡ [] → IsSoFar old old dump link moment 0 0 0
+  so_far_none no_failed_write = record {
+    so_far = [];
+    cut = record { within = omega arith; joined = refl; each = All-nil IsPacket };
+    few = omega arith;
+    done = record { history = refl; head = refl; opened = refl; records = λ none. omega arith };
+    fills = no_failed_write;
+    of_packets = refl;
+    of_idle = refl;
+  }
+
+  -- one batch more
+  pub so_far_more : (mid new : StoreView D) (start end packets idle : ℕ) (taken : NextBatch) → IsSoFar old mid dump link moment start packets idle → IsNextBatch dump start end mid.head link moment taken
+      → new.history ≡ ingested mid.history (batch_rows taken.batch) → new.fills ≡ mid.fills → new.head ≡ mid.head → new.opened ≡ mid.opened
+      → (fresh_of mid.history (batch_rows taken.batch) ≢ [] → new.records ≡ mid.records + 1) → (fresh_of mid.history (batch_rows taken.batch) ≡ [] → new ≡ mid)
+      → IsSoFar old new dump link moment end (packets + taken.packets) (idle + (taken.packets - length taken.batch.arrivals))
+  so_far_more mid new start end packets idle taken s t history fills head opened some none =
+      let few = s.few in let rising = t.run.rising in let of_packets = s.of_packets in let of_idle = s.of_idle in let count = t.count in let arrivals = t.batch.count in
+      let less = few_arrived t.packets in
+      let more = length-append s.so_far t.packets in
+      let more_arrived = arrived-append s.so_far t.packets in record {
+        so_far = s.so_far ++ t.packets;
+        cut = t.run.follows s.so_far s.cut;
+        few = omega (arith, few, rising, more);
+        done = record {
+          history =
+              history
+              ∙ ap (ingested mid.history) (t.batch.rows ∙ ap (λ (h : Head). rows_of_link h link moment t.packets) s.done.head)
+              ∙ ap (λ (l : List Item). ingested l (rows_of_link old.head link moment t.packets)) s.done.history
+              ∙ sym (ingested-append old.history (rows_of_link old.head link moment s.so_far) (rows_of_link old.head link moment t.packets))
+              ∙ ap (ingested old.history) (sym (rows-append old.head link moment s.so_far t.packets));
+          head = head ∙ s.done.head;
+          opened = opened ∙ s.done.opened;
+          records = λ no_failed_write. omega (arith, s.done.records s.fills, records_more mid new (batch_rows taken.batch) history some none);
+        };
+        fills = fills ∙ s.fills;
+        of_packets = omega (arith, of_packets, count, more);
+        of_idle = omega (arith, of_idle, count, arrivals, less, more, more_arrived);
+      }
+
+  -- no packets follow
+  pub so_far_end : (new : StoreView D) (start end packets idle : ℕ) (taken : NextBatch) (why : Why) → IsSoFar old new dump link moment start packets idle → IsNextBatch dump start end new.head link moment taken
+      → taken.packets ≡ 0 → (taken.packets < 64 → BeginsWithNoPacket (drop end dump)) → why ≡ why_of (drop end dump)
+      → IsIngested old new dump link moment (record { packets = packets; idle = idle; at = end; why = why })
+  so_far_end new start end packets idle taken why s t none last why_is =
+      let cut = no_more t.packets (let count = t.count in omega (arith, count, none)) (t.run.follows s.so_far s.cut) in record {
+        packets = s.so_far;
+        within = cut.within;
+        parts = cut_whole dump s.so_far end cut (last (omega (arith, none)));
+        why = why_is;
+        done = s.done;
+        fills = s.fills;
+        of_packets = s.of_packets;
+        of_idle = s.of_idle;
+      }
+    where
+      no_more : (ps : List (List ℕ)) → length ps ≡ 0 → IsCut dump (s.so_far ++ ps) end → IsCut dump s.so_far end
+      no_more [] e cut = subst (λ (l : List (List ℕ)). IsCut dump l end) (append-nil s.so_far) cut
+      no_more (p ∷ ps) e cut = absurd (omega (arith, e))
+
+  -- want of memory before a batch
+  pub so_far_memory : (new : StoreView D) (at packets idle : ℕ) → IsSoFar old new dump link moment at packets idle → IsStoppedAt old new dump link moment OutOfMemory
+  so_far_memory new at packets idle s =
+      let all = completes dump s.so_far at s.cut in
+      let more = length-append s.so_far all.0 in record {
+        packets = s.so_far ++ all.0;
+        rest = all.1;
+        place = length s.so_far;
+        parts = all.2;
+        within = omega (arith, more);
+        done = subst (λ (l : List (List ℕ)). HasIngested old new link moment l) (sym (take-append_seam s.so_far all.0)) s.done;
+        cause = s.fills;
+      }
+
+  -- the batch from a place on
+  batch_is : (first batch more : List (List ℕ)) → length batch ≤ 64 → (length batch ≡ 64) ⊎ (more ≡ []) → batch_at (length first) ((first ++ batch) ++ more) ≡ batch
+  batch_is first batch more few (inl full) =
+      ap (take 64) (ap (drop (length first)) (append_assoc first batch more) ∙ drop-append_seam first (batch ++ more)) ∙ ap (λ (n : ℕ). take n (batch ++ more)) (sym full) ∙ take-append_seam batch more
+  batch_is first batch more few (inr none) =
+      ap (take 64) (ap (drop (length first)) (append_assoc first batch more) ∙ drop-append_seam first (batch ++ more) ∙ ap (λ (l : List (List ℕ)). batch ++ l) none ∙ append-nil batch) ∙ take_all 64 batch few
+
+  -- a batch was refused
+  stopped_at : (mid new : StoreView D) (start end packets idle : ℕ) (taken : NextBatch) (refusal : Refusal) (more : List (List ℕ)) (rest : List ℕ) → (s : IsSoFar old mid dump link moment start packets idle)
+      → (t : IsNextBatch dump start end mid.head link moment taken) → IsDump dump ((s.so_far ++ t.packets) ++ more) rest → (length t.packets ≡ 64) ⊎ (more ≡ [])
+      → new.history ≡ mid.history → new.head ≡ mid.head → new.opened ≡ mid.opened → (new.fills ≡ [] → new.records ≡ mid.records) → IsRefusedFor new (batch_rows taken.batch) refusal
+      → IsStoppedAt old new dump link moment refusal
+  stopped_at mid new start end packets idle taken refusal more rest s t parts full history head opened still cause =
+      let a = length-append (s.so_far ++ t.packets) more in
+      let b = length-append s.so_far t.packets in
+      let first : take (length s.so_far) ((s.so_far ++ t.packets) ++ more) ≡ s.so_far = ap (take (length s.so_far)) (append_assoc s.so_far t.packets more) ∙ take-append_seam s.so_far (t.packets ++ more) in
+      let rows : batch_rows taken.batch ≡ rows_of_link old.head link moment (batch_at (length s.so_far) ((s.so_far ++ t.packets) ++ more)) =
+      t.batch.rows ∙ ap (λ (h : Head). rows_of_link h link moment t.packets) s.done.head ∙ ap (rows_of_link old.head link moment) (sym (batch_is s.so_far t.packets more t.few full)) in
+      record {
+        packets = (s.so_far ++ t.packets) ++ more;
+        rest = rest;
+        place = length s.so_far;
+        parts = parts;
+        within = omega (arith, a, b);
+        done = record {
+          history = history ∙ s.done.history ∙ ap (λ (l : List (List ℕ)). ingested old.history (rows_of_link old.head link moment l)) (sym first);
+          head = head ∙ s.done.head;
+          opened = opened ∙ s.done.opened;
+          records = λ no_failed_write. omega (arith, s.done.records s.fills, still no_failed_write, ap length history);
+        };
+        cause = subst (λ (l : List Row). IsRefusedFor new l refusal) rows cause;
+      }
+
+  pub so_far_refused : (mid new : StoreView D) (start end packets idle : ℕ) (taken : NextBatch) (refusal : Refusal) → IsSoFar old mid dump link moment start packets idle
+      → IsNextBatch dump start end mid.head link moment taken → (taken.packets < 64 → BeginsWithNoPacket (drop end dump))
+      → new.history ≡ mid.history → new.head ≡ mid.head → new.opened ≡ mid.opened → (new.fills ≡ [] → new.records ≡ mid.records) → IsRefusedFor new (batch_rows taken.batch) refusal
+      → IsStoppedAt old new dump link moment refusal
+  so_far_refused mid new start end packets idle taken refusal s t last history head opened still cause = go (ltb taken.packets 64) refl
+    where
+      go : (b : Bool) → ltb taken.packets 64 ≡ b → IsStoppedAt old new dump link moment refusal
+      go true less =
+          let whole = cut_whole dump (s.so_far ++ t.packets) end (t.run.follows s.so_far s.cut) (last (ltb-true taken.packets 64 less)) in
+          stopped_at mid new start end packets idle taken refusal [] (drop end dump) s t
+          (subst (λ (l : List (List ℕ)). IsDump dump l (drop end dump)) (sym (append-nil (s.so_far ++ t.packets))) whole) (inr refl) history head opened still cause
+      go false full =
+          let all = completes dump (s.so_far ++ t.packets) end (t.run.follows s.so_far s.cut) in
+          let least = ltb-false taken.packets 64 full in
+          let count = t.count in
+          let few = t.few in
+          stopped_at mid new start end packets idle taken refusal all.0 all.1 s t all.2 (inl (omega (arith, least, count, few))) history head opened still cause
+
+-- why a store refused a batch
+pub refused_for : {D : Type 0} (device : Device D) (mid new : StoreView D) (rows : List Row) (refusal : Refusal) → mid.fills ≡ [] → IsIngestRefusal device mid new rows refusal → IsRefusedFor new rows refusal
+refused_for {D = D} device mid new rows (Limit which number) none refused =
+    subst (λ (s : StoreView D). (s.fills ≡ []) × (number ≡ limit_of which) × IsLimit 22 which s.records (ingested s.history rows)) (sym refused.1) (none, refused.0.number_is, refused.0.first)
+refused_for device mid new rows DiskFault none refused =
+    let f = refused.fault in (
+      f.count,
+      f.fills ∙ ap (λ (l : List Fill). l ++ Fault f.count true (Rows (fresh_of mid.history rows)) ∷ []) none ∙ ap (λ (h : List Item). Fault f.count true (Rows (fresh_of h rows)) ∷ []) (sym f.history),
+    )
+refused_for {D = D} device mid new rows OutOfMemory none refused = ap (λ (s : StoreView D). s.fills) refused.1 ∙ none
+refused_for device mid new rows (NeedsReopen faults) none refused = absurd (let calm = ap pending_fault_of none in cc (refused.0, calm))
+refused_for device mid new rows other none refused = absurd refused
+
+-- ---- writes of the disk that failed
+
+-- a batch was refused
+pub refused_writes : {D : Type 0} (device : Device D) (old new : StoreView D) (rows : List Row) (refusal : Refusal) (before : ℕ) → device.failed_writes old.disk ≡ before
+    → (refusal ≡ DiskFault → AddsFault device old new (Rows rows)) → (refusal ≡ DiskFault) ⊎ (new ≡ old)
+    → ExactlyOne (Some refusal) before (device.failed_writes new.disk)
+refused_writes device old new rows DiskFault before same fault untouched = (fault refl).wrote ∙ ap raised same
+refused_writes device old new rows other before same fault (inl is) = absurd (cc (is))
+refused_writes {D = D} device old new rows other before same fault (inr is) = ap (λ (s : StoreView D). device.failed_writes s.disk) is ∙ same

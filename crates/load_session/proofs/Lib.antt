@@ -1,0 +1,3 @@
+pub mod Arrived
+pub mod Taking
+pub mod Batching
