@@ -139,6 +139,25 @@ def load(before, packets):
     return f"load packets {len(packets)} new {new} duplicates {len(arrived) - new} idle {idles} rows {len(after)}", after
 
 
+def name_of(p):
+    """The packet's name, by containers.csv."""
+    apid = (p[0] & 7) << 8 | p[1]
+    if apid == 100:
+        return "payload" if p[12] == 2 else "housekeeping"
+    return "science" if apid == 101 else "header"
+
+
+def replay(links, start, end, names):
+    """The lines of the packets with start <= time < end of these names, each by the link that brought it first."""
+    first = {}
+    for link, packets in enumerate(links, 1):
+        for p in packets:
+            if (p[0] & 7) << 8 | p[1] != 2047:
+                first.setdefault(key_of(p), (link, p))
+    rows = [(key, link, p) for key, (link, p) in sorted(first.items()) if start <= key[0] < end and name_of(p) in names]
+    return [f"packet tm {time} {seq} {link} {name_of(p)} {len(p)}" for (time, seq), link, p in rows]
+
+
 def archive(one, both):
     """What the commands on an archive print, with the asks of asks.csv."""
     first, keys = load(set(), one)
@@ -150,6 +169,9 @@ def archive(one, both):
     ):
         found = [c for c in cells(one + both, name) if start <= c[0][0] < end][::step][:limit]
         lines += [f"ask {k + 1} front {len(keys)}"] + [cell_line(c) for c in found] + [f"end {len(found)}"]
+    end_of_first = hour + 180000
+    rows = replay((one, both), end_of_first - 2000, end_of_first + 2000, ("payload", "science"))
+    lines += [f"ask 4 front {len(keys)}"] + rows + [f"end {len(rows)}"]
     return text(lines + [f"recovered rows {len(keys)} filled 0"])
 
 

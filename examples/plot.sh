@@ -1,6 +1,6 @@
 #!/bin/sh
 # Draws the cells that `cudrakh query` printed, over time, a panel for each ask, with gnuplot (Debian: gnuplot-nox). A decimal stands at its value,
-# a label at its raw number. The answer is read from standard input or ANSWER; the sheet of its asks gives the panels their parameters' names.
+# a label at its raw number; of a replay only the number of its packets is told. The answer is read from standard input or ANSWER; the sheet of its asks gives the panels their parameters' names.
 set -eu
 export LC_ALL=C
 
@@ -60,7 +60,7 @@ awk -v terminal="$terminal" '
 
   # the picture of one ask
   function panel(k,    n, low, high, at, tics) {
-    print "set title " quoted(name[k] (cells[k] ? "" : ": no cells")) " offset 0,-0.5"
+    print "set title " quoted(name[k] (cells[k] ? "" : packets[k] ? ": " packets[k] " packets" : ": no cells")) " offset 0,-0.5"
     if (k == asks) {
       print "set xtics time format " quoted(clock)
       printf "set xlabel day(%.3f) . (day(%.3f) eq day(%.3f) ? \"\" : \" to \" . day(%.3f)) . \", UTC\"\n", first, first, last, last
@@ -112,7 +112,9 @@ awk -v terminal="$terminal" '
     next
   }
 
-  open && $0 == "end " (cells[asks] + 0) { open = 0; next }
+  open && /^packet / { packets[asks]++; next }
+
+  open && $0 == "end " (cells[asks] + packets[asks] + 0) { open = 0; next }
 
   { fail("line " FNR " is none of an answer: " $0) }
 

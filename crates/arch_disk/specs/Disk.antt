@@ -56,6 +56,10 @@ pub record LeavesOnly {D : Type 0} (device : Device D) (old new : D) (P : Image 
 abbrev pub raised : ℕ → ℕ
 raised count = max count (min (count + 1) (2 ^ 64 - 1))
 
+-- no write, cut or sync failed
+abbrev pub NoWriteFailed : {D : Type 0} → Device D → D → D → Type 0
+NoWriteFailed device before after = device.failed_writes after ≡ device.failed_writes before
+
 -- the count of faults has not fallen, and a call that failed has raised it
 pub record HasCause {D T E : Type 0} (device : Device D) (old new : D) (result : Result T E) : Type 0 where
   pub later : device.fault_count old ≤ device.fault_count new
@@ -71,4 +75,4 @@ pub record OnlyReads {D : Type 0} (device : Device D) (old new : D) : Type 0 whe
   pub moments : LeavesOnly device old new (device.images old)
   pub images : AddsNoImage device old new
   pub later : device.fault_count old ≤ device.fault_count new
-  pub no_write : device.failed_writes new ≡ device.failed_writes old
+  pub no_write : NoWriteFailed device old new

@@ -153,7 +153,8 @@ fn replay(
 ) -> Result<(), AllocError>
     ensures { (past : List ACall) → ((f : ℕ) → image_in reads.old f ≡ reads_of past f) →
         ((f : ℕ) → image_in image.old f ≡ crash_of crash past f)
-        → OnOk result (((f : ℕ) → image_in reads.new f ≡ reads_of (call.now ∷ past) f) × ((f : ℕ) → image_in image.new f ≡ crash_of crash (call.now ∷ past) f)) }
+        → OnOk result (((f : ℕ) → image_in reads.new f ≡ reads_of (call.now ∷ past) f) ×
+        ((f : ℕ) → image_in image.new f ≡ crash_of crash (call.now ∷ past) f)) }
 {
     match call {
         Call::Wrote(write) => {

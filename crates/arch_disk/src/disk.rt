@@ -1,7 +1,7 @@
 // A disk of numbered files: what a read gives, and what a crash may leave.
 ghost use Rattle.std.specs.Prelude.{◌≡◌, ◌+◌, ◌-◌, ◌^◌, ◌≤◌, IsTrue, length, take, drop, min, IfOk, OnOk, OnErr};
 ghost use Rattle.arch_disk.specs.Image.{Torn, Shortened, InFile, Becomes, overwritten};
-ghost use Rattle.arch_disk.specs.Disk.{Device, Follows, AddsNoImage, IsDurable, Elapses, HasCause, CountsFailure};
+ghost use Rattle.arch_disk.specs.Disk.{Device, Follows, AddsNoImage, IsDurable, Elapses, HasCause, CountsFailure, NoWriteFailed};
 
 use thiserror::Error;
 
@@ -22,7 +22,7 @@ pub trait Disk {
         ensures crash { AddsNoImage device self.old self.new }
         ensures time { Elapses device self.old self.new }
         ensures cause { HasCause device self.old self.new result }
-        ensures writes { device.failed_writes self.new ≡ device.failed_writes self.old };
+        ensures writes { NoWriteFailed device self.old self.new };
 
     /// Fills `into` whole with the octets from `at` on.
     fn read_at(&mut self, file: u32, at: u64, into: &mut [u8]) -> Result<(), Failed>
@@ -34,7 +34,7 @@ pub trait Disk {
         ensures crash { AddsNoImage device self.old self.new }
         ensures time { Elapses device self.old self.new }
         ensures cause { HasCause device self.old self.new result }
-        ensures writes { device.failed_writes self.new ≡ device.failed_writes self.old };
+        ensures writes { NoWriteFailed device self.old self.new };
 
     /// Writes over what stands there, and past the end. It begins at most at the end.
     fn write_at(&mut self, file: u32, at: u64, from: &[u8]) -> Result<(), Failed>

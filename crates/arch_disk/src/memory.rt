@@ -2,7 +2,7 @@
 ghost use Rattle.std.specs.Prelude.{◌≡◌, ◌⊎◌, [], ◌∷◌, ◌+◌, ◌-◌, ◌^◌, ◌≤◌, ◌==◌, length, take, drop, min, is_err, IsTrue, IsErr, IfOk, OnOk, OnErr};
 ghost use Rattle.arch_disk.specs.declared.history.Call.TheVariants.{Wrote, FailedWrite, Cut, FailedCut, Synced};
 ghost use Rattle.arch_disk.specs.Image.{Torn, Shortened, InFile, Becomes, overwritten};
-ghost use Rattle.arch_disk.specs.Disk.{Follows, AddsNoImage, IsDurable, Elapses, HasCause, CountsFailure};
+ghost use Rattle.arch_disk.specs.Disk.{Follows, AddsNoImage, IsDurable, Elapses, HasCause, CountsFailure, NoWriteFailed};
 ghost use Rattle.arch_disk.specs.Files.{image_in};
 ghost use Rattle.arch_disk.specs.Crash.{crash_of};
 ghost use Rattle.arch_disk.specs.History.{reads_of, images_of, since_of, first_calls, HoldsOnly};
@@ -121,7 +121,7 @@ impl Disk for MemDisk {
         ensures crash { AddsNoImage memory_device self.old self.new }
         ensures time { Elapses memory_device self.old self.new }
         ensures cause { HasCause memory_device self.old self.new result }
-        ensures writes { memory_device.failed_writes self.new ≡ memory_device.failed_writes self.old }
+        ensures writes { NoWriteFailed memory_device self.old self.new }
 
         ensures counted { HasCounted self.old self.new }
         ensures fails { is_err result ≡ next_fails self.old }
@@ -143,7 +143,7 @@ impl Disk for MemDisk {
         ensures crash { AddsNoImage memory_device self.old self.new }
         ensures time { Elapses memory_device self.old self.new }
         ensures cause { HasCause memory_device self.old self.new result }
-        ensures writes { memory_device.failed_writes self.new ≡ memory_device.failed_writes self.old }
+        ensures writes { NoWriteFailed memory_device self.old self.new }
 
         ensures counted { HasCounted self.old self.new }
         ensures fails { is_err result ≡ next_fails self.old }

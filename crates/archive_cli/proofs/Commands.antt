@@ -11,10 +11,11 @@ use Rattle.disk_journal.specs.Calls.{CountsNeverFall, IsJournalOpenFailed}
 use Rattle.command_plans.specs.Plan.{Interruption, OfMemory, OfInputs, OfDisk, OfOutput, CommandPlan, May, Way, Returned, Stopped, Interrupted, Allows, IsDetermined, IsDue, refusal_at, and_then}
 use Rattle.command_plans.proofs.Plans.{required, gave}
 use Rattle.dump_lines.specs.Output.{Appends, IsFinished, WritesCounted}
-use Rattle.outer_ledgers.specs.Ledger.{InputsState, UsedDisk}
+use Rattle.outer_traits.specs.States.{InputsState}
+use Rattle.outer_ledgers.specs.Ledger.{UsedDisk}
 use Rattle.outer_ledgers.proofs.Ledgers.{risen_counted}
 use Rattle.archive_cli.specs.declared.report.Report.{Report}
-use Rattle.archive_cli.specs.Command.{Progress, HasEffects, looked, look_failed, Effects, Ran, RanOver, HasOutcome, NoneFound, DamageFound, ArchiveFound, failed_at, opening_plan, printing_plan, sources_at}
+use Rattle.archive_cli.specs.Command.{Progress, HasEffects, archive_sought, seeking_failed, Effects, Ran, RanOver, HasDiskOutcome, NoneFound, DamageFound, ArchiveFound, failed_at, opening_plan, printing_plan, sources_at}
 use Rattle.archive_cli.specs.Report.{unopened}
 
 -- no text was printed
@@ -34,7 +35,7 @@ module _ {D : Type 0} (device : Device D) (e : Effects D) where
   -- a text was printed
   pub ran_printed : (s : Progress) (text : List ℕ) (refusal : Option Refusal) → s.failed OfOutput ≡ false → s.failed OfDisk ≡ false →
       IsFinished refusal e.output.written e.output'.written text → e.output.faults ≤ e.output'.faults → WritesCounted refusal e.output.faults e.output'.faults →
-      e.report ≡ record s.report { refusal = refusal } → HasOutcome device e.disk e.disk' false s.disk → Ran device (printing_plan s text) e
+      e.report ≡ record s.report { refusal = refusal } → HasDiskOutcome device e.disk e.disk' false s.disk → Ran device (printing_plan s text) e
   ran_printed s text None no_output no_disk text_is later counted report disk = record {
     way = Stopped (record s { text = text; is_whole = true }) None;
     allows = inr refl;
@@ -70,12 +71,12 @@ module _ {D : Type 0} (device : Device D) (e : Effects D) where
 
 module _ {D : Type 0} (device : Device D) where
   -- an archive was looked for, and no call failed,
-  pub looked_only : (old new : D) → CountsNeverFall device old new → device.failed_writes new ≡ device.failed_writes old → UsedDisk device old new false 0 0
-  looked_only old new counts same = record { faults = counts.faults; writes = (0, omega arith, omega arith, same) }
+  pub only_sought : (old new : D) → CountsNeverFall device old new → device.failed_writes new ≡ device.failed_writes old → UsedDisk device old new false 0 0
+  only_sought old new counts same = record { faults = counts.faults; writes = (0, omega arith, omega arith, same) }
 
   -- or one did
-  look_failed_once : (old new : D) → IsJournalOpenFailed device old new → UsedDisk device old new true 0 1
-  look_failed_once old new failed = elim failed.wrote_most [
+  seeking_failed_once : (old new : D) → IsJournalOpenFailed device old new → UsedDisk device old new true 0 1
+  seeking_failed_once old new failed = elim failed.wrote_most [
     | inl same ↦ record { faults = failed.rose; writes = (0, omega arith, omega arith, same) }
     | inr one ↦ record { faults = failed.rose; writes = (1, omega arith, omega arith, one) }
   ]
@@ -86,43 +87,43 @@ module _ {D : Type 0} (device : Device D) (e : Effects D) (f : Archive → Comma
       LeavesOnly device e.disk e.disk' (device.images e.disk) → CountsNeverFall device e.disk e.disk' → e.report ≡ unopened (Some refusal) → e.output' ≡ e.output →
       Ran device (and_then (opening_plan sources device e.disk) f) e
   ran_unopened NoArchive refused reads images counts report silent = record {
-    way = Stopped (looked sources) (Some NoArchive);
+    way = Stopped (archive_sought sources) (Some NoArchive);
     allows = inr (inr (NoneFound, refused.none, refl));
     did = record {
       report = report;
       printed = rw silent (no_text e.output.written);
       output = record { counted = rw silent refl };
-      disk = (looked_only device e.disk e.disk' counts refused.no_failed_write, λ known. record { reads = reads; images = images });
+      disk = (only_sought device e.disk e.disk' counts refused.no_failed_write, λ known. record { reads = reads; images = images });
     };
   }
   ran_unopened (Damaged file at) refused reads images counts report silent = record {
-    way = Stopped (looked sources) (Some (Damaged file at));
+    way = Stopped (archive_sought sources) (Some (Damaged file at));
     allows = inr (inr (DamageFound file at, refused.damaged, refl));
     did = record {
       report = report;
       printed = rw silent (no_text e.output.written);
       output = record { counted = rw silent refl };
-      disk = (looked_only device e.disk e.disk' counts refused.no_failed_write, λ known. record { reads = reads; images = images });
+      disk = (only_sought device e.disk e.disk' counts refused.no_failed_write, λ known. record { reads = reads; images = images });
     };
   }
   ran_unopened DiskFault refused reads images counts report silent = record {
-    way = Interrupted (look_failed sources) OfDisk;
+    way = Interrupted (seeking_failed sources) OfDisk;
     allows = inr (inl refl);
     did = record {
       report = report;
       printed = rw silent (no_text e.output.written);
       output = record { counted = rw silent refl };
-      disk = (look_failed_once device e.disk e.disk' refused, λ known. record { reads = reads; images = images });
+      disk = (seeking_failed_once device e.disk e.disk' refused, λ known. record { reads = reads; images = images });
     };
   }
   ran_unopened OutOfMemory refused reads images counts report silent = record {
-    way = Interrupted (looked sources) OfMemory;
+    way = Interrupted (archive_sought sources) OfMemory;
     allows = inl refl;
     did = record {
       report = report;
       printed = rw silent (no_text e.output.written);
       output = record { counted = rw silent refl };
-      disk = (looked_only device e.disk e.disk' counts refused, λ known. record { reads = reads; images = images });
+      disk = (only_sought device e.disk e.disk' counts refused, λ known. record { reads = reads; images = images });
     };
   }
   ran_unopened other refused reads images counts report silent = absurd refused

@@ -1,31 +1,17 @@
--- How many writes of the disk failed.
-use Rattle.std.proofs.Common.{◌≡◌, ◌∙◌, ℕ, List, Option, Some, None, inl, inr, sym, ap, subst}
-use Rattle.arch_disk.specs.Disk.{raised}
+-- How many writes of the disk failed in a load that opened an archive.
+use Rattle.std.proofs.Common.{◌≡◌, ◌∙◌, ℕ, List, Option, Some, None, sym, subst}
 use Rattle.arch_types.specs.declared.refusal.Refusal.{Refusal}
-use Rattle.arch_types.specs.declared.refusal.Refusal.TheVariants.{DiskFault, WriteFault}
+use Rattle.arch_types.specs.declared.refusal.Refusal.TheVariants.{WriteFault}
 use Rattle.archive_cli.specs.declared.report.Report.{Report}
-use Rattle.load_session.specs.Batches.{ExactlyOne}
-use Rattle.archive_cli.specs.DiskWrites.{OneAtMost, OneOrTwo}
+use Rattle.load_session.specs.Session.{OneOrTwo}
 use Rattle.archive_cli.specs.ReadDump.{ending_of}
 use Rattle.dump_lines.specs.Output.{IsFinished}
 use Rattle.space_packet.specs.declared.dump.Why.{Why}
 use Rattle.space_packet.specs.declared.dump.Why.TheVariants as why
 
--- ---- the taking back of a failed write
-
--- one behind that of a batch
-pub taken_back : (refusal : Refusal) (before between now : ℕ) → ExactlyOne (Some refusal) before between → OneAtMost (Some refusal) between now → OneOrTwo (Some refusal) before now
-taken_back DiskFault before between now one (inl same) = inl (same ∙ one)
-taken_back DiskFault before between now one (inr two) = inr (two ∙ ap raised one)
-taken_back other before between now same still = still ∙ same
-
--- ---- a load that opened an archive
-
 -- a batch was refused
-pub stopped_writes : (refusal : Refusal) (report : Report) (before between now : ℕ) → report.refusal ≡ Some refusal → ExactlyOne (Some refusal) before between
-    → OneAtMost (Some refusal) between now → OneOrTwo report.refusal before now
-stopped_writes refusal report before between now is one back =
-    subst (λ (o : Option Refusal). OneOrTwo o before now) (sym is) (taken_back refusal before between now one back)
+pub stopped_writes : (refusal : Refusal) (report : Report) (before now : ℕ) → report.refusal ≡ Some refusal → OneOrTwo (Some refusal) before now → OneOrTwo report.refusal before now
+stopped_writes refusal report before now is writes = subst (λ (o : Option Refusal). OneOrTwo o before now) (sym is) writes
 
 bad_cases : (reason : Why) (at before now : ℕ) → now ≡ before → OneOrTwo (ending_of reason at) before now
 bad_cases why.End at before now same = same

@@ -12,3 +12,4 @@ pub mod query_command
 pub mod load_command
 pub mod DiskWrites
 pub mod RunPlan
+pub mod Openings

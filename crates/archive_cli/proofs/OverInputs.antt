@@ -11,7 +11,8 @@ use Rattle.command_plans.specs.Plan.{OfMemory, OfInputs, CommandPlan, Way, Retur
 use Rattle.command_plans.proofs.Plans.{allows_map_done, cut, end_of, ended, gave}
 use Rattle.input_plans.specs.Inputs.{AnsweredByPlan, WasRead, reading_fault, input_plan}
 use Rattle.input_plans.proofs.Inputs.{no_memory_then, there_some}
-use Rattle.outer_ledgers.specs.Ledger.{InputsState, UsedInputs}
+use Rattle.outer_traits.specs.States.{InputsState}
+use Rattle.outer_ledgers.specs.Ledger.{UsedInputs}
 use Rattle.archive_cli.specs.Command.{Progress, Effects, Ran, RanOver, failed_at, nothing_done, sources_at}
 use Rattle.archive_cli.specs.Reading.{IsInputUnread}
 use Rattle.archive_cli.specs.Report.{unopened}

@@ -1,5 +1,6 @@
 -- The disk of a call that asks an archive.
-use Rattle.std.proofs.Common.{◌≡◌, inl, inr, List, [], ◌∷◌, ◌++◌, length, None, sym, ◌∙◌, ap, subst, arith, append-nil, length-append}
+use Rattle.std.proofs.Common.{◌≡◌, inl, inr, false, List, [], ◌∷◌, ◌++◌, length, None, sym, ◌∙◌, ap, subst, arith, append-nil, length-append}
+use Rattle.std.specs.Prelude.{IsTrue}
 use mathlib.Core.List.{IsPrefix}
 use Rattle.arch_disk.specs.Image.{Image}
 use Rattle.arch_disk.specs.Disk.{Device, LeavesOnly}
@@ -9,9 +10,12 @@ use Rattle.archive_core.specs.Fills.{rows_of_faults, unacknowledged_rows}
 use Rattle.archive_core.specs.Items.{Item}
 use Rattle.archive_store.specs.declared.head.Head.{Head}
 use Rattle.archive_store.specs.Entries.{Archive, archive}
-use Rattle.archive_store.specs.StoreView.{StoreView, archive_of, IsNow, IsSince, CrashInvariant}
+use Rattle.archive_store.specs.Calls.{IsStoreOpened}
+use Rattle.archive_store.specs.StoreView.{StoreView, archive_of, IsNow, IsSince, CrashInvariant, FaultInvariant}
 use Rattle.archive_store.specs.Stands.{StandsFor}
 use Rattle.archive_store.proofs.Exact.{stands_once}
+use Rattle.disk_journal.specs.Calls.{CountsNeverFall}
+use Rattle.archive_cli.specs.Command.{HasDiskOutcome, Opened}
 use Rattle.archive_cli.specs.ReadOnly.{IsReadOnly}
 
 nothing_more : {A : Type 0} (xs ys t : List A) → xs ++ t ≡ ys → (u : List A) → ys ++ u ≡ xs → ys ≡ xs
@@ -50,3 +54,14 @@ read_only_store device disk s stands same opening fills handed_in keeps =
       };
       now = now;
     }
+
+-- what became of a disk whose archive was opened, and left as it was
+pub opened_outcome : {D : Type 0} (device : Device D) (disk : D) (s : StoreView D) → IsStoreOpened device disk s → device.reads s.disk ≡ device.reads disk →
+    LeavesOnly device disk s.opened (device.images disk) → CountsNeverFall device disk s.opened → (IsTrue device.is_transparent → CrashInvariant device s) → FaultInvariant device s →
+    HasDiskOutcome device disk s.disk false (Opened (archive_of s))
+opened_outcome device disk s opened reads handed_in counts keeps faults =
+    let first = counts.faults in
+    let later = faults.later in (
+      record { faults = omega (arith, first, later); writes = (0, omega arith, omega arith, opened.no_failed_write) },
+      λ known. read_only_store device disk s (opened.stands known) reads opened.opening opened.fills handed_in (keeps known),
+    )

@@ -9,7 +9,7 @@ use Rattle.command_words.specs.declared.job.Job.{Job}
 use Rattle.command_words.specs.Job as spec
 use Rattle.command_words.specs.Job.{IsNoJob, job_of}
 use Rattle.command_words.specs.JobView.{job_view}
-use Rattle.outer_ledgers.specs.Ledger.{InputsState}
+use Rattle.outer_traits.specs.States.{InputsState}
 use Rattle.outer_ledgers.proofs.Ledgers.{inputs_unused}
 use Rattle.archive_cli.specs.Command.{Effects, RanOver, nothing_done}
 use Rattle.archive_cli.specs.Report.{unopened}

@@ -1,6 +1,5 @@
 pub mod LoadReports
 pub mod During
-pub mod Closing
 pub mod Sessions
 pub mod LoadPlan
 pub mod NotLoaded

@@ -7,7 +7,8 @@ use Rattle.arch_types.specs.declared.refusal.Refusal.TheVariants.{NoArchive, Dam
 use Rattle.arch_types.specs.declared.row.Row.{Row}
 use Rattle.disk_journal.specs.Format.{HoldsNone}
 use Rattle.outer_traits.specs.Outside.{WritesSome}
-use Rattle.outer_ledgers.specs.Ledger.{InputsState, UsedWithoutFailedWrite, OutputState, UsedDisk, UsedInputs, UsedOutput, WritesFailedAtMost}
+use Rattle.outer_traits.specs.States.{InputsState, OutputState}
+use Rattle.outer_ledgers.specs.Ledger.{UsedWithoutFailedWrite, UsedDisk, UsedInputs, UsedOutput, WritesFailedAtMost}
 use Rattle.dump_lines.specs.Output.{Appends}
 use Rattle.command_plans.specs.Plan.{FailedCalls, OfMemory, OfInputs, OfOutput, OfDisk, interruption_refusal, no_failed_calls, with_failed_call, CommandPlan, Return, Stop, May, Question, Way, Returned, Stopped, Interrupted, Allows}
 use Rattle.archive_store.specs.declared.head.Head.{Head}
@@ -18,7 +19,7 @@ use Rattle.archive_cli.specs.declared.report.Report.{Report}
 use Rattle.archive_cli.specs.create_command.Creation.{IsMade, IsMakingFailed}
 use Rattle.archive_cli.specs.ReadOnly.{IsReadAsBefore, IsReadOnly}
 use Rattle.archive_cli.specs.Report.{unopened, read_only}
-use Rattle.archive_cli.specs.load_command.Session.{IsExtended, IsExtensionFailed}
+use Rattle.archive_cli.specs.load_command.Extension.{IsExtended, IsExtensionFailed}
 
 -- ---- what was done
 
@@ -27,9 +28,9 @@ pub data DiskOutcome : Type 0 where
   -- nothing was asked of it
   NotAsked : DiskOutcome
   -- an archive was looked for, and none was opened or made
-  Looked : DiskOutcome
+  ArchiveSought : DiskOutcome
   -- an archive was looked for, and a call of the disk failed
-  LookFailed : DiskOutcome
+  SeekingFailed : DiskOutcome
   -- this archive was opened, and left as it was
   Opened : Archive → DiskOutcome
   -- the making of an archive of this head failed
@@ -42,16 +43,16 @@ pub data DiskOutcome : Type 0 where
   ExtensionFailed : Archive → List Item → List Row → DiskOutcome
 
 -- a disk has this outcome: what it holds by then is known where it is transparent, and its counts on any disk
-abbrev pub HasOutcome : {D : Type 0} → Device D → D → D → Bool → DiskOutcome → Type 0
-HasOutcome device old new failed NotAsked = new ≡ old
-HasOutcome device old new failed Looked = UsedWithoutFailedWrite device old new failed × (IsTrue device.is_transparent → IsReadAsBefore device old new)
-HasOutcome device old new failed LookFailed = WritesFailedAtMost 1 device old new failed × (IsTrue device.is_transparent → IsReadAsBefore device old new)
-HasOutcome device old new failed (Opened archive) = UsedWithoutFailedWrite device old new failed × (IsTrue device.is_transparent → IsReadOnly device old new archive)
-HasOutcome device old new failed (MakingFailed head) = WritesFailedAtMost 2 device old new failed × (IsTrue device.is_transparent → IsMakingFailed device old new head)
-HasOutcome device old new failed (Made head) = UsedWithoutFailedWrite device old new failed × (IsTrue device.is_transparent → IsMade device old new head)
-HasOutcome device old new failed (Extended archive reached) =
+abbrev pub HasDiskOutcome : {D : Type 0} → Device D → D → D → Bool → DiskOutcome → Type 0
+HasDiskOutcome device old new failed NotAsked = new ≡ old
+HasDiskOutcome device old new failed ArchiveSought = UsedWithoutFailedWrite device old new failed × (IsTrue device.is_transparent → IsReadAsBefore device old new)
+HasDiskOutcome device old new failed SeekingFailed = WritesFailedAtMost 1 device old new failed × (IsTrue device.is_transparent → IsReadAsBefore device old new)
+HasDiskOutcome device old new failed (Opened archive) = UsedWithoutFailedWrite device old new failed × (IsTrue device.is_transparent → IsReadOnly device old new archive)
+HasDiskOutcome device old new failed (MakingFailed head) = WritesFailedAtMost 2 device old new failed × (IsTrue device.is_transparent → IsMakingFailed device old new head)
+HasDiskOutcome device old new failed (Made head) = UsedWithoutFailedWrite device old new failed × (IsTrue device.is_transparent → IsMade device old new head)
+HasDiskOutcome device old new failed (Extended archive reached) =
     UsedWithoutFailedWrite device old new failed × (IsTrue device.is_transparent → IsExtended device old new archive reached)
-HasOutcome device old new failed (ExtensionFailed archive reached rows) =
+HasDiskOutcome device old new failed (ExtensionFailed archive reached rows) =
     UsedDisk device old new failed 1 2 × (IsTrue device.is_transparent → IsExtensionFailed device old new archive reached rows)
 
 -- What a command has done so far: the text that it printed, whole, or that it was printing; the report but for its refusal; the outcome of the disk; how
@@ -69,12 +70,12 @@ abbrev pub nothing_done : ℕ → Progress
 nothing_done sources = record { text = []; is_whole = true; report = unopened None; disk = NotAsked; sources = sources; failed = no_failed_calls }
 
 -- an archive was looked for after so many sources were given, and none was opened
-abbrev pub looked : ℕ → Progress
-looked sources = record { text = []; is_whole = true; report = unopened None; disk = Looked; sources = sources; failed = no_failed_calls }
+abbrev pub archive_sought : ℕ → Progress
+archive_sought sources = record { text = []; is_whole = true; report = unopened None; disk = ArchiveSought; sources = sources; failed = no_failed_calls }
 
 -- an archive was looked for after so many sources were given, and a call of the disk failed
-abbrev pub look_failed : ℕ → Progress
-look_failed sources = record { text = []; is_whole = true; report = unopened None; disk = LookFailed; sources = sources; failed = no_failed_calls }
+abbrev pub seeking_failed : ℕ → Progress
+seeking_failed sources = record { text = []; is_whole = true; report = unopened None; disk = SeekingFailed; sources = sources; failed = no_failed_calls }
 
 -- this archive was opened after so many sources were given
 abbrev pub archive_opened : ℕ → Archive → Progress
@@ -103,7 +104,7 @@ pub record EndedAt {D : Type 0} (device : Device D) (e : Effects D) (s : Progres
   pub report : e.report ≡ record s.report { refusal = refusal }
   pub printed : AppendsAs s.is_whole e.output.written e.output'.written s.text
   pub output : UsedOutput e.output e.output' (failed OfOutput)
-  pub disk : HasOutcome device e.disk e.disk' (failed OfDisk) s.disk
+  pub disk : HasDiskOutcome device e.disk e.disk' (failed OfDisk) s.disk
 
 -- a call did what is said where its way ended
 abbrev pub HasEffects : {D : Type 0} → Device D → Effects D → Way Progress ⊥ → Type 0
@@ -166,12 +167,12 @@ IsOpeningResult image (ArchiveFound archive) = StandsFor image archive
 
 -- what an opening leads to, by what it found
 abbrev pub after_opening : ℕ → OpeningResult → CommandPlan Progress Archive
-after_opening sources NoneFound = Stop (looked sources) (Some NoArchive)
-after_opening sources (DamageFound file at) = Stop (looked sources) (Some (Damaged file at))
+after_opening sources NoneFound = Stop (archive_sought sources) (Some NoArchive)
+after_opening sources (DamageFound file at) = Stop (archive_sought sources) (Some (Damaged file at))
 after_opening sources (ArchiveFound archive) = Return archive
 
 -- opens the archive of a disk after so many sources were given: DiskFault; NoArchive or Damaged, where the disk says so
 abbrev pub opening_plan : {D : Type 0} → ℕ → Device D → D → CommandPlan Progress Archive
 opening_plan sources device disk =
-    May OfMemory (looked sources)
-    (May OfDisk (look_failed sources) (Question (λ held. IsTrue device.is_transparent → IsOpeningResult (device.reads disk) held) (after_opening sources)))
+    May OfMemory (archive_sought sources)
+    (May OfDisk (seeking_failed sources) (Question (λ held. IsTrue device.is_transparent → IsOpeningResult (device.reads disk) held) (after_opening sources)))

@@ -12,5 +12,4 @@ pub mod ReadOnly
 pub mod Command
 pub mod DumpRest
 pub mod Report
-pub mod DiskWrites
 pub mod Run

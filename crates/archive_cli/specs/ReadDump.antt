@@ -11,7 +11,7 @@ use Rattle.space_packet.specs.declared.dump.Why.{Why}
 use Rattle.space_packet.specs.declared.dump.Why.TheVariants as why
 use Rattle.dump_lines.specs.declared.rows.DumpTable.{DumpTable}
 use Rattle.input_plans.specs.Inputs.{WasRead, input_plan}
-use Rattle.outer_ledgers.specs.Ledger.{InputsState}
+use Rattle.outer_traits.specs.States.{InputsState}
 use Rattle.archive_cli.specs.Moment.{IsMomentOf}
 use Rattle.dump_lines.specs.DumpTable.{IsDumpTable}
 
@@ -34,7 +34,7 @@ pub record IsDumpReceived (files : Option Files) (clock : Option ℤ) (name : Li
   pub moment : ℤ
   pub read : WasRead (input_plan files DumpOctets (λ octets. octets) name) dump 1 old new
   pub short : length dump ≤ dump_limit
-  pub told : IsMomentOf clock moment
+  pub known : IsMomentOf clock moment
   pub rows : IsDumpTable dump moment loaded
 
 -- the ending by why no packet follows

@@ -7,7 +7,7 @@ use Rattle.outer_traits.specs.Outside.{Files}
 use Rattle.outer_traits.specs.declared.fault.OpenFault.{OpenFault}
 use Rattle.outer_traits.specs.declared.fault.OpenFault.TheVariants as unopened
 use Rattle.input_plans.specs.Inputs.{AnsweredByPlan, input_plan}
-use Rattle.outer_ledgers.specs.Ledger.{InputsState}
+use Rattle.outer_traits.specs.States.{InputsState}
 
 -- the refusal of an input that wasn't opened, or want of memory for the name that is missing
 abbrev pub IsOpeningFault : List ℕ → OpenFault → Refusal → Type 0

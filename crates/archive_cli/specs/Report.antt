@@ -1,5 +1,5 @@
 -- What a call reports besides its refusal.
-use Rattle.std.specs.Prelude.{ℕ, ◌-◌, Option, Some, None, true, false}
+use Rattle.std.specs.Prelude.{ℕ, ◌-◌, Option, Some, None, Result, Ok, Err, true, false}
 use Rattle.arch_types.specs.declared.refusal.Refusal.{Refusal}
 use Rattle.arch_types.specs.Refusal.{status_of}
 use Rattle.archive_cli.specs.declared.report.Report.{Report}
@@ -21,3 +21,13 @@ read_only refusal rows = record { refusal = refusal; opened = true; link = None;
 abbrev pub loaded : Option Refusal → Option ℕ → ℕ → ℕ → ℕ → ℕ → ℕ → Report
 loaded refusal link before after packets duplicates idle =
     record { refusal = refusal; opened = true; link = link; before = before; after = after; packets = packets; new = after - before; duplicates = duplicates; idle = idle }
+
+-- the disk that a command's work on an archive gives back
+abbrev pub disk_of_work : {D : Type 0} → Result (D × Report) (D × Refusal) → D
+disk_of_work (Ok done) = done.0
+disk_of_work (Err refused) = refused.0
+
+-- what the work reports, or its refusal where no archive was opened or made
+abbrev pub report_of_work : {D : Type 0} → Result (D × Report) (D × Refusal) → Report
+report_of_work (Ok done) = done.1
+report_of_work (Err refused) = unopened (Some refused.1)

@@ -1,4 +1,4 @@
 pub mod LoadLine
 pub mod Loading
-pub mod Session
+pub mod Extension
 pub mod Load

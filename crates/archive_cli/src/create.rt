@@ -1,16 +1,15 @@
 //! The command `create`: a new archive.
 
 ghost use Rattle.std.specs.Prelude.{◌≡◌, [], ◌∷◌, IsSome, IsTrue, IfOk, codes};
-ghost use Rattle.outer_ledgers.specs.Ledger.{inputs_state, output_state};
 ghost use Rattle.command_plans.specs.Plan.{IsDue};
 ghost use Rattle.input_plans.specs.Inputs.{AnsweredByPlan};
 ghost use Rattle.field_codec.specs.declared.entry.Entry.TheVariants as entries;
 ghost use Rattle.field_codec.specs.Entries.{IsArchiveEntry};
 ghost use Rattle.command_words.specs.JobView.{sheet_words_of};
 ghost use Rattle.archive_cli.specs.Command.{Ran, RanOver, effects_of};
-ghost use Rattle.archive_cli.specs.create_command.Create.{create_plan, head_plan, making_plan};
+ghost use Rattle.archive_cli.specs.create_command.Create.{create_plan, head_plan, new_archive_plan};
 ghost use Rattle.archive_cli.specs.create_command.Creation.{create_line};
-ghost use Rattle.archive_cli.specs.Report.{status_at};
+ghost use Rattle.archive_cli.specs.Report.{disk_of_work, report_of_work, status_at};
 
 use crate::report::{Ended, Report};
 use arch_disk::Disk;
@@ -40,24 +39,37 @@ pub fn create<D: Disk, I: Inputs, K: Sink>(
 ) -> Ended<D>
     // It took a way through its plan: where that ends stands what was printed, what became of the disk, what is reported, how many
     // sources were given, and which calls failed.
-    ensures ran { RanOver D.device (create_plan D.device disk (I.files inputs.old) (sheet_words_of words.entry))
-        (effects_of disk result.disk (output_state (K.written sink.old) (K.faults sink.old))
-        (output_state (K.written sink.new) (K.faults sink.new)) result.report)
-        (inputs_state (I.files inputs.old) (I.open_sources inputs.old) (I.given inputs.old)
-        (I.faults inputs.old) (I.never_fails inputs.old))
-        (inputs_state (I.files inputs.new) (I.open_sources inputs.new) (I.given inputs.new)
-        (I.faults inputs.new) (I.never_fails inputs.new)) }
+    ensures ran { RanOver D.device
+        (create_plan D.device disk (I.state inputs.old).files (sheet_words_of words.entry))
+        (effects_of disk result.disk (K.state sink.old) (K.state sink.new) result.report)
+        (I.state inputs.old) (I.state inputs.new) }
 
     // Where disk and inputs are known the answer that is due comes, or that of a fault at its place.
-    ensures due { IsTrue D.device.is_transparent → IsSome (I.files inputs.old) →
-        IsDue (create_plan D.device disk (I.files inputs.old) (sheet_words_of words.entry)) result.report.refusal }
+    ensures due { IsTrue D.device.is_transparent → IsSome (I.state inputs.old).files →
+        IsDue (create_plan D.device disk (I.state inputs.old).files (sheet_words_of words.entry))
+        result.report.refusal }
 
     // The number of the refusal, and 0 exactly where there's none.
     ensures status { result.status ≡ status_at result.report.refusal }
 {
+    Ended::of_work(work(alloc, words, disk, inputs, sink))
+}
+
+/// Does the command.
+fn work<D: Disk, I: Inputs, K: Sink>(
+    alloc: Global,
+    words: SheetWords<'_>,
+    disk: D,
+    inputs: &mut I,
+    sink: &mut K,
+) -> Result<(D, Report), (D, Refusal)>
+    ensures { RanOver D.device (create_plan D.device disk (I.state inputs.old).files (sheet_words_of words.entry))
+        (effects_of disk (disk_of_work result) (K.state sink.old) (K.state sink.new) (report_of_work result))
+        (I.state inputs.old) (I.state inputs.new) }
+{
     match read_head(alloc, words, inputs) {
         Ok(head) => make(alloc, disk, head, sink),
-        Err(refusal) => Ended::unopened(disk, Some(refusal)),
+        Err(refusal) => Err((disk, refusal)),
     }
 }
 
@@ -68,11 +80,8 @@ fn read_head<I: Inputs>(
     inputs: &mut I,
 ) -> Result<Head, Refusal>
     // It took a way through its plan, and used the inputs as far as that went.
-    ensures read { AnsweredByPlan 3 (head_plan (I.files inputs.old) (sheet_words_of words.entry)) result
-        (inputs_state (I.files inputs.old) (I.open_sources inputs.old) (I.given inputs.old)
-        (I.faults inputs.old) (I.never_fails inputs.old))
-        (inputs_state (I.files inputs.new) (I.open_sources inputs.new) (I.given inputs.new)
-        (I.faults inputs.new) (I.never_fails inputs.new)) }
+    ensures read { AnsweredByPlan 3 (head_plan (I.state inputs.old).files (sheet_words_of words.entry)) result
+        (I.state inputs.old) (I.state inputs.new) }
     ensures entry { IfOk result (λ head. IsArchiveEntry (entries.Head head.tables head.mdb)) }
 {
     let sheets = read_mdb(
@@ -110,24 +119,24 @@ fn tables(alloc: Global) -> Result<Names, AllocError>
 }
 
 /// Makes the archive, and prints what it has. Room for the line is taken before, so that no archive is made for which there's none.
-fn make<D: Disk, K: Sink>(alloc: Global, disk: D, head: Head, sink: &mut K) -> Ended<D>
+fn make<D: Disk, K: Sink>(
+    alloc: Global,
+    disk: D,
+    head: Head,
+    sink: &mut K,
+) -> Result<(D, Report), (D, Refusal)>
     requires { IsArchiveEntry (entries.Head head.tables head.mdb) }
     // It took a way through its plan.
-    ensures ran { Ran D.device (making_plan D.device disk head) (effects_of disk result.disk
-        (output_state (K.written sink.old) (K.faults sink.old)) (output_state (K.written sink.new) (K.faults sink.new))
-        result.report) }
-    ensures status { result.status ≡ status_at result.report.refusal }
+    ensures { Ran D.device (new_archive_plan D.device disk head) (effects_of disk (disk_of_work result) (K.state sink.old)
+        (K.state sink.new) (report_of_work result)) }
 {
     let Ok(mut line_buffer) = LineBuffer::new(alloc) else {
-        return Ended::unopened(disk, Some(Refusal::OutOfMemory));
+        return Err((disk, Refusal::OutOfMemory));
     };
     put_line(&mut line_buffer, &head.mdb);
-    let store = match Store::create(alloc, disk, head) {
-        Ok(store) => store,
-        Err((disk, refusal)) => return Ended::unopened(disk, Some(refusal)),
-    };
+    let store = Store::create(alloc, disk, head)?;
     let refusal = line_buffer.finish(sink);
-    Ended::of(store.into_disk(), Report::read_only(refusal, 0))
+    Ok((store.into_disk(), Report::read_only(refusal, 0)))
 }
 
 /// Adds the one line.

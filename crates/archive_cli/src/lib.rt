@@ -1,11 +1,13 @@
 //! The commands of the archive: what the words of a command line ask is done, and how it ended is said.
 //!
 //! `run` is the top call. What a command does, in which order, is its plan: specs/Command.antt has the parts, a folder of specs/ each command's plan, and
-//! specs/Run.antt which words lead to which. A call took a way that the plan allows, did what is said where that ended, and answers what is due. A later
-//! command adds its plan, and a line of `job_plan`.
+//! specs/Run.antt which words lead to which. A call took a way that the plan allows, did what is said where that ended, and answers what is due. A
+//! command's file has the call, which makes the ending, and its work, which gives what was done or a refusal. A later command adds its plan, its work, and
+//! a line of `job_plan`.
 //!
 //! The way of a dump: for `scan` and `values` `read_scan_input` takes it in, and dump_lines keeps its rows; for `load` load_session hands its packets to
-//! the archive's store. The way of an ask: mdb_sheets reads it, and retrieval extracts the cells of the store's plan and prints them.
+//! the archive's store. The way of an ask: mdb_sheets reads it; retrieval says whether it can be answered, and extracts the cells of the
+//! store's plan or goes on with its replay, and prints them.
 //!
 //! The one idea of the proofs: an archive that was opened is the one that the disk stands for. Where each question of a plan has one answer, a way that
 //! the plan allows is the one that it has to go, so the answer is the one that is due (`is_due` in proofs/Commands.antt).

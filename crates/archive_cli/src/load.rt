@@ -1,20 +1,20 @@
 //! The command `load`: the packets of a dump, ingested into an archive.
 
-ghost use Rattle.std.specs.Prelude.{◌≡◌, ◌≢◌, ◌<◌, ◌≤◌, ◌+◌, ◌-◌, [], IsSome, IsTrue, IfOk, IfErr, IfSome, MatchResult, None, Some, length};
-ghost use Rattle.outer_ledgers.specs.Ledger.{inputs_state, output_state};
+ghost use Rattle.std.specs.Prelude.{◌≡◌, ◌<◌, ◌≤◌, ◌+◌, ◌-◌, [], IsSome, IsTrue, IfOk, IfErr, IfSome, MatchResult, None, Some, length};
 ghost use Rattle.outer_traits.specs.Outside.{Stays};
+ghost use Rattle.outer_ledgers.specs.Ledger.{UsedClock};
 ghost use Rattle.text_forms.specs.ClockTime.{IsClockTime};
 ghost use Rattle.mdb_sheets.specs.Sheets.{ReadsCounted};
 ghost use Rattle.command_plans.specs.Plan.{IsDue};
 ghost use Rattle.command_words.specs.JobView.{load_words_of};
 ghost use Rattle.dump_lines.specs.Output.{WritesCounted, IsFinished};
 ghost use Rattle.archive_cli.specs.Command.{RanOver, effects_of};
-ghost use Rattle.archive_cli.specs.DiskWrites.{OneAtMost, OneOrTwo};
+ghost use Rattle.load_session.specs.Session.{OneOrTwo};
 ghost use Rattle.archive_cli.specs.load_command.Load.{load_plan};
 ghost use Rattle.archive_cli.specs.load_command.LoadLine.{load_line};
-ghost use Rattle.archive_cli.specs.load_command.Loading.{printed_report, IsReopened, IsLoadRun, IsDumpRefusal, IsDumpRefusalFor};
+ghost use Rattle.archive_cli.specs.load_command.Loading.{printed_report, IsLoadRun, IsDumpRefusal, IsDumpRefusalFor};
 ghost use Rattle.archive_cli.specs.ReadDump.{dump_limit, ending_of};
-ghost use Rattle.archive_cli.specs.Report.{read_only, loaded, status_at};
+ghost use Rattle.archive_cli.specs.Report.{disk_of_work, loaded, read_only, report_of_work, status_at};
 
 use crate::read::refusal_of_opening;
 use crate::report::{Ended, LoadCounts, Report};
@@ -25,7 +25,7 @@ use arch_types::refusal::{BadKind, Refusal, Which};
 use archive_store::Store;
 use command_words::job::LoadWords;
 use dump_lines::line_buffer::LineBuffer;
-use load_session::{DumpSummary, ingest_dump};
+use load_session::{DumpSummary, run_session};
 use outer_traits::clock::Clock;
 use outer_traits::inputs::Inputs;
 use outer_traits::sink::Sink;
@@ -53,52 +53,65 @@ pub fn load<D: Disk, I: Inputs, K: Sink, C: Clock>(
     requires link { 1 ≤ words.link }
     // It took a way through its plan: where that ends stands what was printed, what became of the disk, what is reported, how many
     // sources were given, and which calls failed.
-    ensures ran { RanOver D.device (load_plan D.device disk (I.files inputs.old) (C.next clock.old)
-        (load_words_of words.entry))
-        (effects_of disk result.disk (output_state (K.written sink.old) (K.faults sink.old))
-        (output_state (K.written sink.new) (K.faults sink.new)) result.report)
-        (inputs_state (I.files inputs.old) (I.open_sources inputs.old) (I.given inputs.old)
-        (I.faults inputs.old) (I.never_fails inputs.old))
-        (inputs_state (I.files inputs.new) (I.open_sources inputs.new) (I.given inputs.new)
-        (I.faults inputs.new) (I.never_fails inputs.new)) }
+    ensures ran { RanOver D.device
+        (load_plan D.device disk (I.state inputs.old).files (C.state clock.old).next (load_words_of words.entry))
+        (effects_of disk result.disk (K.state sink.old) (K.state sink.new) result.report)
+        (I.state inputs.old) (I.state inputs.new) }
 
     // Where disk and inputs are known the answer that is due comes, or that of a fault at its place.
-    ensures due { IsTrue D.device.is_transparent → IsSome (I.files inputs.old) →
-        IsDue (load_plan D.device disk (I.files inputs.old) (C.next clock.old) (load_words_of words.entry))
-        result.report.refusal }
+    ensures due { IsTrue D.device.is_transparent → IsSome (I.state inputs.old).files →
+        IsDue (load_plan D.device disk (I.state inputs.old).files (C.state clock.old).next
+        (load_words_of words.entry)) result.report.refusal }
+
+    // What is known of the clock stays known, and one that stands still goes on standing.
+    ensures clock { UsedClock (C.state clock.old) (C.state clock.new) }
 
     // The number of the refusal, and 0 exactly where there's none.
     ensures status { result.status ≡ status_at result.report.refusal }
 {
+    Ended::of_work(work(alloc, words, disk, inputs, sink, clock))
+}
+
+/// Does the command.
+fn work<D: Disk, I: Inputs, K: Sink, C: Clock>(
+    alloc: Global,
+    words: LoadWords<'_>,
+    disk: D,
+    inputs: &mut I,
+    sink: &mut K,
+    clock: &mut C,
+) -> Result<(D, Report), (D, Refusal)>
+    requires link { 1 ≤ words.link }
+    ensures ran { RanOver D.device
+        (load_plan D.device disk (I.state inputs.old).files (C.state clock.old).next (load_words_of words.entry))
+        (effects_of disk (disk_of_work result) (K.state sink.old) (K.state sink.new) (report_of_work result))
+        (I.state inputs.old) (I.state inputs.new) }
+    ensures clock { UsedClock (C.state clock.old) (C.state clock.new) }
+{
     let Ok(line_buffer) = LineBuffer::new(alloc) else {
-        return Ended::unopened(disk, Some(Refusal::OutOfMemory));
+        return Err((disk, Refusal::OutOfMemory));
     };
     let mut source = match inputs.open(alloc, words.dump) {
         Ok(source) => source,
-        Err(fault) => {
-            return Ended::unopened(disk, Some(refusal_of_opening(alloc, fault, words.dump)));
-        }
+        Err(fault) => return Err((disk, refusal_of_opening(alloc, fault, words.dump))),
     };
     let mut store = match Store::open(alloc, disk) {
         Ok(store) => store,
-        Err((disk, refusal)) => {
+        Err(refused) => {
             inputs.close(source);
-            return Ended::unopened(disk, Some(refusal));
+            return Err(refused);
         }
     };
     let received = read_dump(alloc, &mut source, words.link);
     inputs.close(source);
-    match received {
+    let report = match received {
         Ok(received) => {
             let moment = clock.now();
-            let report = load_dump(alloc, &mut store, &received, moment, line_buffer, sink);
-            Ended::of(store.into_disk(), report)
+            load_dump(alloc, &mut store, &received, moment, line_buffer, sink)
         }
-        Err(unread) => {
-            let report = nothing_loaded(&store, unread);
-            Ended::of(store.into_disk(), report)
-        }
-    }
+        Err(unread) => nothing_loaded(&store, unread),
+    };
+    Ok((store.into_disk(), report))
 }
 
 /// A dump that was read to its end, and the link that it came by.
@@ -118,14 +131,15 @@ struct DumpRefusal {
 
 /// Reads a dump to its end, where there's a link of its number.
 fn read_dump<S: Source>(alloc: Global, source: &mut S, link: u64) -> Result<LinkedDump, DumpRefusal>
-    ensures whole { IfOk result (λ received. IfSome (S.left source.old) (λ left. left ≡ received.dump)) }
+    ensures whole { IfOk result (λ received. IfSome (S.state source.old).left (λ left. left ≡ received.dump)) }
     ensures short { IfOk result (λ received. length received.dump ≤ dump_limit) }
     ensures link { IfOk result (λ received. (received.link ≡ link) × (received.link ≤ 255)) }
-    ensures unread { IfErr result (λ unread. IsDumpRefusal (S.left source.old) link unread.refusal unread.link) }
-    ensures counted { MatchResult result (λ _. Stays (S.faults source.old) (S.faults source.new)) (λ unread.
-        ReadsCounted (Some unread.refusal) (S.faults source.old) (S.faults source.new)) }
-    ensures later { S.faults source.old ≤ S.faults source.new }
-    ensures reliable { S.never_fails source.old → Stays (S.faults source.old) (S.faults source.new) }
+    ensures unread { IfErr result (λ unread. IsDumpRefusal (S.state source.old).left link unread.refusal unread.link) }
+    ensures counted { MatchResult result (λ _. Stays (S.state source.old).faults (S.state source.new).faults)
+        (λ unread. ReadsCounted (Some unread.refusal) (S.state source.old).faults (S.state source.new).faults) }
+    ensures later { (S.state source.old).faults ≤ (S.state source.new).faults }
+    ensures reliable { (S.state source.old).never_fails →
+        Stays (S.state source.old).faults (S.state source.new).faults }
 {
     let link = link_numbered(link)?;
     match read_whole(alloc, source, Which::DumpOctets.limit() as usize) {
@@ -191,8 +205,7 @@ fn nothing_loaded<D: Disk>(store: &Store<D>, unread: DumpRefusal) -> Report
     report
 }
 
-/// Ingests the packets of a dump that was received at a moment, in milliseconds since 1970, and prints what became of them. Where a batch is refused
-/// because the disk failed, the write is taken back, so that a program that opens the archive after it reads no gate that the medium may lack.
+/// Ingests the packets of a dump that was received at a moment, in milliseconds since 1970, and prints what became of them.
 fn load_dump<D: Disk, K: Sink>(
     alloc: Global,
     store: &mut Store<D>,
@@ -205,24 +218,22 @@ fn load_dump<D: Disk, K: Sink>(
     requires link { (1 ≤ received.now.link) × (received.now.link ≤ 255) }
     requires moment { IsClockTime moment }
     requires empty { line_buffer ≡ [] }
-    requires no_failed_write { store.old.fills ≡ [] }
+    requires no_fault { store.old.fills ≡ [] }
+    requires few_records { IsTrue D.device.is_transparent → store.old.records ≤ 1 + length store.old.history }
     ensures session { IsLoadRun D.device store.old store.new received.now.dump received.now.link moment
-        (K.written sink.old) (K.written sink.new) result }
-    ensures writes_counted { WritesCounted result.refusal (K.faults sink.old) (K.faults sink.new) }
-    ensures writes_later { K.faults sink.old ≤ K.faults sink.new }
+        (K.state sink.old).written (K.state sink.new).written result }
+    ensures writes_counted { WritesCounted result.refusal (K.state sink.old).faults (K.state sink.new).faults }
+    ensures writes_later { (K.state sink.old).faults ≤ (K.state sink.new).faults }
     ensures disk_writes { OneOrTwo result.refusal (D.device.failed_writes store.old.disk)
         (D.device.failed_writes store.new.disk) }
 {
     let before = store.front();
-    match ingest_dump(alloc, store, &received.dump, received.link, moment) {
+    match run_session(alloc, store, &received.dump, received.link, moment) {
         Ok(whole) => match refusal_of_rest(&whole) {
             None => print(store, before, whole, line_buffer, sink),
             Some(refusal) => stopped(store, before, Some(received.link), refusal),
         },
-        Err(refusal) => {
-            heal(store, &refusal);
-            stopped(store, before, None, refusal)
-        }
+        Err(refusal) => stopped(store, before, None, refusal),
     }
 }
 
@@ -246,20 +257,6 @@ fn stopped<D: Disk>(store: &Store<D>, before: u64, link: Option<u16>, refusal: R
     Report::loaded(Some(refusal), link, before, store.front(), counts)
 }
 
-/// Takes a failed write back where the disk failed. It is tried once, and the refusal stays, whether it succeeds or not.
-fn heal<D: Disk>(store: &mut Store<D>, refusal: &Refusal)
-    ensures same { refusal.now ≢ Refusal.DiskFault → store.new ≡ store.old }
-    ensures reopened { refusal.now ≡ Refusal.DiskFault → IsReopened D.device store.old store.new }
-    ensures disk_writes { OneAtMost (Some refusal.now) (D.device.failed_writes store.old.disk)
-        (D.device.failed_writes store.new.disk) }
-{
-    // This tells the proof that the fault is counted.
-    let _rows = store.front();
-    if matches!(refusal, Refusal::DiskFault) {
-        let _ = store.reopen();
-    }
-}
-
 /// Prints what became of the packets of a whole dump.
 fn print<D: Disk, K: Sink>(
     store: &Store<D>,
@@ -271,11 +268,12 @@ fn print<D: Disk, K: Sink>(
     requires empty { line_buffer ≡ [] }
     requires grown { before ≤ length store.now.history }
     requires counts { whole.idle + length store.now.history ≤ whole.packets + before }
-    ensures finished { IsFinished result.refusal (K.written sink.old) (K.written sink.new)
-        (load_line whole.packets (length store.now.history - before) (whole.packets - whole.idle - (length store.now.history - before)) whole.idle (length store.now.history)) }
+    ensures finished { IsFinished result.refusal (K.state sink.old).written (K.state sink.new).written
+        (load_line whole.packets (length store.now.history - before)
+        (whole.packets - whole.idle - (length store.now.history - before)) whole.idle (length store.now.history)) }
     ensures report { result ≡ printed_report result.refusal before (length store.now.history) whole.packets whole.idle }
-    ensures writes_counted { WritesCounted result.refusal (K.faults sink.old) (K.faults sink.new) }
-    ensures writes_later { K.faults sink.old ≤ K.faults sink.new }
+    ensures writes_counted { WritesCounted result.refusal (K.state sink.old).faults (K.state sink.new).faults }
+    ensures writes_later { (K.state sink.old).faults ≤ (K.state sink.new).faults }
 {
     let mut line_buffer = line_buffer;
     let after = store.front();

@@ -3,7 +3,6 @@
 ghost use Rattle.std.specs.Prelude.{◌≡◌, ◌≤◌, IfOk, IfErr, ◌⊎◌, vec_len};
 ghost use Rattle.arch_types.specs.Limits.{limit_of};
 ghost use Rattle.outer_traits.specs.Whole.{IsInput};
-ghost use Rattle.outer_ledgers.specs.Ledger.{inputs_state};
 ghost use Rattle.input_plans.specs.Inputs.{IsFaultRefusal, WasRead, input_plan};
 ghost use Rattle.archive_cli.specs.Reading.{IsInputUnread, IsOpeningFault};
 
@@ -23,19 +22,13 @@ pub fn read_limited<I: Inputs>(
     which: Which,
 ) -> Result<Vec<u8>, Refusal>
     // It took a way through its plan, and used the inputs as far as that went.
-    ensures read { IfOk result (λ octets. WasRead (input_plan (I.files inputs.old) which (λ read. read) name.now)
-        octets.items 1
-        (inputs_state (I.files inputs.old) (I.open_sources inputs.old)
-        (I.given inputs.old) (I.faults inputs.old) (I.never_fails inputs.old))
-        (inputs_state (I.files inputs.new) (I.open_sources inputs.new)
-        (I.given inputs.new) (I.faults inputs.new) (I.never_fails inputs.new))) }
-    ensures whole { IfOk result (λ octets. IsInput (I.files inputs.old) name.now octets.items) }
+    ensures read { IfOk result (λ octets.
+        WasRead (input_plan (I.state inputs.old).files which (λ read. read) name.now) octets.items 1
+        (I.state inputs.old) (I.state inputs.new)) }
+    ensures whole { IfOk result (λ octets. IsInput (I.state inputs.old).files name.now octets.items) }
     ensures short { IfOk result (λ octets. vec_len octets ≤ limit_of which) }
-    ensures unread { IfErr result (IsInputUnread (I.files inputs.old) which name.now
-        (inputs_state (I.files inputs.old) (I.open_sources inputs.old)
-        (I.given inputs.old) (I.faults inputs.old) (I.never_fails inputs.old))
-        (inputs_state (I.files inputs.new) (I.open_sources inputs.new)
-        (I.given inputs.new) (I.faults inputs.new) (I.never_fails inputs.new))) }
+    ensures unread { IfErr result (IsInputUnread (I.state inputs.old).files which name.now (I.state inputs.old)
+        (I.state inputs.new)) }
 {
     match read_input(alloc, inputs, name, which.limit() as usize) {
         Ok(octets) => Ok(octets),

@@ -1,12 +1,11 @@
 //! The command `recover`: what an archive holds.
 
 ghost use Rattle.std.specs.Prelude.{◌≡◌, [], IsTrue};
-ghost use Rattle.outer_ledgers.specs.Ledger.{output_state};
 ghost use Rattle.command_plans.specs.Plan.{IsDue};
 ghost use Rattle.archive_cli.specs.Command.{Ran, effects_of};
 ghost use Rattle.archive_cli.specs.recover_command.Recover.{recover_plan};
 ghost use Rattle.archive_cli.specs.recover_command.RecoverLine.{recover_line};
-ghost use Rattle.archive_cli.specs.Report.{status_at};
+ghost use Rattle.archive_cli.specs.Report.{disk_of_work, report_of_work, status_at};
 
 use crate::report::{Ended, Report};
 use arch_disk::Disk;
@@ -22,9 +21,8 @@ use std::alloc::Global;
 pub fn recover<D: Disk, K: Sink>(alloc: Global, disk: D, sink: &mut K) -> Ended<D>
     // It took a way through its plan: where that ends stands what was printed, what became of the disk, what is reported, and which
     // calls failed.
-    ensures ran { Ran D.device (recover_plan D.device disk) (effects_of disk result.disk
-        (output_state (K.written sink.old) (K.faults sink.old)) (output_state (K.written sink.new) (K.faults sink.new))
-        result.report) }
+    ensures ran { Ran D.device (recover_plan D.device disk) (effects_of disk result.disk (K.state sink.old)
+        (K.state sink.new) result.report) }
 
     // Where the disk is transparent the answer that is due comes, or that of a fault at its place.
     ensures due { IsTrue D.device.is_transparent → IsDue (recover_plan D.device disk) result.report.refusal }
@@ -32,17 +30,22 @@ pub fn recover<D: Disk, K: Sink>(alloc: Global, disk: D, sink: &mut K) -> Ended<
     // The number of the refusal, and 0 exactly where there's none.
     ensures status { result.status ≡ status_at result.report.refusal }
 {
+    Ended::of_work(work(alloc, disk, sink))
+}
+
+/// Does the command.
+fn work<D: Disk, K: Sink>(alloc: Global, disk: D, sink: &mut K) -> Result<(D, Report), (D, Refusal)>
+    ensures { Ran D.device (recover_plan D.device disk) (effects_of disk (disk_of_work result) (K.state sink.old)
+        (K.state sink.new) (report_of_work result)) }
+{
     let Ok(mut line_buffer) = LineBuffer::new(alloc) else {
-        return Ended::unopened(disk, Some(Refusal::OutOfMemory));
+        return Err((disk, Refusal::OutOfMemory));
     };
-    let store = match Store::open(alloc, disk) {
-        Ok(store) => store,
-        Err((disk, refusal)) => return Ended::unopened(disk, Some(refusal)),
-    };
+    let store = Store::open(alloc, disk)?;
     let rows = store.front();
     put_line(&mut line_buffer, rows);
     let refusal = line_buffer.finish(sink);
-    Ended::of(store.into_disk(), Report::read_only(refusal, rows))
+    Ok((store.into_disk(), Report::read_only(refusal, rows)))
 }
 
 /// Adds the one line.

@@ -1,7 +1,7 @@
 //! What a call reports.
 
 ghost use Rattle.std.specs.Prelude.{◌≡◌, ◌≤◌};
-ghost use Rattle.archive_cli.specs.Report.{read_only, loaded, status_at, unopened};
+ghost use Rattle.archive_cli.specs.Report.{disk_of_work, loaded, read_only, report_of_work, status_at, unopened};
 
 use arch_types::refusal::Refusal;
 
@@ -34,8 +34,20 @@ pub struct Ended<D> {
 }
 
 impl<D> Ended<D> {
+    /// The ending of a command's work on an archive: what it reports, or its refusal where none was opened or made.
+    pub fn of_work(work: Result<(D, Report), (D, Refusal)>) -> Self
+        ensures disk { result.disk ≡ disk_of_work work }
+        ensures report { result.report ≡ report_of_work work }
+        ensures status { result.status ≡ status_at (report_of_work work).refusal }
+    {
+        match work {
+            Ok((disk, report)) => Ended::of(disk, report),
+            Err((disk, refusal)) => Ended::unopened(disk, Some(refusal)),
+        }
+    }
+
     /// The ending of a call with this report.
-    pub fn of(disk: D, report: Report) -> Self
+    fn of(disk: D, report: Report) -> Self
         ensures disk { result.disk ≡ disk }
         ensures report { result.report ≡ report }
         ensures status { result.status ≡ status_at report.refusal }

@@ -1,7 +1,7 @@
 //! The top call.
 
 ghost use Rattle.std.specs.Prelude.{◌≡◌, IsSome, IsTrue, map, string_bytes, Some, ◌<◌};
-ghost use Rattle.outer_ledgers.specs.Ledger.{inputs_state, output_state};
+ghost use Rattle.outer_ledgers.specs.Ledger.{UsedClock};
 ghost use Rattle.command_plans.specs.Plan.{IsDue};
 ghost use Rattle.command_words.specs.JobView.{job_view};
 ghost use Rattle.command_words.specs.Job.{job_of, HasLink};
@@ -35,19 +35,19 @@ pub fn run<D: Disk, I: Inputs, K: Sink, C: Clock>(
 ) -> Ended<D>
     // It took a way through its plan: where that ends stands what was printed, what became of the disk, what is reported, how many
     // sources were given, and which calls failed.
-    ensures ran { RanOver D.device (run_plan D.device disk (I.files inputs.old) (C.next clock.old)
+    ensures ran { RanOver D.device
+        (run_plan D.device disk (I.state inputs.old).files (C.state clock.old).next
         (map (λ w. string_bytes w) words.now))
-        (effects_of disk result.disk (output_state (K.written sink.old) (K.faults sink.old))
-        (output_state (K.written sink.new) (K.faults sink.new)) result.report)
-        (inputs_state (I.files inputs.old) (I.open_sources inputs.old) (I.given inputs.old)
-        (I.faults inputs.old) (I.never_fails inputs.old))
-        (inputs_state (I.files inputs.new) (I.open_sources inputs.new) (I.given inputs.new)
-        (I.faults inputs.new) (I.never_fails inputs.new)) }
+        (effects_of disk result.disk (K.state sink.old) (K.state sink.new) result.report)
+        (I.state inputs.old) (I.state inputs.new) }
 
     // Where disk and inputs are known the answer that is due comes, or that of an interruption at its place.
-    ensures due { IsTrue D.device.is_transparent → IsSome (I.files inputs.old) →
-        IsDue (run_plan D.device disk (I.files inputs.old) (C.next clock.old) (map (λ w. string_bytes w) words.now))
-        result.report.refusal }
+    ensures due { IsTrue D.device.is_transparent → IsSome (I.state inputs.old).files →
+        IsDue (run_plan D.device disk (I.state inputs.old).files (C.state clock.old).next
+        (map (λ w. string_bytes w) words.now)) result.report.refusal }
+
+    // What is known of the clock stays known, and one that stands still goes on standing.
+    ensures clock { UsedClock (C.state clock.old) (C.state clock.new) }
 
     // The number of the refusal, and 0 exactly where there's none.
     ensures status { result.status ≡ status_at result.report.refusal }
@@ -68,16 +68,14 @@ fn run_job<D: Disk, I: Inputs, K: Sink, C: Clock>(
     clock: &mut C,
 ) -> Ended<D>
     requires link { HasLink (job_view job) }
-    ensures ran { RanOver D.device (job_plan D.device disk (I.files inputs.old) (C.next clock.old) (job_view job.entry))
-        (effects_of disk result.disk (output_state (K.written sink.old) (K.faults sink.old))
-        (output_state (K.written sink.new) (K.faults sink.new)) result.report)
-        (inputs_state (I.files inputs.old) (I.open_sources inputs.old) (I.given inputs.old)
-        (I.faults inputs.old) (I.never_fails inputs.old))
-        (inputs_state (I.files inputs.new) (I.open_sources inputs.new) (I.given inputs.new)
-        (I.faults inputs.new) (I.never_fails inputs.new)) }
-    ensures due { IsTrue D.device.is_transparent → IsSome (I.files inputs.old) →
-        IsDue (job_plan D.device disk (I.files inputs.old) (C.next clock.old) (job_view job.entry))
+    ensures ran { RanOver D.device
+        (job_plan D.device disk (I.state inputs.old).files (C.state clock.old).next (job_view job.entry))
+        (effects_of disk result.disk (K.state sink.old) (K.state sink.new) result.report)
+        (I.state inputs.old) (I.state inputs.new) }
+    ensures due { IsTrue D.device.is_transparent → IsSome (I.state inputs.old).files →
+        IsDue (job_plan D.device disk (I.state inputs.old).files (C.state clock.old).next (job_view job.entry))
         result.report.refusal }
+    ensures clock { UsedClock (C.state clock.old) (C.state clock.new) }
     ensures status { result.status ≡ status_at result.report.refusal }
 {
     match job {

@@ -1,15 +1,16 @@
 //! The command `scan`: the rows of a dump, as text.
 
 ghost use Rattle.std.specs.Prelude.{◌≡◌, ◌<◌, ◌≤◌, OnOk, OnErr, IsErr, IsSome, length, ◌++◌, []};
+ghost use Rattle.std.specs.Result.{result_err};
 ghost use Rattle.outer_traits.specs.Outside.{HasRisen, Stays, WritesSome};
-ghost use Rattle.outer_ledgers.specs.Ledger.{inputs_state, output_state};
+ghost use Rattle.outer_ledgers.specs.Ledger.{UsedClock};
 ghost use Rattle.command_plans.specs.Plan.{IsDue};
 ghost use Rattle.dump_lines.specs.Output.{Appends, IsBuffered};
 ghost use Rattle.dump_lines.specs.Printing.{lines_of, end_of, text_of_loaded};
 ghost use Rattle.std.specs.List.{AllByRecursion};
 ghost use Rattle.dump_lines.specs.DumpTable.{IsVisible};
 ghost use Rattle.archive_cli.specs.Command.{RanOver, effects_of};
-ghost use Rattle.archive_cli.specs.Report.{status_at};
+ghost use Rattle.archive_cli.specs.Report.{status_at, unopened};
 ghost use Rattle.archive_cli.specs.scan_command.Scan.{scan_plan};
 
 use crate::report::Ended;
@@ -38,28 +39,43 @@ pub fn scan<D: Disk, I: Inputs, K: Sink, C: Clock>(
 ) -> Ended<D>
     // It took a way through its plan: where that ends stands what was printed, what is reported, how many sources were given, and
     // which calls failed. Nothing is asked of the disk.
-    ensures ran { RanOver D.device (scan_plan (I.files inputs.old) (C.next clock.old) name.now)
-        (effects_of disk result.disk (output_state (K.written sink.old) (K.faults sink.old))
-        (output_state (K.written sink.new) (K.faults sink.new)) result.report)
-        (inputs_state (I.files inputs.old) (I.open_sources inputs.old) (I.given inputs.old)
-        (I.faults inputs.old) (I.never_fails inputs.old))
-        (inputs_state (I.files inputs.new) (I.open_sources inputs.new) (I.given inputs.new)
-        (I.faults inputs.new) (I.never_fails inputs.new)) }
+    ensures ran { RanOver D.device
+        (scan_plan (I.state inputs.old).files (C.state clock.old).next name.now)
+        (effects_of disk result.disk (K.state sink.old) (K.state sink.new) result.report)
+        (I.state inputs.old) (I.state inputs.new) }
 
     // Where the inputs are known the answer that is due comes, or that of a fault at its place.
-    ensures due { IsSome (I.files inputs.old) →
-        IsDue (scan_plan (I.files inputs.old) (C.next clock.old) name.now) result.report.refusal }
+    ensures due { IsSome (I.state inputs.old).files →
+        IsDue (scan_plan (I.state inputs.old).files (C.state clock.old).next name.now) result.report.refusal }
+
+    // What is known of the clock stays known, and one that stands still goes on standing.
+    ensures clock { UsedClock (C.state clock.old) (C.state clock.new) }
 
     // The number of the refusal, and 0 exactly where there's none.
     ensures status { result.status ≡ status_at result.report.refusal }
 {
-    let mut scan_input = match read_scan_input(alloc, inputs, name, clock) {
-        Ok(scan_input) => scan_input,
-        Err(refusal) => return Ended::unopened(disk, Some(refusal)),
-    };
+    let done = work::<D, I, K, C>(alloc, name, inputs, sink, clock);
+    Ended::unopened(disk, done.err())
+}
+
+/// Does the command, beside whatever disk of the kind there is.
+fn work<D: Disk, I: Inputs, K: Sink, C: Clock>(
+    alloc: Global,
+    name: &str,
+    inputs: &mut I,
+    sink: &mut K,
+    clock: &mut C,
+) -> Result<(), Refusal>
+    ensures ran { (disk : D) →
+        RanOver D.device (scan_plan (I.state inputs.old).files (C.state clock.old).next name.now)
+        (effects_of disk disk (K.state sink.old) (K.state sink.new) (unopened (result_err result)))
+        (I.state inputs.old) (I.state inputs.new) }
+    ensures clock { UsedClock (C.state clock.old) (C.state clock.new) }
+{
+    let mut scan_input = read_scan_input(alloc, inputs, name, clock)?;
     match print(&scan_input.loaded, &mut scan_input.line_buffer, sink) {
-        Ok(()) => Ended::unopened(disk, ended(&scan_input.loaded).err()),
-        Err(_) => Ended::unopened(disk, Some(Refusal::WriteFault)),
+        Ok(()) => ended(&scan_input.loaded),
+        Err(_) => Err(Refusal::WriteFault),
     }
 }
 
@@ -71,11 +87,13 @@ fn print<K: Sink>(
 ) -> Result<(), Failed>
     requires empty { line_buffer.old ≡ [] }
     requires shown { AllByRecursion IsVisible loaded.now.table.stored }
-    ensures all { OnOk result (Appends (K.written sink.old) (K.written sink.new) (text_of_loaded loaded.now)) }
-    ensures some { OnErr result (WritesSome (K.written sink.old) (K.written sink.new) (text_of_loaded loaded.now)) }
-    ensures later { K.faults sink.old ≤ K.faults sink.new }
-    ensures failed { IsErr result → HasRisen (K.faults sink.old) (K.faults sink.new) }
-    ensures no_fault { OnOk result (Stays (K.faults sink.old) (K.faults sink.new)) }
+    ensures all { OnOk result (Appends (K.state sink.old).written (K.state sink.new).written
+        (text_of_loaded loaded.now)) }
+    ensures some { OnErr result (WritesSome (K.state sink.old).written (K.state sink.new).written
+        (text_of_loaded loaded.now)) }
+    ensures later { (K.state sink.old).faults ≤ (K.state sink.new).faults }
+    ensures failed { IsErr result → HasRisen (K.state sink.old).faults (K.state sink.new).faults }
+    ensures no_fault { OnOk result (Stays (K.state sink.old).faults (K.state sink.new).faults) }
 {
     print_rows(&loaded.table, line_buffer, sink)?;
     put_end(line_buffer, loaded);
@@ -101,13 +119,14 @@ fn print_rows<K: Sink>(
 ) -> Result<(), Failed>
     requires empty { line_buffer.old ≡ [] }
     requires shown { AllByRecursion IsVisible table.now.stored }
-    ensures buffered { OnOk result (IsBuffered (K.written sink.old) (K.written sink.new) (lines_of table.now.stored)
-        line_buffer.new) }
+    ensures buffered { OnOk result (IsBuffered (K.state sink.old).written (K.state sink.new).written
+        (lines_of table.now.stored) line_buffer.new) }
     ensures room { OnOk result (length line_buffer.new < 65536) }
-    ensures some { OnErr result (WritesSome (K.written sink.old) (K.written sink.new) (lines_of table.now.stored)) }
-    ensures later { K.faults sink.old ≤ K.faults sink.new }
-    ensures failed { IsErr result → HasRisen (K.faults sink.old) (K.faults sink.new) }
-    ensures no_fault { OnOk result (Stays (K.faults sink.old) (K.faults sink.new)) }
+    ensures some { OnErr result (WritesSome (K.state sink.old).written (K.state sink.new).written
+        (lines_of table.now.stored)) }
+    ensures later { (K.state sink.old).faults ≤ (K.state sink.new).faults }
+    ensures failed { IsErr result → HasRisen (K.state sink.old).faults (K.state sink.new).faults }
+    ensures no_fault { OnOk result (Stays (K.state sink.old).faults (K.state sink.new).faults) }
 {
     for row in table.rows_at(u64::MAX) {
         line_buffer.put_row(row);

@@ -2,7 +2,7 @@
 
 ghost use Rattle.std.specs.Prelude.{◌≡◌, ◌≤◌, [], IfOk, IfErr, vec_len};
 ghost use Rattle.std.specs.Result.{result_err};
-ghost use Rattle.outer_ledgers.specs.Ledger.{inputs_state};
+ghost use Rattle.outer_ledgers.specs.Ledger.{UsedClock};
 ghost use Rattle.dump_lines.specs.DumpTable.{IsDumpTable};
 ghost use Rattle.archive_cli.specs.Reading.{IsInputUnread};
 ghost use Rattle.archive_cli.specs.ReadDump.{IsDumpReceived, dump_limit, ending_of};
@@ -32,18 +32,13 @@ pub fn read_scan_input<I: Inputs, C: Clock>(
     clock: &mut C,
 ) -> Result<ScanInput, Refusal>
     // The dump was read by its plan, and received at the moment that the clock tells.
-    ensures read { IfOk result (λ scan_input. IsDumpReceived (I.files inputs.old) (C.next clock.old) name.now
-        (inputs_state (I.files inputs.old) (I.open_sources inputs.old)
-        (I.given inputs.old) (I.faults inputs.old) (I.never_fails inputs.old))
-        (inputs_state (I.files inputs.new) (I.open_sources inputs.new)
-        (I.given inputs.new) (I.faults inputs.new) (I.never_fails inputs.new)) scan_input.loaded) }
-    ensures unread { IfErr result (IsInputUnread (I.files inputs.old) Which.DumpOctets name.now
-        (inputs_state (I.files inputs.old) (I.open_sources inputs.old)
-        (I.given inputs.old) (I.faults inputs.old) (I.never_fails inputs.old))
-        (inputs_state (I.files inputs.new) (I.open_sources inputs.new)
-        (I.given inputs.new) (I.faults inputs.new) (I.never_fails inputs.new))) }
+    ensures read { IfOk result (λ scan_input. IsDumpReceived (I.state inputs.old).files (C.state clock.old).next
+        name.now (I.state inputs.old) (I.state inputs.new) scan_input.loaded) }
+    ensures unread { IfErr result (IsInputUnread (I.state inputs.old).files Which.DumpOctets name.now
+        (I.state inputs.old) (I.state inputs.new)) }
 
     ensures empty { IfOk result (λ scan_input. scan_input.line_buffer ≡ []) }
+    ensures clock { UsedClock (C.state clock.old) (C.state clock.new) }
 {
     let dump = read_limited(alloc, inputs, name, Which::DumpOctets)?;
     let moment = clock.now();

@@ -4,17 +4,17 @@ ghost use Rattle.std.specs.Prelude.{◌≡◌, ◌<◌, ◌≤◌, ◌+◌, ◌^
 ghost use Rattle.std.specs.List.{AllByRecursion};
 ghost use Rattle.std.specs.Result.{result_err};
 ghost use Rattle.outer_traits.specs.Outside.{WritesSome};
-ghost use Rattle.outer_ledgers.specs.Ledger.{inputs_state, output_state};
+ghost use Rattle.outer_ledgers.specs.Ledger.{UsedClock};
 ghost use Rattle.command_plans.specs.Plan.{IsDue};
 ghost use Rattle.arch_types.specs.Table.{sorted};
 ghost use Rattle.yarch_table.specs.Stored.{rows_of};
 ghost use Rattle.command_words.specs.JobView.{words_of};
-ghost use Rattle.dump_lines.specs.Output.{Appends, IsBuffered};
+ghost use Rattle.dump_lines.specs.Output.{Appends, IsBuffered, PrintCounted};
 ghost use Rattle.dump_lines.specs.DumpTable.{IsVisible};
 ghost use Rattle.archive_cli.specs.Command.{RanOver, effects_of};
-ghost use Rattle.archive_cli.specs.Report.{status_at};
+ghost use Rattle.archive_cli.specs.Report.{status_at, unopened};
 ghost use Rattle.archive_cli.specs.values_command.Values.{values_plan};
-ghost use Rattle.archive_cli.specs.values_command.ValuesPrinting.{PrintCounted, line_of, cells_in_row, cells_of_stored, lines_of_cells, end_of_cells, text_of_cells, refusal_of_print};
+ghost use Rattle.archive_cli.specs.values_command.ValuesPrinting.{line_of, cells_in_row, cells_of_stored, lines_of_cells, end_of_cells, text_of_cells, refusal_of_print};
 
 use crate::report::Ended;
 use crate::scan_input::{ended, read_scan_input};
@@ -51,44 +51,53 @@ pub fn values<D: Disk, I: Inputs, K: Sink, C: Clock>(
 ) -> Ended<D>
     // It took a way through its plan: where that ends stands what was printed, what is reported, how many sources were given, and
     // which calls failed. Nothing is asked of the disk.
-    ensures ran { RanOver D.device (values_plan (I.files inputs.old) (C.next clock.old) (words_of words.entry))
-        (effects_of disk result.disk (output_state (K.written sink.old) (K.faults sink.old))
-        (output_state (K.written sink.new) (K.faults sink.new)) result.report)
-        (inputs_state (I.files inputs.old) (I.open_sources inputs.old) (I.given inputs.old)
-        (I.faults inputs.old) (I.never_fails inputs.old))
-        (inputs_state (I.files inputs.new) (I.open_sources inputs.new) (I.given inputs.new)
-        (I.faults inputs.new) (I.never_fails inputs.new)) }
+    ensures ran { RanOver D.device
+        (values_plan (I.state inputs.old).files (C.state clock.old).next (words_of words.entry))
+        (effects_of disk result.disk (K.state sink.old) (K.state sink.new) result.report)
+        (I.state inputs.old) (I.state inputs.new) }
 
     // Where the inputs are known the answer that is due comes, or that of a fault at its place.
-    ensures due { IsSome (I.files inputs.old) →
-        IsDue (values_plan (I.files inputs.old) (C.next clock.old) (words_of words.entry)) result.report.refusal }
+    ensures due { IsSome (I.state inputs.old).files →
+        IsDue (values_plan (I.state inputs.old).files (C.state clock.old).next (words_of words.entry))
+        result.report.refusal }
+
+    // What is known of the clock stays known, and one that stands still goes on standing.
+    ensures clock { UsedClock (C.state clock.old) (C.state clock.new) }
 
     // The number of the refusal, and 0 exactly where there's none.
     ensures status { result.status ≡ status_at result.report.refusal }
 {
-    let read = read_mdb(
+    let done = work::<D, I, K, C>(alloc, words, inputs, sink, clock);
+    Ended::unopened(disk, done.err())
+}
+
+/// Does the command, beside whatever disk of the kind there is.
+fn work<D: Disk, I: Inputs, K: Sink, C: Clock>(
+    alloc: Global,
+    words: ValuesWords<'_>,
+    inputs: &mut I,
+    sink: &mut K,
+    clock: &mut C,
+) -> Result<(), Refusal>
+    ensures ran { (disk : D) →
+        RanOver D.device (values_plan (I.state inputs.old).files (C.state clock.old).next (words_of words.entry))
+        (effects_of disk disk (K.state sink.old) (K.state sink.new) (unopened (result_err result)))
+        (I.state inputs.old) (I.state inputs.new) }
+    ensures clock { UsedClock (C.state clock.old) (C.state clock.new) }
+{
+    let sheets = read_mdb(
         alloc,
         inputs,
         words.parameters,
         words.calibrations,
         words.containers,
-    );
-    let sheets = match read {
-        Ok(sheets) => sheets,
-        Err(refusal) => return Ended::unopened(disk, Some(refusal)),
-    };
-    let mut scan_input = match read_scan_input(alloc, inputs, words.dump, clock) {
-        Ok(scan_input) => scan_input,
-        Err(refusal) => return Ended::unopened(disk, Some(refusal)),
-    };
-    let known = match known_parameter(alloc, &sheets, words.name) {
-        Ok(known) => known,
-        Err(refusal) => return Ended::unopened(disk, Some(refusal)),
-    };
+    )?;
+    let mut scan_input = read_scan_input(alloc, inputs, words.dump, clock)?;
+    let known = known_parameter(alloc, &sheets, words.name)?;
     let line_buffer = &mut scan_input.line_buffer;
     match print(alloc, &known, &scan_input.loaded, line_buffer, sink) {
-        Ok(()) => Ended::unopened(disk, ended(&scan_input.loaded).err()),
-        Err(fault) => Ended::unopened(disk, Some(refusal_of(fault))),
+        Ok(()) => ended(&scan_input.loaded),
+        Err(fault) => Err(refusal_of(fault)),
     }
 }
 
@@ -114,12 +123,12 @@ fn print<K: Sink>(
     requires shown { AllByRecursion IsVisible loaded.now.table.stored }
     requires few { length (sorted (rows_of loaded.now.table.stored)) < 2 ^ 64 }
     requires number { known.now.number < length known.now.mdb.parameters }
-    ensures all { OnOk result (Appends (K.written sink.old) (K.written sink.new)
+    ensures all { OnOk result (Appends (K.state sink.old).written (K.state sink.new).written
         (text_of_cells known.now.mdb known.now.number loaded.now.table.stored loaded.now.why)) }
-    ensures some { OnErr result (WritesSome (K.written sink.old) (K.written sink.new)
+    ensures some { OnErr result (WritesSome (K.state sink.old).written (K.state sink.new).written
         (text_of_cells known.now.mdb known.now.number loaded.now.table.stored loaded.now.why)) }
-    ensures later { K.faults sink.old ≤ K.faults sink.new }
-    ensures counted { PrintCounted (result_err result) (K.faults sink.old) (K.faults sink.new) }
+    ensures later { (K.state sink.old).faults ≤ (K.state sink.new).faults }
+    ensures counted { PrintCounted (result_err result) (K.state sink.old).faults (K.state sink.new).faults }
 {
     let count = print_cells::<K, Brand>(
         alloc,
@@ -159,15 +168,15 @@ fn print_cells<K: Sink, L: Ledger>(
     requires few { length (sorted (rows_of table.now.stored)) < 2 ^ 64 }
     requires number { known.now.number < length known.now.mdb.parameters }
     requires blank { (blank.name ≡ L.name) × (blank.parts ≡ L.parts) × (0 < blank.parts) }
-    ensures buffered { OnOk result (IsBuffered (K.written sink.old) (K.written sink.new)
+    ensures buffered { OnOk result (IsBuffered (K.state sink.old).written (K.state sink.new).written
         (lines_of_cells known.now.mdb known.now.number table.now.stored) line_buffer.new) }
     ensures room { OnOk result (length line_buffer.new < 65536) }
     ensures count { IfOk result (λ count.
         count ≡ length (cells_of_stored known.now.mdb known.now.number table.now.stored)) }
-    ensures some { OnErr result (WritesSome (K.written sink.old) (K.written sink.new)
+    ensures some { OnErr result (WritesSome (K.state sink.old).written (K.state sink.new).written
         (lines_of_cells known.now.mdb known.now.number table.now.stored)) }
-    ensures later { K.faults sink.old ≤ K.faults sink.new }
-    ensures counted { PrintCounted (result_err result) (K.faults sink.old) (K.faults sink.new) }
+    ensures later { (K.state sink.old).faults ≤ (K.state sink.new).faults }
+    ensures counted { PrintCounted (result_err result) (K.state sink.old).faults (K.state sink.new).faults }
 {
     let mut extractor = Extractor::new(alloc)?;
     let (book, share) = blank.open::<L>();

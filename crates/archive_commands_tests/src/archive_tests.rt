@@ -18,11 +18,15 @@ const CREATED: &str = "created tables 1 parameters 2 containers 1\n";
 const TWICE: &[u8] =
     b"\x08\x64\xC0\x00\x00\x06\x00\x00\x00\x01\x80\x00\x2A\x08\x65\xC0\x00\x00\x06\x00\x00\x00\x01\x80\x00\x07\x08\x64\xC0\x00\x00\x06\x00\x00\x00\x01\x80\x00\x2A";
 
+/// Two packets at 1.5 s, of APID 100 and 101, the first one longer.
+const NAMED: &[u8] =
+    b"\x08\x64\xC0\x00\x00\x07\x00\x00\x00\x01\x80\x00\x2A\xFE\x08\x65\xC0\x00\x00\x06\x00\x00\x00\x01\x80\x00\x07";
+
 /// A packet, an idle one, and an octet that begins none.
 const BROKEN: &[u8] =
     b"\x08\x64\xC0\x00\x00\x06\x00\x00\x00\x01\x80\x00\x2A\x07\xFF\xC0\x00\x00\x00\x00\x28";
 
-/// Two parameters in one container, sheets of asks, and dumps.
+/// Two parameters in one container or in three, sheets of asks, and dumps.
 const TEXTS: &[(&str, &[u8])] = &[
     (
         "parameters",
@@ -46,6 +50,15 @@ const TEXTS: &[(&str, &[u8])] = &[
         b"kind,name,from,to,order,limit,names\nvalues,v,2000,0,,,\n",
     ),
     ("bad", b"kind,name\n"),
+    (
+        "replayed",
+        b"kind,name,from,to,order,limit,names\nreplay,tm,0,2000,,,\n",
+    ),
+    (
+        "three",
+        b"container,parent,condition,archive,entry,position\nHDR,,,,apid,5\nA,HDR,apid==100,yes,v,96\nB,HDR,apid==101,yes,v,96\n",
+    ),
+    ("named", NAMED),
     ("twice", TWICE),
     ("broken", BROKEN),
 ];
@@ -175,6 +188,135 @@ fn a_day(rt: HostRuntime) -> Result<(), Fail> {
     Ok(())
 }
 
+/// A query over this disk, whose sheet of asks has these rows.
+fn expect_answers(
+    rt: &(impl Abort + AllocGlobal),
+    rows: &str,
+    disk: MemDisk,
+    want: Wanted<'_>,
+) -> Result<MemDisk, Fail> {
+    let alloc = rt.alloc();
+    let mut sheet = Vec::from_slice(alloc, b"kind,name,from,to,order,limit,names\n")?;
+    sheet.extend_from_slice(rows.as_bytes())?;
+    let mut files = Vec::new(alloc);
+    files.push(file_of(alloc, "sheet", sheet.as_slice())?)?;
+    let inputs = MemInputs::new(alloc, files);
+    expect_of(
+        rt,
+        "query --ask sheet",
+        disk,
+        inputs,
+        MemSink::new(alloc),
+        want,
+    )
+}
+
+/// Rows of a sheet, and what the archive of two named packets answers.
+const REPLAYS: [(&str, (u8, &str, &str)); 17] = [
+    (
+        "replay,tm,0,2000,,,B\n",
+        (
+            0,
+            "ask 1 front 2\npacket tm 1500 140886016 1 B 13\nend 1\n",
+            "",
+        ),
+    ),
+    (
+        "replay,tm,0,2000,asc,,\n",
+        (
+            0,
+            "ask 1 front 2\npacket tm 1500 140820480 1 A 14\npacket tm 1500 140886016 1 B 13\nend 2\n",
+            "",
+        ),
+    ),
+    (
+        "replay,tm,1500,1501,,1,\n",
+        (
+            0,
+            "ask 1 front 2\npacket tm 1500 140820480 1 A 14\nend 1\n",
+            "",
+        ),
+    ),
+    (
+        "replay,tm,0,2000,,5,B;Z;B\n",
+        (
+            0,
+            "ask 1 front 2\npacket tm 1500 140886016 1 B 13\nend 1\n",
+            "",
+        ),
+    ),
+    ("replay,tm,0,1500,,,\n", (0, "ask 1 front 2\nend 0\n", "")),
+    (
+        "replay,tm,1500,1500,,,\n",
+        (0, "ask 1 front 2\nend 0\n", ""),
+    ),
+    (
+        "replay,tm,1501,86400000,,,\n",
+        (0, "ask 1 front 2\nend 0\n", ""),
+    ),
+    ("replay,tm,0,2000,,0,\n", (0, "ask 1 front 2\nend 0\n", "")),
+    (
+        "replay,tm,0,2000,,,HDR;Z\n",
+        (0, "ask 1 front 2\nend 0\n", ""),
+    ),
+    (
+        "values,v,0,2000,desc,1,\nreplay,tm,0,2000,,,B\n",
+        (
+            0,
+            "ask 1 front 2\ncell 1500 140886016 7 7\nend 1\nask 2 front 2\npacket tm 1500 140886016 1 B 13\nend 1\n",
+            "",
+        ),
+    ),
+    (
+        "values,v,0,2000,,,\nreplay,copy,5,4,,,\n",
+        (1, "", "unknown table copy"),
+    ),
+    (
+        "replay,tm,0,2000,,,\nreplay,tm,5,4,,,\n",
+        (1, "", "bad range 5 4"),
+    ),
+    (
+        "replay,copy,5,4,,,\nvalues,zz,0,1,,,\n",
+        (1, "", "unknown table copy"),
+    ),
+    (
+        "values,zz,0,1,,,\nreplay,copy,5,4,,,\n",
+        (1, "", "unknown parameter"),
+    ),
+    (
+        "values,v,5,4,,,\nreplay,copy,0,1,,,\n",
+        (1, "", "bad range 5 4"),
+    ),
+    (
+        "replay,copy,0,1,,,\nreplay,tm,0,1,desc,,\n",
+        (2, "", "bad sheet asks row 3 rule 32"),
+    ),
+    (
+        "replay,tm,0,1,,,A;\n",
+        (2, "", "bad sheet asks row 2 rule 34"),
+    ),
+];
+
+#[test]
+fn replays(rt: HostRuntime) -> Result<(), Fail> {
+    let created = "created tables 1 parameters 2 containers 3\n";
+    let loaded = "load packets 2 new 2 duplicates 0 idle 0 rows 2\n";
+    let mut disk = MemDisk::new(rt.alloc());
+    for (line, want) in [
+        (
+            "create parameters calibrations three",
+            (0, created, "", Some((0, 0))),
+        ),
+        ("load named", (0, loaded, "", Some((0, 2)))),
+    ] {
+        disk = expect(&rt, line, disk, want)?;
+    }
+    for (rows, (status, text, fault)) in REPLAYS {
+        disk = expect_answers(&rt, rows, disk, (status, text, fault, Some((2, 2))))?;
+    }
+    Ok(())
+}
+
 #[test]
 fn words_of_a_load(rt: HostRuntime) -> Result<(), Fail> {
     let usage = (1, "", "usage", None);
@@ -221,6 +363,7 @@ fn writes_that_fail(rt: HostRuntime) -> Result<(), Fail> {
         (CREATE, (0, 0)),
         ("load twice", (0, 2)),
         ("query --ask asks", (2, 2)),
+        ("query --ask replayed", (2, 2)),
         ("recover", (2, 2)),
     ] {
         disk = expect_unwritten(&rt, line, disk, lengths)?;

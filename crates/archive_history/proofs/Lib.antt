@@ -3,4 +3,8 @@ pub mod Growing
 pub mod Intervals
 pub mod TableSetFacts
 pub mod Steps
+pub mod KeyOrder
+pub mod PartitionRows
+pub mod Partitioned
 pub mod Sums
+pub mod Sending

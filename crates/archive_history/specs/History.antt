@@ -12,5 +12,6 @@ pub record HistoryInvariant (table_set : HistoryView) (limit_counts : LimitCount
   pub history : IsHistory (rows_in table_set.items)
   pub within : IsWithin 22 table_set.items
   pub octets : limit_counts.octets ≡ octets_of (rows_in table_set.items)
-  pub rows : (interval : Interval) → interval_row_count limit_counts.rows interval ≡ interval_rows 22 interval table_set.items
+  pub rows : (interval : Interval) →
+      interval_row_count limit_counts.rows interval ≡ interval_rows 22 interval table_set.items
   pub has_room : table_set.room ≤ limit_counts.room

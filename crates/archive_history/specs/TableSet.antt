@@ -1,12 +1,13 @@
 -- Rows by table, in the order of the history.
-use Rattle.std.specs.Prelude.{◌≡◌, ℕ, ◌+◌, ◌<◌, ◌≤◌, ◌&&◌, ◌==◌, List, [], length, map, slice_index_or, vec_len, vec_capacity, Bool}
+use Rattle.std.specs.Prelude.{◌≡◌, ℕ, ◌+◌, ◌<◌, ◌≤◌, ◌&&◌, ◌==◌, List, [], length, map, filter, slice_index_or, vec_len, vec_capacity, Bool}
 use Rattle.std.specs.Global.{Vec}
 use Rattle.std.specs.declared.snapshot.Snapshot.{Snapshot}
 use Rattle.std.specs.Ordering.{is_eq}
 use Rattle.arch_types.specs.declared.key.Key.{Key}
 use Rattle.arch_types.specs.declared.row.Row.{Row}
+use Rattle.arch_types.specs.History.{is_in_table}
 use Rattle.arch_types.specs.Order.{key_cmp}
-use Rattle.archive_core.specs.Items.{Item}
+use Rattle.archive_core.specs.Items.{Item, row_item, rows_in}
 use Rattle.yarch_table.specs.Stored.{TableView}
 use Rattle.yarch_table.specs.Placed.{placed}
 
@@ -20,6 +21,10 @@ pub record HistoryView : Type 0 where
 abbrev pub is_at_key : ℕ → Key → Item → Bool
 is_at_key table key item = (table == item.table) && is_eq (key_cmp key item.key)
 
+-- the rows of a table, in the order of the history
+abbrev pub rows_in_table : ℕ → List Item → List Row
+rows_in_table table items = filter (is_in_table table) (rows_in items)
+
 -- a table without rows or room
 abbrev pub no_table : TableView
 no_table = record { stored = []; room = 0 }
@@ -28,12 +33,13 @@ no_table = record { stored = []; room = 0 }
 abbrev pub table_in : List TableView → ℕ → TableView
 table_in tables table = slice_index_or tables table no_table
 
--- the rows that were noted, in the order of the history
+-- the items of the rows that were noted, in the order of the history
 abbrev pub items_in : List (Snapshot Row) → List Item
-items_in order = map (λ noted. noted.value) order
+items_in order = map (λ noted. row_item noted.value) order
 
 -- each table has its rows of the history, each with its position, and has room; so has the list of the history's rows
 pub record IsTableSet (tables : List TableView) (order : Vec (Snapshot Row)) (room : ℕ) : Type 0 where
-  pub placed_in : (table : ℕ) → table < length tables → (table_in tables table).stored ≡ placed table (items_in order.items)
+  pub placed_in : (table : ℕ) → table < length tables →
+      (table_in tables table).stored ≡ placed table (rows_in (items_in order.items))
   pub has_room : (table : ℕ) → table < length tables → room ≤ (table_in tables table).room
   pub order_has_room : vec_len order + room ≤ vec_capacity order

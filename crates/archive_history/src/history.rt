@@ -1,13 +1,19 @@
 //! A history in memory, within its limits.
 
-ghost use Rattle.std.specs.Prelude.{◌≡◌, ◌+◌, ◌*◌, ◌<◌, ◌≤◌, ◌^◌, ◌++◌, [], ◌∷◌, true, false, length, max, IfOk, IfSome, IfNone, OnOk, OnErr, slice_get, Some};
+ghost use Rattle.std.specs.Prelude.{◌≡◌, ◌+◌, ◌*◌, ◌<◌, ◌≤◌, ◌^◌, ◌++◌, [], ◌∷◌, true, false, length, max, IfOk, IfSome, IfNone, OnOk, OnErr, slice_get, Some, ◌↔◌, Contains};
 ghost use Rattle.std.specs.List.{list_any, AllByRecursion};
 ghost use Rattle.arch_types.specs.declared.interval.Interval.{Interval as AnInterval};
-ghost use Rattle.arch_types.specs.History.{ingested, with_row, IsHistory};
+ghost use Rattle.arch_types.specs.History.{IsHistory};
 ghost use Rattle.arch_types.specs.Interval.{interval_of};
 ghost use Rattle.arch_types.specs.Table.{range_of};
-ghost use Rattle.archive_core.specs.Items.{Item, items_of};
-ghost use Rattle.archive_history.specs.TableSet.{is_at_key};
+ghost use Rattle.archive_core.specs.Items.{Item, after_row, after_rows, items_of, row_item, rows_in};
+ghost use Rattle.archive_history.specs.PartitionedTable.{partitions_of, named_times_of};
+ghost use Rattle.archive_history.specs.TableSet.{is_at_key, rows_in_table};
+ghost use Rattle.histogram.specs.Times.{spans_of_times, times_of};
+ghost use Rattle.partitions.specs.declared.partition.Partition.{Partition as APartition};
+ghost use Rattle.partitions.specs.Bounds.{MayHold};
+ghost use Rattle.partitions.specs.Partitions.{AreRising};
+ghost use Rattle.partitions.specs.Rows.{partition_at};
 ghost use Rattle.arch_types.specs.Limits.{limit_of};
 ghost use Rattle.arch_types.specs.declared.refusal.Which.TheVariants as limits;
 ghost use Rattle.archive_history.specs.Limits.{octets_of, interval_rows, IsWithin, PassesFirst};
@@ -19,6 +25,10 @@ use arch_types::interval::Interval;
 use arch_types::key::Key;
 use arch_types::refusal::Which;
 use arch_types::row::{Row, Rows};
+use arch_types::spans::Spans;
+use partitions::bounds::Bounds;
+use partitions::lists::PartList;
+use partitions::partition::Partition;
 use std::alloc::{AllocError, Global};
 use std::marker::Model;
 use yarch_table::rows::TableRows;
@@ -64,8 +74,8 @@ fn octets_in(rows: &[Row]) -> u64
 }
 
 /// How many rows of table `tm` have their time in the interval.
-fn rows_in(rows: &[Row], interval: Interval) -> u64
-    ensures { result ≡ interval_rows 22 interval rows.now }
+fn interval_rows_in(rows: &[Row], interval: Interval) -> u64
+    ensures { result ≡ interval_rows 22 interval (items_of rows.now) }
 {
     let mut count = 0;
     for row in rows {
@@ -89,7 +99,7 @@ fn are_too_many(limit_counts: &LimitCounts, interval: Interval, rows: &[Row]) ->
     if known + rows.len() as u64 <= Which::IntervalRows.limit() {
         return false;
     }
-    known + rows_in(rows, interval) > Which::IntervalRows.limit()
+    known + interval_rows_in(rows, interval) > Which::IntervalRows.limit()
 }
 
 impl History {
@@ -107,7 +117,7 @@ impl History {
     pub fn len(&self) -> usize
         ensures len { result ≡ length self.now.items }
         ensures within { IsWithin 22 self.now.items }
-        ensures history { IsHistory self.now.items }
+        ensures history { IsHistory (rows_in self.now.items) }
     {
         self.table_set.len()
     }
@@ -182,9 +192,9 @@ impl History {
     fn add(&mut self, row: Row) -> bool
         requires room { 0 < self.old.room }
         requires table { row.table < self.old.tables }
-        requires within { IsWithin 22 (self.old.items ++ row ∷ []) }
-        ensures items { self.new.items ≡ with_row self.old.items row }
-        ensures fresh { result ≡ true → self.new.items ≡ self.old.items ++ row ∷ [] }
+        requires within { IsWithin 22 (self.old.items ++ row_item row ∷ []) }
+        ensures items { self.new.items ≡ after_row self.old.items row }
+        ensures fresh { result ≡ true → self.new.items ≡ self.old.items ++ row_item row ∷ [] }
         ensures known { result ≡ false → self.new.items ≡ self.old.items }
         ensures tables { self.new.tables ≡ self.old.tables }
         ensures room { self.old.room ≡ self.new.room + 1 }
@@ -207,9 +217,9 @@ impl History {
         requires room { length rows ≤ self.old.room }
         requires tables { AllByRecursion (λ row. row.table < self.old.tables) rows }
         requires within { IsWithin 22 (self.old.items ++ items_of rows) }
-        ensures all { result ≡ true → (ingested self.old.items rows ≡ self.old.items ++ items_of rows) ×
+        ensures all { result ≡ true → (after_rows self.old.items rows ≡ self.old.items ++ items_of rows) ×
             (self.new.items ≡ self.old.items ++ items_of rows) }
-        ensures some { result ≡ false → ingested self.old.items rows ≡ self.old.items ++ items_of rows → ⊥ }
+        ensures some { result ≡ false → after_rows self.old.items rows ≡ self.old.items ++ items_of rows → ⊥ }
         ensures tables { self.new.tables ≡ self.old.tables }
     {
         for row in rows.into_vec() {
@@ -223,8 +233,42 @@ impl History {
     /// The rows of table `tm` with `from <= time < to`, in the order of their keys. Times are in milliseconds.
     pub fn range(&self, from: i64, to: i64) -> TableRows<'_>
         requires { 0 < self.now.tables }
-        ensures { result ≡ range_of 0 from to self.now.items }
+        ensures { result ≡ range_of 0 from to (rows_in self.now.items) }
     {
         self.table_set.range(TM, from, to)
+    }
+
+    /// The rows of a partition of a table at a front, in the order of their keys. The one error is want of memory.
+    pub fn partition_rows(
+        &self,
+        alloc: Global,
+        table: u8,
+        part: &Partition,
+        front: u64,
+    ) -> Result<Rows, AllocError>
+        requires { table < self.now.tables }
+        ensures { IfOk result (λ rows. rows ≡ partition_at front table part.now (rows_in self.now.items)) }
+    {
+        self.table_set.partition_rows(alloc, table, part, front)
+    }
+
+    /// The partitions of a table that hold a row and may hold one in the bounds, by day and then by the packet name's
+    /// number. The one error is want of memory.
+    pub fn pruned(&self, table: u8, bounds: &Bounds) -> Result<PartList, AllocError>
+        requires { table < self.now.tables }
+        ensures exactly { IfOk result (λ parts. (p : APartition) → Contains parts p
+            ↔ (Contains (partitions_of (rows_in_table table self.now.items)) p × MayHold bounds.now p)) }
+        ensures rising { IfOk result (λ parts. AreRising parts) }
+    {
+        self.table_set.pruned(table, bounds)
+    }
+
+    /// The spans of time in which a packet name has rows in a table. The one error is want of memory.
+    pub fn spans(&self, table: u8, pname: u16) -> Result<Spans, AllocError>
+        requires { table < self.now.tables }
+        ensures { IfOk result (λ spans. spans
+            ≡ spans_of_times (times_of pname (named_times_of (rows_in_table table self.now.items)))) }
+    {
+        self.table_set.spans(table, pname)
     }
 }

@@ -1,12 +1,19 @@
 //! The rows of an archive in memory: a history of tables, and what it counts against the limits.
 //!
-//! Stands for: the list of rows in the order in which they came to stay, the first of each table and key (`specs/History.antt`), with the
-//! rows of each table at a front (`specs/TableSet.antt`), and the octets and rows of intervals that the limits speak of
-//! (`specs/Limits.antt`, `specs/LimitCounts.antt`). A row is added without memory once room was made. Called by the store.
+//! Stands for: the list of rows in the order in which they came to stay, the first of each table and key
+//! (`specs/History.antt`), with the rows of each table at a front (`specs/TableSet.antt`), which of them each partition
+//! has (`specs/PartitionedTable.antt`), and the octets and rows of intervals that the limits speak of
+//! (`specs/Limits.antt`, `specs/LimitCounts.antt`). A row is added without memory once room was made. Called by the
+//! store.
 //!
-//! To be changed together: the limits in specs/Limits.antt and src/history.rt.
+//! The rows of a partition are gathered by their places and put in order: where each has its own key there is one order
+//! (`only_order`, proofs/KeyOrder.antt).
+//!
+//! To be changed together: the limits in specs/Limits.antt and src/history.rt; what `PartitionedTable::insert` notes and
+//! `IsPartitioned`.
 #![tactic(auto)]
 
 pub mod history;
 pub mod limit_counts;
+pub mod partitioned_table;
 pub mod table_set;

@@ -88,7 +88,8 @@ impl LimitCounts {
     pub fn add_row(&mut self, interval: Interval)
         requires room { 0 < self.old.room }
         requires small { interval_row_count self.old.rows interval + 1 < 2 ^ 64 }
-        ensures rows { (i : AnInterval) → interval_row_count self.new.rows i ≡ interval_row_count self.old.rows i + one_at interval i }
+        ensures rows { (i : AnInterval) →
+            interval_row_count self.new.rows i ≡ interval_row_count self.old.rows i + one_at interval i }
         ensures octets { self.new.octets ≡ self.old.octets }
         ensures room { self.old.room ≤ self.new.room + 1 }
     {

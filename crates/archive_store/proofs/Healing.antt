@@ -16,11 +16,11 @@ use Rattle.archive_store.specs.declared.head.Head.{Head}
 use Rattle.archive_store.specs.Entries.{archive, Applies}
 use Rattle.archive_store.specs.Images.{ArchiveInvariant, IsPlainLog}
 use Rattle.archive_store.specs.Inside.{StoreInvariant}
-use Rattle.archive_store.specs.PlainLog.{IsUnacknowledged, IsFound}
+use Rattle.archive_store.specs.PlainLog.{IsUnacknowledged, IsSinceArchive}
 use Rattle.archive_store.specs.StoreView.{IsNow}
-use Rattle.archive_store.proofs.Kept.{unacknowledged_in_faults, hand-reopened}
+use Rattle.archive_store.proofs.Kept.{unacknowledged_in_faults}
 use Rattle.archive_store.proofs.OneJournal as one
-use Rattle.archive_store.proofs.PlainLog.{PlainNow, plain_lower, now_over, now_for, found_whole, found_unacknowledged, nothing_unacknowledged}
+use Rattle.archive_store.proofs.PlainLog.{PlainNow, plain_lower, now_over, now_for, found_whole, found_unacknowledged}
 
 module _ {D : Type 0} (device : Device D) where
   -- a crash during the call leaves what it might have left before
@@ -34,7 +34,7 @@ module _ {D : Type 0} (device : Device D) where
   heal_moments disk new opened journal head history fills pending_fault k run elsewhere no_call transparent =
       weakens device disk new _ _
       (one.heal_moments entry_octets Applies IsPlainLog plain_lower device disk new opened journal (archive head history) (IsUnacknowledged head history (unacknowledged_rows fills))
-      (IsFound head k.before history (rows_of_faults fills)) k.archives run elsewhere no_call transparent) (λ c now. now_for head history (unacknowledged_rows fills) c now)
+      (IsSinceArchive head k.before history (rows_of_faults fills)) k.archives run elsewhere no_call transparent) (λ c now. now_for head history (unacknowledged_rows fills) c now)
 
   moments_over : (disk new : D) (head : Head) (history : List Item) (fills : List Fill) → LeavesOnly device disk new (IsNow head history (unacknowledged_rows fills)) → LeavesOnly device disk new (PlainNow head history (unacknowledged_rows fills))
   moments_over disk new head history fills moments = weakens device disk new _ _ moments (λ c now. now_over head history (unacknowledged_rows fills) c now)
@@ -59,15 +59,14 @@ module _ {D : Type 0} (device : Device D) where
     before = k.before;
     begins = k.begins;
     opening = k.opening;
-    archives = subst (λ (l : List (List Item)). ArchiveInvariant entry_octets Applies IsPlainLog device new opened next (archive head history) (IsUnacknowledged head history (unacknowledged_rows (reopened fills))) (IsFound head k.before history l))
+    archives = subst (λ (l : List (List Item)). ArchiveInvariant entry_octets Applies IsPlainLog device new opened next (archive head history) (IsUnacknowledged head history (unacknowledged_rows (reopened fills))) (IsSinceArchive head k.before history l))
         (sym (rows_of_faults-reopened fills))
         (one.kept_healed entry_octets Applies IsPlainLog plain_lower device disk new opened journal next (archive head history) (IsUnacknowledged head history (unacknowledged_rows fills))
-        (IsUnacknowledged head history (unacknowledged_rows (reopened fills))) (IsFound head k.before history (rows_of_faults fills)) k.archives (λ transparent. moments_over disk new head history fills (moments transparent)) keeps elsewhere
+        (IsUnacknowledged head history (unacknowledged_rows (reopened fills))) (IsSinceArchive head k.before history (rows_of_faults fills)) k.archives (λ transparent. moments_over disk new head history fills (moments transparent)) keeps elsewhere
         file no_pending_fault (found_whole head k.before history (rows_of_faults fills) k.begins)
-        (found_unacknowledged head k.before history (rows_of_faults fills) (unacknowledged_rows fills) (unacknowledged_in_faults fills) k.begins)
-        (nothing_unacknowledged head history (unacknowledged_rows (reopened fills)) (hand-reopened fills)));
+        (found_unacknowledged head k.before history (rows_of_faults fills) (unacknowledged_rows fills) (unacknowledged_in_faults fills) k.begins));
     pending_fault_is = sym (pending_fault_of-reopened fills);
-    unhealed_fault_is = no_pending_fault ∙ sym (pending_fault_of-reopened fills);
+    journal_fault = λ faults is. absurd (cc (is, no_pending_fault));
     head_is = k.head_is;
     rows = k.rows;
   }
@@ -96,11 +95,11 @@ module _ {D : Type 0} (device : Device D) where
     begins = k.begins;
     opening = k.opening;
     archives = one.kept_unhealed entry_octets Applies IsPlainLog plain_lower device disk new opened journal next (archive head history) (IsUnacknowledged head history (unacknowledged_rows fills))
-        (IsFound head k.before history (rows_of_faults fills)) k.archives (λ transparent. moments_over disk new head history fills (moments transparent)) keeps elsewhere file same
+        (IsSinceArchive head k.before history (rows_of_faults fills)) k.archives (λ transparent. moments_over disk new head history fills (moments transparent)) keeps elsewhere file same
         (found_whole head k.before history (rows_of_faults fills) k.begins)
         (found_unacknowledged head k.before history (rows_of_faults fills) (unacknowledged_rows fills) (unacknowledged_in_faults fills) k.begins);
     pending_fault_is = k.pending_fault_is;
-    unhealed_fault_is = same ∙ k.unhealed_fault_is;
+    journal_fault = λ faults is. k.journal_fault faults (sym same ∙ is);
     head_is = k.head_is;
     rows = k.rows;
   }

@@ -24,13 +24,13 @@ use Rattle.archive_store.specs.declared.head.Head.{Head}
 use Rattle.archive_store.specs.Entries.{archive, AreAdmitted, Applies}
 use Rattle.archive_store.specs.Images.{IsPlainLog}
 use Rattle.archive_store.specs.Inside.{StoreInvariant}
-use Rattle.archive_store.specs.PlainLog.{IsUnacknowledged, IsFound}
+use Rattle.archive_store.specs.PlainLog.{IsUnacknowledged, IsSinceArchive}
 use Rattle.archive_store.specs.Stands.{StandsFor}
 use Rattle.archive_store.specs.StoreView.{StoreView, archive_of, IsNow, CrashInvariant}
 use Rattle.archive_store.proofs.Archived.{more_archived}
 use Rattle.archive_store.proofs.OneJournal as one
 use Rattle.archive_store.proofs.PendingFaults.{prefix_self, prefix_more}
-use Rattle.archive_store.proofs.PlainLog.{plain_lower, found_whole, found_with, found_on, nothing_unacknowledged, either_over, either_for}
+use Rattle.archive_store.proofs.PlainLog.{plain_lower, found_whole, found_with, found_on, either_over, either_for}
 
 -- one fault more
 abbrev pub fault : ℕ → List Row → Fill
@@ -78,6 +78,11 @@ unacknowledged_in_faults (Fault count true (Rows rows) ∷ fills) more is = let 
 unacknowledged_in_faults (Fault count false Nothing ∷ fills) more is = unacknowledged_in_faults fills more is
 unacknowledged_in_faults (Fault count false (Rows rows) ∷ fills) more is = Contains-append_right (items_of rows ∷ []) (rows_of_faults fills) more (unacknowledged_in_faults fills more is)
 
+-- where no failed write is pending the journal wants no heal
+pub healthy : (unhealed pending : Option ℕ) → ((faults : ℕ) → unhealed ≡ Some faults → pending ≡ Some faults) → pending ≡ None → unhealed ≡ None
+healthy None pending journal_fault none = refl
+healthy (Some faults) pending journal_fault none = let both = journal_fault faults refl in absurd (cc (both, none))
+
 module _ {D : Type 0} (device : Device D) where
   -- all of it is the same but for room
   pub kept_same : (disk opened : D) (journal next : Journal) (head : Head) (history : List Item) (fills : List Fill) (pending_fault : Option ℕ)
@@ -90,7 +95,7 @@ module _ {D : Type 0} (device : Device D) where
     opening = k.opening;
     archives = one.kept_same entry_octets Applies IsPlainLog plain_lower device disk opened journal next (archive head history) _ _ k.archives same;
     pending_fault_is = k.pending_fault_is;
-    unhealed_fault_is = ap faults_of same.pending_fault ∙ k.unhealed_fault_is;
+    journal_fault = λ faults is. k.journal_fault faults (sym (ap faults_of same.pending_fault) ∙ is);
     head_is = k.head_is;
     rows = k.rows;
   }
@@ -122,13 +127,12 @@ module _ {D : Type 0} (device : Device D) where
         begins = begins;
         opening = k.opening;
         archives = one.kept_ok entry_octets Applies IsPlainLog plain_lower device disk new opened journal next (archive head history) (archive head whole) (entries.Rows rows)
-            (IsUnacknowledged head history (unacknowledged_rows fills)) (IsUnacknowledged head whole (unacknowledged_rows fills)) (IsFound head k.before history in_faults) (IsFound head k.before whole in_faults) k.archives (ok, refl) file
+            (IsUnacknowledged head history (unacknowledged_rows fills)) (IsUnacknowledged head whole (unacknowledged_rows fills)) (IsSinceArchive head k.before history in_faults) (IsSinceArchive head k.before whole in_faults) k.archives (ok, refl) file
             no_pending_fault keeps (λ transparent. either_over device disk new (archive head history) (archive head whole) (moments transparent)) elsewhere
             (found_on head k.before history whole in_faults in_faults (λ xs p. prefix_more xs history (items_of rows) p) (λ more there. there))
-            (record { front = history; holds = k.begins; begins = prefix_more history history (items_of rows) (prefix_self history); found_is = inl refl }) (found_whole head k.before whole in_faults begins)
-            (nothing_unacknowledged head whole (unacknowledged_rows fills) (none_unacknowledged fills healed));
+            (record { kept = history; holds = k.begins; begins = prefix_more history history (items_of rows) (prefix_self history); found_is = inl refl }) (found_whole head k.before whole in_faults begins);
         pending_fault_is = k.pending_fault_is;
-        unhealed_fault_is = no_pending_fault ∙ sym healed;
+        journal_fault = λ faults is. absurd (cc (is, no_pending_fault));
         head_is = k.head_is;
         rows = more_archived head history rows k.rows ok;
       }
@@ -159,14 +163,14 @@ module _ {D : Type 0} (device : Device D) where
     begins = k.begins;
     opening = k.opening;
     archives = one.kept_err entry_octets Applies IsPlainLog plain_lower device disk new opened journal next (archive head history) (archive head (history ++ items_of rows)) (entries.Rows rows)
-        (IsUnacknowledged head history (unacknowledged_rows fills)) (IsUnacknowledged head history (unacknowledged_rows more)) (IsFound head k.before history (rows_of_faults fills)) (IsFound head k.before history (rows_of_faults more))
-        (min (device.fault_count new) (2 ^ 64 - 1)) k.archives (ok, refl) file (k.unhealed_fault_is ∙ healed) unhealed_fault_is keeps
+        (IsUnacknowledged head history (unacknowledged_rows fills)) (IsUnacknowledged head history (unacknowledged_rows more)) (IsSinceArchive head k.before history (rows_of_faults fills)) (IsSinceArchive head k.before history (rows_of_faults more))
+        (min (device.fault_count new) (2 ^ 64 - 1)) k.archives (ok, refl) file (healthy (unhealed_fault journal) (pending_fault_of fills) k.journal_fault healed) unhealed_fault_is keeps
         (λ transparent. either_over device disk new (archive head history) (archive head (history ++ items_of rows)) (moments transparent)) elsewhere
         (found_on head k.before history history (rows_of_faults fills) (rows_of_faults more) (λ xs p. p) (λ r there. subst (λ (l : List (List Item)). Contains l r) (sym (rows_of_faults-fault fills count rows)) (Contains-append_left (rows_of_faults fills) (items_of rows ∷ []) r there)))
         (found_whole head k.before history (rows_of_faults more) k.begins) (found_with head k.before history (items_of rows) (rows_of_faults more) k.begins (rows_of_faults_last fills count rows))
         (subst (λ (o : Option (List Item)). IsUnacknowledged head history o (archive head (history ++ items_of rows))) (sym (hand-fault fills count rows healed)) refl);
     pending_fault_is = sym pending_fault_now;
-    unhealed_fault_is = unhealed_fault_is ∙ ap Some (sym count_is) ∙ sym pending_fault_now;
+    journal_fault = λ faults is. pending_fault_now ∙ ap Some count_is ∙ sym unhealed_fault_is ∙ is;
     head_is = k.head_is;
     rows = k.rows;
   }
@@ -187,7 +191,7 @@ module _ {D : Type 0} (device : Device D) where
   moments_of disk new opened journal mid head history rows fills pending_fault k ok healed same run elsewhere transparent =
       either_for device disk new (archive head history) (archive head (history ++ items_of rows))
       (one.moments_of entry_octets Applies IsPlainLog plain_lower device disk new opened journal mid (archive head history) (archive head (history ++ items_of rows)) (entries.Rows rows)
-      (IsUnacknowledged head history (unacknowledged_rows fills)) (IsFound head k.before history (rows_of_faults fills)) k.archives (ok, refl) (k.unhealed_fault_is ∙ healed) same run elsewhere transparent)
+      (IsUnacknowledged head history (unacknowledged_rows fills)) (IsSinceArchive head k.before history (rows_of_faults fills)) k.archives (ok, refl) (healthy (unhealed_fault journal) (pending_fault_of fills) k.journal_fault healed) same run elsewhere transparent)
 
 -- while no failed write stands, a crash leaves what stands for the history
 pub stands_now : {D : Type 0} (device : Device D) (store : StoreView D) (P : Image → Type 0) → CrashInvariant device store → pending_fault_of store.fills ≡ None → ((c : Image) → StandsFor c (archive_of store) → P c) → LeavesOnly device store.disk store.disk P

@@ -15,6 +15,7 @@ pub mod Outcomes
 pub mod PlainLog
 pub mod Planning
 pub mod Refusals
+pub mod ReplayedRows
 pub mod Sending
 pub mod PendingFaults
 pub mod Texts

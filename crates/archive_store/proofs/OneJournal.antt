@@ -9,156 +9,148 @@ use Rattle.disk_journal.specs.State.{HasOnDisk as JournalHasOnDisk}
 use Rattle.disk_journal.specs.State.{unhealed_fault, file_of, faults_of, IsSame, IsOldBut}
 use Rattle.disk_journal.specs.declared.journal.Journal.{Journal}
 use Rattle.disk_journal.proofs.Appending.{keeps_same}
-use Rattle.archive_store.specs.Images.{ReadsLower, StandsOver, StandsNow, LogInvariant, ArchiveInvariant}
+use Rattle.archive_store.specs.Images.{IsSaidByLowerFiles, StandsOver, StandsNow, LogInvariant, ArchiveInvariant}
 use Rattle.archive_store.proofs.Images as kept
 
-module _ {A E : Type 0} (spell : E → List ℕ) (Applies : Option A → E → A → Type 0) (Below : Image → ℕ → List (List ℕ) → Option A → Type 0) (lower : ReadsLower Below) {D : Type 0} (device : Device D) where
+module _ {A E : Type 0} (spell : E → List ℕ) (Applies : Option A → E → A → Type 0) (HasBase : Image → ℕ → List (List ℕ) → Option A → Type 0) (lower : IsSaidByLowerFiles HasBase) {D : Type 0} (device : Device D) where
   -- all of it is the same but for room
-  pub kept_same : (disk opened : D) (journal next : Journal) (a : A) (Unacknowledged W : A → Type 0)
-      → ArchiveInvariant spell Applies Below device disk opened journal a Unacknowledged W → IsSame journal next → ArchiveInvariant spell Applies Below device disk opened next a Unacknowledged W
-  kept_same disk opened journal next a Unacknowledged W k same = record {
-    none_unacknowledged = λ is. k.none_unacknowledged (sym (ap faults_of same.pending_fault) ∙ is);
+  pub kept_same : (disk opened : D) (journal next : Journal) (a : A) (Unacknowledged Found : A → Type 0)
+      → ArchiveInvariant spell Applies HasBase device disk opened journal a Unacknowledged Found → IsSame journal next → ArchiveInvariant spell Applies HasBase device disk opened next a Unacknowledged Found
+  kept_same disk opened journal next a Unacknowledged Found k same = record {
     images = k.images;
     log = λ transparent. let e = k.log transparent in record {
-      first = e.first;
+      beginning = e.beginning;
       base = e.base;
       entries = e.entries;
       pending = e.pending;
-      below = λ c left. subst (λ (f : ℕ). Below c f e.first e.base) (sym same.file) (e.below c left);
+      has_base = λ c left. subst (λ (f : ℕ). HasBase c f e.beginning e.base) (sym same.file) (e.has_base c left);
       replays = e.replays;
-      keeps = keeps_same device journal next (e.first ++ map spell e.entries) e.pending disk same e.keeps;
-      unacknowledged = subst (λ (f : ℕ). (faults : ℕ) → unhealed_fault next ≡ Some faults → (c : Image) → IsOldBut device f disk c → HasRecords (c f) ((e.first ++ map spell e.entries) ++ e.pending ∷ []) → StandsNow spell Applies Below a Unacknowledged c) (sym same.file)
+      keeps = keeps_same device journal next (e.beginning ++ map spell e.entries) e.pending disk same e.keeps;
+      unacknowledged = subst (λ (f : ℕ). (faults : ℕ) → unhealed_fault next ≡ Some faults → (c : Image) → IsOldBut device f disk c → HasRecords (c f) ((e.beginning ++ map spell e.entries) ++ e.pending ∷ []) → StandsNow spell Applies HasBase a Unacknowledged c) (sym same.file)
           (λ faults is. e.unacknowledged faults (sym (ap faults_of same.pending_fault) ∙ is));
     };
   }
 
   -- what is known of the archives that were found may be weakened
-  pub kept_on : (disk opened : D) (journal : Journal) (a : A) (Unacknowledged W V : A → Type 0) → ((b : A) → W b → V b) → ArchiveInvariant spell Applies Below device disk opened journal a Unacknowledged W → ArchiveInvariant spell Applies Below device disk opened journal a Unacknowledged V
-  kept_on disk opened journal a Unacknowledged W V on k = record {
-    none_unacknowledged = k.none_unacknowledged;
+  pub kept_on : (disk opened : D) (journal : Journal) (a : A) (Unacknowledged Found FoundNext : A → Type 0) → ((b : A) → Found b → FoundNext b) → ArchiveInvariant spell Applies HasBase device disk opened journal a Unacknowledged Found → ArchiveInvariant spell Applies HasBase device disk opened journal a Unacknowledged FoundNext
+  kept_on disk opened journal a Unacknowledged Found FoundNext on k = record {
     images = λ transparent. let i = k.images transparent in record { now = i.now; since = weakens device opened disk _ _ i.since (λ c s. record { found = s.found; stands = s.stands; holds = on s.found s.holds }) };
     log = k.log;
   }
 
   -- the images of an append, as what they stand for
-  pub moments_of : (disk new opened : D) (journal mid : Journal) (a b : A) (entry : E) (Unacknowledged W : A → Type 0)
-      → ArchiveInvariant spell Applies Below device disk opened journal a Unacknowledged W
+  pub moments_of : (disk new opened : D) (journal mid : Journal) (a b : A) (entry : E) (Unacknowledged Found : A → Type 0)
+      → ArchiveInvariant spell Applies HasBase device disk opened journal a Unacknowledged Found
       → Applies (Some a) entry b
       → unhealed_fault journal ≡ None
       → IsSame journal mid
       → (IsTrue device.is_transparent → (bodies : List (List ℕ)) (pending : List ℕ) → JournalHasOnDisk device mid bodies pending disk → unhealed_fault mid ≡ None
       → LeavesOnly device disk new (λ c. IsBeforeOrAfter bodies (spell entry) (c (file_of mid))))
       → LeavesOnly device disk new (IsOldBut device (file_of mid) disk)
-      → IsTrue device.is_transparent → LeavesOnly device disk new (λ c. StandsOver spell Applies Below c a ⊎ StandsOver spell Applies Below c b)
-  moments_of disk new opened journal mid a b entry Unacknowledged W k applies no_pending_fault same run elsewhere transparent =
-      kept.moments_of spell Applies Below lower device disk new journal mid a b entry Unacknowledged (k.log transparent) applies no_pending_fault same (run transparent) elsewhere
+      → IsTrue device.is_transparent → LeavesOnly device disk new (λ c. StandsOver spell Applies HasBase c a ⊎ StandsOver spell Applies HasBase c b)
+  moments_of disk new opened journal mid a b entry Unacknowledged Found k applies no_pending_fault same run elsewhere transparent =
+      kept.moments_of spell Applies HasBase lower device disk new journal mid a b entry Unacknowledged (k.log transparent) applies no_pending_fault same (run transparent) elsewhere
 
   -- an entry was appended
-  pub kept_ok : (disk new opened : D) (journal next : Journal) (a b : A) (entry : E) (Unacknowledged Next W V : A → Type 0)
-      → ArchiveInvariant spell Applies Below device disk opened journal a Unacknowledged W
+  pub kept_ok : (disk new opened : D) (journal next : Journal) (a b : A) (entry : E) (Unacknowledged Next Found FoundNext : A → Type 0)
+      → ArchiveInvariant spell Applies HasBase device disk opened journal a Unacknowledged Found
       → Applies (Some a) entry b
       → file_of next ≡ file_of journal
       → unhealed_fault next ≡ None
       → (IsTrue device.is_transparent → (bodies : List (List ℕ)) (pending : List ℕ) → JournalHasOnDisk device journal bodies pending disk → JournalHasOnDisk device next (bodies ++ spell entry ∷ []) pending new)
-      → (IsTrue device.is_transparent → LeavesOnly device disk new (λ c. StandsOver spell Applies Below c a ⊎ StandsOver spell Applies Below c b))
+      → (IsTrue device.is_transparent → LeavesOnly device disk new (λ c. StandsOver spell Applies HasBase c a ⊎ StandsOver spell Applies HasBase c b))
       → LeavesOnly device disk new (IsOldBut device (file_of journal) disk)
-      → ((x : A) → W x → V x) → V a → V b
-      → ((after : A) → Next after → ⊥)
-      → ArchiveInvariant spell Applies Below device new opened next b Next V
-  kept_ok disk new opened journal next a b entry Unacknowledged Next W V k applies file no_pending_fault keeps moments elsewhere on here there none = record {
-    none_unacknowledged = λ is. none;
-    images = λ transparent. kept.images_next spell Applies Below lower device disk new opened a b Unacknowledged Next W V (k.images transparent) (moments transparent)
-        (λ c left. inl (kept.healed_now spell Applies Below lower device new next b Next (log transparent) no_pending_fault c left)) on here there;
+      → ((x : A) → Found x → FoundNext x) → FoundNext a → FoundNext b
+      → ArchiveInvariant spell Applies HasBase device new opened next b Next FoundNext
+  kept_ok disk new opened journal next a b entry Unacknowledged Next Found FoundNext k applies file no_pending_fault keeps moments elsewhere on here there = record {
+    images = λ transparent. kept.images_next spell Applies HasBase lower device disk new opened a b Unacknowledged Next Found FoundNext (k.images transparent) (moments transparent)
+        (λ c left. inl (kept.healed_now spell Applies HasBase lower device new next b Next (log transparent) no_pending_fault c left)) on here there;
     log = log;
   }
     where
-      log : IsTrue device.is_transparent → LogInvariant spell Applies Below device new next b Next
-      log transparent = kept.entries_ok spell Applies Below lower device disk new journal next a b entry Unacknowledged Next (k.log transparent) applies file no_pending_fault (keeps transparent) elsewhere
+      log : IsTrue device.is_transparent → LogInvariant spell Applies HasBase device new next b Next
+      log transparent = kept.entries_ok spell Applies HasBase lower device disk new journal next a b entry Unacknowledged Next (k.log transparent) applies file no_pending_fault (keeps transparent) elsewhere
 
   -- an append failed
-  pub kept_err : (disk new opened : D) (journal next : Journal) (a b : A) (entry : E) (Unacknowledged Next W V : A → Type 0) (count : ℕ)
-      → ArchiveInvariant spell Applies Below device disk opened journal a Unacknowledged W
+  pub kept_err : (disk new opened : D) (journal next : Journal) (a b : A) (entry : E) (Unacknowledged Next Found FoundNext : A → Type 0) (count : ℕ)
+      → ArchiveInvariant spell Applies HasBase device disk opened journal a Unacknowledged Found
       → Applies (Some a) entry b
       → file_of next ≡ file_of journal
       → unhealed_fault journal ≡ None
       → unhealed_fault next ≡ Some count
       → (IsTrue device.is_transparent → (bodies : List (List ℕ)) (pending : List ℕ) → JournalHasOnDisk device journal bodies pending disk → JournalHasOnDisk device next bodies (spell entry) new)
-      → (IsTrue device.is_transparent → LeavesOnly device disk new (λ c. StandsOver spell Applies Below c a ⊎ StandsOver spell Applies Below c b))
+      → (IsTrue device.is_transparent → LeavesOnly device disk new (λ c. StandsOver spell Applies HasBase c a ⊎ StandsOver spell Applies HasBase c b))
       → LeavesOnly device disk new (IsOldBut device (file_of journal) disk)
-      → ((x : A) → W x → V x) → V a → V b
+      → ((x : A) → Found x → FoundNext x) → FoundNext a → FoundNext b
       → Next b
-      → ArchiveInvariant spell Applies Below device new opened next a Next V
-  kept_err disk new opened journal next a b entry Unacknowledged Next W V count k applies file no_pending_fault unhealed_is keeps moments elsewhere on here there also = record {
-    none_unacknowledged = λ is. absurd (cc (is, unhealed_is));
+      → ArchiveInvariant spell Applies HasBase device new opened next a Next FoundNext
+  kept_err disk new opened journal next a b entry Unacknowledged Next Found FoundNext count k applies file no_pending_fault unhealed_is keeps moments elsewhere on here there also = record {
     images = λ transparent. let i = k.images transparent in record {
       now = λ c left. ⊎_elim (λ old. inl old) (λ more. inr (record { found = b; stands = more; holds = also })) (at_end device disk new _ (moments transparent) c left);
       since = joins device opened disk new _ _ (weakens device opened disk _ _ i.since (λ c s. record { found = s.found; stands = s.stands; holds = on s.found s.holds })) (moments transparent)
           (λ c either. ⊎_elim (λ old. record { found = a; stands = old; holds = here }) (λ more. record { found = b; stands = more; holds = there }) either);
     };
-    log = λ transparent. kept.entries_err spell Applies Below lower device disk new journal next a (spell entry) Unacknowledged Next (k.log transparent) file (keeps transparent) elsewhere
-        (kept.after_entry spell Applies Below lower device disk journal a b entry Unacknowledged Next (k.log transparent) applies also);
+    log = λ transparent. kept.entries_err spell Applies HasBase lower device disk new journal next a (spell entry) Unacknowledged Next (k.log transparent) file (keeps transparent) elsewhere
+        (kept.after_entry spell Applies HasBase lower device disk journal a b entry Unacknowledged Next (k.log transparent) applies also);
   }
 
   -- a reopen of a journal that wants one
-  pub heal_moments : (disk new opened : D) (journal : Journal) (a : A) (Unacknowledged W : A → Type 0)
-      → ArchiveInvariant spell Applies Below device disk opened journal a Unacknowledged W
+  pub heal_moments : (disk new opened : D) (journal : Journal) (a : A) (Unacknowledged Found : A → Type 0)
+      → ArchiveInvariant spell Applies HasBase device disk opened journal a Unacknowledged Found
       → (IsTrue device.is_transparent → (bodies : List (List ℕ)) (pending : List ℕ) → JournalHasOnDisk device journal bodies pending disk → LeavesOnly device disk new (λ c. IsBeforeOrAfter bodies pending (c (file_of journal))))
       → LeavesOnly device disk new (IsOldBut device (file_of journal) disk)
       → (unhealed_fault journal ≡ None → new ≡ disk)
-      → IsTrue device.is_transparent → LeavesOnly device disk new (StandsNow spell Applies Below a Unacknowledged)
-  heal_moments disk new opened journal a Unacknowledged W k run elsewhere no_call transparent = go (unhealed_fault journal) refl
+      → IsTrue device.is_transparent → LeavesOnly device disk new (StandsNow spell Applies HasBase a Unacknowledged)
+  heal_moments disk new opened journal a Unacknowledged Found k run elsewhere no_call transparent = go (unhealed_fault journal) refl
     where
-      go : (o : Option ℕ) → unhealed_fault journal ≡ o → LeavesOnly device disk new (StandsNow spell Applies Below a Unacknowledged)
+      go : (o : Option ℕ) → unhealed_fault journal ≡ o → LeavesOnly device disk new (StandsNow spell Applies HasBase a Unacknowledged)
       go None is =
           let same : new ≡ disk = no_call is in
           let i = k.images transparent in
-          subst (λ (d : D). LeavesOnly device disk d (StandsNow spell Applies Below a Unacknowledged)) (sym same) (started device disk _ i.now)
-      go (Some faults) is = kept.heal_moments spell Applies Below lower device disk new journal a Unacknowledged (k.log transparent) faults is (run transparent) elsewhere
+          subst (λ (d : D). LeavesOnly device disk d (StandsNow spell Applies HasBase a Unacknowledged)) (sym same) (started device disk _ i.now)
+      go (Some faults) is = kept.heal_moments spell Applies HasBase lower device disk new journal a Unacknowledged (k.log transparent) faults is (run transparent) elsewhere
 
   -- it succeeded
-  pub kept_healed : (disk new opened : D) (journal next : Journal) (a : A) (Unacknowledged Next W : A → Type 0)
-      → ArchiveInvariant spell Applies Below device disk opened journal a Unacknowledged W
-      → (IsTrue device.is_transparent → LeavesOnly device disk new (StandsNow spell Applies Below a Unacknowledged))
+  pub kept_healed : (disk new opened : D) (journal next : Journal) (a : A) (Unacknowledged Next Found : A → Type 0)
+      → ArchiveInvariant spell Applies HasBase device disk opened journal a Unacknowledged Found
+      → (IsTrue device.is_transparent → LeavesOnly device disk new (StandsNow spell Applies HasBase a Unacknowledged))
       → (IsTrue device.is_transparent → (bodies : List (List ℕ)) (pending : List ℕ) → JournalHasOnDisk device journal bodies pending disk → JournalHasOnDisk device next bodies pending new)
       → LeavesOnly device disk new (IsOldBut device (file_of journal) disk)
       → file_of next ≡ file_of journal
       → unhealed_fault next ≡ None
-      → W a → ((b : A) → Unacknowledged b → W b)
-      → ((after : A) → Next after → ⊥)
-      → ArchiveInvariant spell Applies Below device new opened next a Next W
-  kept_healed disk new opened journal next a Unacknowledged Next W k moments keeps elsewhere file no_pending_fault here also none = record {
-    none_unacknowledged = λ is. none;
-    images = λ transparent. let i = kept.images_on spell Applies Below lower device disk new opened a Unacknowledged W (k.images transparent) (moments transparent) here also in record {
-      now = λ c left. inl (kept.healed_now spell Applies Below lower device new next a Next (log transparent) no_pending_fault c left);
+      → Found a → ((b : A) → Unacknowledged b → Found b)
+      → ArchiveInvariant spell Applies HasBase device new opened next a Next Found
+  kept_healed disk new opened journal next a Unacknowledged Next Found k moments keeps elsewhere file no_pending_fault here also = record {
+    images = λ transparent. let i = kept.images_on spell Applies HasBase lower device disk new opened a Unacknowledged Found (k.images transparent) (moments transparent) here also in record {
+      now = λ c left. inl (kept.healed_now spell Applies HasBase lower device new next a Next (log transparent) no_pending_fault c left);
       since = i.since;
     };
     log = log;
   }
     where
-      log : IsTrue device.is_transparent → LogInvariant spell Applies Below device new next a Next
-      log transparent = let e = kept.entries_healed spell Applies Below lower device disk new journal next a Unacknowledged (k.log transparent) file (λ faults is. absurd (cc (is, no_pending_fault))) (keeps transparent) elsewhere in record {
-        first = e.first;
+      log : IsTrue device.is_transparent → LogInvariant spell Applies HasBase device new next a Next
+      log transparent = let e = kept.entries_healed spell Applies HasBase lower device disk new journal next a Unacknowledged (k.log transparent) file (λ faults is. absurd (cc (is, no_pending_fault))) (keeps transparent) elsewhere in record {
+        beginning = e.beginning;
         base = e.base;
         entries = e.entries;
         pending = e.pending;
-        below = e.below;
+        has_base = e.has_base;
         replays = e.replays;
         keeps = e.keeps;
         unacknowledged = λ faults is. absurd (cc (is, no_pending_fault));
       }
 
   -- it failed
-  pub kept_unhealed : (disk new opened : D) (journal next : Journal) (a : A) (Unacknowledged W : A → Type 0)
-      → ArchiveInvariant spell Applies Below device disk opened journal a Unacknowledged W
-      → (IsTrue device.is_transparent → LeavesOnly device disk new (StandsNow spell Applies Below a Unacknowledged))
+  pub kept_unhealed : (disk new opened : D) (journal next : Journal) (a : A) (Unacknowledged Found : A → Type 0)
+      → ArchiveInvariant spell Applies HasBase device disk opened journal a Unacknowledged Found
+      → (IsTrue device.is_transparent → LeavesOnly device disk new (StandsNow spell Applies HasBase a Unacknowledged))
       → (IsTrue device.is_transparent → (bodies : List (List ℕ)) (pending : List ℕ) → JournalHasOnDisk device journal bodies pending disk → JournalHasOnDisk device next bodies pending new)
       → LeavesOnly device disk new (IsOldBut device (file_of journal) disk)
       → file_of next ≡ file_of journal
       → unhealed_fault next ≡ unhealed_fault journal
-      → W a → ((b : A) → Unacknowledged b → W b)
-      → ArchiveInvariant spell Applies Below device new opened next a Unacknowledged W
-  kept_unhealed disk new opened journal next a Unacknowledged W k moments keeps elsewhere file same here also = record {
-    none_unacknowledged = λ is. k.none_unacknowledged (sym same ∙ is);
-    images = λ transparent. kept.images_on spell Applies Below lower device disk new opened a Unacknowledged W (k.images transparent) (moments transparent) here also;
-    log = λ transparent. kept.entries_healed spell Applies Below lower device disk new journal next a Unacknowledged (k.log transparent) file (λ faults is. sym same ∙ is) (keeps transparent) elsewhere;
+      → Found a → ((b : A) → Unacknowledged b → Found b)
+      → ArchiveInvariant spell Applies HasBase device new opened next a Unacknowledged Found
+  kept_unhealed disk new opened journal next a Unacknowledged Found k moments keeps elsewhere file same here also = record {
+    images = λ transparent. kept.images_on spell Applies HasBase lower device disk new opened a Unacknowledged Found (k.images transparent) (moments transparent) here also;
+    log = λ transparent. kept.entries_healed spell Applies HasBase lower device disk new journal next a Unacknowledged (k.log transparent) file (λ faults is. sym same ∙ is) (keeps transparent) elsewhere;
   }

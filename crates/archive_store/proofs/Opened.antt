@@ -60,17 +60,16 @@ module _ {D : Type 0} (device : Device D) where
     begins = prefix_self history;
     opening = λ transparent. stands_found (device.reads opened) (device.reads opened 0) journal (archive head history) refl (found transparent);
     archives = record {
-      none_unacknowledged = λ is after none. none;
       images = λ transparent. record {
         now = λ c left. inl (stands transparent c (only c (looked.images c left)));
         since = weakens device opened disk _ _ looked.moments (λ c left. record { found = archive head history; stands = stands transparent c (only c left); holds = found_whole head history history [] (prefix_self history) });
       };
       log = λ transparent. let f = found transparent in record {
-        first = [];
+        beginning = [];
         base = None;
         entries = f.entries;
         pending = [];
-        below = λ c left. (file, refl, refl);
+        has_base = λ c left. (file, refl, refl);
         replays = f.replays;
         keeps = record {
           extents = f.extents;
@@ -84,7 +83,7 @@ module _ {D : Type 0} (device : Device D) where
       };
     };
     pending_fault_is = refl;
-    unhealed_fault_is = no_pending_fault;
+    journal_fault = λ faults is. absurd (cc (is, no_pending_fault));
     head_is = fits;
     rows = rows;
   }
@@ -108,24 +107,23 @@ module _ {D : Type 0} (device : Device D) where
     begins = prefix_self [];
     opening = λ transparent. stands (device.reads disk) (without_fault_state device journal.pending_fault journal.file (head_octets head ∷ []) [] disk no_pending_fault (keeps transparent).state).0;
     archives = record {
-      none_unacknowledged = λ is after none. none;
       images = λ transparent. record {
         now = λ c left. inl (stands_over c (archive head []) (stands c (in_file c transparent left)));
         since = started device disk _ (λ c left. record { found = archive head []; stands = stands_over c (archive head []) (stands c (in_file c transparent left)); holds = found_whole head [] [] [] (prefix_self []) });
       };
       log = λ transparent. record {
-        first = [];
+        beginning = [];
         base = None;
         entries = entries.Head head.tables head.mdb ∷ [];
         pending = [];
-        below = λ c left. (file, refl, refl);
+        has_base = λ c left. (file, refl, refl);
         replays = replays_head head fits;
         keeps = keeps transparent;
         unacknowledged = λ faults is. absurd (cc (is, no_pending_fault));
       };
     };
     pending_fault_is = refl;
-    unhealed_fault_is = no_pending_fault;
+    journal_fault = λ faults is. absurd (cc (is, no_pending_fault));
     head_is = fits;
     rows = tt;
   }

@@ -1,30 +1,28 @@
 -- New rows and duplicates of a batch.
-use Rattle.std.proofs.Common.{◌≡◌, ℕ, zero, suc, ◌+◌, ◌<◌, List, [], ◌∷◌, ◌++◌, length, Bool, true, false, true≢false, cond, Option, Some, None, refl, sym, ◌∙◌, ap, subst, arith, length-append}
-use Rattle.std.specs.Prelude.{◌==◌, ◌&&◌, ◌||◌, slice_get, if◌then◌else◌}
+use Rattle.std.proofs.Common.{◌≡◌, ℕ, zero, suc, ◌+◌, ◌<◌, List, [], ◌∷◌, ◌++◌, length, Bool, true, false, true≢false, Option, Some, None, refl, sym, ◌∙◌, ap, subst, arith, length-append}
+use Rattle.std.specs.Prelude.{◌==◌, ◌&&◌, slice_get}
 use Rattle.std.specs.List.{list_any}
-use Rattle.std.specs.Map.{lookup}
-use Rattle.std.specs.BTreeMap.{is_at, insert_entry}
-use Rattle.std.specs.Ordering.{nat_cmp, ordering_then, is_eq, MatchOrdering}
+use Rattle.std.specs.Ordering.{nat_cmp, int_cmp, int_eq, is_eq, is_gt, ordering_then, ordering_reverse, MatchOrdering}
 use Rattle.std.specs.Cmp.{IsTotalOrder, then_total, on_total, nat_cmp_total, ranks}
 use Rattle.std.specs.declared.cmp.Ordering.{Ordering}
 use Rattle.std.specs.declared.cmp.Ordering.TheVariants.{Less, Equal, Greater}
-use Rattle.std.proofs.lemmas.Cmp.{eq_by_cmp_equiv}
+use Rattle.std.proofs.lemmas.Cmp.{int_eq_equiv, nat_eq_equiv, tied_itself, upto}
+use Rattle.std.proofs.lemmas.Bool.{and_parts, eqb-true, or_from}
 use Rattle.std.proofs.lemmas.Bool.Decides.{nat_tests}
 use Rattle.std.proofs.lemmas.List.Folds.{list_any-append}
-use Rattle.block_map.proofs.KeyedLists.{lookup-insert_entry}
+use Rattle.block_map.proofs.Rising.{all_append}
 use Rattle.arch_types.specs.declared.inserted.Inserted.{Inserted}
 use Rattle.arch_types.specs.declared.inserted.Inserted.TheVariants.{New, Duplicate}
-use Rattle.arch_types.specs.declared.key.Key.{Key}
 use Rattle.arch_types.specs.declared.row.Row.{Row}
-use Rattle.arch_types.specs.History.{is_duplicate_of, ingested, IsHistory}
+use Rattle.arch_types.specs.History.{ingested, IsHistory}
 use Rattle.arch_types.specs.Order.{key_cmp}
 use Rattle.arch_types.proofs.Ranks.{key_cmp_total}
 use Rattle.arch_types.proofs.Histories.{keeps_history}
-use Rattle.archive_core.specs.Items.{Item}
+use Rattle.archive_core.specs.Items.{Item, has_key_of}
 use Rattle.archive_core.specs.Outcomes.{Says, outcome_of, outcomes_of, fresh_of, answered_new}
 use Rattle.archive_core.proofs.Outcomes.{outcomes_say, outcomes-append, length-outcomes, fresh_added}
 use Rattle.archive_history.specs.TableSet.{is_at_key}
-use Rattle.archive_store.specs.Classifying.{at_cmp, IsFoundAt, IndexesByKey}
+use Rattle.archive_store.specs.Classifying.{IsFoundAt, NoneAbove, is_above, table_key_cmp, table_key_of}
 use Rattle.archive_store.specs.declared.classifying.TableKey.{TableKey}
 
 -- ---- items at places
@@ -42,26 +40,34 @@ at_right {X} (y ∷ xs) ys i x e =
     let same : length (y ∷ xs) + i ≡ suc (length xs + i) = omega arith in
     ap (λ (k : ℕ). slice_get (y ∷ xs ++ ys) k) same ∙ at_right xs ys i x e
 
-pub at_end : {X : Type 0} (xs : List X) (x : X) → slice_get (xs ++ x ∷ []) (length xs) ≡ Some x
-at_end xs x =
-    let same : length xs ≡ length xs + 0 = omega arith in
-    ap (λ (k : ℕ). slice_get (xs ++ x ∷ []) k) same ∙ at_right xs (x ∷ []) 0 x refl
+-- ---- the last key of a batch
 
-pub passes_there : {X : Type 0} (test : X → Bool) (xs : List X) (i : ℕ) (x : X) → slice_get xs i ≡ Some x → test x ≡ true → list_any test xs ≡ true
-passes_there test [] i x e passes = absurd cc
-passes_there test (y ∷ xs) zero x e passes =
-    let same : y ≡ x = cc in
-    rw (ap test same ∙ passes) refl
-passes_there test (y ∷ xs) (suc i) x e passes = rw (passes_there test xs i x e passes) (or_true (test y))
+table_key_total : IsTotalOrder table_key_cmp
+table_key_total = then_total (on_total (λ (a : TableKey). a.key) key_cmp_total) (on_total (λ (a : TableKey). a.table) nat_cmp_total)
+
+equal_true : (o : Ordering) → is_eq o ≡ true → o ≡ Equal
+equal_true Less e = absurd cc
+equal_true Equal e = refl
+equal_true Greater e = absurd cc
+
+-- the key of a row of that table and key compares equal with it
+same_key : (at : TableKey) (row : Row) → is_at_key at.table at.key row ≡ true → table_key_cmp at (table_key_of row) ≡ Equal
+same_key at row passes =
+    let p = and_parts (at.table == row.table) (is_eq (key_cmp at.key row.key)) passes in
+    let table : at.table ≡ row.table = eqb-true at.table row.table p.0 in
+    let key : key_cmp at.key row.key ≡ Equal = equal_true (key_cmp at.key row.key) p.1 in
+    rw (key, table) (tied_itself nat_cmp_total row.table)
+
+-- a key above the last one is that of no row
+pub none_at_key : (at : TableKey) (last : Option TableKey) (rows : List Row) → NoneAbove last rows → is_above at last ≡ true → IsFoundAt rows at None
+none_at_key at None rows none above = subst (λ (l : List Row). IsFoundAt l at None) (sym none) refl
+none_at_key at (Some last) [] none above = refl
+none_at_key at (Some last) (row ∷ rows) none above =
+    or_from (is_at_key at.table at.key row) (list_any (is_at_key at.table at.key) rows) (other (is_at_key at.table at.key row) refl) (none_at_key at (Some last) rows none.1 above)
   where
-    or_true : (b : Bool) → (b || true) ≡ true
-    or_true true = refl
-    or_true false = refl
-
--- ---- the index of a batch
-
-at_cmp_total : IsTotalOrder at_cmp
-at_cmp_total = then_total (on_total (λ (a : TableKey). a.table) nat_cmp_total) (on_total (λ (a : TableKey). a.key) key_cmp_total)
+    other : (b : Bool) → is_at_key at.table at.key row ≡ b → b ≡ false
+    other false is = refl
+    other true is = absurd (true≢false (sym above ∙ ap is_gt (table_key_total.congr at (table_key_of row) last (same_key at row is)) ∙ none.0))
 
 eq_then : (r s : Ordering) → is_eq (ordering_then r s) ≡ (is_eq r && is_eq s)
 eq_then Less s = refl
@@ -73,81 +79,75 @@ eq_nat a b Less less = sym (let far : (b == a) ≡ false = grind (arith, nat_tes
 eq_nat a b Equal same = sym (let near : (b == a) ≡ true = grind (arith, nat_tests, same) in near)
 eq_nat a b Greater more = sym (let far : (b == a) ≡ false = grind (arith, nat_tests, more) in far)
 
--- the index takes a key for the one of a row exactly where the row is the one of that table and key
-same_test : (x at : TableKey) (row : Row) → row.table ≡ x.table → row.key ≡ x.key → is_at (at_cmp x) at ≡ is_at_key at.table at.key row
-same_test x at row table key =
-    eq_then (nat_cmp x.table at.table) (key_cmp x.key at.key)
-    ∙ ap (λ (b : Bool). b && is_eq (key_cmp x.key at.key)) (eq_nat x.table at.table (nat_cmp x.table at.table) (ranks x.table at.table))
-    ∙ ap (λ (b : Bool). (at.table == x.table) && b) ((eq_by_cmp_equiv key_cmp_total).symm x.key at.key)
-    ∙ ap (λ (n : ℕ). (at.table == n) && is_eq (key_cmp at.key x.key)) (sym table)
-    ∙ ap (λ (k : Key). (at.table == row.table) && is_eq (key_cmp at.key k)) (sym key)
+swapped : (a b : Bool) → (a && b) ≡ (b && a)
+swapped false false = refl
+swapped false true = refl
+swapped true false = refl
+swapped true true = refl
 
-pub found_none : (rows : List Row) (es : List (TableKey × ℕ)) (at : TableKey) → IndexesByKey rows es → list_any (is_at_key at.table at.key) rows ≡ false → lookup (is_at (at_cmp at)) es ≡ None
-found_none rows es at is_transparent none = go (lookup (is_at (at_cmp at)) es) refl (is_transparent at)
+-- whether two keys are one, part by part
+abbrev parts_same : TableKey → TableKey → Bool
+parts_same a b = (int_eq a.key.time b.key.time && (a.key.seq == b.key.seq)) && (a.table == b.table)
+
+-- the key of a row is one exactly where the row has that table and key
+pub key_test : (at key : TableKey) (row : Row) (test : Bool) → key ≡ table_key_of row → test ≡ parts_same key at → is_at_key at.table at.key row ≡ test
+key_test at key row test is same =
+    ap (λ (b : Bool). (at.table == row.table) && b) (eq_then (int_cmp at.key.time row.key.time) (nat_cmp at.key.seq row.key.seq))
+    ∙ ap (λ (b : Bool). (at.table == row.table) && (int_eq at.key.time row.key.time && b)) (eq_nat at.key.seq row.key.seq (nat_cmp at.key.seq row.key.seq) (ranks at.key.seq row.key.seq))
+    ∙ ap (λ (b : Bool). (at.table == row.table) && (b && (row.key.seq == at.key.seq))) (int_eq_equiv.symm at.key.time row.key.time)
+    ∙ ap (λ (b : Bool). b && (int_eq row.key.time at.key.time && (row.key.seq == at.key.seq))) (nat_eq_equiv.symm at.table row.table)
+    ∙ swapped (row.table == at.table) (int_eq row.key.time at.key.time && (row.key.seq == at.key.seq))
+    ∙ ap (λ (k : TableKey). parts_same k at) (sym is)
+    ∙ sym same
+
+not_above_itself : (at : TableKey) → is_above at (Some at) ≡ false
+not_above_itself at = ap is_gt (tied_itself table_key_total at)
+
+turned : (o : Ordering) → is_gt o ≡ true → is_gt (ordering_reverse o) ≡ false
+turned Less e = absurd cc
+turned Equal e = absurd cc
+turned Greater e = refl
+
+-- with a row more, the last key is the old one where the row's is not above it,
+pub last_kept : (last : Option TableKey) (rows : List Row) (row : Row) → NoneAbove last rows → is_above (table_key_of row) last ≡ false → NoneAbove last (rows ++ row ∷ [])
+last_kept None rows row none below = absurd (true≢false below)
+last_kept (Some last) rows row none below = all_append (λ r. is_above (table_key_of r) (Some last) ≡ false) rows (row ∷ []) none (below, tt)
+
+-- and else the row's
+pub last_raised : (last : Option TableKey) (rows : List Row) (row : Row) → NoneAbove last rows → is_above (table_key_of row) last ≡ true
+    → NoneAbove (Some (table_key_of row)) (rows ++ row ∷ [])
+last_raised None rows row none above = subst (λ (l : List Row). NoneAbove (Some (table_key_of row)) (l ++ row ∷ [])) (sym none) (not_above_itself (table_key_of row), tt)
+last_raised (Some last) rows row none above =
+    all_append (λ r. is_above (table_key_of r) (Some (table_key_of row)) ≡ false) rows (row ∷ []) (lower rows none) (not_above_itself (table_key_of row), tt)
   where
-    go : (o : Option ℕ) → lookup (is_at (at_cmp at)) es ≡ o → IsFoundAt rows at o → o ≡ None
-    go None is found = refl
-    go (Some i) is found = absurd (true≢false (sym (passes_there (is_at_key at.table at.key) rows i found.0 found.1 found.2) ∙ none))
+    below : is_gt (table_key_cmp last (table_key_of row)) ≡ false
+    below = ap is_gt (table_key_total.antisymm last (table_key_of row)) ∙ turned (table_key_cmp (table_key_of row) last) above
 
-pub tells_more : (rows : List Row) (es : List (TableKey × ℕ)) (x : TableKey) (row : Row) → row.table ≡ x.table → row.key ≡ x.key → IndexesByKey rows es → IndexesByKey (rows ++ row ∷ []) (insert_entry at_cmp es x (length rows))
-tells_more rows es x row table key is_transparent at =
-    subst (IsFoundAt (rows ++ row ∷ []) at) (sym (lookup-insert_entry at_cmp_total at x (length rows) es)) (here (is_at (at_cmp x) at) refl)
-  where
-    passes : is_at (at_cmp x) at ≡ is_at_key at.table at.key row
-    passes = same_test x at row table key
-
-    older : (o : Option ℕ) → is_at_key at.table at.key row ≡ false → IsFoundAt rows at o → IsFoundAt (rows ++ row ∷ []) at o
-    older (Some i) far found = (found.0, at_left rows (row ∷ []) i found.0 found.1, found.2)
-    older None far found = rw (list_any-append (is_at_key at.table at.key) rows (row ∷ []), found, far) refl
-
-    here : (b : Bool) → is_at (at_cmp x) at ≡ b → IsFoundAt (rows ++ row ∷ []) at (cond b (Some (length rows)) (lookup (is_at (at_cmp at)) es))
-    here true is = (row, at_end rows row, sym passes ∙ is)
-    here false is = older (lookup (is_at (at_cmp at)) es) (sym passes ∙ is) (is_transparent at)
+    lower : (rs : List Row) → NoneAbove (Some last) rs → NoneAbove (Some (table_key_of row)) rs
+    lower [] all = tt
+    lower (r ∷ rs) all = (upto table_key_total (table_key_of r) last (table_key_of row) all.0 below, lower rs all.1)
 
 -- ---- what an outcome says
 
-left_of_or : (a b : Bool) → (a || b) ≡ false → a ≡ false
-left_of_or false b h = refl
-left_of_or true b h = absurd (true≢false h)
+-- the test by a row is that by its table and key
+test_is : (at : TableKey) (row : Row) (items : List Item) (b : Bool) → table_key_of row ≡ at → list_any (is_at_key at.table at.key) items ≡ b → list_any (has_key_of row) items ≡ b
+test_is at row items b same is = ap (λ (k : TableKey). list_any (is_at_key k.table k.key) items) same ∙ is
 
-right_of_or : (a b : Bool) → (a || b) ≡ false → b ≡ false
-right_of_or false b h = h
-right_of_or true b h = absurd (true≢false h)
+pub says_known : (items fresh : List Item) (at : TableKey) (p : ℕ) (there : Item) → slice_get items p ≡ Some there → is_at_key at.table at.key there ≡ true →
+    (row : Row) → table_key_of row ≡ at → Says (items ++ fresh) row (Duplicate p)
+says_known items fresh at p there found passes row same = (there, at_left items fresh p there found, ap (λ (k : TableKey). is_at_key k.table k.key there) same ∙ passes)
 
--- the tests by table and key, and by a row that has them, are one
-test_is : (table : ℕ) (key : Key) (row : Row) (items : List Item) (b : Bool) → row.table ≡ table → row.key ≡ key → list_any (is_at_key table key) items ≡ b → list_any (is_duplicate_of row) items ≡ b
-test_is table key row items b t k is =
-    ap (λ (n : ℕ). list_any (is_at_key n row.key) items) t ∙ ap (λ (x : Key). list_any (is_at_key table x) items) k ∙ is
+pub says_fresh : (items fresh : List Item) (at : TableKey) (i : ℕ) (there : Item) → slice_get fresh i ≡ Some there → is_at_key at.table at.key there ≡ true →
+    (row : Row) → table_key_of row ≡ at → Says (items ++ fresh) row (Duplicate (length items + i))
+says_fresh items fresh at i there found passes row same = (there, at_right items fresh i there found, ap (λ (k : TableKey). is_at_key k.table k.key there) same ∙ passes)
 
-pub says_known : (items fresh : List Item) (table : ℕ) (key : Key) (p : ℕ) (there : Item) → slice_get items p ≡ Some there → is_at_key table key there ≡ true →
-    (row : Row) → row.table ≡ table → row.key ≡ key → Says (items ++ fresh) row (Duplicate p)
-says_known items fresh table key p there at passes row t k =
-    (there, at_left items fresh p there at, ap (λ (n : ℕ). is_at_key n row.key there) t ∙ ap (λ (x : Key). is_at_key table x there) k ∙ passes)
-
-pub says_fresh : (items fresh : List Item) (table : ℕ) (key : Key) (i : ℕ) (there : Item) → slice_get fresh i ≡ Some there → is_at_key table key there ≡ true →
-    (row : Row) → row.table ≡ table → row.key ≡ key → Says (items ++ fresh) row (Duplicate (length items + i))
-says_fresh items fresh table key i there at passes row t k =
-    (there, at_right items fresh i there at, ap (λ (n : ℕ). is_at_key n row.key there) t ∙ ap (λ (x : Key). is_at_key table x there) k ∙ passes)
-
-pub says_new : (items fresh : List Item) (table : ℕ) (key : Key) (n : ℕ) → list_any (is_at_key table key) items ≡ false → list_any (is_at_key table key) fresh ≡ false → n ≡ length items + length fresh →
-    (row : Row) → row.table ≡ table → row.key ≡ key → Says (items ++ fresh) row (New n)
-says_new items fresh table key n first second long row t k =
-    let one = test_is table key row items false t k first in
-    let two = test_is table key row fresh false t k second in
-    let none : list_any (is_duplicate_of row) (items ++ fresh) ≡ false = rw (list_any-append (is_duplicate_of row) items fresh, one, two) refl in
+pub says_new : (items fresh : List Item) (at : TableKey) (n : ℕ) → list_any (is_at_key at.table at.key) items ≡ false → list_any (is_at_key at.table at.key) fresh ≡ false → n ≡ length items + length fresh →
+    (row : Row) → table_key_of row ≡ at → Says (items ++ fresh) row (New n)
+says_new items fresh at n first second long row same =
+    let one = test_is at row items false same first in
+    let two = test_is at row fresh false same second in
+    let none : list_any (has_key_of row) (items ++ fresh) ≡ false = rw (list_any-append (has_key_of row) items fresh, one, two) refl in
     (rw none refl, long ∙ sym (length-append items fresh))
-
--- a row that is new has no duplicate
-pub new_alone : (there : List Item) (row : Row) (n : ℕ) → Says there row (New n) → list_any (is_duplicate_of row) there ≡ false
-new_alone there row n says = go (list_any (is_duplicate_of row) there) refl says.0
-  where
-    go : (b : Bool) → list_any (is_duplicate_of row) there ≡ b → (if b then there else there ++ row ∷ []) ≡ there ++ row ∷ [] → b ≡ false
-    go true is same = absurd (omega (arith, ap length same, length-append there (row ∷ [])))
-    go false is same = refl
-
-pub new_behind : (items fresh : List Item) (row : Row) (n : ℕ) → Says (items ++ fresh) row (New n) → list_any (is_at_key row.table row.key) fresh ≡ false
-new_behind items fresh row n says =
-    right_of_or (list_any (is_duplicate_of row) items) (list_any (is_duplicate_of row) fresh) (sym (list_any-append (is_duplicate_of row) items fresh) ∙ new_alone (items ++ fresh) row n says)
 
 -- ---- one row more
 

@@ -13,9 +13,9 @@ use Rattle.disk_journal.specs.declared.journal.Journal.{Journal}
 use Rattle.field_codec.specs.Spelling.{entry_octets}
 use Rattle.archive_store.specs.declared.head.Head.{Head}
 use Rattle.archive_store.specs.Entries.{Archive, archive, Applies, Replays}
-use Rattle.archive_store.specs.Images.{ReadsLower, StandsOver, StandsForSome, StandsNow, IsPlainLog}
+use Rattle.archive_store.specs.Images.{IsSaidByLowerFiles, StandsOver, StandsForSome, StandsNow, IsPlainLog}
 use Rattle.archive_store.specs.Inside.{StoreInvariant, view_of}
-use Rattle.archive_store.specs.PlainLog.{IsUnacknowledged, IsFound}
+use Rattle.archive_store.specs.PlainLog.{IsUnacknowledged, IsSinceArchive}
 use Rattle.archive_store.specs.Stands.{StandsFor}
 use Rattle.archive_store.specs.StoreView.{CrashInvariant, IsNow, IsSince}
 use Rattle.archive_store.proofs.PendingFaults.{prefix_self}
@@ -28,21 +28,21 @@ abbrev pub PlainNow : Head → List Item → Option (List Item) → Image → Ty
 PlainNow head history o c = StandsNow entry_octets Applies IsPlainLog (archive head history) (IsUnacknowledged head history o) c
 
 abbrev PlainSince : Head → List Item → List Item → List (List Item) → Image → Type 0
-PlainSince head before history in_faults c = StandsForSome entry_octets Applies IsPlainLog (IsFound head before history in_faults) c
+PlainSince head before history in_faults c = StandsForSome entry_octets Applies IsPlainLog (IsSinceArchive head before history in_faults) c
 
--- nothing below the log is said by other files
-pub plain_lower : ReadsLower {A = Archive} IsPlainLog
-plain_lower = λ c d log first base same below. below
+-- the base of a plain log is said by no other file
+pub plain_lower : IsSaidByLowerFiles {A = Archive} IsPlainLog
+plain_lower = λ c d log beginning base same has_base. has_base
 
 -- an image stands for an archive in either form
 pub stands_over : (c : Image) (a : Archive) → StandsFor c a → StandsPlain c a
-stands_over c a s = record { log = 0; first = []; base = None; entries = s.entries; below = (refl, refl, refl); has = s.has; replays = s.replays }
+stands_over c a s = record { log = 0; beginning = []; base = None; entries = s.entries; has_base = (refl, refl, refl); has = s.has; replays = s.replays }
 
 pub stands_for : (c : Image) (a : Archive) → StandsPlain c a → StandsFor c a
 stands_for c a s = record {
   entries = s.entries;
-  has = subst (λ (l : List (List ℕ)). HasRecords (c 0) (l ++ map entry_octets s.entries)) s.below.1 (subst (λ (f : ℕ). HasRecords (c f) (s.first ++ map entry_octets s.entries)) s.below.0 s.has);
-  replays = subst (λ (o : Option Archive). Replays o s.entries (Some a)) s.below.2 s.replays;
+  has = subst (λ (l : List (List ℕ)). HasRecords (c 0) (l ++ map entry_octets s.entries)) s.has_base.1 (subst (λ (f : ℕ). HasRecords (c f) (s.beginning ++ map entry_octets s.entries)) s.has_base.0 s.has);
+  replays = subst (λ (o : Option Archive). Replays o s.entries (Some a)) s.has_base.2 s.replays;
 }
 
 -- what a crash now may leave
@@ -61,48 +61,44 @@ now_for head history (Some more) c (inr new) = inr (stands_for c (archive head (
 pub since_over : (head : Head) (before history : List Item) (in_faults : List (List Item)) (c : Image) → IsSince head before history in_faults c → PlainSince head before history in_faults c
 since_over head before history in_faults c s =
     ⊎_elim
-    (λ whole. record { found = archive head s.front; stands = stands_over c (archive head s.front) whole; holds = record { front = s.front; holds = s.holds; begins = s.begins; found_is = inl refl } })
+    (λ whole. record { found = archive head s.front; stands = stands_over c (archive head s.front) whole; holds = record { kept = s.front; holds = s.holds; begins = s.begins; found_is = inl refl } })
     (λ more. record {
       found = archive head (s.front ++ more.0);
       stands = stands_over c (archive head (s.front ++ more.0)) more.2;
-      holds = record { front = s.front; holds = s.holds; begins = s.begins; found_is = inr (more.0, more.1, refl) };
+      holds = record { kept = s.front; holds = s.holds; begins = s.begins; found_is = inr (more.0, more.1, refl) };
     }) s.stands
 
 pub since_for : (head : Head) (before history : List Item) (in_faults : List (List Item)) (c : Image) → PlainSince head before history in_faults c → IsSince head before history in_faults c
 since_for head before history in_faults c s = let f = s.holds in record {
-  front = f.front;
+  front = f.kept;
   holds = f.holds;
   begins = f.begins;
-  stands = ⊎_elim (λ is. inl (stands_for c (archive head f.front) (subst (StandsPlain c) is s.stands)))
-      (λ more. inr (more.0, more.1, stands_for c (archive head (f.front ++ more.0)) (subst (StandsPlain c) more.2 s.stands))) f.found_is;
+  stands = ⊎_elim (λ is. inl (stands_for c (archive head f.kept) (subst (StandsPlain c) is s.stands)))
+      (λ more. inr (more.0, more.1, stands_for c (archive head (f.kept ++ more.0)) (subst (StandsPlain c) more.2 s.stands))) f.found_is;
 }
 
 -- an archive that was found, as history and faults grow
-pub found_whole : (head : Head) (before history : List Item) (in_faults : List (List Item)) → IsPrefix before history → IsFound head before history in_faults (archive head history)
-found_whole head before history in_faults begins = record { front = history; holds = begins; begins = prefix_self history; found_is = inl refl }
+pub found_whole : (head : Head) (before history : List Item) (in_faults : List (List Item)) → IsPrefix before history → IsSinceArchive head before history in_faults (archive head history)
+found_whole head before history in_faults begins = record { kept = history; holds = begins; begins = prefix_self history; found_is = inl refl }
 
-pub found_with : (head : Head) (before history more : List Item) (in_faults : List (List Item)) → IsPrefix before history → Contains in_faults more → IsFound head before history in_faults (archive head (history ++ more))
-found_with head before history more in_faults begins there = record { front = history; holds = begins; begins = prefix_self history; found_is = inr (more, there, refl) }
+pub found_with : (head : Head) (before history more : List Item) (in_faults : List (List Item)) → IsPrefix before history → Contains in_faults more → IsSinceArchive head before history in_faults (archive head (history ++ more))
+found_with head before history more in_faults begins there = record { kept = history; holds = begins; begins = prefix_self history; found_is = inr (more, there, refl) }
 
 pub found_on : (head : Head) (before old new : List Item) (had has : List (List Item)) → ((xs : List Item) → IsPrefix xs old → IsPrefix xs new) → ((more : List Item) → Contains had more → Contains has more)
-    → (a : Archive) → IsFound head before old had a → IsFound head before new has a
+    → (a : Archive) → IsSinceArchive head before old had a → IsSinceArchive head before new has a
 found_on head before old new had has grows keeps a f = record {
-  front = f.front;
+  kept = f.kept;
   holds = f.holds;
-  begins = grows f.front f.begins;
+  begins = grows f.kept f.begins;
   found_is = ⊎_elim (λ whole. inl whole) (λ more. inr (more.0, keeps more.0 more.1, more.2)) f.found_is;
 }
 
 -- the unacknowledged rows are those of a fault
 pub found_unacknowledged : (head : Head) (before history : List Item) (in_faults : List (List Item)) (o : Option (List Item)) → ((more : List Item) → o ≡ Some more → Contains in_faults more) → IsPrefix before history
-    → (a : Archive) → IsUnacknowledged head history o a → IsFound head before history in_faults a
+    → (a : Archive) → IsUnacknowledged head history o a → IsSinceArchive head before history in_faults a
 found_unacknowledged head before history in_faults None there begins a is = absurd is
 found_unacknowledged head before history in_faults (Some more) there begins a is =
-    subst (IsFound head before history in_faults) (sym is) (found_with head before history more in_faults begins (there more refl))
-
--- without them no other archive is
-pub nothing_unacknowledged : (head : Head) (history : List Item) (o : Option (List Item)) → o ≡ None → (a : Archive) → IsUnacknowledged head history o a → ⊥
-nothing_unacknowledged head history o none a is = subst (λ (p : Option (List Item)). IsUnacknowledged head history p a) none is
+    subst (IsSinceArchive head before history in_faults) (sym is) (found_with head before history more in_faults begins (there more refl))
 
 module _ {D : Type 0} (device : Device D) where
   -- a run's images, in either form

@@ -8,16 +8,14 @@ use Rattle.archive_core.specs.contracts.fill_list.FillList as FillList
 use Rattle.archive_core.specs.contracts.fills.Fill as Fill
 use Rattle.archive_history.specs.contracts.history.History as History
 use Rattle.archive_history.specs.contracts.limit_counts.LimitCounts as LimitCounts
+use Rattle.archive_history.proofs.Sending.{table_set_send}
 use Rattle.archive_store.specs.contracts.store.Store as Store
-use Rattle.archive_history.specs.contracts.table_set.TableSet as TableSet
 use Rattle.mdb_items.specs.contracts.calibration.Calibration as Calibration
 use Rattle.mdb_items.specs.contracts.container.Container as Container
 use Rattle.mdb_model.specs.contracts.mdb.Inner as Inner
 use Rattle.mdb_model.specs.contracts.mdb.Mdb as Mdb
 use Rattle.mdb_items.specs.contracts.name.MdbName as MdbName
 use Rattle.mdb_items.specs.contracts.parameter.Parameter as Parameter
-use Rattle.yarch_table.specs.contracts.table.Stored as Stored
-use Rattle.yarch_table.specs.contracts.table.Table as Table
 
 -- ---- the mission database, which plans share
 name_send : IsSend MdbName.the_row
@@ -59,15 +57,6 @@ mdb_sync = search (crosses, inner_send, inner_sync, sendable) depth 60
 -- ---- the history
 row_send : IsSend Row.the_row
 row_send = search (crosses, sendable) depth 60
-
-stored_send : IsSend Stored.the_row
-stored_send = search (crosses, sendable) depth 60
-
-table_send : IsSend Table.the_row
-table_send = search (crosses, stored_send, sendable) depth 60 fits 10000
-
-table_set_send : IsSend TableSet.the_row
-table_set_send = search (crosses, table_send, sendable) depth 60
 
 counts_send : IsSend LimitCounts.the_row
 counts_send = search (crosses, sendable) depth 60

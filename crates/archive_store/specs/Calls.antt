@@ -1,7 +1,7 @@
 -- What the calls of a store answer, and what each answer leaves of the store and of its disk.
 use Rattle.std.specs.Prelude.{◌≡◌, ◌≢◌, ◌≤◌, ◌⊎◌, ℕ, ◌+◌, ◌++◌, List, [], length, IsTrue, None, Some, Result, Ok, Err, IsErrAnd, MatchResult}
 use Rattle.arch_disk.specs.Image.{Image}
-use Rattle.arch_disk.specs.Disk.{Device, LeavesOnly, raised}
+use Rattle.arch_disk.specs.Disk.{Device, LeavesOnly, NoWriteFailed, raised}
 use Rattle.arch_types.specs.declared.inserted.Inserted.{Inserted}
 use Rattle.arch_types.specs.declared.refusal.Refusal.{Refusal}
 use Rattle.arch_types.specs.declared.refusal.Refusal.TheVariants.{NoArchive, Exists, Damaged, DiskFault, NeedsReopen, Limit, OutOfMemory}
@@ -19,10 +19,6 @@ use Rattle.archive_store.specs.declared.head.Head.{Head}
 use Rattle.archive_store.specs.Entries.{Archive, archive}
 use Rattle.archive_store.specs.Stands.{StandsFor, IsArchiveDamagedAt}
 use Rattle.archive_store.specs.StoreView.{StoreView, AddsFault, IsNow, archive_of}
-
--- no write, cut or sync failed
-abbrev pub NoWriteFailed : {D : Type 0} → Device D → D → D → Type 0
-NoWriteFailed device before after = device.failed_writes after ≡ device.failed_writes before
 
 -- ---- crashes
 
@@ -105,8 +101,8 @@ IsRowsRefusal device old new rows _ = ⊥
 
 -- ---- reopens
 
--- the failed writes of the fill list are cleared, and every image stands for the history; where none was pending no call
--- of the disk was made
+-- the failed writes of the fill list are cleared, and every image stands for the history; where none was pending no
+-- call of the disk was made
 pub record IsStoreReopened {D : Type 0} (device : Device D) (old new : StoreView D) : Type 0 where
   pub store : new ≡ record old { fills = reopened old.fills; disk = new.disk }
   pub healed : pending_fault_of new.fills ≡ None
@@ -173,7 +169,8 @@ IsFailure refusal = (refusal ≡ DiskFault) ⊎ (refusal ≡ OutOfMemory)
 pub record IsDecidedByImage {D : Type 0} (image : Image) (result : Result (StoreView D) (D × Refusal)) : Type 0 where
   pub none : HoldsNone (image 0) → IsErrAnd result (λ e. (e.1 ≡ NoArchive) ⊎ IsFailure e.1)
   pub damaged : (at : ℕ) → IsArchiveDamagedAt image at → IsErrAnd result (λ e. (e.1 ≡ Damaged 0 at) ⊎ IsFailure e.1)
-  pub stands : (archive : Archive) → StandsFor image archive → MatchResult result (λ s. archive_of s ≡ archive) (λ e. IsFailure e.1)
+  pub stands : (archive : Archive) → StandsFor image archive →
+      MatchResult result (λ s. archive_of s ≡ archive) (λ e. IsFailure e.1)
 
 -- the disk held no archive, and holds one of this head without rows
 pub record IsStoreCreated {D : Type 0} (device : Device D) (disk : D) (head : Head) (store : StoreView D) : Type 0 where

@@ -24,8 +24,8 @@ pub record IsPlaced (head : Head) (row : Row) : Type 0 where
   pub table : row.table < length head.tables
   pub pname : row.pname < length head.mdb.containers
 
--- A row that a store gives: a whole packet that isn't idle, received within the clock's range, with the key that it gives then,
--- in a table that the head has, and of a container that its database names
+-- A row that a store gives: a whole packet that isn't idle, received within the clock's range, with the key that it
+-- gives then, in a table that the head has, and of a container that its database names
 pub record IsArchivedRow (head : Head) (row : Row) : Type 0 where
   pub stored : IsStored row
   pub placed : IsPlaced head row
@@ -35,7 +35,8 @@ abbrev pub HasArchivedRows : Option Archive → Type 0
 HasArchivedRows None = Unit {0}
 HasArchivedRows (Some archive) = AllByRecursion (IsArchivedRow archive.head) (rows_in archive.history)
 
--- Rows that a record may add: they have a spelling, their tables and names are there, no table has one of the keys, and no limit is passed.
+-- Rows that a record may add: they have a spelling, their tables and names are there, no table has one of the keys,
+-- and no limit is passed.
 pub record AreAdmitted (old : Archive) (rows : List Row) : Type 0 where
   pub spelled : IsArchiveEntry (entries.Rows rows)
   pub placed : AllByRecursion (IsPlaced old.head) rows
@@ -44,10 +45,12 @@ pub record AreAdmitted (old : Archive) (rows : List Row) : Type 0 where
 
 -- An entry makes an archive of nothing or of what there was: the first is a head, no other is, and rows are admitted.
 abbrev pub Applies : Option Archive → Entry → Archive → Type 0
-Applies None (entries.Head tables mdb) new = IsArchiveEntry (entries.Head tables mdb) × (new ≡ archive (record { tables = tables; mdb = mdb }) [])
+Applies None (entries.Head tables mdb) new =
+    IsArchiveEntry (entries.Head tables mdb) × (new ≡ archive (record { tables = tables; mdb = mdb }) [])
 Applies None (entries.Rows rows) new = ⊥
 Applies (Some old) (entries.Head tables mdb) new = ⊥
-Applies (Some old) (entries.Rows rows) new = AreAdmitted old rows × (new ≡ archive old.head (old.history ++ items_of rows))
+Applies (Some old) (entries.Rows rows) new =
+    AreAdmitted old rows × (new ≡ archive old.head (old.history ++ items_of rows))
 
 -- these entries, one after the other
 abbrev pub Replays : Option Archive → List Entry → Option Archive → Type 0

@@ -7,6 +7,7 @@ pub mod Laws
 pub mod PartialArchive
 pub mod PlainLog
 pub mod Plans
+pub mod Replays
 pub mod StoreView
 pub mod Classifying
 pub mod Stands

@@ -24,7 +24,8 @@ archive_made made = option_map (λ m. archive m.head m.history.items) made
 -- there are as many tables as the head has names, and the head has a spelling
 abbrev pub HasTables : Option PartialArchive → Type 0
 HasTables None = Unit {0}
-HasTables (Some made) = (made.history.tables ≡ length made.head.tables) × IsArchiveEntry (entries.Head made.head.tables made.head.mdb)
+HasTables (Some made) =
+    (made.history.tables ≡ length made.head.tables) × IsArchiveEntry (entries.Head made.head.tables made.head.mdb)
 
 -- the octets of a file are records of entries that make this archive, and the journal has their places
 pub record IsReadArchive (content : List ℕ) (journal : Journal) (found : Archive) : Type 0 where
@@ -56,7 +57,8 @@ refusal_of_create faults.OutOfMemory = refused.OutOfMemory
 
 -- the journal of file 0 whole, and the archive that its entries make, with all that the type of a store keeps of it
 pub record IsArchiveRead {D : Type 0} (device : Device D) (disk : D) (read : ReadArchive) : Type 0 where
-  pub archive_is : IsTrue device.is_transparent → IsReadArchive (device.reads disk 0) read.journal (archive read.made.head read.made.history.items)
+  pub archive_is : IsTrue device.is_transparent →
+      IsReadArchive (device.reads disk 0) read.journal (archive read.made.head read.made.history.items)
   pub in_file : file_of read.journal ≡ 0
   pub no_pending_fault : unhealed_fault read.journal ≡ None
   pub tables : HasTables (Some read.made)
@@ -64,7 +66,9 @@ pub record IsArchiveRead {D : Type 0} (device : Device D) (disk : D) (read : Rea
 
 -- why no archive was read: an open record passes the file's end or breaks a rule, a read failed, or memory is wanting
 abbrev pub IsArchiveReadRefusal : {D : Type 0} → Device D → D → D → Refusal → Type 0
-IsArchiveReadRefusal device before after (refused.Damaged file at) = IsTrue device.is_transparent → (file ≡ 0) × IsArchiveDamagedAt (device.reads before) at
-IsArchiveReadRefusal device before after refused.DiskFault = raised (device.fault_count before) ≤ device.fault_count after
+IsArchiveReadRefusal device before after (refused.Damaged file at) =
+    IsTrue device.is_transparent → (file ≡ 0) × IsArchiveDamagedAt (device.reads before) at
+IsArchiveReadRefusal device before after refused.DiskFault =
+    raised (device.fault_count before) ≤ device.fault_count after
 IsArchiveReadRefusal device before after refused.OutOfMemory = Unit {0}
 IsArchiveReadRefusal device before after _ = ⊥

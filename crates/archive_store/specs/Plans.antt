@@ -27,10 +27,11 @@ pub record IsPlanPart (exponent : ℕ) (part : Part) : Type 0 where
 -- the intervals of parts rise
 abbrev pub AreRisingIntervals : List Part → Type 0
 AreRisingIntervals [] = Unit {0}
-AreRisingIntervals (part ∷ parts) = AllByRecursion (λ later. part.interval.0 <ℤ later.interval.0) parts × AreRisingIntervals parts
+AreRisingIntervals (part ∷ parts) =
+    AllByRecursion (λ later. part.interval.0 <ℤ later.interval.0) parts × AreRisingIntervals parts
 
--- The rows of `tm` with low <= time < high in the whole history, in the order of their keys, in one part for each interval that has any.
--- Each of them is a row that a store gives, also over a disk that isn't transparent.
+-- The rows of `tm` with low <= time < high in the whole history, in the order of their keys, in one part for each
+-- interval that has any. Each of them is a row that a store gives, also over a disk that isn't transparent.
 pub record IsPlan (exponent : ℕ) (head : Head) (history : List Item) (low high : ℤ) (plan : Plan) : Type 0 where
   pub front : plan.front ≡ length history
   pub mdb : arc_value plan.mdb ≡ head.mdb
@@ -50,6 +51,7 @@ IsPlannable head request = (LacksParameter head request → ⊥) × (request.fro
 -- the refusals of a plan: first the name is looked for, then at the range
 abbrev pub IsPlanRefusal : Head → Request → Refusal → Type 0
 IsPlanRefusal head request UnknownParameter = LacksParameter head request
-IsPlanRefusal head request (BadRange from to) = (LacksParameter head request → ⊥) × (request.to <ℤ request.from) × (from ≡ request.from) × (to ≡ request.to)
+IsPlanRefusal head request (BadRange from to) =
+    (LacksParameter head request → ⊥) × (request.to <ℤ request.from) × (from ≡ request.from) × (to ≡ request.to)
 IsPlanRefusal head request OutOfMemory = IsPlannable head request
 IsPlanRefusal head request _ = ⊥

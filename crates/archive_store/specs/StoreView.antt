@@ -12,7 +12,8 @@ use Rattle.archive_store.specs.declared.head.Head.{Head}
 use Rattle.archive_store.specs.Entries.{Archive, archive}
 use Rattle.archive_store.specs.Stands.{StandsFor}
 
--- the history and the fill list, the head, how many records the journal has, the disk, and the disk as it was at the opening
+-- the history and the fill list, the head, how many records the journal has, the disk, and the disk as it was at the
+-- opening
 pub record StoreView (D : Type 0) : Type 0 where
   pub history : List Item
   pub fills : List Fill
@@ -25,33 +26,42 @@ pub record StoreView (D : Type 0) : Type 0 where
 abbrev pub archive_of : {D : Type 0} → StoreView D → Archive
 archive_of store = archive store.head store.history
 
--- An image stands for a prefix of the history that holds the history of the opening, or for such a prefix followed by the rows that one fault holds.
-pub record IsSince (head : Head) (before history : List Item) (in_faults : List (List Item)) (image : Image) : Type 0 where
+-- An image stands for a prefix of the history that holds the history of the opening, or for such a prefix followed by
+-- the rows that one fault holds.
+pub record IsSince (head : Head) (before history : List Item) (in_faults : List (List Item))
+    (image : Image) : Type 0 where
   pub front : List Item
   pub holds : IsPrefix before front
   pub begins : IsPrefix front history
-  pub stands : StandsFor image (archive head front) ⊎ ((more : List Item) × Contains in_faults more × StandsFor image (archive head (front ++ more)))
+  pub stands : StandsFor image (archive head front)
+      ⊎ ((more : List Item) × Contains in_faults more × StandsFor image (archive head (front ++ more)))
 
--- What a crash now may leave: what stands for the history, and after a failed write also for the history with the unacknowledged rows.
+-- What a crash now may leave: what stands for the history, and after a failed write also for the history with the
+-- unacknowledged rows.
 abbrev pub IsNow : Head → List Item → Option (List Item) → Image → Type 0
 IsNow head history None image = StandsFor image (archive head history)
-IsNow head history (Some more) image = StandsFor image (archive head history) ⊎ StandsFor image (archive head (history ++ more))
+IsNow head history (Some more) image =
+    StandsFor image (archive head history) ⊎ StandsFor image (archive head (history ++ more))
 
--- where the disk is transparent: what a crash now may leave, and what a crash at any moment since the opening's syncs may have left
+-- where the disk is transparent: what a crash now may leave, and what a crash at any moment since the opening's syncs
+-- may have left
 pub record CrashInvariant {D : Type 0} (device : Device D) (store : StoreView D) : Type 0 where
   pub before : List Item
   pub opening : StandsFor (device.reads store.opened) (archive store.head before)
   pub begins : IsPrefix before store.history
-  pub now : (c : Image) → device.images store.disk c → IsNow store.head store.history (unacknowledged_rows store.fills) c
-  pub since : LeavesOnly device store.opened store.disk (IsSince store.head before store.history (rows_of_faults store.fills))
+  pub now : (c : Image) → device.images store.disk c →
+      IsNow store.head store.history (unacknowledged_rows store.fills) c
+  pub since : LeavesOnly device store.opened store.disk
+      (IsSince store.head before store.history (rows_of_faults store.fills))
 
--- always: the count of each fault is above the count at the opening and that of each earlier fault, and not above the count now;
--- one with a failed write is there only where the count of failed writes is above its value at the opening
+-- always: the count of each fault is above the count at the opening and that of each earlier fault, and not above the
+-- count now; one with a failed write is there only where the count of failed writes is above its value at the opening
 pub record FaultInvariant {D : Type 0} (device : Device D) (store : StoreView D) : Type 0 where
   pub rising : Rising (above (device.fault_count store.opened)) (device.fault_count store.disk) store.fills
   pub later : device.fault_count store.opened ≤ device.fault_count store.disk
   pub writes_later : device.failed_writes store.opened ≤ device.failed_writes store.disk
-  pub wrote : (faults : ℕ) → pending_fault_of store.fills ≡ Some faults → raised (device.failed_writes store.opened) ≤ device.failed_writes store.disk
+  pub wrote : (faults : ℕ) → pending_fault_of store.fills ≡ Some faults →
+      raised (device.failed_writes store.opened) ≤ device.failed_writes store.disk
 
 -- a call whose write failed adds one fault, which holds what it would have added, and leaves history and records
 pub record AddsFault {D : Type 0} (device : Device D) (old new : StoreView D) (addition : Addition) : Type 0 where

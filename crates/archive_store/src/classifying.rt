@@ -1,14 +1,13 @@
 //! What is new in a batch.
 
-ghost use Rattle.std.specs.Prelude.{◌≡◌, ◌+◌, ◌<◌, ◌≤◌, ◌++◌, [], ◌∷◌, List, true, false, length, map, IfOk, IfSome, IfNone, OnOk, slice_get, Some};
-ghost use Rattle.std.specs.List.{list_any, AllByRecursion};
+ghost use Rattle.std.specs.Prelude.{◌≡◌, ◌<◌, ◌++◌, [], ◌∷◌, List, IfOk, OnOk};
+ghost use Rattle.std.specs.List.{AllByRecursion};
 ghost use Rattle.arch_types.specs.declared.row.Row.{Row as ARow};
 ghost use Rattle.arch_types.specs.History.{IsHistory};
 ghost use Rattle.arch_types.specs.Packet.{IsPacket};
-ghost use Rattle.archive_core.specs.Items.{Item};
+ghost use Rattle.archive_core.specs.Items.{items_of, rows_in};
 ghost use Rattle.archive_core.specs.Outcomes.{Says};
-ghost use Rattle.archive_history.specs.TableSet.{is_at_key};
-ghost use Rattle.archive_store.specs.Classifying.{IsClassified, IndexesByKey};
+ghost use Rattle.archive_store.specs.Classifying.{IsClassified, IsFoundAt, NoneAbove, is_above, table_key_of};
 ghost use Rattle.archive_store.specs.Batches.{arrival_row, arrival_rows, batch_rows};
 ghost use Rattle.arch_types.specs.GenerationTime.{key_of};
 
@@ -17,15 +16,26 @@ use arch_types::inserted::{Inserted, Outcomes};
 use arch_types::key::Key;
 use arch_types::row::{Row, Rows};
 use archive_history::history::History;
-use block_map::growing_index::GrowingIndex;
 use space_packet::key::key_of;
 use std::alloc::{AllocError, Global};
 
-/// A key in a table.
+/// A key in a table. Rows mostly come in this order: keys rise from packet to packet, and a packet's tables rise.
 #[derive(Clone, Copy, Debug, PartialEq, Eq, PartialOrd, Ord)]
 pub(crate) struct TableKey {
-    pub table: u8,
     pub key: Key,
+    pub table: u8,
+}
+
+impl TableKey {
+    /// The key of a row, and its table.
+    fn of(row: &Row) -> Self
+        ensures { result ≡ table_key_of row.now }
+    {
+        TableKey {
+            key: row.key,
+            table: row.table,
+        }
+    }
 }
 
 /// What became of rows, and those of them that are new.
@@ -33,17 +43,50 @@ pub(crate) struct TableKey {
 pub(crate) struct ClassifiedBatch {
     pub outcomes: Outcomes,
     pub fresh: Rows,
-    /// The place of each new row among them.
-    pub places: GrowingIndex<TableKey, usize>,
+    /// The greatest key of the new rows.
+    pub last: Option<TableKey>,
+}
+
+/// Whether a key is above the last one, if there is one.
+fn is_above(at: TableKey, last: Option<TableKey>) -> bool
+    ensures { result ≡ is_above at last }
+{
+    match last {
+        Some(last) => at > last,
+        None => true,
+    }
+}
+
+/// The place of the row of that table and key.
+fn place_of(fresh: &[Row], at: TableKey) -> Option<usize>
+    ensures { IsFoundAt fresh.now at result }
+{
+    for (i, row) in fresh.iter().enumerate() {
+        if TableKey::of(row) == at {
+            return Some(i);
+        }
+    }
+    None
+}
+
+/// The place of that row among the new ones. Where its key is above all of theirs, as mostly, none is looked at.
+fn fresh_place(classified: &ClassifiedBatch, at: TableKey) -> Option<usize>
+    requires { NoneAbove classified.now.last classified.now.fresh }
+    ensures { IsFoundAt classified.now.fresh at result }
+{
+    if is_above(at, classified.last) {
+        return None;
+    }
+    place_of(classified.fresh.as_slice(), at)
 }
 
 /// What becomes of the row of that table and key.
 fn outcome(history: &History, classified: &ClassifiedBatch, at: TableKey) -> Inserted
     requires table { at.table < history.now.tables }
-    requires places { IndexesByKey classified.now.fresh classified.now.places.entries }
-    ensures says { (row : ARow) → row.table ≡ at.table → row.key ≡ at.key →
-        Says (history.now.items ++ classified.now.fresh) row result }
-    ensures history { IsHistory history.now.items }
+    requires last { NoneAbove classified.now.last classified.now.fresh }
+    ensures says { (row : ARow) → table_key_of row ≡ at →
+        Says (history.now.items ++ items_of classified.now.fresh) row result }
+    ensures history { IsHistory (rows_in history.now.items) }
 {
     let known = history.len();
     let fresh = classified.fresh.as_slice().len();
@@ -51,24 +94,25 @@ fn outcome(history: &History, classified: &ClassifiedBatch, at: TableKey) -> Ins
         Some(position) => return Inserted::Duplicate(position),
         None => {}
     }
-    match classified.places.get(at) {
+    match fresh_place(classified, at) {
         Some(i) => Inserted::Duplicate((known + i) as u64),
         None => Inserted::New((known + fresh) as u64),
     }
 }
 
 /// One new row more.
-fn keep(classified: &mut ClassifiedBatch, at: TableKey, row: Row) -> Result<(), AllocError>
-    requires at { (row.table ≡ at.table) × (row.key ≡ at.key) }
-    requires places { IndexesByKey classified.old.fresh classified.old.places.entries }
-    requires new { list_any (is_at_key at.table at.key) classified.old.fresh ≡ false }
+fn keep(classified: &mut ClassifiedBatch, row: Row) -> Result<(), AllocError>
+    requires { NoneAbove classified.old.last classified.old.fresh }
     ensures fresh { OnOk result (classified.new.fresh ≡ classified.old.fresh ++ row ∷ []) }
-    ensures places { OnOk result (IndexesByKey classified.new.fresh classified.new.places.entries) }
+    ensures last { OnOk result (NoneAbove classified.new.last classified.new.fresh) }
     ensures outcomes { classified.new.outcomes ≡ classified.old.outcomes }
 {
-    classified.places.reserve(1)?;
-    classified.places.insert(at, classified.fresh.len());
-    classified.fresh.push(row)
+    let at = TableKey::of(&row);
+    classified.fresh.push(row)?;
+    if is_above(at, classified.last) {
+        classified.last = Some(at);
+    }
+    Ok(())
 }
 
 /// The key of an arrival of a batch.
@@ -111,14 +155,14 @@ fn classify_row(
         classified.new) }
 {
     let key = key_at(batch, arrival);
-    let at = TableKey { table, key };
+    let at = TableKey { key, table };
     let outcome = outcome(history, classified, at);
     classified.outcomes.push(outcome)?;
     match outcome {
         Inserted::Duplicate(_) => Ok(()),
         Inserted::New(_) => {
             let row = row_at(batch, arrival, at)?;
-            keep(classified, at, row)
+            keep(classified, row)
         }
     }
 }
@@ -156,7 +200,7 @@ pub(crate) fn classify(
     let mut classified = ClassifiedBatch {
         outcomes: Outcomes::new(alloc),
         fresh: Rows::new(alloc),
-        places: GrowingIndex::new(alloc),
+        last: None,
     };
     for arrival in batch.arrivals.as_slice() {
         classify_arrival(history, &mut classified, batch, arrival)?;

@@ -150,7 +150,7 @@ impl<D: Disk> Store<D> {
         let ClassifiedBatch {
             outcomes,
             fresh,
-            places: _,
+            last: _,
         } = classified;
         if fresh.len() == 0 {
             return Ok(Ingested { outcomes });

@@ -1,6 +1,6 @@
-//! Laws of what an image of the disk stands for, carried by functions that do nothing.
+//! Laws of what an image of the disk stands for and of replays, carried by functions that do nothing.
 
-ghost use Rattle.archive_store.specs.Laws.{ArchivesAreOne, ArchivesAreWhole, DamageIsOne, NoneIsNone};
+ghost use Rattle.archive_store.specs.Laws.{ArchivesAreOne, ArchivesAreWhole, DamageIsOne, NoneIsNone, ReplaysKeepTheirFront};
 
 use crate::store::Store;
 use arch_disk::Disk;
@@ -24,6 +24,11 @@ pub fn archives_are_whole()
 /// An image that holds no archive stands for none, and is not damaged.
 pub fn none_is_none()
     ensures { NoneIsNone }
+{}
+
+/// A replay gives no row that came to the history after its opening.
+pub fn replays_keep_their_front()
+    ensures { ReplaysKeepTheirFront }
 {}
 
 fn is_sendable<T: Send>() {}

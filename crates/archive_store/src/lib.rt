@@ -19,10 +19,13 @@
 mod batch;
 mod classifying;
 mod head;
+mod history_source;
 mod ingest;
 pub mod laws;
+mod names;
 mod plan;
 mod reading;
+mod replaying;
 mod retrieving;
 mod store;
 

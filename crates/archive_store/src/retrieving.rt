@@ -7,9 +7,11 @@ ghost use Rattle.std.specs.Option.{is_some};
 ghost use Rattle.std.specs.List.{AllByRecursion};
 ghost use Rattle.arch_types.specs.Interval.{interval_of};
 ghost use Rattle.arch_types.specs.Table.{range_of};
+ghost use Rattle.archive_core.specs.Items.{rows_in};
 ghost use Rattle.archive_store.specs.Plans.{rows_of_parts, IsPlanPart, AreRisingIntervals};
 ghost use Rattle.std.specs.Arc.{arc_value};
 
+use crate::names::text_of;
 use crate::plan::{Part, Parts, Plan};
 use crate::store::Store;
 use arch_disk::Disk;
@@ -22,15 +24,13 @@ use archive_history::history::{History, interval_of_row};
 use mdb_model::Mdb;
 use std::alloc::{AllocError, Global};
 use std::sync::Arc;
+use yarch_table::rows::TableRows;
 
 /// Whether the database has a parameter of that name.
 fn has_parameter(mdb: &Mdb, name: &Name) -> bool
     ensures { result ≡ is_some (place_of name.now (map (λ p. p.name) mdb.now.parameters)) }
 {
-    match str::from_utf8(name.as_slice()) {
-        Ok(text) => mdb.parameter_number(text).is_some(),
-        Err(_) => unreachable!(),
-    }
+    mdb.parameter_number(text_of(name)).is_some()
 }
 
 /// The names of the containers, in their order.
@@ -51,7 +51,8 @@ fn container_names(alloc: Global, mdb: &Mdb) -> Result<Names, AllocError>
 /// One row more, in a part of its own where its interval has none yet.
 fn put(alloc: Global, parts: &mut Vec<Part>, row: &Row) -> Result<(), AllocError>
     ensures rows { OnOk result (rows_of_parts parts.new.items ≡ rows_of_parts parts.old.items ++ row.now ∷ []) }
-    ensures each { AllByRecursion (IsPlanPart 22) parts.old.items → OnOk result (AllByRecursion (IsPlanPart 22) parts.new.items) }
+    ensures each { AllByRecursion (IsPlanPart 22) parts.old.items →
+        OnOk result (AllByRecursion (IsPlanPart 22) parts.new.items) }
     ensures rising { AreRisingIntervals parts.old.items →
         AllByRecursion (λ part. part.interval.0 ≤ℤ interval_of 22 row.now.key.time) parts.old.items →
         OnOk result (AreRisingIntervals parts.new.items) }
@@ -93,7 +94,8 @@ fn planned(
 ) -> Result<Plan, AllocError>
     requires { 0 < history.now.tables }
     ensures { IfOk result (λ plan. (plan.front ≡ length history.now.items) × (arc_value plan.mdb ≡ arc_value mdb.now)
-        × (rows_of_parts plan.parts ≡ range_of 0 request.now.from request.now.to history.now.items) × AllByRecursion (IsPlanPart 22) plan.parts × AreRisingIntervals plan.parts) }
+        × (rows_of_parts plan.parts ≡ range_of 0 request.now.from request.now.to (rows_in history.now.items))
+        × AllByRecursion (IsPlanPart 22) plan.parts × AreRisingIntervals plan.parts) }
 {
     Ok(Plan {
         front: history.len() as u64,
@@ -127,6 +129,20 @@ impl<D: Disk> Store<D> {
             Ok(plan) => Ok(plan),
             Err(_) => Err(Refusal::OutOfMemory),
         }
+    }
+
+    /// The rows of table `tm` with `from <= time < to`, in the order of their keys, as they stand in the history. Times are in milliseconds.
+    pub fn range(&self, from: i64, to: i64) -> TableRows<'_>
+        ensures { result ≡ range_of 0 from to (rows_in self.now.history) }
+    {
+        self.history.range(from, to)
+    }
+
+    /// The head's database, shared. The one error is want of memory.
+    pub fn shared_mdb(&self) -> Result<Arc<Mdb, Global>, AllocError>
+        ensures { IfOk result (λ mdb. arc_value mdb ≡ self.now.head.mdb) }
+    {
+        Arc::try_clone(&self.mdb)
     }
 
     /// The packet names, in the order of their numbers.

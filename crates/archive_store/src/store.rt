@@ -53,7 +53,8 @@ impl<D: Disk> Model for Store<D> {
 
     ghost view = { λ s. view_of s.disk s.opened.value s.journal s.head s.history.items s.fills.items };
 
-    ghost invariant = { λ s. StoreInvariant D.device s.disk s.opened.value s.journal s.head s.history.items s.fills.items s.pending_fault
+    ghost invariant = { λ s.
+        StoreInvariant D.device s.disk s.opened.value s.journal s.head s.history.items s.fills.items s.pending_fault
         × (s.history.tables ≡ length s.head.tables) × (arc_value s.mdb ≡ s.head.mdb) };
 }
 

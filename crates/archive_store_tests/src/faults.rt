@@ -18,7 +18,7 @@ use std::test::Fail;
 /// An ingest, and a reopen where it is refused. With fewer than two faults every image stands for the history that is reached.
 fn ingest_and_reopen<D: Disk>(alloc: Global, store: &mut Store<D>, batch: &Batch)
     requires batch { IsBatch store.old.head batch.now }
-    requires no_failed_write { pending_fault_of store.old.fills ≡ None }
+    requires healed { pending_fault_of store.old.fills ≡ None }
     ensures { IsTrue D.device.is_transparent
         → D.device.fault_count store.new.disk < raised (raised (D.device.fault_count store.old.disk))
         → (c : Image) → D.device.images store.new.disk c → StandsFor c (archive_of store.new) }

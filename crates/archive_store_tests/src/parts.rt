@@ -161,13 +161,23 @@ pub(crate) fn batch(alloc: Global, head: &Head, incoming: &Incoming) -> Result<B
     })
 }
 
+/// The name of these octets.
+pub(crate) fn name(alloc: Global, octets: &[u8]) -> Result<Name, Fail> {
+    match Name::of(Octets::from_slice(alloc, octets)?) {
+        Some(name) => Ok(name),
+        None => Err(Fail::from("a name")),
+    }
+}
+
 /// The values of a parameter over a range.
-pub(crate) fn request(alloc: Global, name: &[u8], from: i64, to: i64) -> Result<Request, Fail> {
-    let Some(parameter) = Name::of(Octets::from_slice(alloc, name)?) else {
-        return Err(Fail::from("a name"));
-    };
+pub(crate) fn request(
+    alloc: Global,
+    parameter: &[u8],
+    from: i64,
+    to: i64,
+) -> Result<Request, Fail> {
     Ok(Request {
-        parameter,
+        parameter: name(alloc, parameter)?,
         from,
         to,
         descending: false,
@@ -195,6 +205,7 @@ pub(crate) fn text_of(refusal: &Refusal) -> &'static str {
         } => "limit IntervalRows 262144",
         Refusal::UnknownParameter => "unknown parameter",
         Refusal::BadRange { from: 5, to: 4 } => "bad range 5 4",
+        Refusal::UnknownTable { .. } => "unknown table",
         _ => "another",
     }
 }

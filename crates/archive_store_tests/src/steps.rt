@@ -2,6 +2,7 @@
 use crate::parts::{
     Incoming, batch, created, head, mdb_octets, octets_of, opened, request, text_of,
 };
+use crate::replays::{Asked, gives, gives_across, has_parts, replay_answer};
 use arch_disk::Disk;
 use arch_types::inserted::Inserted;
 use arch_types::name::Names;
@@ -29,6 +30,14 @@ pub enum Step {
     NoPlan(&'static [u8], i64, i64, &'static str),
     /// The name of the one container.
     Name(&'static [u8]),
+    /// A replay by steps of at most so many rows, and its packets.
+    Replay(Asked, u64, &'static [u64]),
+    /// Why there is no replay.
+    NoReplay(Asked, &'static str),
+    /// The packets that a replay gives in its first step, of two rows, and in those after packets came.
+    ReplayAcross(Asked, &'static [u64], Incoming, &'static [u64]),
+    /// How many partitions with `from <= time < to` a table has, and how many spans of time the packet name has in it.
+    Parts(u8, i64, i64, usize, usize),
 }
 
 /// Whether packets become this.
@@ -108,7 +117,7 @@ fn is_head(alloc: Global, head: &Head) -> Result<bool, Fail> {
 }
 
 /// Whether rows are the packets of these numbers.
-fn are_packets(alloc: Global, rows: &[Row], numbers: &[u64]) -> Result<bool, Fail> {
+pub(crate) fn are_packets(alloc: Global, rows: &[Row], numbers: &[u64]) -> Result<bool, Fail> {
     for (row, number) in rows.iter().zip(numbers) {
         if row.packet.as_slice() != octets_of(alloc, *number)?.as_slice() {
             return Ok(false);
@@ -158,6 +167,14 @@ fn is_answered<D: Disk>(alloc: Global, store: &mut Store<D>, step: &Step) -> Res
             Ok(plan_answer(alloc, store, name, *from, *to)? == *why)
         }
         Step::Name(name) => Ok(is_name(alloc, store, name)),
+        Step::Replay(asked, limit, packets) => gives(alloc, store, asked, *limit, packets),
+        Step::NoReplay(asked, why) => Ok(replay_answer(alloc, store, asked)? == *why),
+        Step::ReplayAcross(asked, first, incoming, rest) => {
+            gives_across(alloc, store, asked, first, incoming, rest)
+        }
+        Step::Parts(table, from, to, parts, spans) => {
+            has_parts(alloc, store, *table, *from, *to, *parts, *spans)
+        }
     }
 }
 

@@ -4,7 +4,7 @@ ghost use Rattle.std.specs.Prelude.{◌≡◌, ◌+◌, ◌-◌, ◌*◌, ◌<�
 ghost use Rattle.std.specs.Global.{Vec};
 ghost use Rattle.std.specs.BTreeMap.{insert_entry};
 ghost use Rattle.block_map.specs.Rising.{IsRising, IsPlaceIn};
-ghost use Rattle.block_map.specs.Blocks.{entries_of, excess_of, AreFilled, AreRisingBlocks, IsBlockFor, AreReady};
+ghost use Rattle.block_map.specs.Blocks.{entries_of, excess_of, AreFilled, AreRisingBlocks, HasSpares, IsBlockFor, IsOpenFor, AreReady};
 
 use crate::search::{block_for, is_above};
 
@@ -98,20 +98,8 @@ pub(crate) fn open_block<K: Ord + Copy, V: Copy>(
     requires ready { AreReady spare.old.items }
     requires fits { vec_len blocks.old + vec_len spare.old ≤ vec_capacity blocks.old }
     requires keep { (HALF ≤ keep) × (keep < CAPACITY) }
-    requires room { excess_of keep blocks.old.items < (CAPACITY - keep) + vec_len spare.old * (CAPACITY - keep) }
-    ensures blocks { AreRisingBlocks K.cmp blocks.new.items }
-    ensures filled { (fill : ℕ) → fill + keep ≤ CAPACITY → AreFilled fill blocks.old.items →
-        AreFilled fill blocks.new.items }
-    ensures excess { excess_of keep blocks.new.items + vec_len spare.old * (CAPACITY - keep) ≡
-        excess_of keep blocks.old.items + vec_len spare.new * (CAPACITY - keep) }
-    ensures same { entries_of blocks.new.items ≡ entries_of blocks.old.items }
-    ensures ready { AreReady spare.new.items }
-    ensures moved { vec_len blocks.new + vec_len spare.new ≡ vec_len blocks.old + vec_len spare.old }
-    ensures fewer { vec_len spare.new ≤ vec_len spare.old }
-    ensures fits { vec_len blocks.new + vec_len spare.new ≤ vec_capacity blocks.new }
-    ensures spare_capacity { vec_capacity spare.new ≡ vec_capacity spare.old }
-    ensures place { IsBlockFor K.cmp key blocks.new.items result }
-    ensures open { (d : Vec (K × V)) → vec_len (slice_index_or blocks.new.items result d) < CAPACITY }
+    requires spares { HasSpares keep (excess_of keep blocks.old.items) (vec_len spare.old) }
+    ensures { IsOpenFor K.cmp key keep blocks.old spare.old blocks.new spare.new result }
 {
     let mut b = block_for(blocks.as_slice(), key);
     while blocks[b].len() >= CAPACITY {

@@ -1,5 +1,5 @@
 -- A plan: in which order a command looks, what it asks of the outside, and what it has done where it ends.
-use Rattle.std.specs.Prelude.{◌≡◌, ◌⊎◌, Bool, true, false, Option, Some, None, Result, Ok, Err}
+use Rattle.std.specs.Prelude.{◌≡◌, ◌⊎◌, Bool, true, false, Option, Some, None}
 use Rattle.arch_types.specs.declared.refusal.Refusal.{Refusal}
 use Rattle.arch_types.specs.declared.refusal.Refusal.TheVariants.{ReadFault, WriteFault, DiskFault, OutOfMemory}
 
@@ -10,14 +10,14 @@ pub data Interruption : Type 0 where
   OfOutput : Interruption
   OfDisk : Interruption
 
--- the refusal that a fault is answered by
+-- the refusal that an interruption is answered by
 abbrev pub interruption_refusal : Interruption → Refusal
 interruption_refusal OfMemory = OutOfMemory
 interruption_refusal OfInputs = ReadFault
 interruption_refusal OfOutput = WriteFault
 interruption_refusal OfDisk = DiskFault
 
--- whether a refusal is that of a fault
+-- whether a refusal is that of an interruption
 abbrev pub is_interruption : Refusal → Bool
 is_interruption OutOfMemory = true
 is_interruption ReadFault = true
@@ -31,15 +31,15 @@ FailedCalls = Interruption → Bool
 
 -- no call failed
 abbrev pub no_failed_calls : FailedCalls
-no_failed_calls fault = false
+no_failed_calls kind = false
 
 -- a call of this kind failed, beside those that had failed before
 abbrev pub with_failed_call : Interruption → FailedCalls → FailedCalls
-with_failed_call OfMemory faults OfMemory = true
-with_failed_call OfInputs faults OfInputs = true
-with_failed_call OfOutput faults OfOutput = true
-with_failed_call OfDisk faults OfDisk = true
-with_failed_call fault faults other = faults other
+with_failed_call OfMemory failed OfMemory = true
+with_failed_call OfInputs failed OfInputs = true
+with_failed_call OfOutput failed OfOutput = true
+with_failed_call OfDisk failed OfDisk = true
+with_failed_call kind failed other = failed other
 
 -- A plan that gives an X, or ends. S says what was done by then.
 pub data CommandPlan (S X : Type 0) : Type 1 where
@@ -47,7 +47,7 @@ pub data CommandPlan (S X : Type 0) : Type 1 where
   Return : X → CommandPlan S X
   -- it ends here, by a refusal or by none
   Stop : S → Option Refusal → CommandPlan S X
-  -- this fault may end it here; else it goes on
+  -- this interruption may end it here; else it goes on
   May : Interruption → S → CommandPlan S X → CommandPlan S X
   -- the outside answers, in one way only where it is known
   Question : {A : Type 0} → (A → Type 0) → (A → CommandPlan S X) → CommandPlan S X
@@ -58,11 +58,11 @@ pub data CommandPlan (S X : Type 0) : Type 1 where
 abbrev pub and_then : {S X Y : Type 0} → CommandPlan S X → (X → CommandPlan S Y) → CommandPlan S Y
 and_then (Return x) f = f x
 and_then (Stop s refusal) f = Stop s refusal
-and_then (May fault s p) f = May fault s (and_then p f)
+and_then (May interruption s p) f = May interruption s (and_then p f)
 and_then (Question is next) f = Question is (λ a. and_then (next a) f)
 and_then (Choose is next) f = Choose is (λ a. and_then (next a) f)
 
--- the way that a plan went: it gave an X, ended in its order, or was cut off by a fault
+-- the way that a plan went: it gave an X, ended in its order, or was interrupted
 pub data Way (S X : Type 0) : Type 0 where
   Returned : X → Way S X
   Stopped : S → Option Refusal → Way S X
@@ -72,15 +72,15 @@ pub data Way (S X : Type 0) : Type 0 where
 abbrev pub Allows : {S X : Type 0} → CommandPlan S X → Way S X → Type 0
 Allows (Return x) way = way ≡ Returned x
 Allows (Stop s refusal) way = way ≡ Stopped s refusal
-Allows (May fault s p) way = (way ≡ Interrupted s fault) ⊎ Allows p way
+Allows (May interruption s p) way = (way ≡ Interrupted s interruption) ⊎ Allows p way
 Allows (Question {A = A} is next) way = (a : A) × is a × Allows (next a) way
 Allows (Choose {A = A} is next) way = (a : A) × is a × Allows (next a) way
 
--- the plan has to go this way, but for a fault at one of its places: by each answer of the outside, and by some choice
+-- the plan has to go this way, but for an interruption at one of its places: by each answer of the outside, and by some choice
 abbrev pub Requires : {S X : Type 0} → CommandPlan S X → Way S X → Type 0
 Requires (Return x) way = way ≡ Returned x
 Requires (Stop s refusal) way = way ≡ Stopped s refusal
-Requires (May fault s p) way = (way ≡ Interrupted s fault) ⊎ Requires p way
+Requires (May interruption s p) way = (way ≡ Interrupted s interruption) ⊎ Requires p way
 Requires (Question {A = A} is next) way = (a : A) → is a → Requires (next a) way
 Requires (Choose {A = A} is next) way = (a : A) × is a × Requires (next a) way
 
@@ -88,7 +88,7 @@ Requires (Choose {A = A} is next) way = (a : A) × is a × Requires (next a) way
 abbrev pub IsDetermined : {S X : Type 0} → CommandPlan S X → Type 0
 IsDetermined (Return x) = Unit {0}
 IsDetermined (Stop s refusal) = Unit {0}
-IsDetermined (May fault s p) = IsDetermined p
+IsDetermined (May interruption s p) = IsDetermined p
 IsDetermined (Question {A = A} is next) = ((a b : A) → is a → is b → a ≡ b) × ((a : A) → is a → IsDetermined (next a))
 IsDetermined (Choose {A = A} is next) = (a : A) → is a → IsDetermined (next a)
 
@@ -96,7 +96,7 @@ IsDetermined (Choose {A = A} is next) = (a : A) → is a → IsDetermined (next 
 abbrev pub EachEnd : {S X : Type 0} → (Way S ⊥ → Type 0) → CommandPlan S X → Type 0
 EachEnd P (Return x) = Unit {0}
 EachEnd P (Stop s refusal) = P (Stopped s refusal)
-EachEnd P (May fault s p) = P (Interrupted s fault) × EachEnd P p
+EachEnd P (May interruption s p) = P (Interrupted s interruption) × EachEnd P p
 EachEnd P (Question {A = A} is next) = (a : A) → is a → EachEnd P (next a)
 EachEnd P (Choose {A = A} is next) = (a : A) → is a → EachEnd P (next a)
 
@@ -104,26 +104,17 @@ EachEnd P (Choose {A = A} is next) = (a : A) → is a → EachEnd P (next a)
 abbrev pub refusal_at : {S : Type 0} → Way S ⊥ → Option Refusal
 refusal_at (Returned x) = None
 refusal_at (Stopped s refusal) = refusal
-refusal_at (Interrupted s fault) = Some (interruption_refusal fault)
+refusal_at (Interrupted s interruption) = Some (interruption_refusal interruption)
 
--- the refusal is the one that has to come, but for a fault at its place
+-- the refusal is the one that has to come, but for an interruption at its place
 abbrev pub IsDue : {S : Type 0} → CommandPlan S ⊥ → Option Refusal → Type 0
 IsDue {S = S} plan refusal = (way : Way S ⊥) × Requires plan way × (refusal_at way ≡ refusal)
-
--- the plan may end by this refusal, with s done so far: in its order, or cut off by the fault that the refusal names
-abbrev pub MayEndBy : {S X : Type 0} → S → CommandPlan S X → Refusal → Type 0
-MayEndBy s p refusal = Allows p (Stopped s (Some refusal)) ⊎ ((fault : Interruption) × (refusal ≡ interruption_refusal fault) × Allows p (Interrupted s fault))
-
--- what a call inside a plan returns, with s done so far: what the plan may give, or a refusal by which it may end
-abbrev pub Meets : {S X : Type 0} → S → CommandPlan S X → Result X Refusal → Type 0
-Meets s p (Ok x) = Allows p (Returned x)
-Meets s p (Err refusal) = MayEndBy s p refusal
 
 -- the same plan, with other words for what was done
 abbrev pub map_done : {S T X : Type 0} → (S → T) → CommandPlan S X → CommandPlan T X
 map_done f (Return x) = Return x
 map_done f (Stop s refusal) = Stop (f s) refusal
-map_done f (May fault s p) = May fault (f s) (map_done f p)
+map_done f (May interruption s p) = May interruption (f s) (map_done f p)
 map_done f (Question is next) = Question is (λ a. map_done f (next a))
 map_done f (Choose is next) = Choose is (λ a. map_done f (next a))
 
@@ -131,4 +122,4 @@ map_done f (Choose is next) = Choose is (λ a. map_done f (next a))
 abbrev pub way_map_done : {S T X : Type 0} → (S → T) → Way S X → Way T X
 way_map_done f (Returned x) = Returned x
 way_map_done f (Stopped s refusal) = Stopped (f s) refusal
-way_map_done f (Interrupted s fault) = Interrupted (f s) fault
+way_map_done f (Interrupted s interruption) = Interrupted (f s) interruption

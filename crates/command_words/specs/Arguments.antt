@@ -2,7 +2,7 @@
 use Rattle.std.specs.Prelude.{Bool, true, List, fold, Some}
 use Rattle.clap.specs.Walk.{Rule, Text}
 use Rattle.clap.specs.Simple.{App, new_rule, with_rule}
-use Rattle.clap.specs.declared.builder.action.ArgAction.TheVariants.{Set}
+use Rattle.clap.specs.declared.builder.action.ArgAction.TheVariants.{Append, Set}
 use Rattle.command_words.specs.declared.words.Argument.{Argument}
 use Rattle.command_words.specs.declared.words.Argument.TheVariants as arguments
 use Rattle.command_words.specs.Words.{plain_app}
@@ -11,6 +11,10 @@ use Rattle.command_words.specs.Words.{plain_app}
 abbrev pub word_rule : Text → Rule
 word_rule id = record (new_rule id) { action = Some Set; required = true }
 
+-- one word or more
+abbrev pub repeated_rule : Text → Rule
+repeated_rule id = record (new_rule id) { action = Some Append; required = true }
+
 -- an option `--id value` or `--id=value`, which may have to come
 abbrev pub option_rule : Text → Bool → Rule
 option_rule id required = record (new_rule id) { action = Some Set; long = Some id; required = required }
@@ -18,6 +22,7 @@ option_rule id required = record (new_rule id) { action = Some Set; long = Some 
 -- an argument
 abbrev pub argument_rule : Argument → Rule
 argument_rule (arguments.Word id) = word_rule id.now
+argument_rule (arguments.Repeated id) = repeated_rule id.now
 argument_rule (arguments.Option id required) = option_rule id.now required
 
 -- a command that takes these arguments

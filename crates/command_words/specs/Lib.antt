@@ -1,4 +1,5 @@
 pub mod Words
 pub mod Arguments
+pub mod Given
 pub mod Job
 pub mod JobView

@@ -8,6 +8,7 @@ ghost use Rattle.clap.specs.Faults.{is_simple_and_free};
 ghost use Rattle.clap.specs.Walk.{rule_of, is_empty, first_of};
 ghost use Rattle.command_words.specs.Words.{are_plain, are_filled, are_whole, is_whole_word, rows_of_words, IsNotFound, plain_app, is_last};
 ghost use Rattle.command_words.specs.Arguments.{argument_rule, command_app};
+ghost use Rattle.command_words.specs.Given.{one_of_two, one_view, repeated_words};
 
 use arch_types::refusal::Refusal;
 use clap::error::ErrorKind;
@@ -19,6 +20,8 @@ use std::alloc::{AllocError, Global};
 pub enum Argument<'a> {
     /// A word that has to come.
     Word(&'a str),
+    /// One word or more. It stands behind every `Word`.
+    Repeated(&'a str),
     /// An option `--id value` or `--id=value`, which may have to come.
     Option { id: &'a str, required: bool },
 }
@@ -75,6 +78,7 @@ fn arg_of<'a>(alloc: Global, argument: Argument<'a>) -> Arg<'a>
 {
     match argument {
         Argument::Word(id) => Arg::new(alloc, id).action(ArgAction::Set).required(true),
+        Argument::Repeated(id) => Arg::new(alloc, id).action(ArgAction::Append).required(true),
         Argument::Option { id, required } => Arg::new(alloc, id)
             .long(id)
             .action(ArgAction::Set)
@@ -99,6 +103,46 @@ pub fn given_word<'a>(found: &ArgMatches<'a>, id: &str) -> Option<&'a str>
     ensures { option_map (λ word. word.now) result ≡ first_of id.now (rows_of (found_of found.now)) }
 {
     found.get_str(id)
+}
+
+/// The words that were found for the id of a `Repeated`, in their order: one or more.
+pub fn repeated_words<'f, 'a>(found: &'f ArgMatches<'a>, id: &str) -> Result<&'f [&'a str], Refusal>
+    ensures words { IfOk result (λ words. repeated_words id.now (rows_of (found_of found.now)) ≡ Some
+        (map (λ word. word.now) words.now)) }
+    ensures none { IfErr result (λ refusal. (refusal ≡ Refusal.Usage) ×
+        (repeated_words id.now (rows_of (found_of found.now)) ≡ None)) }
+{
+    let Some(words) = found.get_strs(id) else {
+        return Err(Refusal::Usage);
+    };
+    if words.is_empty() {
+        return Err(Refusal::Usage);
+    }
+    Ok(words)
+}
+
+/// The word of the one of two options that was given.
+#[derive(Clone, Copy, Debug, PartialEq, Eq)]
+pub enum OneOfTwo<'a> {
+    First(&'a str),
+    Second(&'a str),
+}
+
+/// The word of the one of two options that was given, where the other wasn't: `Usage` where both were, or none.
+pub fn one_of_two<'a>(
+    first: Option<&'a str>,
+    second: Option<&'a str>,
+) -> Result<OneOfTwo<'a>, Refusal>
+    ensures one { IfOk result (λ one. one_of_two (option_map (λ word. word.now) first.entry)
+        (option_map (λ word. word.now) second.entry) ≡ Some (one_view one)) }
+    ensures none { IfErr result (λ refusal. (refusal ≡ Refusal.Usage) × (one_of_two
+        (option_map (λ word. word.now) first.entry) (option_map (λ word. word.now) second.entry) ≡ None)) }
+{
+    match (first, second) {
+        (Some(word), None) => Ok(OneOfTwo::First(word)),
+        (None, Some(word)) => Ok(OneOfTwo::Second(word)),
+        (Some(_), Some(_)) | (None, None) => Err(Refusal::Usage),
+    }
 }
 
 /// What clap finds in the words, where they are plain.

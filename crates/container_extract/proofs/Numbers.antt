@@ -116,9 +116,10 @@ next_of_8 number octet i n less small lt few =
     omega arith
 
 -- the octets that a field touches, shifted and masked
-pub field_is : (packet : List ℕ) (at w number : ℕ) → All (λ octet. octet < 256) packet → w ≤ 64 → at + w ≤ 8 * length packet → number ≡ big_endian_number (take ((at + w + 7) / 8 - at / 8) (drop (at / 8) packet))
-    → bit_and (number / 2 ^ (8 * ((at + w + 7) / 8) - (at + w))) (1 * 2 ^ w % 340282366920938463463374607431768211456 - 1) ≡ field_at packet at w
-field_is packet at w number small narrow inside is =
+pub field_is : (packet : List ℕ) (at w shifted : ℕ) → All (λ octet. octet < 256) packet → w ≤ 64 → at + w ≤ 8 * length packet
+    → shifted ≡ big_endian_number (take ((at + w + 7) / 8 - at / 8) (drop (at / 8) packet)) / 2 ^ (8 * ((at + w + 7) / 8) - (at + w))
+    → bit_and shifted (1 * 2 ^ w % 340282366920938463463374607431768211456 - 1) ≡ field_at packet at w
+field_is packet at w shifted small narrow inside is =
     let first = at / 8 in
     let end = (at + w + 7) / 8 in
     let s = 8 * end - (at + w) in
@@ -133,7 +134,7 @@ field_is packet at w number small narrow inside is =
     let place : at ≡ 8 * length a + at % 8 = omega arith in
     let there : field_at (a ++ (m ++ z)) at w ≡ big_endian_number m / 2 ^ s % 2 ^ w = field_within a m z at w s (at % 8) behind bits place in
     let mask : 1 * 2 ^ w % 340282366920938463463374607431768211456 ≡ 2 ^ w = one_shl w 128 (omega arith) in
-    ap (λ (x : ℕ). bit_and (number / 2 ^ s) (x - 1)) mask ∙ and_mask (number / 2 ^ s) w ∙ ap (λ (x : ℕ). x / 2 ^ s % 2 ^ w) is ∙ sym there ∙ ap (λ (xs : List ℕ). field_at xs at w) parts
+    ap (λ (x : ℕ). bit_and shifted (x - 1)) mask ∙ and_mask shifted w ∙ ap (λ (x : ℕ). x % 2 ^ w) is ∙ sym there ∙ ap (λ (xs : List ℕ). field_at xs at w) parts
 
 -- one octet more of a number that is swapped
 pub swapped_below : (swapped rest i : ℕ) → swapped < 256 ^ i → swapped * 256 + rest % 256 < 256 ^ (i + 1)

@@ -6,8 +6,20 @@ ghost use Rattle.container_extract.specs.Bits.{raw_bits_at, field_at, big_endian
 
 use mdb_model::Coding;
 
+/// Eight octets at most as one number, the first octet the highest.
+fn number_of(octets: &[u8]) -> u64
+    requires { length octets.now ≤ 8 }
+    ensures { result ≡ big_endian_number octets.now }
+{
+    let mut number: u64 = 0;
+    for octet in octets {
+        number = number * 256 + *octet as u64;
+    }
+    number
+}
+
 /// Octets as one number, the first octet the highest.
-fn number_of(octets: &[u8]) -> u128
+fn wide_number_of(octets: &[u8]) -> u128
     requires { length octets.now ≤ 16 }
     ensures { result ≡ big_endian_number octets.now }
 {
@@ -29,9 +41,16 @@ fn field(packet: &[u8], at: u32, width: u8) -> u64
     let first = at as usize;
     let last = first + width as usize;
     let end = (last + 7) / 8;
-    let number = number_of(&packet[first / 8..end]);
+    let octets = &packet[first / 8..end];
+    let after = 8 * end - last;
     let mask = (1u128 << width) - 1;
-    ((number >> (8 * end - last)) & mask) as u64
+    // A number of 64 bits is made and shifted in half the time of a wide one.
+    let shifted = if octets.len() <= 8 {
+        (number_of(octets) >> after) as u128
+    } else {
+        wide_number_of(octets) >> after
+    };
+    (shifted & mask) as u64
 }
 
 /// A number of so many octets with its octets in the reverse order.

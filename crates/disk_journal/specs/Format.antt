@@ -1,5 +1,5 @@
--- What the octets of a journal file mean. A record is a gate octet, its body's length as a big-endian u32, and the body.
--- A gate is open where it is 1.
+-- What the octets of a journal file mean. A record is a gate octet, its body's length as a big-endian u32, and the
+-- body. A gate is open where it is 1.
 use Rattle.std.specs.Prelude.{◌≡◌, ◌≢◌, ◌⊎◌, ℕ, ◌+◌, ◌^◌, ◌<◌, ◌≤◌, List, [], ◌∷◌, ◌++◌, length, take}
 use Rattle.std.specs.Int.{w32, to_be_bytes, from_be_bytes}
 

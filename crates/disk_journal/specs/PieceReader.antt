@@ -13,7 +13,8 @@ held_from reader at = if nat_lt at reader.at then [] else drop (at - reader.at) 
 
 -- the piece is what a file of this content has at its place
 abbrev pub IsPieceOf : PieceReader → List ℕ → Type 0
-IsPieceOf reader content = piece_octets reader.piece ≡ take (length (piece_octets reader.piece)) (drop reader.at content)
+IsPieceOf reader content =
+    piece_octets reader.piece ≡ take (length (piece_octets reader.piece)) (drop reader.at content)
 
 -- the file has this content, as far as the reader tells
 abbrev pub IsReading : PieceReader → List ℕ → Type 0

@@ -23,7 +23,7 @@ pub record IsAt (opening : Opening) (content : List ℕ) (bodies : List (List �
   pub len : opening.reader.len ≡ length content
   pub inside : opening.at < opening.reader.len
   pub piece : IsPieceOf opening.reader content
-  pub first : opening.at ≡ 0 → get_or content opening.at 0 ≡ 1
+  pub begins_open : opening.at ≡ 0 → get_or content opening.at 0 ≡ 1
 
 -- a whole record with an open gate stands at this octet, and its body there
 pub record IsWholeAt (content : List ℕ) (at : ℕ) (extent : Extent) : Type 0 where

@@ -18,12 +18,16 @@ extents_from at (body ∷ bodies) = record { at = at + 5; len = length body } �
 -- What is known of the file by the failures of writes and syncs since the last heal;
 -- `pending` is the body of the record whose gate may have been written.
 abbrev pub StateIs : {D : Type 0} → Device D → PendingFault → ℕ → List (List ℕ) → List ℕ → D → Type 0
-StateIs device Absent file bodies pending disk = HasRecords (device.reads disk file) bodies × IsDurable device file (device.reads disk file) disk
-StateIs device (GateClosed faults) file bodies pending disk = (c : Image) → device.images disk c → HasRecords (c file) bodies
-StateIs device (GateWritten faults) file bodies pending disk = (c : Image) → device.images disk c → HasStaged (c file) bodies pending
+StateIs device Absent file bodies pending disk =
+    HasRecords (device.reads disk file) bodies × IsDurable device file (device.reads disk file) disk
+StateIs device (GateClosed faults) file bodies pending disk =
+    (c : Image) → device.images disk c → HasRecords (c file) bodies
+StateIs device (GateWritten faults) file bodies pending disk =
+    (c : Image) → device.images disk c → HasStaged (c file) bodies pending
 
 -- the journal has just these records on this disk
-pub record HasOnDisk {D : Type 0} (device : Device D) (journal : Journal) (bodies : List (List ℕ)) (pending : List ℕ) (disk : D) : Type 0 where
+pub record HasOnDisk {D : Type 0} (device : Device D) (journal : Journal) (bodies : List (List ℕ)) (pending : List ℕ)
+    (disk : D) : Type 0 where
   pub extents : journal.extents.items ≡ extents_from 0 bodies
   pub end : journal.end ≡ length (written bodies)
   pub state : StateIs device journal.pending_fault journal.file bodies pending disk

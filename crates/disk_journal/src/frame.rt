@@ -18,7 +18,8 @@ impl Model for Frame {
 
     ghost view = { λ f. body_in f.octets.items };
 
-    ghost invariant = { λ f. (f.octets.items ≡ framed (body_in f.octets.items) ++ 0 ∷ []) × (length (body_in f.octets.items) < 2 ^ 32) };
+    ghost invariant = { λ f. (f.octets.items ≡ framed (body_in f.octets.items) ++ 0 ∷ [])
+        × (length (body_in f.octets.items) < 2 ^ 32) };
 }
 
 impl Frame {

@@ -1,7 +1,7 @@
 // The records of one file.
 ghost use Rattle.std.specs.Prelude.{◌≡◌, ◌≢◌, ◌+◌, ◌<◌, ◌≤◌, ◌⊎◌, ◌++◌, [], ◌∷◌, List, ℕ, None, IsTrue, length, get_or, OnOk, OnErr, IfOk, IfErr, IfSome, slice_get};
 ghost use Rattle.arch_disk.specs.Image.{Image};
-ghost use Rattle.arch_disk.specs.Disk.{IsDurable, LeavesOnly, OnlyReads, HasCause, raised};
+ghost use Rattle.arch_disk.specs.Disk.{IsDurable, LeavesOnly, NoWriteFailed, OnlyReads, HasCause, raised};
 ghost use Rattle.disk_journal.specs.Format.{HasRecords, IsDamagedAt, HoldsNone, IsBeforeOrAfter};
 ghost use Rattle.disk_journal.specs.Calls.{BeginsOpen, LeavesOthers};
 ghost use Rattle.disk_journal.specs.State.{IsUntouched};
@@ -76,8 +76,9 @@ fn prepare<D: Disk>(disk: &mut D, file: u32) -> Result<(), JournalFault>
     ensures cause { result ≡ Err JournalFault.DiskFault →
         raised (D.device.fault_count disk.old) ≤ D.device.fault_count disk.new }
     ensures later { D.device.fault_count disk.old ≤ D.device.fault_count disk.new }
-    ensures writes { (D.device.failed_writes disk.new ≡ D.device.failed_writes disk.old)
-        ⊎ ((result ≡ Err JournalFault.DiskFault) × (D.device.failed_writes disk.new ≡ raised (D.device.failed_writes disk.old))) }
+    ensures writes { NoWriteFailed D.device disk.old disk.new
+        ⊎ ((result ≡ Err JournalFault.DiskFault) ×
+        (D.device.failed_writes disk.new ≡ raised (D.device.failed_writes disk.old))) }
 {
     flush(disk, file)?;
     let len = len_of(disk, file)?;
@@ -151,7 +152,7 @@ impl Journal {
             → (c : Image) → D.device.images disk.new c → HoldsNone (c (file_of self.old))) }
         ensures others { LeavesOthers D.device (file_of self.old) disk.old disk.new }
         ensures cause { HasCause D.device disk.old disk.new result }
-        ensures no_failed_write { OnOk result (D.device.failed_writes disk.new ≡ D.device.failed_writes disk.old) }
+        ensures no_failed_write { OnOk result (NoWriteFailed D.device disk.old disk.new) }
         ensures counted { OnErr result ((raised (D.device.failed_writes disk.old) ≤ D.device.failed_writes disk.new)
             × (D.device.failed_writes disk.new ≤ raised (raised (D.device.failed_writes disk.old)))) }
     {

@@ -26,8 +26,10 @@ impl Opening {
 
     /// Begins at the first record, with a sync.
     pub fn begin<D: Disk>(alloc: Global, disk: &mut D, file: u32) -> Result<Opening, JournalFault>
-        // Ok: it stands at the first gate of the file, which is open, and what the file reads as is durable.
+        // Ok: no record is read yet, the file's first gate is open, and what the file reads as is durable.
         ensures begun { IfOk result (IsOpeningBegun D.device file disk.old disk.new) }
+
+        ensures at_gate { IfOk result (λ opening. StandsAtGate D.device opening disk.new) }
 
         // Refused: the file doesn't begin with an open gate, or the disk failed.
         ensures refused { IfErr result (IsBeginRefusal D.device file disk.old disk.new) }
@@ -50,15 +52,16 @@ impl Opening {
         requires { IsTrue D.device.is_transparent → (bodies : List (List ℕ)) ×
             IsAt self.old (D.device.reads disk.old (file_read self.old)) bodies }
         ensures some { IsTrue D.device.is_transparent →
-            IfOk result (λ next. IfSome next (λ extent. IsWholeAt (D.device.reads disk.old (file_read self.old)) (gate_of self.old)
-            extent)) }
+            IfOk result (λ next. IfSome next (λ extent.
+            IsWholeAt (D.device.reads disk.old (file_read self.old)) (gate_of self.old) extent)) }
         ensures none { IsTrue D.device.is_transparent → IfOk result (λ next. next ≡ None →
             get_or (D.device.reads disk.old (file_read self.old)) (gate_of self.old) 0 ≢ 1) }
         ensures within { IfOk result (λ next. IfSome next (λ extent. (extent.at ≡ gate_of self.old + 5) ×
             (extent.at + extent.len < 2 ^ 64))) }
         ensures damaged { IsTrue D.device.is_transparent → (bodies : List (List ℕ)) →
             IsAt self.old (D.device.reads disk.old (file_read self.old)) bodies
-            → (at : ℕ) → result ≡ Err (JournalFault.Damaged at) → (at ≡ gate_of self.old) × IsCutShortAt (D.device.reads disk.old (file_read self.old)) bodies }
+            → (at : ℕ) → result ≡ Err (JournalFault.Damaged at) →
+            (at ≡ gate_of self.old) × IsCutShortAt (D.device.reads disk.old (file_read self.old)) bodies }
         ensures stays { IsTrue D.device.is_transparent → (bodies : List (List ℕ)) →
             IsAt self.old (D.device.reads disk.old (file_read self.old)) bodies
             → OnOk result (IsAt self.new (D.device.reads disk.old (file_read self.old)) bodies) }
@@ -130,7 +133,7 @@ impl Opening {
     // Reads on to the closed gate that ends the records, over the bodies. Behind a body that passes the end of a piece it
     // takes a whole one for the next header: 256 KiB a record at most, and for all together about the file's length.
     pub(crate) fn finish_all<D: Disk>(mut self, disk: &mut D) -> Result<Journal, JournalFault>
-        requires first { IsTrue D.device.is_transparent → IsAt self (content_read D.device self disk.old) [] }
+        requires none_read { IsTrue D.device.is_transparent → IsAt self (content_read D.device self disk.old) [] }
         ensures read { IfOk result (IsReadWhole D.device self disk.old) }
         ensures refused { IfErr result (IsReadWholeRefusal D.device self disk.old disk.new) }
         ensures looked { OnlyReads D.device disk.old disk.new }

@@ -2,10 +2,9 @@
 use Rattle.std.proofs.Common.{◌≡◌, ℕ, ℤ, ◌<◌, List, [], ◌∷◌, ◌++◌, map, true, false, not, Bool, cond, ◌∙◌, ap, refl, arith, length-append, append-nil}
 use Rattle.std.specs.Prelude.{flat_map, slice_range}
 use Rattle.std.specs.List.{list_any, AllByRecursion}
-use Rattle.std.proofs.lemmas.List.Elements.{All-nil}
 use Rattle.std.proofs.lemmas.List.Sums.{fold-append}
 use Rattle.arch_types.specs.declared.row.Row.{Row}
-use Rattle.arch_types.specs.Packet.{is_idle, IsPacket}
+use Rattle.arch_types.specs.Packet.{is_idle}
 use Rattle.arch_types.specs.Arrivals.{row_of, kept}
 use Rattle.arch_types.specs.History.{with_row, firsts, is_duplicate_of, has_key}
 use Rattle.arch_types.proofs.Parts.{part_length}
@@ -134,15 +133,6 @@ loading_more dump moment start end old new counts added l part a =
       few = rw (length-append l.packets (slice_range dump start end ∷ [])) (omega arith);
       gathered = gathered_more l.packets moment (slice_range dump start end) old new counts added l.gathered a;
     }
-
--- no packet yet
-pub loading_none : (dump : List ℕ) (moment : ℤ) (counts : Counts) → counts ≡ record { packets = 0; rows = 0; duplicates = 0; idle = 0 } → IsDumpTableTo dump moment 0 [] counts
-loading_none dump moment counts h = rw h (record {
-  packets = [];
-  cut = record { within = omega arith; joined = refl; each = All-nil IsPacket };
-  few = omega arith;
-  gathered = record { rows_are = refl; shown = tt; counted = record { of_packets = refl; of_rows = refl; of_duplicates = refl; of_idle = refl } };
-})
 
 -- a row of table 0 is a duplicate where its key is there
 pub duplicate-is : (moment : ℤ) (p : List ℕ) (stored : List Stored) → AllByRecursion IsVisible stored →

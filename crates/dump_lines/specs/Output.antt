@@ -2,6 +2,8 @@
 use Rattle.std.specs.Prelude.{◌≡◌, ℕ, List, ◌++◌, Option, Some, None}
 use Rattle.arch_types.specs.declared.refusal.Refusal.{Refusal}
 use Rattle.arch_types.specs.declared.refusal.Refusal.TheVariants.{WriteFault}
+use Rattle.dump_lines.specs.declared.print_fault.PrintFault.{PrintFault}
+use Rattle.dump_lines.specs.declared.print_fault.PrintFault.TheVariants.{Write}
 use Rattle.outer_traits.specs.Outside.{HasRisen, Stays, WritesSome}
 
 -- the text was appended, where what was written is known
@@ -23,3 +25,8 @@ IsFinished other before now text = ⊥
 abbrev pub WritesCounted : Option Refusal → ℕ → ℕ → Type 0
 WritesCounted (Some WriteFault) before now = HasRisen before now
 WritesCounted other before now = Stays before now
+
+-- a count of failed writes has risen where a write failed as a text was printed, and else is as before
+abbrev pub PrintCounted : Option PrintFault → ℕ → ℕ → Type 0
+PrintCounted (Some Write) before now = HasRisen before now
+PrintCounted other before now = Stays before now

@@ -1,6 +1,6 @@
 //! Text on its way to a sink, gathered into pieces of about 64 KiB.
 
-ghost use Rattle.std.specs.Prelude.{◌≡◌, ◌+◌, ◌<◌, ◌≤◌, [], ◌++◌, length, IfOk, OnOk, OnErr, IsErr, codes, decimal};
+ghost use Rattle.std.specs.Prelude.{◌≡◌, ◌+◌, ◌<◌, ◌≤◌, [], ◌∷◌, ◌++◌, length, IfOk, OnOk, OnErr, IsErr, codes, decimal};
 ghost use Rattle.outer_traits.specs.Outside.{HasRisen, Stays, WritesSome};
 ghost use Rattle.dump_lines.specs.Output.{Appends, WritesCounted, IsBuffered, IsFinished};
 ghost use Rattle.dump_lines.specs.Text.{row_line, counts_line};
@@ -19,7 +19,7 @@ use std::marker::Model;
 const FULL: usize = 65_536;
 
 /// The octets that the longest line may take.
-const LINE: usize = 256;
+const LINE: usize = 512;
 
 /// Text that wasn't written yet. All memory that it takes is taken when it is made.
 #[derive(Drop)]
@@ -34,7 +34,7 @@ impl Model for LineBuffer {
 
     ghost view = { λ p. p.octets.items };
 
-    ghost invariant = { λ p. 65792 ≤ vec_capacity p.octets };
+    ghost invariant = { λ p. 66048 ≤ vec_capacity p.octets };
 }
 
 impl LineBuffer {
@@ -48,7 +48,7 @@ impl LineBuffer {
 
     /// Adds octets for which there's room.
     pub fn put(&mut self, octets: &[u8])
-        requires { length self.old + length octets.now ≤ 65792 }
+        requires { length self.old + length octets.now ≤ 66048 }
         ensures { self.new ≡ self.old ++ octets.now }
     {
         let Ok(()) = self.octets.extend_from_slice(octets) else {
@@ -56,14 +56,41 @@ impl LineBuffer {
         };
     }
 
+    /// Adds an octet for which there's room.
+    pub fn put_octet(&mut self, octet: u8)
+        requires { length self.old < 66048 }
+        ensures { self.new ≡ self.old ++ octet ∷ [] }
+    {
+        self.octets.push_reserved(octet);
+    }
+
+    /// Adds the digits of a number, behind a minus where it is negative.
+    pub fn put_digits<I: Integer>(&mut self, number: I)
+        requires { length self.old + 40 ≤ 66048 }
+        ensures text { self.new ≡ self.old ++ I.text number }
+        ensures short { length self.new ≤ length self.old + 40 }
+    {
+        self.put(Buffer::new().format(number).as_bytes());
+    }
+
     /// Adds a label, and a number after it.
     pub fn put_number<I: Integer>(&mut self, label: &[u8], number: I)
-        requires { length self.old + length label.now + 40 ≤ 65792 }
+        requires { length self.old + length label.now + 40 ≤ 66048 }
         ensures text { self.new ≡ self.old ++ label.now ++ I.text number }
         ensures short { length self.new ≤ length self.old + length label.now + 40 }
     {
         self.put(label);
-        self.put(Buffer::new().format(number).as_bytes());
+        self.put_digits(number);
+    }
+
+    /// Adds a space, and a number after it: a field of a line behind its first.
+    pub fn put_field<I: Integer>(&mut self, number: I)
+        requires { length self.old + 41 ≤ 66048 }
+        ensures text { self.new ≡ self.old ++ codes " " ++ I.text number }
+        ensures short { length self.new ≤ length self.old + 41 }
+    {
+        self.put_octet(b' ');
+        self.put_digits(number);
     }
 
     /// Adds the line of a row.
@@ -72,9 +99,9 @@ impl LineBuffer {
         ensures { self.new ≡ self.old ++ row_line row.now }
     {
         self.put_number(b"row ", row.key.time);
-        self.put_number(b" ", row.key.seq);
-        self.put_number(b" ", row.packet.len());
-        self.put(b"\n");
+        self.put_field(row.key.seq);
+        self.put_field(row.packet.len());
+        self.put_octet(b'\n');
     }
 
     /// Adds the last line.
@@ -110,12 +137,13 @@ impl LineBuffer {
 
     /// Writes the text where it makes a piece.
     pub fn flush_if_full<K: Sink>(&mut self, sink: &mut K) -> Result<(), Failed>
-        ensures buffered { OnOk result (IsBuffered (K.written sink.old) (K.written sink.new) self.old self.new) }
+        ensures buffered { OnOk result (IsBuffered (K.state sink.old).written (K.state sink.new).written self.old
+            self.new) }
         ensures room { OnOk result (length self.new < 65536) }
-        ensures some { OnErr result (WritesSome (K.written sink.old) (K.written sink.new) self.old) }
-        ensures later { K.faults sink.old ≤ K.faults sink.new }
-        ensures failed { IsErr result → HasRisen (K.faults sink.old) (K.faults sink.new) }
-        ensures no_fault { OnOk result (Stays (K.faults sink.old) (K.faults sink.new)) }
+        ensures some { OnErr result (WritesSome (K.state sink.old).written (K.state sink.new).written self.old) }
+        ensures later { (K.state sink.old).faults ≤ (K.state sink.new).faults }
+        ensures failed { IsErr result → HasRisen (K.state sink.old).faults (K.state sink.new).faults }
+        ensures no_fault { OnOk result (Stays (K.state sink.old).faults (K.state sink.new).faults) }
     {
         if self.octets.len() < FULL {
             return Ok(());
@@ -125,12 +153,12 @@ impl LineBuffer {
 
     /// Writes the text.
     pub fn flush<K: Sink>(&mut self, sink: &mut K) -> Result<(), Failed>
-        ensures all { OnOk result (Appends (K.written sink.old) (K.written sink.new) self.old) }
+        ensures all { OnOk result (Appends (K.state sink.old).written (K.state sink.new).written self.old) }
         ensures empty { OnOk result (self.new ≡ []) }
-        ensures some { OnErr result (WritesSome (K.written sink.old) (K.written sink.new) self.old) }
-        ensures later { K.faults sink.old ≤ K.faults sink.new }
-        ensures failed { IsErr result → HasRisen (K.faults sink.old) (K.faults sink.new) }
-        ensures no_fault { OnOk result (Stays (K.faults sink.old) (K.faults sink.new)) }
+        ensures some { OnErr result (WritesSome (K.state sink.old).written (K.state sink.new).written self.old) }
+        ensures later { (K.state sink.old).faults ≤ (K.state sink.new).faults }
+        ensures failed { IsErr result → HasRisen (K.state sink.old).faults (K.state sink.new).faults }
+        ensures no_fault { OnOk result (Stays (K.state sink.old).faults (K.state sink.new).faults) }
     {
         write_all(sink, self.octets.as_slice())?;
         self.octets.clear();
@@ -139,9 +167,9 @@ impl LineBuffer {
 
     /// Writes all of the text, and says how a command ends that prints nothing more.
     pub fn finish<K: Sink>(mut self, sink: &mut K) -> Option<Refusal>
-        ensures finished { IsFinished result (K.written sink.old) (K.written sink.new) self }
-        ensures later { K.faults sink.old ≤ K.faults sink.new }
-        ensures counted { WritesCounted result (K.faults sink.old) (K.faults sink.new) }
+        ensures finished { IsFinished result (K.state sink.old).written (K.state sink.new).written self }
+        ensures later { (K.state sink.old).faults ≤ (K.state sink.new).faults }
+        ensures counted { WritesCounted result (K.state sink.old).faults (K.state sink.new).faults }
     {
         match self.flush(sink) {
             Ok(()) => None,

@@ -9,11 +9,11 @@ use outer_traits::sink::Sink;
 
 /// Appends all of a text, or where a write fails or takes nothing a prefix of it. The count of faults rises exactly there.
 pub fn write_all<K: Sink>(sink: &mut K, text: &[u8]) -> Result<(), Failed>
-    ensures all { OnOk result (Appends (K.written sink.old) (K.written sink.new) text.now) }
-    ensures some { OnErr result (WritesSome (K.written sink.old) (K.written sink.new) text.now) }
-    ensures later { K.faults sink.old ≤ K.faults sink.new }
-    ensures failed { IsErr result → HasRisen (K.faults sink.old) (K.faults sink.new) }
-    ensures no_fault { OnOk result (Stays (K.faults sink.old) (K.faults sink.new)) }
+    ensures all { OnOk result (Appends (K.state sink.old).written (K.state sink.new).written text.now) }
+    ensures some { OnErr result (WritesSome (K.state sink.old).written (K.state sink.new).written text.now) }
+    ensures later { (K.state sink.old).faults ≤ (K.state sink.new).faults }
+    ensures failed { IsErr result → HasRisen (K.state sink.old).faults (K.state sink.new).faults }
+    ensures no_fault { OnOk result (Stays (K.state sink.old).faults (K.state sink.new).faults) }
 {
     let mut at = 0;
     while at < text.len() {

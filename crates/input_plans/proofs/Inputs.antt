@@ -8,7 +8,7 @@ use Rattle.arch_types.specs.Limits.{limit_of}
 use Rattle.outer_traits.specs.Outside.{Files}
 use Rattle.outer_traits.specs.Whole.{IsInput, IsThere}
 use Rattle.command_plans.specs.Plan.{OfMemory, OfInputs, Returned, Stopped, Interrupted, Allows, IsDetermined}
-use Rattle.input_plans.specs.Inputs.{InputRead, OverLimit, WithinLimit, IsInputAs, IsThereAs, input_read, input_there, input_plan}
+use Rattle.input_plans.specs.Inputs.{InputRead, OverLimit, WithinLimit, IsInputAs, IsThereAs, after_reading, after_look, input_plan}
 
 module _ {X : Type 0} (files : Option Files) (which : Which) (of : List ℕ → X) (name : List ℕ) (sources : ℕ) where
   -- no memory, before a source was given or after,
@@ -83,11 +83,11 @@ module _ {X : Type 0} (which : Which) (of : List ℕ → X) where
   input_once all name (WithinLimit x) OverLimit h k = absurd (long_or (get all name) h.0 k h.1 h.2)
   input_once all name (WithinLimit x) (WithinLimit y) h k = ap WithinLimit (h.3 ∙ ap of (some_once (get all name) h.0 k.0 h.1 k.1) ∙ sym k.3)
 
-  each_input : (sources : ℕ) (a : InputRead X) → IsDetermined (input_read which sources a)
+  each_input : (sources : ℕ) (a : InputRead X) → IsDetermined (after_reading which sources a)
   each_input sources OverLimit = tt
   each_input sources (WithinLimit x) = tt
 
-  each_there : (all : Files) (name : List ℕ) (sources : ℕ) (b : Bool) → IsDetermined (input_there (Some all) which of name sources b)
+  each_there : (all : Files) (name : List ℕ) (sources : ℕ) (b : Bool) → IsDetermined (after_look (Some all) which of name sources b)
   each_there all name sources true = (input_once all name, λ a h. each_input (sources + 1) a)
   each_there all name sources false = tt
 

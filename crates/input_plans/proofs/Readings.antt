@@ -4,7 +4,7 @@ use Rattle.std.specs.Prelude.{Err}
 use Rattle.arch_types.specs.declared.refusal.Refusal.{Refusal}
 use Rattle.command_plans.specs.Plan.{CommandPlan, Returned, Stopped, Interrupted, Allows, and_then}
 use Rattle.command_plans.proofs.Plans.{gave, ended, cut}
-use Rattle.outer_ledgers.specs.Ledger.{InputsState}
+use Rattle.outer_traits.specs.States.{InputsState}
 use Rattle.outer_ledgers.proofs.Ledgers.{used_inputs_then}
 use Rattle.input_plans.specs.Inputs.{WasRead, AnsweredByPlan, reading_fault}
 

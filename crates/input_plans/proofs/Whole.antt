@@ -10,7 +10,8 @@ use Rattle.outer_traits.specs.Whole.{IsInput, IsInputFault, ReadingCounted, Read
 use Rattle.outer_traits.specs.declared.whole.ReadFault.{ReadFault}
 use Rattle.outer_traits.specs.declared.whole.ReadFault.TheVariants.{Missing, Failed, TooLong, OutOfMemory}
 use Rattle.command_plans.specs.Plan.{OfMemory, OfInputs, Stopped, Interrupted, Allows}
-use Rattle.outer_ledgers.specs.Ledger.{Counted, InputsState, UsedInputs, given_more}
+use Rattle.outer_traits.specs.States.{InputsState}
+use Rattle.outer_ledgers.specs.Ledger.{Counted, UsedInputs, given_more}
 use Rattle.outer_ledgers.proofs.Ledgers.{risen_counted}
 use Rattle.input_plans.specs.Inputs.{IsFaultRefusal, AnsweredByPlan, WasRead, input_plan}
 use Rattle.input_plans.proofs.Inputs.{input_long, input_missing, input_was_read, no_memory, no_memory_then, opening_failed, read_failed, there_some}

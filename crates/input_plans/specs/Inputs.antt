@@ -9,7 +9,8 @@ use Rattle.outer_traits.specs.Outside.{Files}
 use Rattle.outer_traits.specs.declared.whole.ReadFault as fault
 use Rattle.outer_traits.specs.declared.whole.ReadFault.TheVariants as faulted
 use Rattle.outer_traits.specs.Whole.{IsInput, IsThere}
-use Rattle.outer_ledgers.specs.Ledger.{InputsState, UsedInputs}
+use Rattle.outer_traits.specs.States.{InputsState}
+use Rattle.outer_ledgers.specs.Ledger.{UsedInputs}
 use Rattle.command_plans.specs.Plan.{Interruption, OfMemory, OfInputs, CommandPlan, Return, Stop, May, Question, Returned, Stopped, Interrupted, Allows, interruption_refusal}
 
 -- whether there is an input of a name, where that is known
@@ -28,24 +29,19 @@ IsInputAs files which of name OverLimit = IfSome files (λ all. IsSomeAnd (get a
 IsInputAs files which of name (WithinLimit x) = (octets : List ℕ) × IsInput files name octets × (length octets ≤ limit_of which) × (x ≡ of octets)
 
 -- what an input leads to, by what it was read as
-abbrev pub input_read : {X : Type 0} → Which → ℕ → InputRead X → CommandPlan ℕ X
-input_read which sources OverLimit = Stop sources (Some (Limit which (limit_of which)))
-input_read which sources (WithinLimit x) = Return x
+abbrev pub after_reading : {X : Type 0} → Which → ℕ → InputRead X → CommandPlan ℕ X
+after_reading which sources OverLimit = Stop sources (Some (Limit which (limit_of which)))
+after_reading which sources (WithinLimit x) = Return x
 
--- it isn't opened; or it is, which gives a source, and there is no memory or a read fails; or it is read
-abbrev pub input_there : {X : Type 0} → Option Files → Which → (List ℕ → X) → List ℕ → ℕ → Bool → CommandPlan ℕ X
-input_there files which of name sources true =
-    May OfInputs sources (May OfMemory (sources + 1) (May OfInputs (sources + 1) (Question (IsInputAs files which of name) (input_read which (sources + 1)))))
-input_there files which of name sources false = Stop sources (Some (Missing name))
+-- what a look for it leads to: it isn't there; it isn't opened; or it is, which gives a source, and there is no memory or a read fails; or it is read
+abbrev pub after_look : {X : Type 0} → Option Files → Which → (List ℕ → X) → List ℕ → ℕ → Bool → CommandPlan ℕ X
+after_look files which of name sources true =
+    May OfInputs sources (May OfMemory (sources + 1) (May OfInputs (sources + 1) (Question (IsInputAs files which of name) (after_reading which (sources + 1)))))
+after_look files which of name sources false = Stop sources (Some (Missing name))
 
 -- reads a named input after so many others: Missing; then ReadFault, or the limit of its octets
 abbrev pub input_plan : {X : Type 0} → Option Files → Which → (List ℕ → X) → List ℕ → ℕ → CommandPlan ℕ X
-input_plan files which of name sources = May OfMemory sources (Question (IsThereAs files name) (input_there files which of name sources))
-
--- whether a call ended by a read that failed
-abbrev pub is_read_fault : Option Refusal → Bool
-is_read_fault (Some ReadFault) = true
-is_read_fault other = false
+input_plan files which of name sources = May OfMemory sources (Question (IsThereAs files name) (after_look files which of name sources))
 
 -- the fault that cuts a reading off: a call of the inputs that failed, or want of memory
 abbrev pub reading_fault : Bool → Interruption

@@ -4,17 +4,5 @@
 //! What was done by then is the number of sources that the inputs had given: so "each input is opened once", "nothing was asked of the disk before a
 //! source was given" and "a failed read takes the place of no refusal of an input behind it" are read from a plan.
 //!
-//! The one idea of the proofs (proofs/Inputs.antt): where the inputs are known each question has one answer (`reads_determined`).
+//! The one idea of the proofs (proofs/Inputs.antt): where the inputs are known each question has one answer (`reads_determined`). Nothing here runs.
 #![tactic(auto)]
-
-ghost use Rattle.std.specs.Prelude.{◌≡◌};
-ghost use Rattle.input_plans.specs.Inputs.{is_read_fault};
-
-use arch_types::refusal::Refusal;
-
-/// Whether a call ended by a read that failed.
-pub fn is_read_fault(refusal: &Option<Refusal>) -> bool
-    ensures { result ≡ is_read_fault refusal.now }
-{
-    matches!(refusal, Some(Refusal::ReadFault))
-}

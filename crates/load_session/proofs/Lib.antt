@@ -1,3 +1,4 @@
 pub mod Arrived
 pub mod Taking
 pub mod Batching
+pub mod Sessions

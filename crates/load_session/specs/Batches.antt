@@ -6,11 +6,11 @@ use Rattle.arch_types.specs.declared.refusal.Refusal.TheVariants.{DiskFault, Lim
 use Rattle.arch_types.specs.declared.row.Row.{Row}
 use Rattle.arch_types.specs.Arrivals.{arrivals, kept}
 use Rattle.arch_types.specs.Dump.{IsDump}
-use Rattle.arch_types.specs.History.{ingested}
 use Rattle.arch_types.specs.Packet.{is_idle}
 use Rattle.arch_types.specs.Limits.{limit_of}
 use Rattle.archive_core.specs.declared.fills.Addition.TheVariants.{Rows}
 use Rattle.archive_core.specs.declared.fills.Fill.TheVariants.{Fault}
+use Rattle.archive_core.specs.Items.{after_rows}
 use Rattle.archive_core.specs.Outcomes.{fresh_of}
 use Rattle.container_extract.specs.Chain.{packet_name_of}
 use Rattle.space_packet.specs.Cut.{IsCut}
@@ -31,7 +31,8 @@ first_table (table ∷ tables) = 0 ∷ []
 
 -- the rows of packets of a link in an archive, with the packet names that its database gives them
 abbrev pub rows_of_link : Head → ℕ → ℤ → List (List ℕ) → List Row
-rows_of_link head link moment packets = arrivals link moment (packet_name_of head.mdb) (λ p. first_table head.tables) packets
+rows_of_link head link moment packets =
+    arrivals link moment (packet_name_of head.mdb) (λ p. first_table head.tables) packets
 
 -- how many packets aren't idle
 abbrev pub arrived : List (List ℕ) → ℕ
@@ -45,7 +46,8 @@ batch_at place packets = take 64 (drop place packets)
 
 -- the arrival of a packet of a link
 abbrev pub arrival_from : Head → ℕ → List ℕ → Arrival
-arrival_from head link packet = record { link = link; pname = packet_name_of head.mdb packet; packet = packet; tables = first_table head.tables }
+arrival_from head link packet =
+    record { link = link; pname = packet_name_of head.mdb packet; packet = packet; tables = first_table head.tables }
 
 -- arrivals, and that of one packet more where it isn't idle
 abbrev pub arrivals_with : Head → ℕ → List Arrival → List ℕ → List Arrival
@@ -64,7 +66,8 @@ pub record IsBatchOf (head : Head) (link : ℕ) (moment : ℤ) (packets : List (
   pub count : length batch.arrivals ≡ arrived packets
 
 -- packets that were taken from a dump for a batch
-pub record IsNextBatch (dump : List ℕ) (start end : ℕ) (head : Head) (link : ℕ) (moment : ℤ) (taken : NextBatch) : Type 0 where
+pub record IsNextBatch (dump : List ℕ) (start end : ℕ) (head : Head) (link : ℕ) (moment : ℤ)
+    (taken : NextBatch) : Type 0 where
   pub packets : List (List ℕ)
   pub run : IsRun dump start packets end
   pub count : taken.packets ≡ length packets
@@ -74,14 +77,16 @@ pub record IsNextBatch (dump : List ℕ) (start end : ℕ) (head : Head) (link :
 -- ---- all batches
 
 -- packets of a link were ingested; where no fault is held each record that was appended has a new row
-pub record HasIngested {D : Type 0} (old new : StoreView D) (link : ℕ) (moment : ℤ) (packets : List (List ℕ)) : Type 0 where
-  pub history : new.history ≡ ingested old.history (rows_of_link old.head link moment packets)
+pub record HasIngested {D : Type 0} (old new : StoreView D) (link : ℕ) (moment : ℤ)
+    (packets : List (List ℕ)) : Type 0 where
+  pub history : new.history ≡ after_rows old.history (rows_of_link old.head link moment packets)
   pub head : new.head ≡ old.head
   pub opened : new.opened ≡ old.opened
   pub records : new.fills ≡ [] → new.records + length old.history ≤ old.records + length new.history
 
 -- all packets of a dump were
-pub record IsIngested {D : Type 0} (old new : StoreView D) (dump : List ℕ) (link : ℕ) (moment : ℤ) (whole : DumpSummary) : Type 0 where
+pub record IsIngested {D : Type 0} (old new : StoreView D) (dump : List ℕ) (link : ℕ) (moment : ℤ)
+    (whole : DumpSummary) : Type 0 where
   pub packets : List (List ℕ)
   pub within : whole.at ≤ length dump
   pub parts : IsDump dump packets (drop whole.at dump)
@@ -91,15 +96,19 @@ pub record IsIngested {D : Type 0} (old new : StoreView D) (dump : List ℕ) (li
   pub of_packets : whole.packets ≡ length packets
   pub of_idle : whole.idle + arrived packets ≡ length packets
 
--- why the rows of a batch were refused: they pass a limit, the disk failed, which then holds the new ones in a fault, or there was no memory
+-- why the rows of a batch were refused: they pass a limit; or the disk failed, and a fault holds the new ones; or
+-- memory was wanting
 abbrev pub IsRefusedFor : {D : Type 0} → StoreView D → List Row → Refusal → Type 0
-IsRefusedFor store rows (Limit which number) = (store.fills ≡ []) × (number ≡ limit_of which) × IsLimit 22 which store.records (ingested store.history rows)
-IsRefusedFor store rows DiskFault = (count : ℕ) × (store.fills ≡ Fault count true (Rows (fresh_of store.history rows)) ∷ [])
+IsRefusedFor store rows (Limit which number) =
+    (store.fills ≡ []) × (number ≡ limit_of which) × IsLimit 22 which store.records (after_rows store.history rows)
+IsRefusedFor store rows DiskFault =
+    (count : ℕ) × (store.fills ≡ Fault count true (Rows (fresh_of store.history rows)) ∷ [])
 IsRefusedFor store rows OutOfMemory = store.fills ≡ []
 IsRefusedFor store rows other = ⊥
 
 -- the packets of a dump before a place were ingested, and the batch from there on was refused
-pub record IsStoppedAt {D : Type 0} (old new : StoreView D) (dump : List ℕ) (link : ℕ) (moment : ℤ) (refusal : Refusal) : Type 0 where
+pub record IsStoppedAt {D : Type 0} (old new : StoreView D) (dump : List ℕ) (link : ℕ) (moment : ℤ)
+    (refusal : Refusal) : Type 0 where
   pub packets : List (List ℕ)
   pub rest : List ℕ
   pub place : ℕ

@@ -41,7 +41,7 @@ pub struct DumpSummary {
 
 /// Ingests the packets of a dump that came by a link and was received at a moment, in milliseconds since 1970. At the first batch that is refused
 /// it stops.
-pub fn ingest_dump<D: Disk>(
+pub(crate) fn ingest_dump<D: Disk>(
     alloc: Global,
     store: &mut Store<D>,
     dump: &Octets,
@@ -51,7 +51,7 @@ pub fn ingest_dump<D: Disk>(
     requires short { length dump.now ≤ 268435456 }
     requires link { (1 ≤ link) × (link ≤ 255) }
     requires moment { IsClockTime moment }
-    requires no_failed_write { store.old.fills ≡ [] }
+    requires no_fault { store.old.fills ≡ [] }
     ensures whole { IfOk result (IsIngested store.old store.new dump.now link moment) }
     ensures stopped { IfErr result (IsStoppedAt store.old store.new dump.now link moment) }
     ensures disk_writes { ExactlyOne (result_err result) (D.device.failed_writes store.old.disk)

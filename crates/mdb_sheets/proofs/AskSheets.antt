@@ -1,7 +1,6 @@
 -- The asks of a sheet as a function of its octets.
 use Rattle.std.proofs.Common.{◌≡◌, ◌∙◌, ◌⊎◌, ◌<◌, ◌≤◌, inl, inr, ℕ, List, length, map, drop, Bool, true, false, Option, Some, None, refl, ap, sym, subst, arith}
 use Rattle.std.specs.Prelude.{Result, Ok, Err, nat_lt, option_map, if◌then◌else◌}
-use Rattle.std.proofs.lemmas.Bool.{cases_lt}
 use Rattle.std.proofs.lemmas.Bool.Decides.{nat_tests}
 use Rattle.std.proofs.lemmas.List.{length-map}
 use Rattle.arch_types.specs.declared.ask.Ask.{Ask}
@@ -101,44 +100,3 @@ answer_is octets (Ok asks) answer h is = elim (asks_are_of octets (Ok asks) h) [
 ]
 answer_is octets (Err refusal) answer h (inl is) = inl (is.1 ∙ ap Err (of_memory (sheet_of octets) refusal h is.0))
 answer_is octets (Err refusal) answer h (inr is) = inr (is.1 ∙ ap Ok (said octets refusal h is.0))
-
--- ---- what the octets say is a result
-
-not_more : (limit n : ℕ) → nat_lt limit n ≡ false → n ≤ limit
-not_more limit n e = elim (cases_lt limit n) [
-  | inl below ↦ let more = longer limit n below in absurd (cc (e, more))
-  | inr few ↦ omega (arith, few)
-]
-
-above_limit : (limit n : ℕ) → nat_lt limit n ≡ true → limit < n
-above_limit limit n e = elim (cases_lt limit n) [
-  | inl below ↦ below
-  | inr few ↦ let less = not-longer limit n (omega (arith, few)) in absurd (cc (e, less))
-]
-
--- why a sheet is refused: the first rule that it breaks, or else that it has too many asks
-abbrev pub IsSheetCause : List Fields → Refusal → Type 0
-IsSheetCause records (BadSheet name row rule) = (name ≡ sheet.Asks) × (ask_sheet_fault records ≡ Some (row, rule))
-IsSheetCause records (Limit which.Asks number) = (number ≡ limit_of which.Asks) × (ask_sheet_fault records ≡ None) × (limit_of which.Asks < length (drop 1 records))
-IsSheetCause records other = ⊥
-
-abbrev HasCause : List Fields → Result (List Ask) Refusal → Type 0
-HasCause records (Ok asks) = IsAsksResult records (Ok asks)
-HasCause records (Err refusal) = IsSheetCause records refusal
-
-unless_result : (records : List Fields) (fault : Option (ℕ × ℕ)) (more : Bool) → ask_sheet_fault records ≡ fault → more_than records ≡ more →
-    HasCause records (asks_unless (by_fault more fault) records)
-unless_result records (Some broken) more f m = (refl, f)
-unless_result records None true f m = (refl, f, above_limit (limit_of which.Asks) (length (drop 1 records)) m)
-unless_result records None false f m =
-    let few = few_asks records (map ask_of (drop 1 records)) refl in let least = not_more (limit_of which.Asks) (length (drop 1 records)) m in (f, refl, omega (arith, few, least))
-
-asks_result : (octets : List ℕ) → HasCause (sheet_of octets) (asks_of octets)
-unfolding asks_of
-asks_result octets = unless_result (sheet_of octets) (ask_sheet_fault (sheet_of octets)) (more_than (sheet_of octets)) refl refl
-
-pub asks_given : (octets : List ℕ) (asks : List Ask) → asks_of octets ≡ Ok asks → IsAsksResult (sheet_of octets) (Ok asks)
-asks_given octets asks is = subst (HasCause (sheet_of octets)) is (asks_result octets)
-
-pub asks_refused : (octets : List ℕ) (refusal : Refusal) → asks_of octets ≡ Err refusal → IsSheetCause (sheet_of octets) refusal
-asks_refused octets refusal is = subst (HasCause (sheet_of octets)) is (asks_result octets)

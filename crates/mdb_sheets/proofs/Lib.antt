@@ -3,3 +3,4 @@ pub mod Reached
 pub mod AskRows
 pub mod AskSheets
 pub mod Sheets
+pub mod NameLists

@@ -11,9 +11,9 @@ use Rattle.outer_traits.specs.declared.whole.ReadFault.{ReadFault}
 use Rattle.outer_traits.specs.declared.whole.ReadFault.TheVariants.{Missing, Failed, TooLong, OutOfMemory}
 use Rattle.command_plans.specs.Plan.{Returned, IsDetermined}
 use Rattle.command_plans.proofs.Plans.{determined, gave}
-use Rattle.outer_ledgers.specs.Ledger.{InputsState}
-use Rattle.input_plans.specs.Inputs.{IsFaultRefusal, IsInputAs, AnsweredByPlan, WasRead, WithinLimit}
-use Rattle.input_plans.proofs.Inputs.{read_as, reads_determined}
+use Rattle.outer_traits.specs.States.{InputsState}
+use Rattle.input_plans.specs.Inputs.{IsFaultRefusal, AnsweredByPlan, WasRead}
+use Rattle.input_plans.proofs.Inputs.{reads_determined}
 use Rattle.input_plans.proofs.Readings.{first_not_read, then_not_read, then_read}
 use Rattle.mdb_sheets.specs.Plans.{giving_plan, second_sheet_plan, sheet_plan, third_sheet_plan, sheets_plan}
 use Rattle.mdb_sheets.specs.Refusal.{IsRefusalOf}
@@ -82,8 +82,3 @@ sheets_determined all parameters calibrations containers sources =
     (reads_determined SheetOctets (λ octets. sheet_of octets) all calibrations (sources + 1))
     (λ second. determined (sheet_plan (Some all) containers (sources + 1 + 1)) (giving_plan first second)
     (reads_determined SheetOctets (λ octets. sheet_of octets) all containers (sources + 1 + 1)) (λ third. tt)))
-
--- a sheet that was read is that of its name
-pub sheet_was_read : (files : Option Files) (name : List ℕ) (sheet : List Fields) → IsInputAs files SheetOctets (λ octets. sheet_of octets) name (WithinLimit sheet) → IsSheet files name sheet
-sheet_was_read files name sheet is =
-    read_as files SheetOctets (λ octets. sheet_of octets) name sheet (λ octets. (length octets ≤ limit_of SheetOctets) × (sheet ≡ sheet_of octets)) is (λ octets short same. (short, same))

@@ -1,32 +1,47 @@
 -- The sheet of asks: one row an ask.
-use Rattle.std.specs.Prelude.{◌≡◌, ◌⊎◌, ℕ, suc, ◌<◌, ◌≤◌, ◌==◌, ◌&&◌, ◌||◌, not, Bool, true, false, List, [], ◌∷◌, length, map, drop, Option, Some, None, IfSome, is_some, option_map, unwrap_or, nat_lt, if◌then◌else◌, codes, pos, Result, Ok, Err}
+use Rattle.std.specs.Prelude.{◌≡◌, ◌⊎◌, ℕ, suc, ◌<◌, ◌≤◌, ◌==◌, ◌&&◌, ◌||◌, not, Bool, true, false, List, [], ◌∷◌, length, map, drop, Option, Some, None, is_some, option_map, unwrap_or, nat_lt, if◌then◌else◌, codes, pos, Result, Ok, Err}
+use Rattle.std.specs.List.{slice_split}
 use Rattle.std.specs.Str.{bytes_eq}
 use Rattle.arch_types.specs.declared.ask.Ask.{Ask}
-use Rattle.arch_types.specs.declared.ask.Ask.TheVariants.{Values}
+use Rattle.arch_types.specs.declared.ask.Ask.TheVariants.{Values, Replay}
 use Rattle.arch_types.specs.declared.refusal.Refusal.{Refusal}
-use Rattle.arch_types.specs.declared.refusal.Refusal.TheVariants.{ReadFault, BadSheet, Limit, OutOfMemory}
+use Rattle.arch_types.specs.declared.refusal.Refusal.TheVariants.{BadSheet, Limit, OutOfMemory}
 use Rattle.arch_types.specs.declared.refusal.Sheet.TheVariants as sheet
-use Rattle.arch_types.specs.declared.refusal.Which.TheVariants.{SheetOctets}
 use Rattle.arch_types.specs.declared.refusal.Which.TheVariants as which
 use Rattle.arch_types.specs.Limits.{limit_of}
 use Rattle.text_forms.specs.Names.{is_name}
 use Rattle.mdb_items.specs.Checks.{Checks, first_broken, or_else}
+use Rattle.mdb_items.specs.Conditions.{all_of}
 use Rattle.mdb_items.specs.Lists.{is_empty}
 use Rattle.mdb_model.specs.Sheets.{are_texts}
 use Rattle.mdb_items.specs.Texts.{field}
 use Rattle.text_forms.specs.Digits.{digits_at_most}
-use Rattle.outer_traits.specs.Outside.{HasRisen}
 use Rattle.time_text.specs.TimeText.{time_of}
 use Rattle.command_plans.specs.Plan.{is_interruption}
 use Rattle.mdb_sheets.specs.declared.ask_row.AskFault.{AskFault}
 use Rattle.mdb_sheets.specs.declared.ask_row.AskFault.TheVariants as fault
+use Rattle.mdb_sheets.specs.declared.ask_row.AskKind.{AskKind}
+use Rattle.mdb_sheets.specs.declared.ask_row.AskKind.TheVariants as kind
 use Rattle.mdb_sheets.specs.Sheets.{Fields, sheet_of}
 
--- desc, or asc or empty, which is asc
-abbrev pub descending_of : List ℕ → Option Bool
-descending_of text = if is_empty text || bytes_eq text (codes "asc") then Some false else (if bytes_eq text (codes "desc") then Some true else None)
+-- the kind that a text names
+abbrev pub ask_kind : List ℕ → Option AskKind
+ask_kind text = if bytes_eq text (codes "values") then Some kind.Values else (if bytes_eq text (codes "replay") then Some kind.Replay else None)
 
--- a limit of values, by its number
+-- asc, or empty, which is asc
+abbrev pub is_ascending : List ℕ → Bool
+is_ascending text = is_empty text || bytes_eq text (codes "asc")
+
+-- desc, or asc
+abbrev pub descending_of : List ℕ → Option Bool
+descending_of text = if is_ascending text then Some false else (if bytes_eq text (codes "desc") then Some true else None)
+
+-- the order of an ask of a kind; a replay is asc
+unfoldable pub order_of : Option AskKind → List ℕ → Option Bool
+order_of (Some kind.Replay) text = if is_ascending text then Some false else None
+order_of other text = descending_of text
+
+-- a limit, by its number
 abbrev pub most_from : Option ℕ → Option (Option ℕ)
 most_from None = None
 most_from (Some n) = Some (Some n)
@@ -35,35 +50,59 @@ most_from (Some n) = Some (Some n)
 abbrev pub most_of : List ℕ → Option (Option ℕ)
 most_of text = if is_empty text then Some None else most_from (digits_at_most 18 text)
 
+-- a text that is a name
+abbrev pub name_from : List ℕ → Option (List ℕ)
+name_from text = if is_name text then Some text else None
+
+-- names joined by `;`, where each is one
+unfoldable pub listed_names : List ℕ → Option (List (List ℕ))
+listed_names text = all_of (map name_from (slice_split (λ b. b == 59) text))
+
+-- the names of an ask of a kind, all where the text is empty, as that of values is
+unfoldable pub asked_names : Option AskKind → List ℕ → Option (Option (List (List ℕ)))
+asked_names (Some kind.Replay) text = if is_empty text then Some None else option_map (λ names. Some names) (listed_names text)
+asked_names other text = if is_empty text then Some None else None
+
 -- the rules of a row: kind, name, from, to, order, limit, names
 unfoldable pub ask_checks : Fields → Checks
 ask_checks row =
     -- the record hasn't seven fields
     (2, not (length row == 7))
-    -- the kind isn't values
-    ∷ (30, not (bytes_eq (field row 0) (codes "values")))
+    -- the kind is neither values nor replay
+    ∷ (30, not (is_some (ask_kind (field row 0))))
     -- the name isn't a name
     ∷ (3, not (is_name (field row 1)))
     -- a bound isn't a time
     ∷ (31, not (is_some (time_of (field row 2))))
     ∷ (31, not (is_some (time_of (field row 3))))
-    -- the order isn't asc, desc or empty
-    ∷ (32, not (is_some (descending_of (field row 4))))
+    -- the order isn't asc, desc or empty, or it is a replay's and desc
+    ∷ (32, not (is_some (order_of (ask_kind (field row 0)) (field row 4))))
     -- the limit isn't empty, and no number of 1 to 18 digits
     ∷ (33, not (is_some (most_of (field row 5))))
-    -- values are asked with names
-    ∷ (34, not (is_empty (field row 6)))
+    -- values are asked with names, or a replay with what lists none
+    ∷ (34, not (is_some (asked_names (ask_kind (field row 0)) (field row 6))))
     ∷ []
 
--- the ask that a row spells
-unfoldable pub ask_of : Fields → Ask
-ask_of row = Values (record {
+-- the ask of a kind that a row spells
+abbrev pub ask_of_kind : Option AskKind → Fields → Ask
+ask_of_kind (Some kind.Replay) row = Replay (record {
+  table = field row 1;
+  from = unwrap_or (time_of (field row 2)) (pos 0);
+  to = unwrap_or (time_of (field row 3)) (pos 0);
+  names = unwrap_or (asked_names (Some kind.Replay) (field row 6)) None;
+  limit = unwrap_or (most_of (field row 5)) None;
+})
+ask_of_kind other row = Values (record {
   parameter = field row 1;
   from = unwrap_or (time_of (field row 2)) (pos 0);
   to = unwrap_or (time_of (field row 3)) (pos 0);
-  descending = unwrap_or (descending_of (field row 4)) false;
+  descending = unwrap_or (order_of (Some kind.Values) (field row 4)) false;
   limit = unwrap_or (most_of (field row 5)) None;
 })
+
+-- the ask that a row spells
+unfoldable pub ask_of : Fields → Ask
+ask_of row = ask_of_kind (ask_kind (field row 0)) row
 
 -- the ask of a row that breaks no rule, or the first rule that it breaks
 abbrev pub IsAskResult : Fields → Result Ask AskFault → Type 0
@@ -123,19 +162,3 @@ abbrev pub IsSheetAnswer : Result (List Ask) Refusal → Result (Result (List As
 IsSheetAnswer (Ok asks) answer = answer ≡ Ok (Ok asks)
 IsSheetAnswer (Err refusal) answer =
     ((is_interruption refusal ≡ true) × (answer ≡ Err refusal)) ⊎ ((is_interruption refusal ≡ false) × (answer ≡ Ok (Err refusal)))
-
--- the asks of the sheet that a source has left
-abbrev pub AreAsks : Option (List ℕ) → List Ask → Type 0
-AreAsks left asks = IfSome left (λ octets. (length octets ≤ limit_of SheetOctets) × IsAsksResult (sheet_of octets) (Ok asks))
-
--- why a sheet of asks isn't read: the source failed, the first rule that it breaks, the limit that it passes, or there was no memory
-abbrev pub IsAsksRefusal : Option (List ℕ) → ℕ → ℕ → Refusal → Type 0
-IsAsksRefusal left faults faults' ReadFault = HasRisen faults faults'
-IsAsksRefusal left faults faults' (BadSheet name row rule) =
-    (name ≡ sheet.Asks) × IfSome left (λ octets. (length octets ≤ limit_of SheetOctets) × (ask_sheet_fault (sheet_of octets) ≡ Some (row, rule)))
-IsAsksRefusal left faults faults' (Limit SheetOctets number) = (number ≡ limit_of SheetOctets) × IfSome left (λ octets. limit_of SheetOctets < length octets)
-IsAsksRefusal left faults faults' (Limit which.Asks number) =
-    (number ≡ limit_of which.Asks)
-    × IfSome left (λ octets. (length octets ≤ limit_of SheetOctets) × (ask_sheet_fault (sheet_of octets) ≡ None) × (limit_of which.Asks < length (drop 1 (sheet_of octets))))
-IsAsksRefusal left faults faults' OutOfMemory = Unit {0}
-IsAsksRefusal left faults faults' other = ⊥

@@ -31,5 +31,5 @@ abbrev pub sheets_plan : Option Files → List ℕ → List ℕ → List ℕ →
 sheets_plan files parameters calibrations containers sources = and_then (sheet_plan files parameters sources) (second_sheet_plan files calibrations containers (sources + 1))
 
 -- reads the asks of a sheet, or why they are refused, which its reader answers by when it will
-abbrev pub asks_plan : Option Files → List ℕ → ℕ → CommandPlan ℕ (Result (List Ask) Refusal)
-asks_plan files name sources = input_plan files SheetOctets (λ octets. asks_of octets) name sources
+abbrev pub ask_sheet_plan : Option Files → List ℕ → ℕ → CommandPlan ℕ (Result (List Ask) Refusal)
+ask_sheet_plan files name sources = input_plan files SheetOctets (λ octets. asks_of octets) name sources

@@ -1,5 +1,5 @@
 -- The sheets of a mission database, and why they aren't read.
-use Rattle.std.specs.Prelude.{◌≡◌, ℕ, ◌+◌, ◌-◌, ◌^◌, min, ◌<◌, ◌≤◌, ◌⊎◌, List, Option, Some, IfSome, IsNone, IsSomeAnd, length}
+use Rattle.std.specs.Prelude.{◌≡◌, ℕ, ◌<◌, ◌≤◌, ◌⊎◌, List, Option, Some, IfSome, IsNone, IsSomeAnd, length}
 use Rattle.std.specs.FinMap.{get}
 use Rattle.arch_types.specs.declared.refusal.Refusal.{Refusal}
 use Rattle.arch_types.specs.declared.refusal.Refusal.TheVariants.{Missing, ReadFault, Limit, OutOfMemory}
@@ -9,6 +9,7 @@ use Rattle.csv.specs.Reading.{default_config, records, strip_bom}
 use Rattle.mdb_items.specs.declared.sheet.RawMdb.{RawMdb}
 use Rattle.outer_traits.specs.Outside.{Files, HasRisen, IsOneMoreAtMost, Stays, one_more}
 use Rattle.outer_traits.specs.Whole.{IsThere}
+use Rattle.outer_ledgers.specs.Ledger.{given_more}
 
 -- a record of a sheet: the octets of each field
 abbrev pub Fields : Type 0
@@ -52,16 +53,12 @@ abbrev pub IsSheetRefused : Option Files → List ℕ → ℕ → ℕ → ℕ �
 IsSheetRefused files name faults faults' given given' refusal =
     IsSheetRefusal files name faults faults' refusal × SourcesOfSheet refusal given given'
 
--- so many more, up to a counter's last value
-abbrev pub more : ℕ → ℕ → ℕ
-more number count = min (count + number) (2 ^ 64 - 1)
-
 -- the refusal is that of the first sheet that isn't read, and each sheet before it gave one source
 abbrev pub IsRefusal : Option Files → List ℕ → List ℕ → List ℕ → ℕ → ℕ → ℕ → ℕ → Refusal → Type 0
 IsRefusal files parameters calibrations containers faults faults' given given' refusal =
     IsSheetRefused files parameters faults faults' given given' refusal
-    ⊎ (HasSheet files parameters × IsSheetRefused files calibrations faults faults' (more 1 given) given' refusal)
-    ⊎ (HasSheet files parameters × HasSheet files calibrations × IsSheetRefused files containers faults faults' (more 2 given) given' refusal)
+    ⊎ (HasSheet files parameters × IsSheetRefused files calibrations faults faults' (given_more 1 given) given' refusal)
+    ⊎ (HasSheet files parameters × HasSheet files calibrations × IsSheetRefused files containers faults faults' (given_more 2 given) given' refusal)
 
 -- a count of reads that failed has risen where the refusal is ReadFault, and else is as before
 abbrev pub ReadsCounted : Option Refusal → ℕ → ℕ → Type 0

@@ -1,10 +1,11 @@
 //! One row of the sheet of asks.
 
-ghost use Rattle.std.specs.Prelude.{◌≡◌};
-ghost use Rattle.mdb_sheets.specs.Asks.{IsAskResult, descending_of, most_of};
+ghost use Rattle.std.specs.Prelude.{◌≡◌, IfOk, Some};
+ghost use Rattle.mdb_sheets.specs.Asks.{IsAskResult, ask_kind, asked_names, descending_of, is_ascending, most_of, order_of};
 
-use arch_types::ask::{Ask, Request};
-use arch_types::name::Name;
+use crate::name_list::listed_names;
+use arch_types::ask::{Ask, ReplayRequest, Request};
+use arch_types::name::{Name, Names};
 use arch_types::octets::Octets;
 use mdb_model::SheetRecord;
 use std::alloc::{AllocError, Global};
@@ -30,15 +31,57 @@ impl From<AllocError> for AskFault {
     }
 }
 
+/// What is asked for: the values of a parameter, or the rows of a table.
+#[derive(Clone, Copy)]
+pub(crate) enum AskKind {
+    Values,
+    Replay,
+}
+
+fn ask_kind(text: &[u8]) -> Option<AskKind>
+    ensures { result ≡ ask_kind text.now }
+{
+    if text == b"values".as_slice() {
+        Some(AskKind::Values)
+    } else if text == b"replay".as_slice() {
+        Some(AskKind::Replay)
+    } else {
+        None
+    }
+}
+
+fn is_ascending(text: &[u8]) -> bool
+    ensures { result ≡ is_ascending text.now }
+{
+    text.is_empty() || text == b"asc".as_slice()
+}
+
 fn descending_of(text: &[u8]) -> Option<bool>
     ensures { result ≡ descending_of text.now }
 {
-    if text.is_empty() || text == b"asc".as_slice() {
+    if is_ascending(text) {
         Some(false)
     } else if text == b"desc".as_slice() {
         Some(true)
     } else {
         None
+    }
+}
+
+/// Whether an ask of a kind is descending, which a replay never is.
+#[tactic(auto, unfolding(crate::specs::Asks::order_of))]
+fn order_of(kind: AskKind, text: &[u8]) -> Option<bool>
+    ensures { result ≡ order_of (Some kind) text.now }
+{
+    match kind {
+        AskKind::Values => descending_of(text),
+        AskKind::Replay => {
+            if is_ascending(text) {
+                Some(false)
+            } else {
+                None
+            }
+        }
     }
 }
 
@@ -55,6 +98,27 @@ fn most_of(text: &[u8]) -> Option<Option<u64>>
     }
 }
 
+/// The names of an ask of a kind: all where the text is empty, as that of values is.
+#[tactic(auto, unfolding(crate::specs::Asks::asked_names))]
+fn asked_names(
+    alloc: Global,
+    kind: AskKind,
+    text: &[u8],
+) -> Result<Option<Option<Names>>, AllocError>
+    ensures { IfOk result (λ names. names ≡ asked_names (Some kind) text.now) }
+{
+    if text.is_empty() {
+        return Ok(Some(None));
+    }
+    match kind {
+        AskKind::Values => Ok(None),
+        AskKind::Replay => match listed_names(alloc, text)? {
+            Some(names) => Ok(Some(Some(names))),
+            None => Ok(None),
+        },
+    }
+}
+
 /// The ask of a row.
 #[tactic(auto, unfolding(crate::specs::Asks::ask_checks, crate::specs::Asks::ask_of))]
 pub(crate) fn read_ask(alloc: Global, row: &SheetRecord<'_>) -> Result<Ask, AskFault>
@@ -63,10 +127,10 @@ pub(crate) fn read_ask(alloc: Global, row: &SheetRecord<'_>) -> Result<Ask, AskF
     if row.len() != 7 {
         return Err(AskFault::Broken(2));
     }
-    if row.field(0) != b"values".as_slice() {
+    let Some(kind) = ask_kind(row.field(0)) else {
         return Err(AskFault::Broken(30));
-    }
-    let Some(parameter) = Name::of(Octets::from_slice(alloc, row.field(1))?) else {
+    };
+    let Some(name) = Name::of(Octets::from_slice(alloc, row.field(1))?) else {
         return Err(AskFault::Broken(3));
     };
     let Ok(from) = read_time_octets(row.field(2)) else {
@@ -75,20 +139,55 @@ pub(crate) fn read_ask(alloc: Global, row: &SheetRecord<'_>) -> Result<Ask, AskF
     let Ok(to) = read_time_octets(row.field(3)) else {
         return Err(AskFault::Broken(31));
     };
-    let Some(descending) = descending_of(row.field(4)) else {
+    let Some(descending) = order_of(kind, row.field(4)) else {
         return Err(AskFault::Broken(32));
     };
     let Some(limit) = most_of(row.field(5)) else {
         return Err(AskFault::Broken(33));
     };
-    if !row.field(6).is_empty() {
+    let Some(names) = asked_names(alloc, kind, row.field(6))? else {
         return Err(AskFault::Broken(34));
+    };
+    match kind {
+        AskKind::Values => Ok(values(name, from, to, descending, limit)),
+        AskKind::Replay => Ok(replay(name, from, to, names, limit)),
     }
-    Ok(Ask::Values(Request {
+}
+
+/// The ask for the values of a parameter.
+fn values(parameter: Name, from: i64, to: i64, descending: bool, limit: Option<u64>) -> Ask
+    ensures { result ≡ Ask.Values (record {
+      parameter = parameter;
+      from = from;
+      to = to;
+      descending = descending;
+      limit = limit;
+    }) }
+{
+    Ask::Values(Request {
         parameter,
         from,
         to,
         descending,
         limit,
-    }))
+    })
+}
+
+/// The ask for the rows of a table.
+fn replay(table: Name, from: i64, to: i64, names: Option<Names>, limit: Option<u64>) -> Ask
+    ensures { result ≡ Ask.Replay (record {
+      table = table;
+      from = from;
+      to = to;
+      names = names;
+      limit = limit;
+    }) }
+{
+    Ask::Replay(ReplayRequest {
+        table,
+        from,
+        to,
+        names,
+        limit,
+    })
 }

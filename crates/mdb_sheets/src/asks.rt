@@ -2,10 +2,9 @@
 
 ghost use Rattle.std.specs.Prelude.{◌≡◌, ◌<◌, ◌^◌, drop};
 ghost use Rattle.mdb_model.specs.Sheets.{are_texts};
-ghost use Rattle.outer_ledgers.specs.Ledger.{inputs_state};
 ghost use Rattle.input_plans.specs.Inputs.{AnsweredByPlan};
 ghost use Rattle.mdb_sheets.specs.Asks.{IsAsksResult, IsAskRowsResult, IsSheetAnswer, is_ask_header};
-ghost use Rattle.mdb_sheets.specs.Plans.{asks_plan};
+ghost use Rattle.mdb_sheets.specs.Plans.{ask_sheet_plan};
 ghost use Rattle.mdb_sheets.specs.Sheets.{sheet_of};
 
 use crate::ask_row::{AskFault, read_ask};
@@ -100,11 +99,8 @@ pub fn read_asks<I: Inputs>(
     name: &str,
 ) -> Result<Result<Asks, Refusal>, Refusal>
     // It took a way through its plan, and used the inputs as far as that went.
-    ensures read { AnsweredByPlan 1 (asks_plan (I.files inputs.old) name.now) result
-        (inputs_state (I.files inputs.old) (I.open_sources inputs.old)
-        (I.given inputs.old) (I.faults inputs.old) (I.never_fails inputs.old))
-        (inputs_state (I.files inputs.new) (I.open_sources inputs.new)
-        (I.given inputs.new) (I.faults inputs.new) (I.never_fails inputs.new)) }
+    ensures read { AnsweredByPlan 1 (ask_sheet_plan (I.state inputs.old).files name.now) result (I.state inputs.old)
+        (I.state inputs.new) }
 {
     match read_input(alloc, inputs, name, Which::SheetOctets.limit() as usize) {
         Ok(octets) => sheet_asks(asks_in(alloc, octets.as_slice())),

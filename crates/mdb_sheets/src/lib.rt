@@ -8,10 +8,10 @@
 // every source that it opened is closed by then. The program calls it, and hands what it gives to `Mdb::check`: which records are right is
 // for `mdb_model` to say.
 //
-// `read_asks` reads one sheet, and makes an ask of each row. Here the rules stand in this crate (`asks_of` in specs/Asks.antt): the header's, then by
-// rows from the top and in a row from the left, and only where no rule is broken the limit on the number of asks. That a sheet is refused is what
-// it gives, and no refusal of the reading: its caller answers it when it will. Which parameters there are it doesn't know, so an ask may name one
-// that isn't there.
+// `read_asks` reads one sheet, and makes an ask of each row, for values or for a replay. Here the rules stand in this crate (`asks_of` in
+// specs/Asks.antt): the header's, then by rows from the top and in a row from the left, and only where no rule is broken the limit on the number of
+// asks. That a sheet is refused is what it gives, and no refusal of the reading: its caller answers it when it will. Which parameters, tables and
+// packet names there are it doesn't know, so an ask may name one that isn't there.
 //
 // The idea of the proof: the octets that the reader of `csv` has left and the records that it gave make up the sheet, and each record takes
 // at least one octet or the end of the text. Of the asks: the first rule broken below the header is that of the rows not yet read, as long as
@@ -21,6 +21,7 @@
 mod ask_row;
 mod asks;
 mod mdb;
+mod name_list;
 mod records;
 mod refusal;
 mod sheet;

@@ -3,10 +3,10 @@
 ghost use Rattle.std.specs.Prelude.{◌≡◌, ◌+◌, ◌<◌, ◌≤◌, ◌^◌, IfOk, IfErr, OnOk};
 ghost use Rattle.std.specs.Result.{result_err};
 ghost use Rattle.outer_traits.specs.Outside.{Stays};
-ghost use Rattle.outer_ledgers.specs.Ledger.{inputs_state};
+ghost use Rattle.outer_ledgers.specs.Ledger.{given_more};
 ghost use Rattle.input_plans.specs.Inputs.{AnsweredByPlan};
 ghost use Rattle.mdb_sheets.specs.Plans.{sheets_plan};
-ghost use Rattle.mdb_sheets.specs.Sheets.{AreSheets, IsRefusal, ReadsCounted, more};
+ghost use Rattle.mdb_sheets.specs.Sheets.{AreSheets, IsRefusal, ReadsCounted};
 
 use crate::sheet::read_sheet;
 use arch_types::refusal::Refusal;
@@ -26,22 +26,21 @@ pub fn read_mdb<I: Inputs>(
     containers: &str,
 ) -> Result<RawMdb, Refusal>
     // It took a way through its plan, and used the inputs as far as that went.
-    ensures read { AnsweredByPlan 3 (sheets_plan (I.files inputs.old) parameters.now calibrations.now containers.now) result
-        (inputs_state (I.files inputs.old) (I.open_sources inputs.old)
-        (I.given inputs.old) (I.faults inputs.old) (I.never_fails inputs.old))
-        (inputs_state (I.files inputs.new) (I.open_sources inputs.new)
-        (I.given inputs.new) (I.faults inputs.new) (I.never_fails inputs.new)) }
+    ensures read { AnsweredByPlan 3 (sheets_plan (I.state inputs.old).files parameters.now calibrations.now
+        containers.now) result (I.state inputs.old) (I.state inputs.new) }
 
-    ensures sheets { IfOk result (AreSheets (I.files inputs.old) parameters.now calibrations.now containers.now) }
-    ensures refused { IfErr result (IsRefusal (I.files inputs.old) parameters.now calibrations.now containers.now
-        (I.faults inputs.old) (I.faults inputs.new) (I.given inputs.old) (I.given inputs.new)) }
-    ensures gave { OnOk result (I.given inputs.new ≡ more 3 (I.given inputs.old)) }
-    ensures same { I.files inputs.new ≡ I.files inputs.old }
-    ensures closed { I.open_sources inputs.old + 1 < 2 ^ 64 → I.open_sources inputs.new ≡ I.open_sources inputs.old }
-    ensures counted { ReadsCounted (result_err result) (I.faults inputs.old) (I.faults inputs.new) }
-    ensures later { I.faults inputs.old ≤ I.faults inputs.new }
-    ensures reliable { I.never_fails inputs.old → I.never_fails inputs.new ×
-        Stays (I.faults inputs.old) (I.faults inputs.new) }
+    ensures sheets { IfOk result (AreSheets (I.state inputs.old).files parameters.now calibrations.now containers.now) }
+    ensures refused { IfErr result (IsRefusal (I.state inputs.old).files parameters.now calibrations.now
+        containers.now (I.state inputs.old).faults (I.state inputs.new).faults (I.state inputs.old).given
+        (I.state inputs.new).given) }
+    ensures gave { OnOk result ((I.state inputs.new).given ≡ given_more 3 (I.state inputs.old).given) }
+    ensures same { (I.state inputs.new).files ≡ (I.state inputs.old).files }
+    ensures closed { (I.state inputs.old).open_sources + 1 < 2 ^ 64 →
+        (I.state inputs.new).open_sources ≡ (I.state inputs.old).open_sources }
+    ensures counted { ReadsCounted (result_err result) (I.state inputs.old).faults (I.state inputs.new).faults }
+    ensures later { (I.state inputs.old).faults ≤ (I.state inputs.new).faults }
+    ensures reliable { (I.state inputs.old).never_fails → (I.state inputs.new).never_fails ×
+        Stays (I.state inputs.old).faults (I.state inputs.new).faults }
 {
     let parameter_sheet = read_sheet(alloc, inputs, parameters)?;
     let calibration_sheet = read_sheet(alloc, inputs, calibrations)?;

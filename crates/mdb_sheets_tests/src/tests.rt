@@ -1,11 +1,12 @@
 //! Sheets as they are typed, and inputs that refuse.
 
-use arch_types::ask::{Ask, Asks};
+use arch_types::ask::{Ask, Asks, ReplayRequest};
 use arch_types::refusal::{Refusal, Sheet as Named, Which};
 use mdb_model::{RawMdb, Sheet};
 use mdb_sheets::{read_asks, read_mdb};
 use outer_traits::mem_inputs::{FailingCall, File, MemInputs};
-use std::alloc::{AllocError, Global};
+use std::alloc::{AllocError, AllocGlobal, Global};
+use std::process::Abort;
 use std::test::Fail;
 
 fn file(alloc: Global, name: &str, octets: &[u8]) -> Result<File, AllocError> {
@@ -182,13 +183,21 @@ fn sheet_of_rows(alloc: Global, row: &str, times: u32, last: &str) -> Result<Vec
 }
 
 /// How often a row stands, the row, and what is counted.
-const ROWS: [(u32, &str, (u64, u8)); 16] = [
+const ROWS: [(u32, &str, (u64, u8)); 24] = [
     (1, "", (0, 0)),
     (2, "values,v,0,2000,desc,1,\n", (2, 0)),
     (1, "values,v,0,2000\n", (2, 2)),
     (1, "values,v,0,2000,,,,\n", (2, 2)),
     (1, "reply,v v,x,y,up,-1\n", (2, 2)),
-    (1, "replay,tm,0,2000,,,B\n", (2, 30)),
+    (1, "replay,tm,0,2000,,,B\n", (1, 0)),
+    (1, "replays,t m,x,y,desc,-1,;\n", (2, 30)),
+    (1, "replay,t m,x,y,desc,-1,;\n", (2, 3)),
+    (1, "replay,tm,0,y,desc,-1,;\n", (2, 31)),
+    (1, "replay,tm,0,1,desc,-1,;\n", (2, 32)),
+    (1, "replay,tm,0,1,asc,-1,;\n", (2, 33)),
+    (1, "replay,tm,0,1,,,A;;B\n", (2, 34)),
+    (1, "replay,tm,0,1,,,A;\n", (2, 34)),
+    (1, "replay,tm,0,1,,,A; B\n", (2, 34)),
     (1, "Values,v v,x,y,up,-1,B\n", (2, 30)),
     (1, "values,v v,x,y,up,-1,B\n", (2, 3)),
     (1, "values,v,x,y,up,-1,B\n", (2, 31)),
@@ -264,6 +273,73 @@ fn reads_what_is_asked(rt: HostRuntime) -> Result<(), Fail> {
     let alloc = rt.alloc();
     for (row, ask) in ASKS {
         assert_eq!(rt; second_ask(alloc, row)?, ask);
+    }
+    Ok(())
+}
+
+/// A name, and a `;` behind it.
+fn put_name(text: &mut Vec<u8>, name: &[u8]) -> Result<(), AllocError> {
+    text.extend_from_slice(name)?;
+    text.push(b';')?;
+    Ok(())
+}
+
+/// A replay in words: its table, and its names where it has any.
+fn shown_replay(alloc: Global, request: &ReplayRequest) -> Result<Vec<u8>, AllocError> {
+    let mut text = Vec::new(alloc);
+    put_name(&mut text, request.table.as_slice())?;
+    if let Some(names) = &request.names {
+        text.push(b':')?;
+        for name in names.as_slice() {
+            put_name(&mut text, name.as_slice())?;
+        }
+    }
+    Ok(text)
+}
+
+/// The only ask of a sheet of this row has to be this replay: its table and names in words, its bounds and its limit.
+fn expect_replay(
+    rt: &(impl Abort + AllocGlobal),
+    row: &str,
+    words: &str,
+    numbers: (i64, i64, Option<u64>),
+) -> Result<(), Fail> {
+    let alloc = rt.alloc();
+    let sheet = sheet_of_rows(alloc, row, 1, "")?;
+    match asks(alloc, sheet.as_slice())??.as_slice() {
+        [Ask::Replay(request)] => {
+            assert_eq!(rt;
+                shown_replay(alloc, request)?.as_slice(),
+                words.as_bytes(),
+                "{row}"
+            );
+            assert_eq!(rt; (request.from, request.to, request.limit), numbers, "{row}");
+            Ok(())
+        }
+        _ => Err(Fail::new("another ask")),
+    }
+}
+
+/// A row, its replay in words, its bounds and its limit.
+const REPLAYS: [(&str, &str, (i64, i64, Option<u64>)); 4] = [
+    ("replay,tm,0,2000,,,\n", "tm;", (0, 2000, None)),
+    (
+        "replay,copy,-5,0002000,asc,07,B\n",
+        "copy;:B;",
+        (-5, 2000, Some(7)),
+    ),
+    (
+        "replay,tm,1970-01-01T00:00:01.5Z,1970-01-02T00:00:00,,0,HK;A/1;HK\n",
+        "tm;:HK;A/1;HK;",
+        (1500, 86_400_000, Some(0)),
+    ),
+    ("replay,t-m,5,4,,,\"A;B\"\n", "t-m;:A;B;", (5, 4, None)),
+];
+
+#[test]
+fn reads_what_is_replayed(rt: HostRuntime) -> Result<(), Fail> {
+    for (row, words, numbers) in REPLAYS {
+        expect_replay(&rt, row, words, numbers)?;
     }
     Ok(())
 }

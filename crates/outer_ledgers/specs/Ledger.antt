@@ -1,17 +1,17 @@
--- What contracts see of the objects of the outside, each as one state, and what a call did to one of them, as one fact.
-use Rattle.std.specs.Prelude.{◌≡◌, ℕ, zero, suc, ℤ, ◌+◌, ◌-◌, ◌^◌, ◌<◌, ◌≤◌, min, Bool, true, false, List, Option}
-use Rattle.std.specs.Option.{is_some}
+-- What a call did to an object of the outside, as one fact on its state before and after.
+use Rattle.std.specs.Prelude.{◌≡◌, ℕ, zero, suc, ◌+◌, ◌-◌, ◌^◌, ◌<◌, ◌≤◌, min, Bool, true, false}
 use Rattle.arch_disk.specs.Disk.{Device, raised}
-use Rattle.outer_traits.specs.Outside.{Files}
+use Rattle.outer_traits.specs.Outside.{HasRisen, Stays, StaysKnown}
+use Rattle.outer_traits.specs.States.{InputsState, OutputState, ClockState}
 
 -- ---- counts
 
--- a count of faults rose where a call failed, and else is what it was before
+-- a count of faults has risen where a call failed, and else is what it was before
 abbrev pub Counted : Bool → ℕ → ℕ → Type 0
-Counted true before now = raised before ≤ now
-Counted false before now = now ≡ before
+Counted true before now = (before ≤ now) × HasRisen before now
+Counted false before now = Stays before now
 
--- a count of faults rose where a call failed, and never falls
+-- a disk's count of faults has risen where a call failed, and never falls
 abbrev pub RoseIf : Bool → ℕ → ℕ → Type 0
 RoseIf true before now = raised before ≤ now
 RoseIf false before now = before ≤ now
@@ -28,19 +28,6 @@ given_more (suc n) count = min (count + suc n) (2 ^ 64 - 1)
 
 -- ---- inputs
 
--- what is known of inputs: their files, how many sources are open and were given, how often they failed, and whether they never do
-pub record InputsState : Type 1 where
-  pub files : Option Files
-  pub open_sources : ℕ
-  pub given : ℕ
-  pub faults : ℕ
-  pub never_fails : Type 0
-
--- the state of inputs, by its parts
-abbrev pub inputs_state : Option Files → ℕ → ℕ → ℕ → Type 0 → InputsState
-inputs_state files open_sources given faults never_fails =
-    record { files = files; open_sources = open_sources; given = given; faults = faults; never_fails = never_fails }
-
 -- What a call did to inputs that gave so many sources, by whether a call of them failed: each source is closed again, and the files are as they were.
 pub record UsedInputs (old new : InputsState) (sources : ℕ) (failed : Bool) : Type 0 where
   pub files : new.files ≡ old.files
@@ -50,15 +37,6 @@ pub record UsedInputs (old new : InputsState) (sources : ℕ) (failed : Bool) : 
   pub reliable : old.never_fails → new.never_fails × (new.faults ≡ old.faults)
 
 -- ---- an output
-
--- what is known of an output: what was written to it, and how often it failed
-pub record OutputState : Type 0 where
-  pub written : Option (List ℕ)
-  pub faults : ℕ
-
--- the state of an output, by its parts
-abbrev pub output_state : Option (List ℕ) → ℕ → OutputState
-output_state written faults = record { written = written; faults = faults }
 
 -- What a call did to an output's count of faults, by whether a write failed.
 pub record UsedOutput (old new : OutputState) (failed : Bool) : Type 0 where
@@ -82,12 +60,7 @@ WritesFailedAtMost most device old new failed = UsedDisk device old new failed 0
 
 -- ---- a clock
 
--- what is known of a clock: the moment that comes next, and whether it stands still
-pub record ClockState : Type 1 where
-  pub next : Option ℤ
-  pub stands : Type 0
-
 -- What a call did to a clock: its next moment is known where it was, and a clock that stands still goes on standing at the same moment.
 pub record UsedClock (old new : ClockState) : Type 0 where
-  pub known : is_some new.next ≡ is_some old.next
+  pub known : StaysKnown old.next new.next
   pub stands : old.stands → new.stands × (new.next ≡ old.next)

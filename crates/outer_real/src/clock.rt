@@ -20,7 +20,7 @@ impl<'a, R> RealClock<'a, R> {
 impl<'a, R: SystemClock> Clock for RealClock<'a, R> {
     ghost use Rattle.std.specs.Prelude.{None};
 
-    ghost next = { λ _. None };
+    ghost state = { λ _. record { next = None; stands = ⊥ } };
 
     fn now(&mut self) -> i64 {
         let Ok(now) = SystemTime::now(self.rt) else {

@@ -37,9 +37,7 @@ fn read_some<F: Read>(file: &mut F, into: &mut [u8]) -> io::Result<usize>
 impl<F: Read> Source for RealSource<F> {
     ghost use Rattle.std.specs.Prelude.{None};
 
-    ghost left = { λ _. None };
-
-    ghost faults = { λ source. source.faults };
+    ghost state = { λ source. record { left = None; faults = source.faults; never_fails = ⊥ } };
 
     fn read(&mut self, into: &mut [u8]) -> Result<usize, Failed> {
         match read_some(&mut self.file, into) {
@@ -81,13 +79,13 @@ impl<'a, R: Files> Inputs for RealInputs<'a, R> {
 
     type Source = RealSource<R::File>;
 
-    ghost files = { λ _. None };
-
-    ghost faults = { λ inputs. inputs.faults };
-
-    ghost open_sources = { λ inputs. inputs.held };
-
-    ghost given = { λ inputs. inputs.given };
+    ghost state = { λ inputs. record {
+      files = None;
+      open_sources = inputs.held;
+      given = inputs.given;
+      faults = inputs.faults;
+      never_fails = ⊥;
+    } };
 
     /// `Missing` where there's no file of this path, a part of which may be a file in a folder's place.
     fn open(&mut self, _alloc: Global, name: &str) -> Result<RealSource<R::File>, OpenFault> {

@@ -1,9 +1,9 @@
 -- Inputs that are read piece by piece.
-use Rattle.std.proofs.Common.{◌≡◌, ℕ, ◌+◌, ◌<◌, ◌≤◌, List, [], ◌++◌, length, take, drop, Option, Some, None, append_assoc, append-nil, length-append, ◌∙◌, ap, refl, arith}
+use Rattle.std.proofs.Common.{◌≡◌, ℕ, ◌+◌, ◌<◌, List, [], ◌++◌, length, take, drop, Option, Some, None, append_assoc, append-nil, length-append, ◌∙◌, ap, refl, arith}
 use Rattle.std.specs.Prelude.{IfSome}
 use Rattle.std.proofs.lemmas.List.{take-append-drop}
 use Rattle.outer_traits.specs.Outside.{Reads}
-use Rattle.outer_traits.specs.Whole.{IsTaken, TookAtMost}
+use Rattle.outer_traits.specs.Whole.{IsTaken}
 
 pub taken_none : (first : Option (List ℕ)) → IsTaken first [] first
 taken_none None = refl
@@ -28,7 +28,3 @@ taken_long (Some octets) now new all into n m h r more =
     let r' = rw h.2 at r in
     let count = r'.0 in
     rw (h.1, length-append all h.0) (omega arith)
-
-pub taken_within : (first now new : Option (List ℕ)) (all : List ℕ) (limit : ℕ) → IsTaken first all now → new ≡ now → length all ≤ limit → TookAtMost limit first new
-taken_within None now new all limit h same few = tt
-taken_within (Some octets) now new all limit h same few = rw (same ∙ h.2, h.1, length-append all h.0) (omega (arith, few))

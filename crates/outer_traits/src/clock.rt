@@ -1,25 +1,24 @@
 //! A clock.
 
-ghost use Rattle.std.specs.Prelude.{◌≡◌, ℤ, Option, IfSome};
+ghost use Rattle.std.specs.Prelude.{◌≡◌, IfSome};
 ghost use Rattle.outer_traits.specs.Outside.{StaysKnown};
+ghost use Rattle.outer_traits.specs.States.{ClockState};
 ghost use Rattle.text_forms.specs.ClockTime.{IsClockTime};
 
 use std::marker::Model;
 
 /// The time of day, in milliseconds since 1970-01-01T00:00:00.
 pub trait Clock {
-    /// The moment that the next call answers, where the clock tells it.
-    ghost next: { Self → Option ℤ };
-
-    /// Whether it's known to stand still, as a clock in memory.
-    ghost stands: { Self → Type 0 } = { λ _. ⊥ };
+    /// What is known of it: the moment that the next call answers, where it tells it, and whether it stands still.
+    ghost state: { Self → ClockState };
 
     /// The moment, which lies before the year 10000.
     fn now(&mut self) -> i64
-        ensures known { IfSome (next self.old) (λ moment. result ≡ moment) }
+        ensures known { IfSome (state self.old).next (λ moment. result ≡ moment) }
         ensures range { IsClockTime result }
-        ensures same { StaysKnown (next self.old) (next self.new) }
-        ensures reliable { stands self.old → stands self.new × (next self.new ≡ next self.old) };
+        ensures same { StaysKnown (state self.old).next (state self.new).next }
+        ensures reliable { (state self.old).stands → (state self.new).stands ×
+            ((state self.new).next ≡ (state self.old).next) };
 }
 
 /// A clock that stands still.
@@ -52,9 +51,7 @@ impl FixedClock {
 impl Clock for FixedClock {
     ghost use Rattle.std.specs.Prelude.{Some, ⊤};
 
-    ghost next = { λ clock. Some clock };
-
-    ghost stands = { λ _. ⊤ };
+    ghost state = { λ clock. record { next = Some clock; stands = ⊤ } };
 
     fn now(&mut self) -> i64 {
         self.moment

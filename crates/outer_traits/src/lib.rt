@@ -1,8 +1,8 @@
 // What the archive asks of the outside: octets to read by name, a place to write to, and the time.
 //
-// Contracts see an object of the outside through what it tells: the octets that a source has left, the files of the inputs, what a sink
-// has written, the moment of a clock. Forms in memory tell it, and real ones don't (specs/Outside.antt has what each call does with it;
-// whether an object tells never changes). Beside it each has a count of faults, which never falls, and rises exactly where a call fails
+// Contracts see an object of the outside as one state (specs/States.antt): the octets that a source has left, the files of the inputs, what
+// a sink has written, the moment of a clock. Forms in memory tell it, and real ones don't (specs/Outside.antt has what each call does with
+// it; whether an object tells never changes). Beside it a state has a count of faults, which never falls, and rises exactly where a call fails
 // (a write also where it takes nothing of a piece), unless it stands at the last value of its type. So a caller can say of each failure
 // which object it came from, and that no failure was passed over. Inputs also count the sources that they have given and those that are
 // open, so that a caller can promise to open each input once and to close each source, and can tell an opening that failed from a read.

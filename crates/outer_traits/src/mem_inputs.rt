@@ -77,11 +77,11 @@ impl Source for MemSource {
     ghost use Rattle.outer_traits.specs.MemInputs.{is_failing_input_call};
     ghost use Rattle.outer_traits.specs.Outside.{HasRisen, Reads, Stays, one_more};
 
-    ghost left = { λ source. Some (drop source.at source.octets.items) };
-
-    ghost faults = { λ source. source.faults };
-
-    ghost never_fails = { λ source. source.calls.items ≡ [] };
+    ghost state = { λ source. record {
+      left = Some (drop source.at source.octets.items);
+      faults = source.faults;
+      never_fails = source.calls.items ≡ [];
+    } };
 
     /// The reads that are listed fail, and no others.
     fn read(&mut self, into: &mut [u8]) -> Result<usize, Failed>
@@ -150,15 +150,13 @@ impl Inputs for MemInputs {
 
     type Source = MemSource;
 
-    ghost files = { λ inputs. Some (files_of inputs.files.items) };
-
-    ghost faults = { λ inputs. inputs.faults };
-
-    ghost open_sources = { λ inputs. inputs.held };
-
-    ghost given = { λ inputs. inputs.given };
-
-    ghost never_fails = { λ inputs. inputs.calls.items ≡ [] };
+    ghost state = { λ inputs. record {
+      files = Some (files_of inputs.files.items);
+      open_sources = inputs.held;
+      given = inputs.given;
+      faults = inputs.faults;
+      never_fails = inputs.calls.items ≡ [];
+    } };
 
     /// `Missing` where there's no file of the name, and else the openings that are listed fail, and no others.
     fn open(&mut self, alloc: Global, name: &str) -> Result<MemSource, OpenFault>
@@ -177,10 +175,9 @@ impl Inputs for MemInputs {
         ensures missing { IsErrOf result OpenFault.Missing ↔ IsNone (get (files_of self.old.files.items) name.now) }
         ensures same { self.new.files ≡ self.old.files }
         ensures later { self.old.faults ≤ self.new.faults }
-        ensures opened { OnOk result (self.new.held ≡ one_more self.old.held) }
-        ensures unopened { OnErr result (self.new.held ≡ self.old.held) }
-        ensures gave { OnOk result (self.new.given ≡ one_more self.old.given) }
-        ensures gave_none { OnErr result (self.new.given ≡ self.old.given) }
+        ensures gave { OnOk result ((self.new.held ≡ one_more self.old.held) ×
+            (self.new.given ≡ one_more self.old.given)) }
+        ensures gave_none { OnErr result ((self.new.held ≡ self.old.held) × (self.new.given ≡ self.old.given)) }
         ensures counted { OpeningCounted result self.old.faults self.new.faults }
         ensures reliable { self.old.calls.items ≡ [] → (self.new.calls.items ≡ []) ×
             Stays self.old.faults self.new.faults }
@@ -218,8 +215,7 @@ impl Inputs for MemInputs {
         ensures same_calls { self.new.calls ≡ self.old.calls }
         ensures same { self.new.files ≡ self.old.files }
         ensures later { self.old.faults ≤ self.new.faults }
-        ensures closed { self.new.held ≡ self.old.held - 1 }
-        ensures gave_none { self.new.given ≡ self.old.given }
+        ensures closed { (self.new.held ≡ self.old.held - 1) × (self.new.given ≡ self.old.given) }
         ensures kept { source.faults ≡ 0 → Stays self.old.faults self.new.faults }
         ensures risen { 0 < source.faults → HasRisen self.old.faults self.new.faults }
         ensures reliable { self.old.calls.items ≡ [] → source.faults ≡ 0

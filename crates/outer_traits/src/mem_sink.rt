@@ -56,9 +56,7 @@ impl Sink for MemSink {
     ghost use Rattle.outer_traits.specs.MemSink.{is_failing_write};
     ghost use Rattle.outer_traits.specs.Outside.{HasRisen, Stays, Writes, WritesSome, one_more};
 
-    ghost written = { λ sink. Some sink.octets.items };
-
-    ghost faults = { λ sink. sink.faults };
+    ghost state = { λ sink. record { written = Some sink.octets.items; faults = sink.faults } };
 
     /// The writes that are listed fail. Another appends the whole piece, or fails for want of memory.
     fn write(&mut self, piece: &[u8]) -> Result<usize, Failed>

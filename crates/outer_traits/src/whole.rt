@@ -42,17 +42,18 @@ pub fn read_input<I: Inputs>(
     name: &str,
     limit: usize,
 ) -> Result<Vec<u8>, ReadFault>
-    ensures whole { IfOk result (λ octets. IsInput (I.files inputs.old) name.now octets.items) }
+    ensures whole { IfOk result (λ octets. IsInput (I.state inputs.old).files name.now octets.items) }
     ensures short { IfOk result (λ octets. vec_len octets ≤ limit) }
-    ensures fault { IfErr result (IsInputFault (I.files inputs.old) name.now limit (I.faults inputs.old)
-        (I.faults inputs.new)) }
-    ensures same { I.files inputs.new ≡ I.files inputs.old }
-    ensures closed { I.open_sources inputs.old + 1 < 2 ^ 64 → I.open_sources inputs.new ≡ I.open_sources inputs.old }
-    ensures gave { ReadingGiven result (I.given inputs.old) (I.given inputs.new) }
-    ensures counted { ReadingCounted result (I.faults inputs.old) (I.faults inputs.new) }
-    ensures later { I.faults inputs.old ≤ I.faults inputs.new }
-    ensures reliable { I.never_fails inputs.old → I.never_fails inputs.new ×
-        Stays (I.faults inputs.old) (I.faults inputs.new) }
+    ensures fault { IfErr result (IsInputFault (I.state inputs.old).files name.now limit (I.state inputs.old).faults
+        (I.state inputs.new).faults) }
+    ensures same { (I.state inputs.new).files ≡ (I.state inputs.old).files }
+    ensures closed { (I.state inputs.old).open_sources + 1 < 2 ^ 64 →
+        (I.state inputs.new).open_sources ≡ (I.state inputs.old).open_sources }
+    ensures gave { ReadingGiven result (I.state inputs.old).given (I.state inputs.new).given }
+    ensures counted { ReadingCounted result (I.state inputs.old).faults (I.state inputs.new).faults }
+    ensures later { (I.state inputs.old).faults ≤ (I.state inputs.new).faults }
+    ensures reliable { (I.state inputs.old).never_fails → (I.state inputs.new).never_fails ×
+        Stays (I.state inputs.old).faults (I.state inputs.new).faults }
 {
     match inputs.open(alloc, name) {
         Ok(opened) => {
@@ -74,15 +75,16 @@ pub fn read_whole<S: Source>(
     source: &mut S,
     limit: usize,
 ) -> Result<Vec<u8>, ReadFault>
-    ensures whole { IfOk result (λ octets. IfSome (S.left source.old) (λ left. left ≡ octets.items)) }
+    ensures whole { IfOk result (λ octets. IfSome (S.state source.old).left (λ left. left ≡ octets.items)) }
     ensures short { IfOk result (λ octets. vec_len octets ≤ limit) }
-    ensures long { IsErrOf result ReadFault.TooLong → IfSome (S.left source.old) (λ left. limit < length left) }
-    ensures within { IsErrOf result ReadFault.Failed → TookAtMost limit (S.left source.old) (S.left source.new) }
-    ensures counted { ReadingCounted result (S.faults source.old) (S.faults source.new) }
+    ensures long { IsErrOf result ReadFault.TooLong → IfSome (S.state source.old).left (λ left. limit < length left) }
+    ensures within { IsErrOf result ReadFault.Failed →
+        TookAtMost limit (S.state source.old).left (S.state source.new).left }
+    ensures counted { ReadingCounted result (S.state source.old).faults (S.state source.new).faults }
     ensures not_missing { IsErrOf result ReadFault.Missing → ⊥ }
-    ensures later { S.faults source.old ≤ S.faults source.new }
-    ensures reliable { S.never_fails source.old → S.never_fails source.new ×
-        Stays (S.faults source.old) (S.faults source.new) }
+    ensures later { (S.state source.old).faults ≤ (S.state source.new).faults }
+    ensures reliable { (S.state source.old).never_fails → (S.state source.new).never_fails ×
+        Stays (S.state source.old).faults (S.state source.new).faults }
 {
     let mut octets = Vec::new(alloc);
     let mut piece = zeros(alloc, PIECE)?;

@@ -4,5 +4,7 @@ pub mod TimesOfDays
 pub mod Firsts
 pub mod Leaps
 pub mod Members
+pub mod LastPlaces
+pub mod Noting
 pub mod Least
 pub mod Exactly

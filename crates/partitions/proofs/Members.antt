@@ -1,7 +1,6 @@
 -- Which partitions are in a list.
-use Rattle.std.proofs.Common.{◌≡◌, ◌⊎◌, ◌↔◌, inl, inr, ℕ, ◌+◌, pos, List, [], ◌∷◌, map, Bool, true, false, cond, Some, None, sym, ◌∙◌, ap, subst, refl, arith}
-use Rattle.std.specs.Prelude.{filter, Contains, IsSome, IfNone, IfSome, Option, slice_index_or, Result, Ok, Err, OnOk, OnErr, max}
-use Rattle.std.specs.Option.{is_some}
+use Rattle.std.proofs.Common.{◌≡◌, ◌⊎◌, ◌↔◌, inl, inr, ◌+◌, pos, List, [], ◌∷◌, map, Bool, true, false, cond, Some, sym, ◌∙◌, ap, subst, refl, arith}
+use Rattle.std.specs.Prelude.{filter, Contains, IsSome, slice_index_or}
 use Rattle.std.specs.List.{AllByRecursion, IsDistinct}
 use Rattle.std.specs.List.Sorted.{IsPermutation, IsSorted}
 use Rattle.std.specs.Map.{lookup, keys_of}
@@ -19,7 +18,6 @@ use Rattle.std.proofs.lemmas.List.Sorted.{Contains-permutation, IsPermutation-sy
 use Rattle.std.proofs.lemmas.Map.Keys.{IsDistinct-from_sorted, IsDistinct-IsPermutation, apart_from_distinct, sorted_from_all_adjacent}
 use Rattle.std.proofs.lemmas.Map.Lookups.{CmpEqualImpliesEq}
 use Rattle.std.proofs.lemmas.Map.Views.{Contains-keys_from_lookup, IsSome-lookup_from_Contains, tells_apart}
-use Rattle.block_map.specs.Index.{Listing, IsAdded as IsAddedTo}
 use Rattle.block_map.specs.Rising.{IsRising}
 use Rattle.block_map.proofs.Rising.{flip_greater}
 use Rattle.block_map.proofs.KeyedLists.{sorted_from_rising, lookup-insert_entry}
@@ -27,9 +25,9 @@ use Rattle.partitions.specs.declared.partition.Partition.{Partition}
 use Rattle.partitions.specs.declared.named_day.NamedDay.{NamedDay}
 use Rattle.partitions.specs.Partition.{partition_cmp}
 use Rattle.partitions.specs.NamedDay.{named_day_cmp, named_day}
-use Rattle.partitions.specs.Partitions.{PartitionsView, AreRising, AreTheSame, IsPartitionAdded}
+use Rattle.partitions.specs.Partitions.{AreRising}
 use Rattle.partitions.proofs.Order.{partition_cmp_total, exact_partitions, together}
-use Rattle.partitions.proofs.NamedOrder.{named_cmp_total, exact_named}
+use Rattle.partitions.proofs.NamedOrder.{named_cmp_total}
 
 -- ---- what a filter keeps
 
@@ -60,10 +58,10 @@ module _ {X : Type 0} (test : X → Bool) where
 -- ---- what an insert adds
 
 module _ {K : Type 0} {cmp : K → K → Ordering} (o : IsTotalOrder cmp) (exact : CmpEqualImpliesEq cmp) where
-  pub found : (k : K) (es : List (K × Unit)) → IsSome (lookup (is_at (cmp k)) es) → Contains (keys_of es) k
+  pub found : {V : Type 0} (k : K) (es : List (K × V)) → IsSome (lookup (is_at (cmp k)) es) → Contains (keys_of es) k
   found k es = Contains-keys_from_lookup (tells_apart exact) k es
 
-  pub looked_up : (k : K) (es : List (K × Unit)) → Contains (keys_of es) k → IsSome (lookup (is_at (cmp k)) es)
+  pub looked_up : {V : Type 0} (k : K) (es : List (K × V)) → Contains (keys_of es) k → IsSome (lookup (is_at (cmp k)) es)
   looked_up k es = IsSome-lookup_from_Contains (eq_by_cmp_equiv o) k es
 
   module _ (key : K) (es : List (K × Unit)) where
@@ -82,80 +80,16 @@ module _ {K : Type 0} {cmp : K → K → Ordering} (o : IsTotalOrder cmp) (exact
         by false some = some
     from_old k (inr one) = found k (insert_entry cmp es key tt) (rw (lookup-insert_entry o k key tt es, one, (eq_by_cmp_equiv o).refl key) refl)
 
-    pub absent : (None ≡ lookup (is_at (cmp key)) es) → Contains (keys_of es) key → ⊥
-    absent none is = let some = looked_up key es is in cc
-
-abbrev pub held_in : Listing Partition Unit → Listing NamedDay Unit → PartitionsView
-held_in by_day by_name = record { parts = keys_of by_day.entries; room = by_name.room }
-
-named_once : (p q : Partition) → named_day p ≡ named_day q → p ≡ q
+pub named_once : (p q : Partition) → named_day p ≡ named_day q → p ≡ q
 named_once p q same = together p q (ap (λ (k : NamedDay). k.day) same) (ap (λ (k : NamedDay). k.pname) same)
-
--- a partition that both indexes hold already stays
-pub still_held : (by_day : Listing Partition Unit) (by_name : Listing NamedDay Unit) (part : Partition) → AreTheSame by_day by_name →
-    IsSome (lookup (is_at (partition_cmp part)) by_day.entries) → IsPartitionAdded (held_in by_day by_name) (held_in by_day by_name) part
-still_held by_day by_name part are some = record {
-  held = λ p. (inl, before p);
-  rising = sorted_from_rising partition_cmp by_day.entries are.by_day_rises;
-  known = λ _. refl;
-  fresh = λ none. absurd (none there);
-}
-  where
-    there : Contains (keys_of by_day.entries) part
-    there = found partition_cmp_total exact_partitions part by_day.entries some
-
-    before : (p : Partition) → Contains (keys_of by_day.entries) p ⊎ (p ≡ part) → Contains (keys_of by_day.entries) p
-    before p (inl was) = was
-    before p (inr one) = rw one there
-
--- one that neither holds goes into both
-module _ (old_day new_day : Listing Partition Unit) (old_name new_name : Listing NamedDay Unit) (part : Partition) (are : AreTheSame old_day old_name)
-    (none : None ≡ lookup (is_at (partition_cmp part)) old_day.entries) (added_day : IsAddedTo partition_cmp old_day new_day part tt) (day_rises : IsRising partition_cmp new_day.entries) where
-  module _ (r : Option Unit) (is : r ≡ lookup (is_at (named_day_cmp (named_day part))) old_name.entries) (absent_name : IfNone r (IsAddedTo named_day_cmp old_name new_name (named_day part) tt)) where
-    added_name_by : (s : Option Unit) → r ≡ s → IsAddedTo named_day_cmp old_name new_name (named_day part) tt
-    added_name_by None e = rw e at absent_name
-    added_name_by (Some v) e = absurd (absent partition_cmp_total exact_partitions part old_day.entries none ((are.same part).0 (found named_cmp_total exact_named (named_day part) old_name.entries (rw (← is, e) refl))))
-
-    pub added_name : IsAddedTo named_day_cmp old_name new_name (named_day part) tt
-    added_name = added_name_by r refl
-
-  module _ (added_name : IsAddedTo named_day_cmp old_name new_name (named_day part) tt) (name_rises : IsRising named_day_cmp new_name.entries) where
-    pub newly_held : IsPartitionAdded (held_in old_day old_name) (held_in new_day new_name) part
-    newly_held = record {
-      held = rw added_day.0 (λ p. (in_new partition_cmp_total exact_partitions part old_day.entries p, from_old partition_cmp_total exact_partitions part old_day.entries p));
-      rising = sorted_from_rising partition_cmp new_day.entries day_rises;
-      known = λ known. absurd (absent partition_cmp_total exact_partitions part old_day.entries none known);
-      fresh = λ _. added_name.1;
-    }
-
-    pub still_the_same : AreTheSame new_day new_name
-    still_the_same = record {
-      by_day_rises = day_rises;
-      by_name_rises = name_rises;
-      same = rw (added_day.0, added_name.0) (λ p. (to p, from p));
-      fits = omega (arith, added_day.1, added_name.1, are.fits);
-    }
-      where
-        to : (p : Partition) → Contains (keys_of (insert_entry named_day_cmp old_name.entries (named_day part) tt)) (named_day p) → Contains (keys_of (insert_entry partition_cmp old_day.entries part tt)) p
-        to p is = by (in_new named_cmp_total exact_named (named_day part) old_name.entries (named_day p) is)
-          where
-            by : Contains (keys_of old_name.entries) (named_day p) ⊎ (named_day p ≡ named_day part) → Contains (keys_of (insert_entry partition_cmp old_day.entries part tt)) p
-            by (inl was) = from_old partition_cmp_total exact_partitions part old_day.entries p (inl ((are.same p).0 was))
-            by (inr one) = from_old partition_cmp_total exact_partitions part old_day.entries p (inr (named_once p part one))
-
-        from : (p : Partition) → Contains (keys_of (insert_entry partition_cmp old_day.entries part tt)) p → Contains (keys_of (insert_entry named_day_cmp old_name.entries (named_day part) tt)) (named_day p)
-        from p is = by (in_new partition_cmp_total exact_partitions part old_day.entries p is)
-          where
-            by : Contains (keys_of old_day.entries) p ⊎ (p ≡ part) → Contains (keys_of (insert_entry named_day_cmp old_name.entries (named_day part) tt)) (named_day p)
-            by (inl was) = from_old named_cmp_total exact_named (named_day part) old_name.entries (named_day p) (inl ((are.same p).1 was))
-            by (inr one) = from_old named_cmp_total exact_named (named_day part) old_name.entries (named_day p) (inr (ap named_day one))
 
 -- ---- what is wanted of rising partitions
 
-pub filter_exactly : (test : Partition → Bool) (P : Partition → Type 0) (parts : List Partition) → ((p : Partition) → (test p ≡ true) ↔ P p) → (p : Partition) → Contains (filter test parts) p ↔ (Contains parts p × P p)
-filter_exactly test P parts means p = (λ is. (let both = (filter_has test parts p).0 is in (both.0, (means p).0 both.1)), λ both. (filter_has test parts p).1 (both.0, (means p).1 both.1))
+pub filter_exactly : (test : Partition → Bool) (parts noted : List Partition) → ((p : Partition) → Contains parts p ↔ Contains noted p) →
+    (p : Partition) → Contains (filter test parts) p ↔ (Contains noted p × (test p ≡ true))
+filter_exactly test parts noted same p = (λ is. (let both = (filter_has test parts p).0 is in ((same p).0 both.0, both.1)), λ both. (filter_has test parts p).1 ((same p).1 both.0, both.1))
 
-pub filter_rises : (test : Partition → Bool) (es : List (Partition × Unit)) → IsRising partition_cmp es → AreRising (filter test (keys_of es))
+pub filter_rises : {V : Type 0} (test : Partition → Bool) (es : List (Partition × V)) → IsRising partition_cmp es → AreRising (filter test (keys_of es))
 filter_rises test es up = IsStrictlySortedBy-filter partition_cmp test (keys_of es) (sorted_from_rising partition_cmp es up)
 
 pub none_rise : AreRising []
@@ -199,21 +133,20 @@ rising_from_sorted parts sorted apart = sorted_from_all_adjacent partition_cmp_t
         by Equal e = absurd (let no : is_eq (partition_cmp p q) ≡ false = not_same in cc)
         by Greater e = absurd (let under = flip_greater partition_cmp_total p q e in cc)
 
-module _ (test : NamedDay → Bool) (by_day : Listing Partition Unit) (by_name : Listing NamedDay Unit) (are : AreTheSame by_day by_name)
-    (parts sorted : List Partition) (named : map named_day parts ≡ filter test (keys_of by_name.entries)) (same : IsPermutation parts sorted) where
-  pub sorted_exactly : (p : Partition) → Contains sorted p ↔ (Contains (keys_of by_day.entries) p × (test (named_day p) ≡ true))
-  sorted_exactly p = (to, from)
+module _ (test : NamedDay → Bool) (es : List (NamedDay × Unit)) (parts sorted : List Partition) (named : map named_day parts ≡ filter test (keys_of es)) (same : IsPermutation parts sorted) where
+  pub sorted_exactly : (noted : List Partition) → ((p : Partition) → Contains (keys_of es) (named_day p) ↔ Contains noted p) → (p : Partition) → Contains sorted p ↔ (Contains noted p × (test (named_day p) ≡ true))
+  sorted_exactly noted names p = (to, from)
     where
-      to : Contains sorted p → Contains (keys_of by_day.entries) p × (test (named_day p) ≡ true)
-      to is = let both = (filter_has test (keys_of by_name.entries) (named_day p)).0 (rw named at (named_in parts p (Contains-permutation sorted parts p (IsPermutation-sym parts sorted same) is))) in ((are.same p).0 both.0, both.1)
+      to : Contains sorted p → Contains noted p × (test (named_day p) ≡ true)
+      to is = let both = (filter_has test (keys_of es) (named_day p)).0 (rw named at (named_in parts p (Contains-permutation sorted parts p (IsPermutation-sym parts sorted same) is))) in ((names p).0 both.0, both.1)
 
-      from : Contains (keys_of by_day.entries) p × (test (named_day p) ≡ true) → Contains sorted p
-      from both = Contains-permutation parts sorted p same (unnamed_in parts p (rw named ((filter_has test (keys_of by_name.entries) (named_day p)).1 ((are.same p).1 both.0, both.1))))
+      from : Contains noted p × (test (named_day p) ≡ true) → Contains sorted p
+      from both = Contains-permutation parts sorted p same (unnamed_in parts p (rw named ((filter_has test (keys_of es) (named_day p)).1 ((names p).1 both.0, both.1))))
 
-  pub sorted_rises : IsSorted partition_cmp sorted → AreRising sorted
-  sorted_rises up =
-      let rises = IsStrictlySortedBy-filter named_day_cmp test (keys_of by_name.entries) (sorted_from_rising named_day_cmp by_name.entries are.by_name_rises) in
-      let apart = distinct_parts parts (rw named (IsDistinct-from_sorted named_day_cmp (filter test (keys_of by_name.entries)) rises)) in
+  pub sorted_rises : IsRising named_day_cmp es → IsSorted partition_cmp sorted → AreRising sorted
+  sorted_rises rising up =
+      let rises = IsStrictlySortedBy-filter named_day_cmp test (keys_of es) (sorted_from_rising named_day_cmp es rising) in
+      let apart = distinct_parts parts (rw named (IsDistinct-from_sorted named_day_cmp (filter test (keys_of es)) rises)) in
       rising_from_sorted sorted up (IsDistinct-IsPermutation (eq_by_cmp partition_cmp) (eq_by_cmp_equiv partition_cmp_total).symm parts sorted same apart)
 
 -- ---- the rest of what calls need
@@ -222,29 +155,3 @@ module _ (test : NamedDay → Bool) (by_day : Listing Partition Unit) (by_name :
 pub exactly_by : {T P : Partition → Type 0} (given held : List Partition) → ((p : Partition) → T p ↔ P p) → ((p : Partition) → Contains given p ↔ (Contains held p × T p)) →
     (p : Partition) → Contains given p ↔ (Contains held p × P p)
 exactly_by given held means is p = (λ at. (let both = (is p).0 at in (both.0, (means p).0 both.1)), λ both. (is p).1 (both.0, (means p).1 both.1))
-
--- both indexes stay the same ones when room is made for the first and then maybe for the second
-pub roomier : (old_day new_day : Listing Partition Unit) (old_name new_name : Listing NamedDay Unit) (rows : ℕ) {E : Type 0} (r : Result Unit E) → AreTheSame old_day old_name →
-    new_day ≡ record { entries = old_day.entries; room = max old_day.room rows } → OnOk r (new_name ≡ record { entries = old_name.entries; room = max old_name.room rows }) →
-    OnErr r (new_name ≡ old_name) → AreTheSame new_day new_name
-roomier old_day new_day old_name new_name rows (Ok v) are day ok err = rw (day, ok) (record { by_day_rises = are.by_day_rises; by_name_rises = are.by_name_rises; same = are.same; fits = omega (arith, are.fits) })
-roomier old_day new_day old_name new_name rows (Err e) are day ok err = rw (day, err) (record { by_day_rises = are.by_day_rises; by_name_rises = are.by_name_rises; same = are.same; fits = omega (arith, are.fits) })
-
--- a partition that isn't there yet goes into both indexes
-pub both_added : (old_day new_day : Listing Partition Unit) (old_name new_name : Listing NamedDay Unit) (part : Partition) (key : NamedDay) (r s : Option Unit) → key ≡ named_day part →
-    AreTheSame old_day old_name → is_some r ≡ false → r ≡ lookup (is_at (partition_cmp part)) old_day.entries → IfNone r (IsAddedTo partition_cmp old_day new_day part tt) →
-    IsRising partition_cmp new_day.entries → s ≡ lookup (is_at (named_day_cmp key)) old_name.entries → IfNone s (IsAddedTo named_day_cmp old_name new_name key tt) → IsRising named_day_cmp new_name.entries →
-    AreTheSame new_day new_name × IsPartitionAdded (held_in old_day old_name) (held_in new_day new_name) part
-both_added old_day new_day old_name new_name part key (Some v) s same are none found_day added_day day_rises found_name absent_name name_rises = cc
-both_added old_day new_day old_name new_name part key None s same are none found_day added_day day_rises found_name absent_name name_rises =
-    let into : IsAddedTo named_day_cmp old_name new_name (named_day part) tt =
-    added_name old_day new_day old_name new_name part are found_day added_day day_rises s (subst (λ (k : NamedDay). s ≡ lookup (is_at (named_day_cmp k)) old_name.entries) same found_name)
-    (subst (λ (k : NamedDay). IfNone s (IsAddedTo named_day_cmp old_name new_name k tt)) same absent_name) in
-    (still_the_same old_day new_day old_name new_name part are found_day added_day day_rises into name_rises, newly_held old_day new_day old_name new_name part are found_day added_day day_rises into name_rises)
-
--- one that is there changes nothing
-pub none_added : (old_day new_day : Listing Partition Unit) (by_name : Listing NamedDay Unit) (part : Partition) (r : Option Unit) → AreTheSame old_day by_name → is_some r ≡ true →
-    r ≡ lookup (is_at (partition_cmp part)) old_day.entries → IfSome r (λ _. new_day ≡ old_day) → IsPartitionAdded (held_in old_day by_name) (held_in new_day by_name) part
-none_added old_day new_day by_name part None are some found_day present = cc
-none_added old_day new_day by_name part (Some v) are some found_day present =
-    subst (λ (l : Listing Partition Unit). IsPartitionAdded (held_in old_day by_name) (held_in l by_name) part) (sym present) (still_held old_day by_name part are (rw (← found_day) refl))

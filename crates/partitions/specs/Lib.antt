@@ -1,7 +1,10 @@
 pub mod Partition
+pub mod Rows
 pub mod NamedDay
 pub mod Bounds
 pub mod Names
+pub mod Places
+pub mod Links
 pub mod NameDayFilter
 pub mod Partitions
 pub mod Laws

@@ -1,83 +1,115 @@
-//! The partitions that hold a row.
+//! The partitions of rows.
 
-ghost use Rattle.std.specs.Prelude.{◌≡◌, ◌+◌, ◌<◌, ◌≤◌, ◌≤ℤ◌, ◌↔◌, [], true, max, IfOk, OnOk, OnErr, Contains};
+ghost use Rattle.std.specs.Prelude.{◌≡◌, ◌+◌, ◌<◌, ◌≤◌, ◌≤ℤ◌, ◌↔◌, [], ◌∷◌, ◌++◌, true, max, IfOk, OnOk, OnErr, Contains};
 ghost use Rattle.partitions.specs.Partition.{partition_of};
 ghost use Rattle.partitions.specs.NamedDay.{named_day};
 ghost use Rattle.partitions.specs.Bounds.{MayHold};
 ghost use Rattle.partitions.specs.NameDayFilter.{is_on, passes_filter};
-ghost use Rattle.partitions.specs.Partitions.{AreRising, IsPartitionAdded};
+ghost use Rattle.partitions.specs.Places.{places_in};
+ghost use Rattle.partitions.specs.Partitions.{AreRising};
 
 use crate::bounds::Bounds;
 use crate::days::Days;
-use crate::indexes::{of_names, on_days};
+use crate::indexes::{of_names, on_days, put_last};
+use crate::links::Link;
 use crate::lists::{PartList, in_order};
 use crate::name_day_filter::NameDayFilter;
 use crate::named_day::NamedDay;
 use crate::names::SortedNames;
 use crate::partition::{Partition, partition_of};
-use block_map::index::Index;
+use crate::places::Places;
+use block_map::growing_index::GrowingIndex;
 use std::alloc::{AllocError, Global};
 use std::marker::Model;
 
-/// The partitions that hold a row. Both indexes hold each of them.
+/// The partition of each row that was noted.
 #[derive(Drop)]
 pub struct Partitions {
     alloc: Global,
-    by_day: Index<Partition, ()>,
-    by_name: Index<NamedDay, ()>,
+    /// The place of the last row of each partition that holds one.
+    by_day: GrowingIndex<Partition, u32>,
+    /// The same partitions, by packet name first.
+    by_name: GrowingIndex<NamedDay, ()>,
+    /// Of each row noted, the row before it of its partition.
+    links: Vec<Link>,
+    /// How many more rows are noted without memory.
+    room: usize,
 }
 
 impl Model for Partitions {
-    ghost use Rattle.std.specs.Map.{keys_of};
-    ghost use Rattle.partitions.specs.Partitions.{PartitionsView, AreTheSame};
+    ghost use Rattle.partitions.specs.Links.{noted_in};
+    ghost use Rattle.partitions.specs.Partitions.{PartitionsView, AreNoted};
 
     ghost Value = { PartitionsView };
 
-    ghost view = { λ o. record { parts = keys_of o.by_day.entries; room = o.by_name.room } };
+    ghost view = { λ o. record { noted = noted_in o.links.items; room = o.room } };
 
-    ghost invariant = { λ o. AreTheSame o.by_day o.by_name };
+    ghost invariant = { λ o. AreNoted o.by_day o.by_name o.links o.room };
 }
 
 impl Partitions {
-    /// No partition, and no room. Takes no memory.
+    /// No row, and no room. Takes no memory.
     pub fn new(alloc: Global) -> Self
-        ensures { result ≡ record { parts = []; room = 0 } }
+        ensures { result ≡ record { noted = []; room = 0 } }
     {
         Partitions {
             alloc,
-            by_day: Index::new(alloc),
-            by_name: Index::new(alloc),
+            by_day: GrowingIndex::new(alloc),
+            by_name: GrowingIndex::new(alloc),
+            links: Vec::new(alloc),
+            room: 0,
         }
     }
 
-    /// Makes the room at least `rows`. The one error is want of memory, and then all is as before.
+    /// Makes the room at least `rows`. The one error is want of memory, or of places of 32 bits, and then all is as
+    /// before.
     pub fn reserve(&mut self, rows: u64) -> Result<(), AllocError>
-        ensures ok { OnOk result (self.new ≡ record { parts = self.old.parts; room = max self.old.room rows }) }
+        ensures ok { OnOk result (self.new ≡ record { noted = self.old.noted; room = max self.old.room rows }) }
         ensures err { OnErr result (self.new ≡ self.old) }
         ensures full { OnErr result (self.old.room < rows) }
     {
         let rows = rows as usize;
+        if rows <= self.room {
+            return Ok(());
+        }
+        // Places have 32 bits, of which the greatest number stands for none.
+        match self.links.len().checked_add(rows) {
+            Some(total) if total <= u32::MAX as usize => {}
+            _ => return Err(AllocError),
+        }
+        self.links.reserve(rows)?;
         self.by_day.reserve(rows)?;
-        self.by_name.reserve(rows)
+        self.by_name.reserve(rows)?;
+        self.room = rows;
+        Ok(())
     }
 
-    /// Notes that a row of this time, in milliseconds since 1970, and packet name is there. Takes no memory.
+    /// Notes a row of this time, in milliseconds since 1970, and packet name. Takes no memory.
     pub fn add(&mut self, time: i64, pname: u16)
         requires { 0 < self.old.room }
-        ensures added { IsPartitionAdded self.old self.new (partition_of time pname) }
+        ensures added { self.new.noted ≡ self.old.noted ++ partition_of time pname ∷ [] }
         ensures left { self.old.room ≤ self.new.room + 1 }
     {
         let part = partition_of(time, pname);
-        if self.by_day.insert(part, ()).is_none() {
-            let _ = self.by_name.insert(NamedDay::of(part), ());
-        }
+        let place = self.links.len() as u32;
+        let before = put_last(&mut self.by_day, &mut self.by_name, part, place);
+        self.links.push_reserved(Link::new(&part, before));
+        self.room -= 1;
+    }
+
+    /// The places of the rows that were noted in a partition, the last first. A place is how many rows were noted
+    /// before.
+    pub fn places_of(&self, part: Partition) -> Places<'_>
+        ensures { result ≡ places_in part self.now.noted }
+    {
+        Places::new(self.links.as_slice(), self.by_day.get(part))
     }
 
     /// The partitions that hold a row and may hold one in the bounds, by day and then by the packet name's number.
     /// The one error is want of memory.
     pub fn pruned(&self, bounds: &Bounds) -> Result<PartList, AllocError>
         ensures exactly { IfOk result (λ parts. (p : Partition) → Contains parts p
-            ↔ (Contains self.now.parts p × MayHold bounds.now p)) }
+            ↔ (Contains self.now.noted p × MayHold bounds.now p)) }
         ensures rising { IfOk result (λ parts. AreRising parts) }
     {
         if bounds.to <= bounds.from {
@@ -96,7 +128,7 @@ impl Partitions {
     /// The partitions that hold a row on some days.
     fn on_days(&self, days: &Days) -> Result<PartList, AllocError>
         ensures exactly { IfOk result (λ parts. (p : Partition) → Contains parts p
-            ↔ (Contains self.now.parts p × (is_on days.now p.day ≡ true))) }
+            ↔ (Contains self.now.noted p × (is_on days.now p.day ≡ true))) }
         ensures rising { IfOk result (λ parts. AreRising parts) }
     {
         on_days(self.alloc, &self.by_day, days)
@@ -106,7 +138,7 @@ impl Partitions {
     fn of_names(&self, name_day_filter: &NameDayFilter) -> Result<PartList, AllocError>
         requires { name_day_filter.now.days.first ≤ℤ name_day_filter.now.days.last }
         ensures exactly { IfOk result (λ parts. (p : Partition) → Contains parts p
-            ↔ (Contains self.now.parts p × (passes_filter name_day_filter.now (named_day p) ≡ true))) }
+            ↔ (Contains self.now.noted p × (passes_filter name_day_filter.now (named_day p) ≡ true))) }
         ensures rising { IfOk result (λ parts. AreRising parts) }
     {
         let parts = of_names(self.alloc, &self.by_name, name_day_filter)?;

@@ -113,3 +113,36 @@ fn prunes(rt: HostRuntime) -> Result<(), Fail> {
     }
     Ok(())
 }
+
+/// A partition, and the places of its rows, the last first.
+type PartitionPlaces = (i64, u16, &'static [usize]);
+
+const PLACES: [PartitionPlaces; 8] = [
+    (-106_751_991_168, 9, &[8]),
+    (-1, 3, &[1]),
+    (0, 3, &[7, 4, 3]),
+    (1, 3, &[6]),
+    (1, 5, &[5]),
+    (5, 5, &[0]),
+    (106_751_991_167, 9, &[2]),
+    (0, 5, &[]),
+];
+
+fn places(alloc: Global, held: &Partitions, part: Partition) -> Result<Vec<usize>, AllocError> {
+    let mut places = Vec::new(alloc);
+    for place in held.places_of(part) {
+        places.push(place)?;
+    }
+    Ok(places)
+}
+
+#[test]
+fn places_of_one_partition(rt: HostRuntime) -> Result<(), Fail> {
+    let alloc = rt.alloc();
+    let held = held(alloc, &ROWS)?;
+    for (day, pname, want) in PLACES {
+        let places = places(alloc, &held, Partition { day, pname })?;
+        assert_eq!(rt; places.as_slice(), want, "day {day} name {pname}");
+    }
+    Ok(())
+}

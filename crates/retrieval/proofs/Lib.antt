@@ -3,3 +3,7 @@ pub mod FoundCells
 pub mod Parameters
 pub mod Limited
 pub mod Counted
+pub mod PacketNames
+pub mod Replays
+pub mod ReplayRefusals
+pub mod ReplayTexts

@@ -24,6 +24,11 @@ pub at_most_twice : (limit : Option ℕ) (xs : List Cell) → truncated limit (t
 at_most_twice limit xs =
     ap (truncated limit) (sym (append-nil (truncated limit xs))) ∙ at_most_front limit xs [] ∙ ap (truncated limit) (append-nil xs)
 
+pub none_yet : (limit : Option ℕ) → truncated limit [] ≡ []
+none_yet None = refl
+none_yet (Some zero) = refl
+none_yet (Some (suc n)) = refl
+
 take_all : (n : ℕ) (xs : List Cell) → length xs ≤ n → take n xs ≡ xs
 take_all zero [] h = refl
 take_all zero (x ∷ xs) h = absurd (omega (arith, h))
@@ -57,6 +62,17 @@ list_option (Some cell) ys = refl
 -- the cell of the first row, beside those that there are
 pub next_cell : (f : Row → Option Cell) (xs : List Cell) (row : Row) (rows : List Row) → (xs ++ cell_list (f row)) ++ filter_map f rows ≡ xs ++ filter_map f (row ∷ rows)
 next_cell f xs row rows = append_assoc xs (cell_list (f row)) (filter_map f rows) ∙ ap (λ (l : List Cell). xs ++ l) (list_option (f row) (filter_map f rows))
+
+-- the same, where there's room for it
+pub next_first : (f : Row → Option Cell) (limit : Option ℕ) (cells new : List Cell) (rest left : List Row) (row : Row) (all : List Cell) → is_full limit cells ≡ false →
+    new ≡ cells ++ cell_list (f row) → rest ≡ row ∷ left → truncated limit (cells ++ filter_map f rest) ≡ all →
+    (truncated limit (new ++ filter_map f left) ≡ all) × (truncated limit new ≡ new)
+next_first f limit cells new rest left row all space added step h = (
+  ap (λ (l : List Cell). truncated limit (l ++ filter_map f left)) added
+      ∙ ap (truncated limit) (next_cell f cells row left ∙ ap (λ (rows : List Row). cells ++ filter_map f rows) (sym step))
+      ∙ h,
+  ap (truncated limit) added ∙ room limit cells (f row) space ∙ sym added,
+)
 
 join_option : (o : Option Cell) (xs ys : List Cell) → cons_option o xs ++ ys ≡ cons_option o (xs ++ ys)
 join_option None xs ys = refl
@@ -100,12 +116,8 @@ last_first rest left x step = ap reverse step ∙ reverse-append left (x ∷ [])
 pub next_last : (f : Row → Option Cell) (limit : Option ℕ) (cells new : List Cell) (rest left : List Row) (row : Row) (all : List Cell) → is_full limit cells ≡ false →
     new ≡ cells ++ cell_list (f row) → rest ≡ left ++ row ∷ [] → truncated limit (cells ++ filter_map f (reverse rest)) ≡ all →
     (truncated limit (new ++ filter_map f (reverse left)) ≡ all) × (truncated limit new ≡ new)
-next_last f limit cells new rest left row all space added step h = (
-  ap (λ (l : List Cell). truncated limit (l ++ filter_map f (reverse left))) added
-      ∙ ap (truncated limit) (next_cell f cells row (reverse left) ∙ ap (λ (rows : List Row). cells ++ filter_map f rows) (sym (last_first rest left row step)))
-      ∙ h,
-  ap (truncated limit) added ∙ room limit cells (f row) space ∙ sym added,
-)
+next_last f limit cells new rest left row all space added step h =
+    next_first f limit cells new (reverse rest) (reverse left) row all space added (last_first rest left row step) h
 
 -- the cells of the rows of the last part, the last first, and then of those before it
 pub next_last_part : (f : Row → Option Cell) (limit : Option ℕ) (cells new : List Cell) (rest left : List Part) (part : Part) (all : List Cell) →

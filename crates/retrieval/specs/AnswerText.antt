@@ -1,15 +1,12 @@
--- The answers to asks, and their text.
-use Rattle.std.specs.Prelude.{◌≡◌, ℕ, suc, List, [], ◌∷◌, ◌++◌, length, reverse, take, Bool, true, false, not, nat_lt, Option, Some, None, codes, decimal, unwrap_or, if◌then◌else◌, int_lt}
+-- The answers to asks for values, and their text.
+use Rattle.std.specs.Prelude.{◌≡◌, ℕ, ℤ, List, [], ◌∷◌, ◌++◌, length, reverse, take, Bool, true, false, not, nat_lt, Option, Some, None, codes, decimal, unwrap_or, if◌then◌else◌, int_lt}
 use Rattle.std.specs.Arc.{arc_value}
-use Rattle.arch_types.specs.declared.ask.Ask.{Ask}
-use Rattle.arch_types.specs.declared.ask.Ask.TheVariants.{Values, Replay}
 use Rattle.arch_types.specs.declared.ask.Request.{Request}
 use Rattle.arch_types.specs.declared.cell.Cell.{Cell}
 use Rattle.arch_types.specs.declared.row.Row.{Row}
 use Rattle.arch_types.specs.declared.refusal.Refusal.{Refusal}
 use Rattle.arch_types.specs.declared.refusal.Refusal.TheVariants.{UnknownParameter, BadRange}
 use Rattle.archive_core.specs.Items.{Item, rows_in}
-use Rattle.mdb_items.specs.Checks.{or_else}
 use Rattle.mdb_items.specs.Database.{Database}
 use Rattle.container_extract.specs.Extraction.{values_of}
 use Rattle.retrieval.specs.declared.answer.ParameterAnswer.{ParameterAnswer}
@@ -48,11 +45,11 @@ pub record IsParameterAnswer (db : Database) (history : List Item) (request : Re
   pub front : found.answer.front ≡ length history
   pub cells : found.answer.cells ≡ answered db found.number request (rows_in history)
 
--- the first line of an answer: its number and the front
+-- the first line of an answer or a replay: its number and the front
 abbrev pub front_line : ℕ → ℕ → List ℕ
 front_line k front = codes "ask " ++ decimal k ++ codes " front " ++ decimal front ++ codes "\n"
 
--- the last: how many cells there are
+-- the last: how many cells or rows there are
 abbrev pub end_line : ℕ → List ℕ
 end_line count = codes "end " ++ decimal count ++ codes "\n"
 
@@ -60,33 +57,17 @@ end_line count = codes "end " ++ decimal count ++ codes "\n"
 abbrev pub answer_lines : ℕ → ℕ → Database → ℕ → List Cell → List ℕ
 answer_lines k front db number cells = front_line k front ++ cell_lines db number cells ++ end_line (length cells)
 
--- the text of the ask with a number
-abbrev pub ask_text : Database → List Item → ℕ → Ask → List ℕ
-ask_text db history k (Values request) =
+-- the text of the answer to a request, the ask with a number
+abbrev pub answer_text : Database → List Item → ℕ → Request → List ℕ
+answer_text db history k request =
     let number = unwrap_or (number_named db request.parameter) 0 in
     answer_lines k (length history) db number (answered db number request (rows_in history))
-ask_text db history k (Replay request) = []
-
--- the texts of asks, numbered from k on
-abbrev pub asks_text : Database → List Item → ℕ → List Ask → List ℕ
-asks_text db history k [] = []
-asks_text db history k (ask ∷ asks) = ask_text db history k ask ++ asks_text db history (suc k) asks
 
 -- why a range is none: it ends before it begins
-abbrev pub range_refusal : Request → Option Refusal
-range_refusal request = if int_lt request.to request.from then Some (BadRange request.from request.to) else None
+abbrev pub range_refusal : ℤ → ℤ → Option Refusal
+range_refusal from to = if int_lt to from then Some (BadRange from to) else None
 
 -- why a request can't be answered: its parameter is unknown, or its range is reversed
 abbrev pub request_refusal : Option ℕ → Request → Option Refusal
 request_refusal None request = Some UnknownParameter
-request_refusal (Some number) request = range_refusal request
-
--- why an ask isn't answered: its parameter is unknown, or else its range ends before it begins
-abbrev pub ask_refusal : Database → Ask → Option Refusal
-ask_refusal db (Values request) = request_refusal (number_named db request.parameter) request
-ask_refusal db (Replay request) = None
-
--- the refusal of the first ask that isn't answered
-abbrev pub asks_refusal : Database → List Ask → Option Refusal
-asks_refusal db [] = None
-asks_refusal db (ask ∷ asks) = or_else (ask_refusal db ask) (asks_refusal db asks)
+request_refusal (Some number) request = range_refusal request.from request.to

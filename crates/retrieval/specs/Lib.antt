@@ -2,3 +2,5 @@ pub mod Parameter
 pub mod CellText
 pub mod ValuesText
 pub mod AnswerText
+pub mod ReplayText
+pub mod AskText

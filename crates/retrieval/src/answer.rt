@@ -1,7 +1,6 @@
 //! The answer of an archive to a request.
 
 ghost use Rattle.std.specs.Prelude.{◌≡◌, ◌+◌, ◌≤◌, ◌++◌, IfOk, OnOk, None, length, reverse, true};
-ghost use Rattle.std.specs.Arc.{arc_value};
 ghost use Rattle.std.specs.List.{filter_map};
 ghost use Rattle.arch_types.specs.Table.{range_of};
 ghost use Rattle.archive_core.specs.Items.{rows_in};
@@ -18,7 +17,7 @@ use arch_types::name::Name;
 use arch_types::refusal::Refusal;
 use arch_types::row::Row;
 use arch_types::steps::Steps;
-use archive_store::{Part, Plan, Store};
+use archive_store::{Part, Store};
 use container_extract::Extractor;
 use mdb_model::Mdb;
 use std::alloc::{AllocError, Global};
@@ -47,24 +46,21 @@ pub fn answer_request<D: Disk, L: Ledger>(
     ensures steps { steps.new ≤ steps.old + length (range_of 0 request.now.from request.now.to
         (rows_in store.old.history)) }
 {
-    let plan = match store.plan(alloc, request) {
-        Ok(plan) => plan,
-        Err(Refusal::OutOfMemory) => return Err(AllocError),
-        Err(_) => unreachable!(),
-    };
-    let Some(number) = number_of(&plan.mdb, &request.parameter) else {
+    let Some(number) = number_of(&store.head().mdb, &request.parameter) else {
         unreachable!();
     };
-    let cells = plan_cells(alloc, &plan, number, request, steps)?;
-    let Plan {
-        front,
-        mdb,
-        parts: _,
-    } = plan;
+    let cells = if request.descending {
+        descending_cells(alloc, store, number, request, steps)?
+    } else {
+        first_cells(alloc, store, number, request, steps)?
+    };
     Ok(ParameterAnswer {
-        mdb,
+        mdb: store.shared_mdb()?,
         number,
-        answer: Answer { front, cells },
+        answer: Answer {
+            front: store.front(),
+            cells: Cells::from_vec(cells),
+        },
     })
 }
 
@@ -78,56 +74,55 @@ pub fn number_of(mdb: &Mdb, name: &Name) -> Option<u16>
     }
 }
 
-/// The cells of a plan's rows: those of the request's parameter in key order, the last first where it is descending, and of these the first
-/// `limit`.
-fn plan_cells<L: Ledger>(
+/// The first cells in key order, of rows that the store lends.
+fn first_cells<D: Disk, L: Ledger>(
     alloc: Global,
-    plan: &Plan,
+    store: &Store<D>,
     number: u16,
     request: &Request,
     steps: &mut Steps<L>,
-) -> Result<Cells, AllocError>
-    ensures cells { IfOk result (λ cells.
-        cells ≡ truncated request.now.limit (in_asked_order request.now.descending
-        (filter_map (cell_of (arc_value plan.now.mdb) number) (rows_of_parts plan.now.parts)))) }
-    ensures steps { steps.new ≤ steps.old + length (rows_of_parts plan.now.parts) }
-{
-    let parts = plan.parts.as_slice();
-    if request.descending {
-        let cells = last_cells(alloc, &plan.mdb, number, parts, request.limit, steps)?;
-        return Ok(Cells::from_vec(cells));
-    }
-    let cells = first_cells(alloc, &plan.mdb, number, parts, request.limit, steps)?;
-    Ok(Cells::from_vec(cells))
-}
-
-/// The first cells in key order.
-fn first_cells<L: Ledger>(
-    alloc: Global,
-    mdb: &Mdb,
-    number: u16,
-    parts: &[Part],
-    limit: Option<u64>,
-    steps: &mut Steps<L>,
 ) -> Result<Vec<Cell>, AllocError>
-    ensures cells { IfOk result (λ cells.
-        cells.items ≡ truncated limit (filter_map (cell_of mdb.now number) (rows_of_parts parts.now))) }
-    ensures steps { steps.new ≤ steps.old + length (rows_of_parts parts.now) }
+    ensures cells { IfOk result (λ cells. cells.items ≡ truncated request.now.limit
+        (filter_map (cell_of store.now.head.mdb number) (range_of 0 request.now.from request.now.to
+        (rows_in store.now.history)))) }
+    ensures steps { steps.new ≤ steps.old + length (range_of 0 request.now.from request.now.to
+        (rows_in store.now.history)) }
 {
     let mut extractor = Extractor::new(alloc)?;
     let mut cells = Vec::new(alloc);
-    for part in parts {
-        add_cells(
-            &mut extractor,
-            mdb,
-            number,
-            part.rows.as_slice(),
-            limit,
-            &mut cells,
-            steps,
-        )?;
+    let mdb = &store.head().mdb;
+    for row in store.range(request.from, request.to) {
+        if is_full(cells.as_slice(), request.limit) {
+            return Ok(cells);
+        }
+        add_cell(&mut extractor, mdb, number, row, &mut cells, steps)?;
     }
     Ok(cells)
+}
+
+/// The first cells in the opposite order, of the rows of a plan.
+fn descending_cells<D: Disk, L: Ledger>(
+    alloc: Global,
+    store: &mut Store<D>,
+    number: u16,
+    request: &Request,
+    steps: &mut Steps<L>,
+) -> Result<Vec<Cell>, AllocError>
+    requires { request_refusal (number_named store.old.head.mdb request.now.parameter) request.now ≡ None }
+    ensures cells { IfOk result (λ cells. cells.items ≡ truncated request.now.limit (in_asked_order true
+        (filter_map (cell_of store.old.head.mdb number) (range_of 0 request.now.from request.now.to
+        (rows_in store.old.history))))) }
+    ensures same { store.new ≡ store.old }
+    ensures steps { steps.new ≤ steps.old + length (range_of 0 request.now.from request.now.to
+        (rows_in store.old.history)) }
+{
+    let plan = match store.plan(alloc, request) {
+        Ok(plan) => plan,
+        Err(Refusal::OutOfMemory) => return Err(AllocError),
+        Err(_) => unreachable!(),
+    };
+    let parts = plan.parts.as_slice();
+    last_cells(alloc, &plan.mdb, number, parts, request.limit, steps)
 }
 
 /// The first cells in the opposite order. The last rows are extracted first, and none beyond the limit.
@@ -158,30 +153,6 @@ fn last_cells<L: Ledger>(
         )?;
     }
     Ok(cells)
-}
-
-/// Adds the cells of rows, up to a limit of all.
-fn add_cells<L: Ledger>(
-    extractor: &mut Extractor,
-    mdb: &Mdb,
-    number: u16,
-    rows: &[Row],
-    limit: Option<u64>,
-    cells: &mut Vec<Cell>,
-    steps: &mut Steps<L>,
-) -> Result<(), AllocError>
-    requires { truncated limit cells.old.items ≡ cells.old.items }
-    ensures cells { OnOk result (cells.new.items ≡ truncated limit (cells.old.items ++ filter_map
-        (cell_of mdb.now number) rows.now)) }
-    ensures steps { steps.new ≤ steps.old + length rows.now }
-{
-    for row in rows {
-        if is_full(cells.as_slice(), limit) {
-            return Ok(());
-        }
-        add_cell(extractor, mdb, number, row, cells, steps)?;
-    }
-    Ok(())
 }
 
 /// Adds the cells of rows, those of the last row first, up to a limit of all.

@@ -25,15 +25,16 @@ pub fn print_found<K: Sink>(
 ) -> Result<(), Failed>
     requires room { length line_buffer.old < 65536 }
     requires number { found.now.number < length (arc_value found.now.mdb).parameters }
-    ensures buffered { OnOk result (IsBuffered (K.written sink.old) (K.written sink.new)
+    ensures buffered { OnOk result (IsBuffered (K.state sink.old).written (K.state sink.new).written
         (line_buffer.old ++ answer_lines k found.now.answer.front (arc_value found.now.mdb) found.now.number
         found.now.answer.cells) line_buffer.new) }
     ensures room { OnOk result (length line_buffer.new < 65536) }
-    ensures some { OnErr result (WritesSome (K.written sink.old) (K.written sink.new) (line_buffer.old ++ answer_lines
-        k found.now.answer.front (arc_value found.now.mdb) found.now.number found.now.answer.cells)) }
-    ensures later { K.faults sink.old ≤ K.faults sink.new }
-    ensures failed { IsErr result → HasRisen (K.faults sink.old) (K.faults sink.new) }
-    ensures no_fault { OnOk result (Stays (K.faults sink.old) (K.faults sink.new)) }
+    ensures some { OnErr result (WritesSome (K.state sink.old).written (K.state sink.new).written
+        (line_buffer.old ++ answer_lines k found.now.answer.front (arc_value found.now.mdb) found.now.number
+        found.now.answer.cells)) }
+    ensures later { (K.state sink.old).faults ≤ (K.state sink.new).faults }
+    ensures failed { IsErr result → HasRisen (K.state sink.old).faults (K.state sink.new).faults }
+    ensures no_fault { OnOk result (Stays (K.state sink.old).faults (K.state sink.new).faults) }
 {
     let calibration = calibration_of(&found.mdb, found.number);
     let cells = found.answer.cells.as_slice();
@@ -53,14 +54,14 @@ fn print_cells<K: Sink>(
 ) -> Result<(), Failed>
     requires room { length line_buffer.old < 65536 }
     requires labels { HasShortLabels (option_copied calibration) }
-    ensures buffered { OnOk result (IsBuffered (K.written sink.old) (K.written sink.new)
+    ensures buffered { OnOk result (IsBuffered (K.state sink.old).written (K.state sink.new).written
         (line_buffer.old ++ flat_map (cell_line (option_copied calibration.entry)) cells.now) line_buffer.new) }
     ensures room { OnOk result (length line_buffer.new < 65536) }
-    ensures some { OnErr result (WritesSome (K.written sink.old) (K.written sink.new)
+    ensures some { OnErr result (WritesSome (K.state sink.old).written (K.state sink.new).written
         (line_buffer.old ++ flat_map (cell_line (option_copied calibration.entry)) cells.now)) }
-    ensures later { K.faults sink.old ≤ K.faults sink.new }
-    ensures failed { IsErr result → HasRisen (K.faults sink.old) (K.faults sink.new) }
-    ensures no_fault { OnOk result (Stays (K.faults sink.old) (K.faults sink.new)) }
+    ensures later { (K.state sink.old).faults ≤ (K.state sink.new).faults }
+    ensures failed { IsErr result → HasRisen (K.state sink.old).faults (K.state sink.new).faults }
+    ensures no_fault { OnOk result (Stays (K.state sink.old).faults (K.state sink.new).faults) }
 {
     for cell in cells {
         put_cell(line_buffer, *cell, calibration);
@@ -70,7 +71,7 @@ fn print_cells<K: Sink>(
 }
 
 /// Adds the first line: the number of the ask, and the front.
-fn put_front(line_buffer: &mut LineBuffer, k: u64, front: u64)
+pub(crate) fn put_front(line_buffer: &mut LineBuffer, k: u64, front: u64)
     requires { length line_buffer.old < 65536 }
     ensures { line_buffer.new ≡ line_buffer.old ++ front_line k front }
 {
@@ -79,8 +80,8 @@ fn put_front(line_buffer: &mut LineBuffer, k: u64, front: u64)
     line_buffer.put(b"\n");
 }
 
-/// Adds the last line: how many cells there are.
-fn put_end(line_buffer: &mut LineBuffer, count: usize)
+/// Adds the last line: how many cells or rows there are.
+pub(crate) fn put_end(line_buffer: &mut LineBuffer, count: usize)
     requires { length line_buffer.old < 65536 }
     ensures { line_buffer.new ≡ line_buffer.old ++ end_line count }
 {

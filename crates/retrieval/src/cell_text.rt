@@ -17,11 +17,11 @@ pub fn put_cell(line_buffer: &mut LineBuffer, cell: Cell, calibration: Option<&C
     ensures { line_buffer.new ≡ line_buffer.old ++ cell_line (option_copied calibration.entry) cell }
 {
     line_buffer.put_number(b"cell ", cell.key.time);
-    line_buffer.put_number(b" ", cell.key.seq);
-    line_buffer.put_number(b" ", cell.raw);
-    line_buffer.put(b" ");
+    line_buffer.put_field(cell.key.seq);
+    line_buffer.put_field(cell.raw);
+    line_buffer.put_octet(b' ');
     put_eng(line_buffer, cell, calibration);
-    line_buffer.put(b"\n");
+    line_buffer.put_octet(b'\n');
 }
 
 /// Adds an engineering value.
@@ -32,7 +32,7 @@ fn put_eng(line_buffer: &mut LineBuffer, cell: Cell, calibration: Option<&Calibr
     ensures short { length line_buffer.new ≤ length line_buffer.old + 82 }
 {
     match cell.eng {
-        Eng::Whole => line_buffer.put_number(b"", cell.raw),
+        Eng::Whole => line_buffer.put_digits(cell.raw),
         Eng::Fixed(millionths) => put_fixed(line_buffer, millionths),
         Eng::Label(row) => line_buffer.put(label_of(calibration, row)),
         Eng::Undef => line_buffer.put(b"UNDEF"),
@@ -47,7 +47,7 @@ fn put_fixed(line_buffer: &mut LineBuffer, millionths: i64)
 {
     let size = millionths.unsigned_abs();
     line_buffer.put(sign(millionths));
-    line_buffer.put_number(b"", size / 1_000_000);
+    line_buffer.put_digits(size / 1_000_000);
     put_fraction(line_buffer, size % 1_000_000);
 }
 
@@ -62,7 +62,7 @@ fn put_fraction(line_buffer: &mut LineBuffer, number: u64)
     let mut buffer = Buffer::new();
     let digits = buffer.format(1_000_000 + number).as_bytes();
     let (_, six) = digits.split_at(1);
-    line_buffer.put(b".");
+    line_buffer.put_octet(b'.');
     line_buffer.put(six);
 }
 

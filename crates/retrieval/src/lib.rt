@@ -1,13 +1,18 @@
-//! The answer to a request: the values of a parameter in the rows of a plan, and their text.
+//! The answers to asks: the values of a parameter in the rows of a range, and the rows of a replay, and their text.
 //!
 //! Stands for: the cells that extraction of each row's packet gives, in the order that was asked, up to the limit
-//! (`specs/AnswerText.antt`), and how a value is written (`specs/CellText.antt`). Called by the commands that print values of parameters.
+//! (`specs/AnswerText.antt`), and how a value is written (`specs/CellText.antt`); the rows of a replay, each with the name of its packet
+//! (`specs/ReplayText.antt`); and what is printed of the asks of a sheet (`specs/AskText.antt`). Called by the commands that print them.
 //!
-//! The one idea: a descending ask goes from the last row and stops at its limit, and gives what the ascending cells, turned, begin with.
+//! The two ideas: a descending ask goes from the last row and stops at its limit, and gives what the ascending cells, turned, begin with. What was
+//! printed of a replay, and the lines of what its cursor has still to give, are the lines of all of it.
 #![tactic(auto)]
 
 pub mod answer;
 pub mod answer_text;
 pub mod cell_text;
 pub mod cells;
+mod packet_text;
 pub mod parameter;
+pub mod refusals;
+pub mod replay;

@@ -30,7 +30,7 @@ pub record IsKeyIndex (stored : List Stored) (entries : List (Key × ℕ)) : Typ
 pub record IsIndexedTable (stored : Vec Stored) (index : Listing Key ℕ) : Type 0 where
   pub names : IsKeyIndex stored.items index.entries
   pub has_room : vec_len stored + index.room ≤ vec_capacity stored
-  pub has_places : vec_len stored + index.room < 2 ^ 32
+  pub short_places : vec_len stored + index.room < 2 ^ 32
 
 -- entries in the order of their keys, each of which names a stored row of its key
 pub record AreRisingKeys (stored : List Stored) (entries : List (Key × ℕ)) : Type 0 where

@@ -1,6 +1,6 @@
 //! A table.
 
-ghost use Rattle.std.specs.Prelude.{◌≡◌, ◌+◌, ◌<◌, ◌≤◌, [], max, false, IfOk, OnOk, OnErr, IfSome, IfNone, length};
+ghost use Rattle.std.specs.Prelude.{◌≡◌, ◌+◌, ◌<◌, ◌≤◌, [], max, false, IfOk, OnOk, OnErr, IfSome, IfNone, Some, length, slice_get};
 ghost use Rattle.std.specs.List.{list_any};
 ghost use Rattle.arch_types.specs.History.{has_key};
 ghost use Rattle.yarch_table.specs.Stored.{seen_at, seen_between, rows_of, IsInserted, IsKeptAt};
@@ -119,6 +119,21 @@ impl Table {
     {
         let window = Window { front, end: None };
         TableRows::new(self.stored.as_slice(), self.index.iter(), window)
+    }
+
+    /// The rows in the order of their insertion, each with its position.
+    pub fn stored(&self) -> &[Stored]
+        ensures { result.now ≡ self.now.stored }
+    {
+        self.stored.as_slice()
+    }
+
+    /// The row at a place in the order of insertion, with its position.
+    pub fn row_at(&self, place: usize) -> &Stored
+        requires { place < length self.now.stored }
+        ensures { slice_get self.now.stored place ≡ Some result.now }
+    {
+        &self.stored[place]
     }
 
     /// How many rows there are.

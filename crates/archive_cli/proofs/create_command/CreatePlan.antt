@@ -21,13 +21,14 @@ use Rattle.command_words.specs.Job.{SheetWords}
 use Rattle.input_plans.specs.Inputs.{AnsweredByPlan, WasRead}
 use Rattle.input_plans.proofs.Readings.{first_not_read, then_not_read, then_read}
 use Rattle.outer_ledgers.proofs.Ledgers.{inputs_unused}
-use Rattle.outer_ledgers.specs.Ledger.{InputsState, raised_by}
+use Rattle.outer_traits.specs.States.{InputsState}
+use Rattle.outer_ledgers.specs.Ledger.{raised_by}
 use Rattle.retrieval.specs.Parameter.{sheets_refusal}
-use Rattle.archive_cli.specs.Command.{Effects, Ran, RanOver, looked, nothing_done, printing_plan}
-use Rattle.archive_cli.specs.create_command.Create.{HasArchiveAs, checking_plan, create_plan, head_checked, head_plan, made, after_making, making_plan, making_failed}
+use Rattle.archive_cli.specs.Command.{Effects, Ran, RanOver, archive_sought, nothing_done, printing_plan}
+use Rattle.archive_cli.specs.create_command.Create.{HasArchiveAs, checking_plan, create_plan, after_check, head_plan, made, after_making, new_archive_plan, making_failed}
 use Rattle.archive_cli.specs.create_command.Creation.{create_line, new_head}
 use Rattle.archive_cli.specs.Report.{unopened}
-use Rattle.archive_cli.proofs.Commands.{looked_only, no_text}
+use Rattle.archive_cli.proofs.Commands.{only_sought, no_text}
 use Rattle.archive_cli.proofs.create_command.ArchiveOrNone.{one-not-none}
 use Rattle.archive_cli.proofs.create_command.Created.{fewer_than_two, left_alone}
 use Rattle.archive_cli.proofs.OverInputs.{HasRead, ran_read, ran_unread}
@@ -85,15 +86,15 @@ module _ {D : Type 0} (device : Device D) (e : Effects D) (head : Head) where
   -- no archive was made
   pub ran_unmade : (refusal : Refusal) → IsStoreCreateRefusal device e.disk e.disk' refusal →
       (IsTrue device.is_transparent → BeginsOpen (device.reads e.disk 0) → JournalLeft device e.disk e.disk') → CrashLeavesHead device e.disk e.disk' head → CountsNeverFall device e.disk e.disk' →
-      e.report ≡ unopened (Some refusal) → e.output' ≡ e.output → Ran device (making_plan device e.disk head) e
+      e.report ≡ unopened (Some refusal) → e.output' ≡ e.output → Ran device (new_archive_plan device e.disk head) e
   ran_unmade Exists refused kept crash counts report silent = record {
-    way = Stopped (looked 3) (Some Exists);
+    way = Stopped (archive_sought 3) (Some Exists);
     allows = inr (inr (true, refused.held, refl));
     did = record {
       report = report;
       printed = rw silent (no_text e.output.written);
       output = record { counted = rw silent refl };
-      disk = (looked_only device e.disk e.disk' counts refused.no_failed_write, λ known. left_alone device e.disk e.disk' (kept known (refused.held known)));
+      disk = (only_sought device e.disk e.disk' counts refused.no_failed_write, λ known. left_alone device e.disk e.disk' (kept known (refused.held known)));
     };
   }
   ran_unmade DiskFault refused kept crash counts report silent = record {
@@ -121,13 +122,13 @@ module _ {D : Type 0} (device : Device D) (e : Effects D) (head : Head) where
   ran_unmade other refused kept crash counts report silent = absurd refused
 
   -- one was made, and its line printed
-  pub ran_made : (IsTrue device.is_transparent → HoldsNone (device.reads e.disk 0)) → Ran device (printing_plan (made head) (create_line head.mdb)) e → Ran device (making_plan device e.disk head) e
+  pub ran_made : (IsTrue device.is_transparent → HoldsNone (device.reads e.disk 0)) → Ran device (printing_plan (made head) (create_line head.mdb)) e → Ran device (new_archive_plan device e.disk head) e
   ran_made none ran = record { way = ran.way; allows = inr (inr (false, none, ran.allows)); did = ran.did }
 
 -- ---- over inputs
 
 -- three sources were given, and no call of the inputs failed
-pub makes_after : {D : Type 0} (device : Device D) (disk : D) (head : Head) → EachEnd (HasRead 3) (making_plan device disk head)
+pub makes_after : {D : Type 0} (device : Device D) (disk : D) (head : Head) → EachEnd (HasRead 3) (new_archive_plan device disk head)
 makes_after device disk head = ((refl, refl), ((refl, refl), λ there h. each there))
   where
     each : (there : Bool) → EachEnd (HasRead 3) (after_making head there)
@@ -136,20 +137,20 @@ makes_after device disk head = ((refl, refl), ((refl, refl), λ there h. each th
 
 module _ {D : Type 0} (device : Device D) (e : Effects D) (files : Option Files) (words : SheetWords) (a b : InputsState) where
   -- the sheets gave a head, and its archive was made or wasn't
-  pub ran_headed : (head : Head) → WasRead (head_plan files words) head 3 a b → Ran device (making_plan device e.disk head) e → RanOver device (create_plan device e.disk files words) e a b
-  ran_headed head read ran = ran_read device e (head_plan files words) (making_plan device e.disk) a b 3 head read (makes_after device e.disk head) ran
+  pub ran_headed : (head : Head) → WasRead (head_plan files words) head 3 a b → Ran device (new_archive_plan device e.disk head) e → RanOver device (create_plan device e.disk files words) e a b
+  ran_headed head read ran = ran_read device e (head_plan files words) (new_archive_plan device e.disk) a b 3 head read (makes_after device e.disk head) ran
 
   -- they were refused
   pub ran_headless : (refusal : Refusal) → AnsweredByPlan {X = Head} 3 (head_plan files words) (Err refusal) a b → e.report ≡ unopened (Some refusal) → e.disk' ≡ e.disk → e.output' ≡ e.output →
       RanOver device (create_plan device e.disk files words) e a b
-  ran_headless refusal read report same silent = ran_unread device e (head_plan files words) (making_plan device e.disk) a b 3 refusal read report same silent
+  ran_headless refusal read report same silent = ran_unread device e (head_plan files words) (new_archive_plan device e.disk) a b 3 refusal read report same silent
 
 -- ---- which answer is due
 
 checks_determined : (sources : ℕ) (raw : RawMdb) → IsDetermined (checking_plan sources raw)
 checks_determined sources raw = (λ a b h k. h ∙ sym k, λ found h. each found)
   where
-    each : (found : Option Refusal) → IsDetermined (head_checked sources raw found)
+    each : (found : Option Refusal) → IsDetermined (after_check sources raw found)
     each None = tt
     each (Some refusal) = tt
 
@@ -159,7 +160,7 @@ holds_once image false false h k = refl
 holds_once image true false h k = absurd (one-not-none (image 0) h.0 h.1 k)
 holds_once image false true h k = absurd (one-not-none (image 0) k.0 k.1 h)
 
-makes_determined : {D : Type 0} (device : Device D) (disk : D) (head : Head) → IsTrue device.is_transparent → IsDetermined (making_plan device disk head)
+makes_determined : {D : Type 0} (device : Device D) (disk : D) (head : Head) → IsTrue device.is_transparent → IsDetermined (new_archive_plan device disk head)
 makes_determined device disk head known = (λ a b h k. holds_once (device.reads disk) a b (h known) (k known), λ there h. each there)
   where
     each : (there : Bool) → IsDetermined (after_making head there)
@@ -170,7 +171,7 @@ pub create_determined : {D : Type 0} (device : Device D) (disk : D) (files : Opt
     IsDetermined (create_plan device disk files words)
 create_determined device disk None words known some = absurd (cc (some))
 create_determined device disk (Some all) words known some =
-    determined (map_done nothing_done (head_plan (Some all) words 0)) (making_plan device disk)
+    determined (map_done nothing_done (head_plan (Some all) words 0)) (new_archive_plan device disk)
     (determined_map_done nothing_done (head_plan (Some all) words 0)
     (determined (sheets_plan (Some all) words.parameters words.calibrations words.containers 0) (checking_plan (0 + 3))
     (sheets_determined all words.parameters words.calibrations words.containers 0) (checks_determined (0 + 3))))

@@ -1,16 +1,16 @@
 -- The disk during a load, and after it.
-use Rattle.std.proofs.Common.{◌≡◌, ◌⊎◌, inl, inr, ℕ, ℤ, ◌+◌, ◌^◌, ◌≤◌, ◌<◌, Bool, true, false, List, [], ◌∷◌, ◌++◌, length, map, Some, None, ap, subst, ◌∙◌, arith, length-append}
+use Rattle.std.proofs.Common.{◌≡◌, ◌⊎◌, inl, inr, ℕ, ◌+◌, ◌≤◌, Bool, true, false, List, [], ◌∷◌, ◌++◌, length, map, Some, None, ap, subst, ◌∙◌, arith, length-append}
 use Rattle.std.specs.Prelude.{Contains, IsTrue}
 use Rattle.std.proofs.lemmas.List.{length-map}
 use mathlib.Core.List.{IsPrefix}
 use Rattle.arch_disk.specs.Image.{Image}
-use Rattle.arch_disk.specs.Disk.{Device, LeavesOnly, raised}
+use Rattle.arch_disk.specs.Disk.{Device, LeavesOnly}
 use Rattle.arch_disk.proofs.Moments.{weakens}
 use Rattle.arch_types.specs.declared.row.Row.{Row}
 use Rattle.archive_core.specs.declared.fills.Addition.TheVariants.{Rows}
 use Rattle.archive_core.specs.declared.fills.Fill.{Fill}
 use Rattle.archive_core.specs.declared.fills.Fill.TheVariants.{Fault}
-use Rattle.archive_core.specs.Fills.{rows_of_faults, above, Rising, unacknowledged_rows}
+use Rattle.archive_core.specs.Fills.{rows_of_faults, unacknowledged_rows}
 use Rattle.archive_core.specs.Items.{Item, items_of}
 use Rattle.archive_store.specs.declared.head.Head.{Head}
 use Rattle.disk_journal.specs.Format.{HasRecords}
@@ -19,13 +19,12 @@ use Rattle.field_codec.specs.declared.entry.Entry.{Entry}
 use Rattle.field_codec.specs.declared.entry.Entry.TheVariants as kinds
 use Rattle.field_codec.specs.Spelling.{entry_octets}
 use Rattle.archive_store.specs.Entries.{Archive, archive, Replays}
-use Rattle.archive_store.specs.StoreView.{StoreView, archive_of, IsNow, IsSince, FaultInvariant, CrashInvariant}
+use Rattle.archive_store.specs.StoreView.{StoreView, archive_of, IsNow, IsSince, CrashInvariant}
 use Rattle.archive_store.specs.Stands.{StandsFor}
 use Rattle.archive_store.proofs.Exact.{stands_once}
-use Rattle.load_session.specs.Batches.{HasIngested}
 use Rattle.archive_cli.specs.ReadOnly.{IsOpenedThen}
-use Rattle.archive_cli.specs.load_command.LoadLine.{IsDuring}
-use Rattle.archive_cli.specs.Durable.{FailedAtMostOnce, IsDurableAs}
+use Rattle.archive_cli.specs.load_command.Extension.{IsDuring}
+use Rattle.archive_cli.specs.Durable.{IsDurableAs}
 
 -- a store that was opened on a disk
 pub record IsOpened {D : Type 0} (device : Device D) (disk : D) (store : StoreView D) : Type 0 where
@@ -89,19 +88,18 @@ module _ {D : Type 0} (device : Device D) (disk : D) (old new : StoreView D) (op
   }
 
   -- the images of a store's load
-  pub load_images : (link : ℕ) (moment : ℤ) (packets : List (List ℕ)) → HasIngested old new link moment packets → CrashInvariant device new
-      → IsOpenedThen device disk new.disk (IsDuring (archive_of old) new.history in_hand)
-  load_images link moment packets done keeps =
-      let first : device.reads new.opened ≡ device.reads disk = ap device.reads done.opened ∙ opened.opening in
+  pub load_images : new.head ≡ old.head → new.opened ≡ old.opened → CrashInvariant device new → IsOpenedThen device disk new.disk (IsDuring (archive_of old) new.history in_hand)
+  load_images head same keeps =
+      let first : device.reads new.opened ≡ device.reads disk = ap device.reads same ∙ opened.opening in
       let began : StandsFor (device.reads disk) (archive new.head keeps.before) = subst (λ (image : Image). StandsFor image (archive new.head keeps.before)) first keeps.opening in
       let before : keeps.before ≡ old.history = ap (λ (a : Archive). a.history) (stands_once (device.reads disk) (archive new.head keeps.before) (archive old.head old.history) began opened.stands) in
       record {
         opened = old.opened;
         before = opened.before;
         since =
-            subst (λ (d : D). LeavesOnly device d new.disk (IsDuring (archive_of old) new.history in_hand)) done.opened
+            subst (λ (d : D). LeavesOnly device d new.disk (IsDuring (archive_of old) new.history in_hand)) same
             (weakens device new.opened new.disk (IsSince new.head keeps.before new.history (rows_of_faults new.fills)) (IsDuring (archive_of old) new.history in_hand) keeps.since
-            (during keeps.before before done.head));
+            (during keeps.before before head));
       }
 
 -- a crash now leaves the history of a store without faults
@@ -124,24 +122,3 @@ durable_again device store count rows is_transparent keeps one =
     let now : (c : Image) → device.images store.disk c → StandsFor c (archive store.head store.history) =
     subst (λ (fills : List Fill). (c : Image) → device.images store.disk c → IsNow store.head store.history (unacknowledged_rows fills) c) one keeps.now in
     record { reads = now (device.reads store.disk) (device.reads_as_image store.disk is_transparent); now = now }
-
--- ---- counts of faults
-
--- a store that was closed with a fault has more faults than at its opening
-pub more_faults : {D : Type 0} (device : Device D) (disk : D) (old new : StoreView D) (count : ℕ) (wrote : Bool) (rows : List Row) → device.fault_count disk ≤ device.fault_count old.opened → new.opened ≡ old.opened
-    → FaultInvariant device new → new.fills ≡ Fault count wrote (Rows rows) ∷ [] → raised (device.fault_count disk) ≤ device.fault_count new.disk
-more_faults device disk old new count wrote rows first same keeps one =
-    let rising = subst (λ (fills : List Fill). Rising (above (device.fault_count new.opened)) (device.fault_count new.disk) fills) one keeps.rising in
-    let later = keeps.later in
-    let low = rising.0 in
-    let high = rising.1 in
-    omega (arith, first, ap device.fault_count same, later, low, high)
-
--- a disk that failed once didn't fail again after the fault
-not_again : (first then last : ℕ) → raised first ≤ then → raised then ≤ last → last ≤ first + 1 → last + 1 < 2 ^ 64 → ⊥
-not_again first then last once again most below = omega (arith, once, again, most, below)
-
-pub failed_again : {D : Type 0} (device : Device D) (disk then last : D) → raised (device.fault_count disk) ≤ device.fault_count then
-    → raised (device.fault_count then) ≤ device.fault_count last → FailedAtMostOnce device disk last → ⊥
-failed_again device disk then last once again one =
-    not_again (device.fault_count disk) (device.fault_count then) (device.fault_count last) once again one.most one.below

@@ -1,5 +1,5 @@
 -- How the plan of `load` goes.
-use Rattle.std.proofs.Common.{◌≡◌, ◌≤◌, ◌<◌, ◌-◌, ◌∙◌, inl, inr, ℕ, ℤ, Bool, true, false, List, length, Option, Some, None, refl, sym, ap, subst, arith}
+use Rattle.std.proofs.Common.{◌≡◌, ◌≤◌, ◌<◌, ◌∙◌, inl, inr, ℕ, ℤ, Bool, true, false, List, length, Option, Some, None, refl, sym, ap, subst, arith}
 use Rattle.std.specs.Prelude.{Err, IfSome, IsSome, IsSomeAnd, IsTrue}
 use Rattle.std.specs.FinMap.{get}
 use Rattle.arch_disk.specs.Disk.{Device, LeavesOnly}
@@ -13,7 +13,7 @@ use Rattle.archive_store.specs.Stands.{StandsFor}
 use Rattle.disk_journal.specs.Calls.{CountsNeverFall}
 use Rattle.outer_traits.specs.declared.fault.OpenFault.{OpenFault}
 use Rattle.outer_traits.specs.declared.fault.OpenFault.TheVariants.{Missing, Failed, OutOfMemory}
-use Rattle.outer_traits.specs.Outside.{Files, IsLeftAtFirst, OpeningCounted, one_more}
+use Rattle.outer_traits.specs.Outside.{Files, IsLeftAtFirst, OpeningCounted}
 use Rattle.outer_traits.specs.Whole.{IsInput, IsThere}
 use Rattle.command_plans.specs.Plan.{OfMemory, OfInputs, CommandPlan, Way, Stopped, Interrupted, Allows, EachEnd, IsDetermined}
 use Rattle.command_plans.proofs.Plans.{determined, end_of, gave}
@@ -21,20 +21,21 @@ use Rattle.command_words.specs.Job.{LoadWords}
 use Rattle.input_plans.specs.Inputs.{InputRead, IsThereAs, OverLimit, WithinLimit}
 use Rattle.input_plans.proofs.Inputs.{reads_determined}
 use Rattle.mdb_sheets.specs.Sheets.{ReadsCounted}
-use Rattle.outer_ledgers.specs.Ledger.{Counted, InputsState, UsedInputs}
+use Rattle.outer_traits.specs.States.{InputsState, GaveOne, ClosedOne}
+use Rattle.outer_ledgers.specs.Ledger.{Counted, UsedInputs}
 use Rattle.outer_ledgers.proofs.Ledgers.{risen_counted}
 use Rattle.archive_cli.specs.Moment.{IsMomentOf}
-use Rattle.archive_cli.specs.Command.{Progress, HasOutcome, Opened, Effects, ArchiveFound, Ran, RanOver, archive_opened, nothing_done, opening_plan}
+use Rattle.archive_cli.specs.Command.{Progress, HasDiskOutcome, Opened, Effects, ArchiveFound, Ran, RanOver, archive_opened, nothing_done, opening_plan}
 use Rattle.archive_cli.specs.DumpRest.{ending_of_rest}
 use Rattle.archive_cli.specs.load_command.Load.{after_dump, after_dump_found, after_link, after_packets, after_session, dump_too_long, link_refusal, load_plan, loading_plan, session_plan}
 use Rattle.archive_cli.specs.load_command.Loading.{IsDumpRefusal, IsOpeningFault}
 use Rattle.archive_cli.specs.ReadDump.{dump_limit}
 use Rattle.archive_cli.specs.Report.{read_only, unopened}
-use Rattle.archive_cli.specs.load_command.Session.{SessionResult}
+use Rattle.load_session.specs.Session.{SessionResult}
 use Rattle.archive_cli.proofs.Commands.{no_text, ran_unopened, unopened_after}
 use Rattle.archive_cli.proofs.load_command.NotLoaded.{OnlyMissing, gives_long, gone, still_there}
 use Rattle.archive_cli.proofs.OverInputs.{HasRead}
-use Rattle.archive_cli.proofs.recover_command.RecoverPlan.{opens_determined}
+use Rattle.archive_cli.proofs.Openings.{opens_determined}
 use Rattle.archive_cli.proofs.values_command.LimitTests.{longer, not-longer}
 
 -- ---- the number of a link
@@ -48,12 +49,12 @@ link_far link far = rw (longer (limit_of Links) link far) refl
 -- ---- the inputs
 
 -- a source was given, and closed again
-pub closed_again : (a m b : InputsState) → m.files ≡ a.files → b.files ≡ m.files → m.open_sources ≡ one_more a.open_sources → b.open_sources ≡ m.open_sources - 1 → m.given ≡ one_more a.given
-    → b.given ≡ m.given → (a.never_fails → b.never_fails × (b.faults ≡ a.faults)) → (failed : Bool) → Counted failed a.faults b.faults → UsedInputs a b 1 failed
-closed_again a m b first next opened closed gave none reliable failed counted = record {
+pub closed_again : (a m b : InputsState) → m.files ≡ a.files → b.files ≡ m.files → GaveOne a m → ClosedOne m b → (a.never_fails → b.never_fails × (b.faults ≡ a.faults)) → (failed : Bool)
+    → Counted failed a.faults b.faults → UsedInputs a b 1 failed
+closed_again a m b first next gave closed reliable failed counted = record {
   files = next ∙ first;
-  closed = λ few. omega (arith, few, opened, closed);
-  gave = none ∙ gave;
+  closed = λ few. let opened = gave.0 in let back = closed.0 in omega (arith, few, opened, back);
+  gave = closed.1 ∙ gave.1;
   counted = counted;
   reliable = reliable;
 }
@@ -146,7 +147,7 @@ module _ {D : Type 0} (device : Device D) (e : Effects D) (files : Option Files)
       -- and left as it was, since the dump wasn't read
       pub load_unread : (left : Option (List ℕ)) (refusal : Refusal) (link : Option ℕ) → IsLeftAtFirst files words.dump left → IsDumpRefusal left words.link refusal link
           → ((failed : Bool) → Counted failed a.faults b.faults → UsedInputs a b 1 failed) → a.faults ≤ b.faults → ReadsCounted (Some refusal) a.faults b.faults
-          → e.report ≡ record (read_only (Some refusal) (length archive.history)) { link = link } → e.output' ≡ e.output → HasOutcome device e.disk e.disk' false (Opened archive)
+          → e.report ≡ record (read_only (Some refusal) (length archive.history)) { link = link } → e.output' ≡ e.output → HasDiskOutcome device e.disk e.disk' false (Opened archive)
           → RanOver device plan e a b
       load_unread left (refused.Limit DumpOctets most) link gives u used later counted report silent disk =
           let is : refused.Limit DumpOctets most ≡ refused.Limit DumpOctets dump_limit = ap (λ (n : ℕ). refused.Limit DumpOctets n) u.1 in

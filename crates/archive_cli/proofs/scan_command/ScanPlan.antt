@@ -21,7 +21,7 @@ use Rattle.dump_lines.specs.Printing.{text_of_loaded}
 use Rattle.dump_lines.specs.Text.{scan_text}
 use Rattle.input_plans.specs.Inputs.{AnsweredByPlan, WasRead}
 use Rattle.input_plans.proofs.Inputs.{reads_determined}
-use Rattle.outer_ledgers.specs.Ledger.{InputsState}
+use Rattle.outer_traits.specs.States.{InputsState}
 use Rattle.outer_ledgers.proofs.Ledgers.{risen_counted}
 use Rattle.archive_cli.specs.Moment.{IsMomentOf}
 use Rattle.archive_cli.specs.Command.{Effects, RanOver, nothing_done}

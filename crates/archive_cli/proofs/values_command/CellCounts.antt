@@ -1,16 +1,16 @@
 -- How many cells rows have.
-use Rattle.std.proofs.Common.{◌≡◌, ◌+◌, ◌≤◌, ◌<◌, ℕ, ℤ, List, [], ◌∷◌, length, Bool, true, false, Option, Some, None, ap, arith}
-use Rattle.std.specs.Prelude.{◌^◌, fold, if◌then◌else◌}
+use Rattle.std.proofs.Common.{◌≡◌, ◌+◌, ◌≤◌, ◌<◌, ℕ, ℤ, List, [], ◌∷◌, length, Option, Some, None, ap, arith}
+use Rattle.std.specs.Prelude.{◌^◌}
 use Rattle.std.specs.List.{cons_option, filter_map}
 use Rattle.arch_types.specs.declared.cell.Cell.{Cell}
 use Rattle.arch_types.specs.declared.row.Row.{Row}
-use Rattle.arch_types.specs.Order.{is_before, place_by}
 use Rattle.arch_types.specs.Table.{sorted}
 use Rattle.mdb_items.specs.Database.{Database}
 use Rattle.container_extract.specs.Extraction.{cell_of}
 use Rattle.yarch_table.specs.Stored.{rows_of}
 use Rattle.dump_lines.specs.declared.rows.DumpTable.{DumpTable}
 use Rattle.dump_lines.specs.DumpTable.{IsDumpTable}
+use Rattle.retrieval.proofs.Replays.{length-order}
 use Rattle.archive_cli.specs.ReadDump.{dump_limit}
 use Rattle.archive_cli.specs.values_command.ValuesPrinting.{count_if, cells_in_row}
 
@@ -34,22 +34,6 @@ cells_few db number [] = omega arith
 cells_few db number (row ∷ rows) =
     let few = few-cases (cell_of db number row) (filter_map (cell_of db number) rows) (length rows) (cells_few db number rows) in
     omega (arith, few)
-
-place-cases : (b : Bool) (row first : Row) (rows placed : List Row) → length placed ≡ length rows + 1 →
-    length (if b then row ∷ first ∷ rows else first ∷ placed) ≡ length (first ∷ rows) + 1
-place-cases true row first rows placed e = omega arith
-place-cases false row first rows placed e = omega arith
-
-length-place : (rows : List Row) (row : Row) → length (place_by is_before rows row) ≡ length rows + 1
-length-place [] row = omega arith
-length-place (first ∷ rows) row = place-cases (is_before row first) row first rows (place_by is_before rows row) (length-place rows row)
-
-length-order : (done rows : List Row) → length (fold (place_by is_before) done rows) ≡ length done + length rows
-length-order done [] = omega arith
-length-order done (row ∷ rows) =
-    let placed = length-place done row in
-    let more = length-order (place_by is_before done row) rows in
-    omega (arith, placed, more)
 
 -- the rows of a dump are few
 pub rows_few : (dump : List ℕ) (moment : ℤ) (loaded : DumpTable) → IsDumpTable dump moment loaded → length dump ≤ dump_limit → length (sorted (rows_of loaded.table.stored)) < 2 ^ 64

@@ -17,11 +17,11 @@ use Rattle.dump_lines.specs.declared.print_fault.PrintFault.{PrintFault}
 use Rattle.dump_lines.specs.declared.print_fault.PrintFault.TheVariants as printing
 use Rattle.dump_lines.specs.declared.rows.DumpTable.{DumpTable}
 use Rattle.dump_lines.specs.DumpTable.{IsDumpTable}
-use Rattle.dump_lines.specs.Output.{Appends}
+use Rattle.dump_lines.specs.Output.{Appends, PrintCounted}
 use Rattle.input_plans.specs.Inputs.{AnsweredByPlan, WasRead}
 use Rattle.input_plans.proofs.Inputs.{reads_determined}
 use Rattle.input_plans.proofs.Readings.{first_not_read, then_not_read, then_read}
-use Rattle.outer_ledgers.specs.Ledger.{InputsState}
+use Rattle.outer_traits.specs.States.{InputsState}
 use Rattle.outer_ledgers.proofs.Ledgers.{risen_counted}
 use Rattle.retrieval.specs.Parameter.{IsNamedParameter, IsNoParameter, number_named}
 use Rattle.retrieval.specs.ValuesText.{values_text}
@@ -31,8 +31,8 @@ use Rattle.archive_cli.specs.DumpRest.{ending_of_rest}
 use Rattle.archive_cli.specs.ReadDump.{ending_of}
 use Rattle.archive_cli.specs.Report.{unopened}
 use Rattle.archive_cli.specs.scan_command.Scan.{dump_plan}
-use Rattle.archive_cli.specs.values_command.Values.{beside_sheets_plan, dump_behind_plan, parameter_checked, values_inputs_plan, values_plan, valuing_plan}
-use Rattle.archive_cli.specs.values_command.ValuesPrinting.{PrintCounted, refusal_of_print, text_of_cells}
+use Rattle.archive_cli.specs.values_command.Values.{beside_sheets_plan, dump_behind_plan, after_parameter_check, values_inputs_plan, values_plan, valuing_plan}
+use Rattle.archive_cli.specs.values_command.ValuesPrinting.{refusal_of_print, text_of_cells}
 use Rattle.archive_cli.proofs.Commands.{no_text}
 use Rattle.archive_cli.proofs.OverInputs.{HasRead, ran_read, ran_unread}
 use Rattle.archive_cli.proofs.scan_command.ScanPlan.{cut_once, ending_is}
@@ -66,7 +66,7 @@ module _ (files : Option Files) (words : ValuesWords) (a b : InputsState) where
 pub valued_after : (next : Option ℤ) (name : List ℕ) (given : RawMdb × List ℕ) → EachEnd (HasRead 4) (valuing_plan next name given)
 valued_after next name given = λ moment told. ((refl, refl), λ found is. each moment found)
   where
-    each : (moment : ℤ) (found : Option Refusal) → EachEnd (HasRead 4) (parameter_checked given.0 name given.1 moment found)
+    each : (moment : ℤ) (found : Option Refusal) → EachEnd (HasRead 4) (after_parameter_check given.0 name given.1 moment found)
     each moment None = λ number named cut is. ((refl, refl), ((refl, refl), (refl, refl)))
     each moment (Some refusal) = (refl, refl)
 
@@ -149,7 +149,7 @@ some_number o x y h k = let same : ◌≡◌ {A = Option ℕ} (Some x) (Some y) 
 values_follow : (next : Option ℤ) (name : List ℕ) (given : RawMdb × List ℕ) → IsDetermined (valuing_plan next name given)
 values_follow next name given = λ moment told. (λ a b h k. h ∙ sym k, λ found is. each moment found)
   where
-    each : (moment : ℤ) (found : Option Refusal) → IsDetermined (parameter_checked given.0 name given.1 moment found)
+    each : (moment : ℤ) (found : Option Refusal) → IsDetermined (after_parameter_check given.0 name given.1 moment found)
     each moment None = (λ a b h k. some_number (number_named (sheets_database given.0) name) a b h k, λ number named. (cut_once given.1, λ cut is. tt))
     each moment (Some refusal) = tt
 

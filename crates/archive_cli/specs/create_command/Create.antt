@@ -13,20 +13,20 @@ use Rattle.command_plans.specs.Plan.{OfMemory, OfDisk, no_failed_calls, CommandP
 use Rattle.command_words.specs.Job.{SheetWords}
 use Rattle.archive_store.specs.declared.head.Head.{Head}
 use Rattle.retrieval.specs.Parameter.{sheets_refusal}
-use Rattle.archive_cli.specs.Command.{Progress, MakingFailed, Made, looked, nothing_done, printing_plan}
+use Rattle.archive_cli.specs.Command.{Progress, MakingFailed, Made, archive_sought, nothing_done, printing_plan}
 use Rattle.archive_cli.specs.create_command.Creation.{create_line, new_head}
 use Rattle.archive_cli.specs.Report.{read_only, unopened}
 
 -- ---- the head
 
 -- the head that the sheets give, where they are not refused
-abbrev pub head_checked : ℕ → RawMdb → Option Refusal → CommandPlan ℕ Head
-head_checked sources raw None = Return (new_head raw)
-head_checked sources raw (Some refusal) = Stop sources (Some refusal)
+abbrev pub after_check : ℕ → RawMdb → Option Refusal → CommandPlan ℕ Head
+after_check sources raw None = Return (new_head raw)
+after_check sources raw (Some refusal) = Stop sources (Some refusal)
 
 -- checks the sheets: BadSheet by the first rule that they break, else the first limit that they pass
 abbrev pub checking_plan : ℕ → RawMdb → CommandPlan ℕ Head
-checking_plan sources raw = May OfMemory sources (Question (λ found. found ≡ sheets_refusal raw) (head_checked sources raw))
+checking_plan sources raw = May OfMemory sources (Question (λ found. found ≡ sheets_refusal raw) (after_check sources raw))
 
 -- reads the three sheets, and checks them
 abbrev pub head_plan : Option Files → SheetWords → ℕ → CommandPlan ℕ Head
@@ -49,15 +49,15 @@ made head = record { text = []; is_whole = true; report = read_only None 0; disk
 
 -- what a making leads to, by whether there was an archive
 abbrev pub after_making : Head → Bool → CommandPlan Progress ⊥
-after_making head true = Stop (looked 3) (Some Exists)
+after_making head true = Stop (archive_sought 3) (Some Exists)
 after_making head false = printing_plan (made head) (create_line head.mdb)
 
 -- makes the archive of a head: DiskFault; Exists, where the disk says so; and prints its line
-abbrev pub making_plan : {D : Type 0} → Device D → D → Head → CommandPlan Progress ⊥
-making_plan device disk head =
+abbrev pub new_archive_plan : {D : Type 0} → Device D → D → Head → CommandPlan Progress ⊥
+new_archive_plan device disk head =
     May OfMemory (nothing_done 3)
     (May OfDisk (making_failed head) (Question (λ there. IsTrue device.is_transparent → HasArchiveAs (device.reads disk) there) (after_making head)))
 
 -- reads the head of the sheets, and makes its archive
 abbrev pub create_plan : {D : Type 0} → Device D → D → Option Files → SheetWords → CommandPlan Progress ⊥
-create_plan device disk files words = and_then (map_done nothing_done (head_plan files words 0)) (making_plan device disk)
+create_plan device disk files words = and_then (map_done nothing_done (head_plan files words 0)) (new_archive_plan device disk)

@@ -16,7 +16,7 @@ use Rattle.archive_cli.specs.DumpRest.{ending_of_rest}
 use Rattle.archive_cli.specs.load_command.LoadLine.{line_of_load, whole_report}
 use Rattle.archive_cli.specs.ReadDump.{dump_limit}
 use Rattle.archive_cli.specs.Report.{loaded, read_only}
-use Rattle.archive_cli.specs.load_command.Session.{SessionResult, IsSession, next_fresh_rows}
+use Rattle.load_session.specs.Session.{SessionResult, IsSession, next_fresh_rows}
 
 -- ---- what was done
 

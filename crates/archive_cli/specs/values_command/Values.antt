@@ -36,13 +36,13 @@ abbrev pub cutting_cells_plan : RawMdb → List ℕ → ℤ → ℕ → CommandP
 cutting_cells_plan raw dump moment number = Question (λ cut. IsDump dump cut.0 cut.1) (cells_plan raw number dump moment)
 
 -- what sheets and a name lead to that are refused, or that have a parameter
-abbrev pub parameter_checked : RawMdb → List ℕ → List ℕ → ℤ → Option Refusal → CommandPlan Progress ⊥
-parameter_checked raw name dump moment None = Question (λ number. number_named (sheets_database raw) name ≡ Some number) (cutting_cells_plan raw dump moment)
-parameter_checked raw name dump moment (Some refusal) = Stop (nothing_done 4) (Some refusal)
+abbrev pub after_parameter_check : RawMdb → List ℕ → List ℕ → ℤ → Option Refusal → CommandPlan Progress ⊥
+after_parameter_check raw name dump moment None = Question (λ number. number_named (sheets_database raw) name ≡ Some number) (cutting_cells_plan raw dump moment)
+after_parameter_check raw name dump moment (Some refusal) = Stop (nothing_done 4) (Some refusal)
 
 -- looks for a parameter: BadSheet, a limit of the database, or UnknownParameter
 abbrev pub parameter_plan : RawMdb → List ℕ → List ℕ → ℤ → CommandPlan Progress ⊥
-parameter_plan raw name dump moment = May OfMemory (nothing_done 4) (Question (λ found. found ≡ parameter_refusal raw name) (parameter_checked raw name dump moment))
+parameter_plan raw name dump moment = May OfMemory (nothing_done 4) (Question (λ found. found ≡ parameter_refusal raw name) (after_parameter_check raw name dump moment))
 
 -- receives a dump that was read behind the sheets, at the moment that the clock tells
 abbrev pub valuing_plan : Option ℤ → List ℕ → RawMdb × List ℕ → CommandPlan Progress ⊥

@@ -10,7 +10,6 @@ use Rattle.arch_types.specs.Table.{sorted}
 use Rattle.mdb_items.specs.declared.calibration.Calibration.{Calibration}
 use Rattle.mdb_items.specs.Database.{Database}
 use Rattle.container_extract.specs.Extraction.{cell_of}
-use Rattle.outer_traits.specs.Outside.{HasRisen, Stays}
 use Rattle.space_packet.specs.declared.dump.Why.{Why}
 use Rattle.space_packet.specs.declared.dump.Why.TheVariants.{End, Version, Truncated}
 use Rattle.yarch_table.specs.declared.table.Stored.{Stored}
@@ -61,8 +60,3 @@ text_of_cells db number stored why = lines_of_cells db number stored ++ end_of_c
 abbrev pub refusal_of_print : PrintFault → Refusal
 refusal_of_print Write = WriteFault
 refusal_of_print OutOfMemory = refused.OutOfMemory
-
--- a count of failed writes has risen where a write failed, and else is as before
-abbrev pub PrintCounted : Option PrintFault → ℕ → ℕ → Type 0
-PrintCounted (Some Write) before now = HasRisen before now
-PrintCounted other before now = Stays before now

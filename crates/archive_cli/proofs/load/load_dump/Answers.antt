@@ -1,96 +1,108 @@
-use Rattle.std.proofs.Common.{◌∙◌, w64, refl, sym, ap, arith}
+use Rattle.std.proofs.Common.{◌∙◌, ◌+◌, ◌≤◌, w64, length, refl, sym, ap, arith}
+use Rattle.std.specs.Prelude.{IsTrue}
 use Rattle.std.proofs.lemmas.Int.{to_z-of_z}
+use Rattle.archive_store.specs.StoreView.{archive_of}
+use Rattle.load_session.specs.Session.{IsKnown}
+use Rattle.load_session.proofs.Sessions.{known_session, session_grew}
 use Rattle.archive_cli.specs.declared.report.Report.{Report}
-use Rattle.archive_cli.proofs.load_command.Closing.{bad_end, printed_end, refused_end}
 use Rattle.archive_cli.proofs.DiskWrites.{bad_writes, printed_writes, stopped_writes}
-use Rattle.archive_cli.proofs.load_command.LoadReports.{counts_whole, grown_healed, grown_whole, session_bad, session_printed, session_stopped}
+use Rattle.archive_cli.proofs.load_command.LoadReports.{counts_whole, session_bad, session_printed, session_stopped}
 use Rattle.archive_cli.proofs.load.load_dump.Goals as goal
 
 pub print-requires-clause-grown : goal.print-requires-clause-grown
 print-requires-clause-grown g c =
     let moment = to_z-of_z w64 c.args.moment c.ranges.moment in
     let front = c.front-before.ensures.front in
-    let whole = rw moment at c.in-Ok.ensures.whole in
-    let more = grown_whole c.args.store.now c.ingest_dump.new.store c.args.received.now.dump c.args.received.now.link c.args.moment c.in-Ok.whole whole in
-    omega (arith, front, more)
+    let run = rw (moment, c.in-Ok.is) at c.run_session.ensures.session in
+    let more = session_grew (IsKnown g.D.Disk.device c.args.store.now) (archive_of c.args.store.now) c.args.received.now.dump c.args.received.now.link c.args.moment run.came_to run.session in
+    omega (arith, front, more, ap length run.reached.history)
 
 pub print-requires-clause-counts : goal.print-requires-clause-counts
 print-requires-clause-counts g c =
     let moment = to_z-of_z w64 c.args.moment c.ranges.moment in
     let front = c.front-before.ensures.front in
-    let whole = rw moment at c.in-Ok.ensures.whole in
-    let counts = counts_whole c.args.store.now c.ingest_dump.new.store c.args.received.now.dump c.args.received.now.link c.args.moment c.in-Ok.whole whole in
-    omega (arith, front, counts)
+    let run = rw (moment, c.in-Ok.is) at c.run_session.ensures.session in
+    let counts = counts_whole (length c.args.store.now.history) c.args.received.now.dump c.args.received.now.link run.came_to c.in-Ok.whole run.summary run.answer_is
+    (IsKnown g.D.Disk.device c.args.store.now) (archive_of c.args.store.now) c.args.moment run.session refl in
+    omega (arith, front, counts, ap length run.reached.history)
 
 pub stopped-requires : goal.stopped-requires
 stopped-requires g c =
     let moment = to_z-of_z w64 c.args.moment c.ranges.moment in
     let front = c.front-before.ensures.front in
-    let whole = rw moment at c.in-Ok.ensures.whole in
-    let more = grown_whole c.args.store.now c.ingest_dump.new.store c.args.received.now.dump c.args.received.now.link c.args.moment c.in-Ok.whole whole in
-    omega (arith, front, more)
+    let run = rw (moment, c.in-Ok.is) at c.run_session.ensures.session in
+    let more = session_grew (IsKnown g.D.Disk.device c.args.store.now) (archive_of c.args.store.now) c.args.received.now.dump c.args.received.now.link c.args.moment run.came_to run.session in
+    omega (arith, front, more, ap length run.reached.history)
 
 pub stopped-requires-in-Err : goal.stopped-requires-in-Err
 stopped-requires-in-Err g c =
     let moment = to_z-of_z w64 c.args.moment c.ranges.moment in
     let front = c.front-before.ensures.front in
-    let stopped = rw moment at c.in-Err.ensures.stopped in
-    let more = grown_healed g.D.Disk.device c.args.store.now c.ingest_dump.new.store c.heal.new.store c.args.received.now.dump c.args.received.now.link c.args.moment c.in-Err.refusal stopped
-    c.heal.ensures.same c.heal.ensures.reopened in
-    omega (arith, front, more)
+    let run = rw (moment, c.in-Err.is) at c.run_session.ensures.session in
+    let more = session_grew (IsKnown g.D.Disk.device c.args.store.now) (archive_of c.args.store.now) c.args.received.now.dump c.args.received.now.link c.args.moment run.came_to run.session in
+    omega (arith, front, more, ap length run.reached.history)
 
 pub returns-in-None-clause-session : goal.returns-in-None-clause-session
 returns-in-None-clause-session g c =
     let moment = to_z-of_z w64 c.args.moment c.ranges.moment in
     let front = c.front-before.ensures.front in
-    let whole = rw moment at c.in-Ok.ensures.whole in record {
-      new = c.ingest_dump.new.store;
-      at_end = printed_end g.D.Disk.device c.ingest_dump.new.store c.print.result.refusal _ _ _ c.print.ensures.finished;
-      went =
-          session_printed c.args.store.now c.ingest_dump.new.store c.args.received.now.dump c.args.received.now.link c.args.moment (g.K.Sink.written c.args.sink.now) (g.K.Sink.written c.print.new.sink)
-          c.print.result c.in-Ok.whole whole (sym c.refusal_of_rest.ensures ∙ c.in-None.is) (rw front at c.print.ensures.finished) (rw front at c.print.ensures.report);
+    let run = rw (moment, c.in-Ok.is) at c.run_session.ensures.session in
+    let rows = ap length run.reached.history in record {
+      came_to = run.came_to;
+      session =
+          known_session (IsTrue g.D.Disk.device.is_transparent) (c.args.store.now.records ≤ 1 + length c.args.store.now.history) (archive_of c.args.store.now) c.args.received.now.dump
+          c.args.received.now.link c.args.moment run.came_to c.requires.few_records run.session;
+      reached = run.reached;
+      outcome =
+          session_printed (length c.args.store.now.history) c.args.received.now.dump c.args.received.now.link run.came_to c.in-Ok.whole run.summary run.answer_is
+          (g.K.Sink.state c.args.sink.now).written (g.K.Sink.state c.print.new.sink).written c.print.result (sym c.refusal_of_rest.ensures ∙ c.in-None.is) (rw (front, rows) at c.print.ensures.finished)
+          (rw (front, rows) at c.print.ensures.report);
     }
 
 pub returns-in-Some-clause-session : goal.returns-in-Some-clause-session
 returns-in-Some-clause-session g c =
     let moment = to_z-of_z w64 c.args.moment c.ranges.moment in
     let front = c.front-before.ensures.front in
-    let whole = rw moment at c.in-Ok.ensures.whole in
-    let written = g.K.Sink.written c.args.sink.now in record {
-      new = c.ingest_dump.new.store;
-      at_end =
-          bad_end g.D.Disk.device c.ingest_dump.new.store c.in-Ok.whole.why c.in-Ok.whole.at c.in-Some.refusal c.stopped.result (sym c.refusal_of_rest.ensures ∙ c.in-Some.is)
-          (ap (λ (r : Report). r.refusal) c.stopped.ensures);
-      went =
-          session_bad c.args.store.now c.ingest_dump.new.store c.args.received.now.dump c.args.received.now.link c.args.moment written written c.in-Some.refusal c.stopped.result c.in-Ok.whole
-          whole (sym c.refusal_of_rest.ensures ∙ c.in-Some.is) refl (rw front at c.stopped.ensures);
+    let run = rw (moment, c.in-Ok.is) at c.run_session.ensures.session in
+    let rows = ap length run.reached.history in
+    let written = (g.K.Sink.state c.args.sink.now).written in record {
+      came_to = run.came_to;
+      session =
+          known_session (IsTrue g.D.Disk.device.is_transparent) (c.args.store.now.records ≤ 1 + length c.args.store.now.history) (archive_of c.args.store.now) c.args.received.now.dump
+          c.args.received.now.link c.args.moment run.came_to c.requires.few_records run.session;
+      reached = run.reached;
+      outcome =
+          session_bad (length c.args.store.now.history) c.args.received.now.dump c.args.received.now.link run.came_to c.in-Ok.whole run.summary run.answer_is written written c.in-Some.refusal
+          c.stopped.result (sym c.refusal_of_rest.ensures ∙ c.in-Some.is) refl (rw (front, rows) at c.stopped.ensures);
     }
 
 pub returns-in-Err-clause-session : goal.returns-in-Err-clause-session
 returns-in-Err-clause-session g c =
     let moment = to_z-of_z w64 c.args.moment c.ranges.moment in
     let front = c.front-before.ensures.front in
-    let stopped = rw moment at c.in-Err.ensures.stopped in
-    let written = g.K.Sink.written c.args.sink.now in record {
-      new = c.ingest_dump.new.store;
-      at_end =
-          refused_end g.D.Disk.device c.ingest_dump.new.store c.heal.new.store c.in-Err.refusal c.stopped-in-Err.result (ap (λ (r : Report). r.refusal) c.stopped-in-Err.ensures)
-          c.heal.ensures.same c.heal.ensures.reopened;
-      went =
-          session_stopped g.D.Disk.device c.args.store.now c.ingest_dump.new.store c.heal.new.store c.args.received.now.dump c.args.received.now.link c.args.moment written written c.in-Err.refusal
-          c.stopped-in-Err.result stopped refl (rw front at c.stopped-in-Err.ensures) c.heal.ensures.same c.heal.ensures.reopened;
+    let run = rw (moment, c.in-Err.is) at c.run_session.ensures.session in
+    let rows = ap length run.reached.history in
+    let written = (g.K.Sink.state c.args.sink.now).written in record {
+      came_to = run.came_to;
+      session =
+          known_session (IsTrue g.D.Disk.device.is_transparent) (c.args.store.now.records ≤ 1 + length c.args.store.now.history) (archive_of c.args.store.now) c.args.received.now.dump
+          c.args.received.now.link c.args.moment run.came_to c.requires.few_records run.session;
+      reached = run.reached;
+      outcome =
+          session_stopped (IsKnown g.D.Disk.device c.args.store.now) (archive_of c.args.store.now) c.args.moment (length c.args.store.now.history) c.args.received.now.dump c.args.received.now.link
+          run.came_to run.session written written c.in-Err.refusal c.stopped-in-Err.result run.answer_is refl (rw (front, rows) at c.stopped-in-Err.ensures);
     }
 
 -- how many writes of the disk failed
 
 pub returns-in-None-clause-disk_writes : goal.returns-in-None-clause-disk_writes
-returns-in-None-clause-disk_writes g c = printed_writes c.print.result.refusal _ _ _ _ _ c.print.ensures.finished c.in-Ok.ensures.disk_writes
+returns-in-None-clause-disk_writes g c = printed_writes c.print.result.refusal _ _ _ _ _ c.print.ensures.finished (rw c.in-Ok.is at c.run_session.ensures.disk_writes)
 
 pub returns-in-Some-clause-disk_writes : goal.returns-in-Some-clause-disk_writes
 returns-in-Some-clause-disk_writes g c =
     bad_writes c.in-Ok.whole.why c.in-Ok.whole.at c.in-Some.refusal c.stopped.result _ _ (sym c.refusal_of_rest.ensures ∙ c.in-Some.is) (ap (λ (r : Report). r.refusal) c.stopped.ensures)
-    c.in-Ok.ensures.disk_writes
+    (rw c.in-Ok.is at c.run_session.ensures.disk_writes)
 
 pub returns-in-Err-clause-disk_writes : goal.returns-in-Err-clause-disk_writes
 returns-in-Err-clause-disk_writes g c =
-    stopped_writes c.in-Err.refusal c.stopped-in-Err.result _ _ _ (ap (λ (r : Report). r.refusal) c.stopped-in-Err.ensures) c.in-Err.ensures.disk_writes c.heal.ensures.disk_writes
+    stopped_writes c.in-Err.refusal c.stopped-in-Err.result _ _ (ap (λ (r : Report). r.refusal) c.stopped-in-Err.ensures) (rw c.in-Err.is at c.run_session.ensures.disk_writes)

@@ -8,14 +8,14 @@ returns-in-None-clause-finished g c =
     let whole = c.args.whole in
     let is = ap (λ (r : Report). r.refusal) (c.loaded.ensures) ∙ sym c.in-None.is in
     let line = c.put_line.ensures ∙ line_by whole.packets c.args.before c.front-after.result (length c.args.store.now.history) whole.idle c.front-after.ensures.front in
-    finished_line c.finish.result c.loaded.result.refusal (g.K.Sink.written c.args.sink.now) (g.K.Sink.written c.finish.new.sink) c.put_line.new.line_buffer _ is line c.finish.ensures.finished
+    finished_line c.finish.result c.loaded.result.refusal (g.K.Sink.state c.args.sink.now).written (g.K.Sink.state c.finish.new.sink).written c.put_line.new.line_buffer _ is line c.finish.ensures.finished
 
 pub returns-in-Some-clause-finished : goal.returns-in-Some-clause-finished
 returns-in-Some-clause-finished g c =
     let whole = c.args.whole in
     let is = ap (λ (r : Report). r.refusal) c.stopped.ensures ∙ sym c.in-Some.is in
     let line = c.put_line.ensures ∙ line_by whole.packets c.args.before c.front-after.result (length c.args.store.now.history) whole.idle c.front-after.ensures.front in
-    finished_line c.finish.result c.stopped.result.refusal (g.K.Sink.written c.args.sink.now) (g.K.Sink.written c.finish.new.sink) c.put_line.new.line_buffer _ is line c.finish.ensures.finished
+    finished_line c.finish.result c.stopped.result.refusal (g.K.Sink.state c.args.sink.now).written (g.K.Sink.state c.finish.new.sink).written c.put_line.new.line_buffer _ is line c.finish.ensures.finished
 
 pub returns-in-None-clause-report : goal.returns-in-None-clause-report
 returns-in-None-clause-report g c =

@@ -1,71 +1,80 @@
-use Rattle.outer_ledgers.specs.Ledger.{inputs_state, output_state}
 use Rattle.archive_cli.specs.Command.{effects_of}
+use Rattle.outer_ledgers.proofs.Ledgers.{clock_unused}
 use Rattle.archive_cli.proofs.recover_command.RecoverPlan.{recover_over}
 use Rattle.archive_cli.proofs.RunPlan.{job_due, job_ran}
 use Rattle.archive_cli.proofs.run.run_job.Goals as goal
 
 pub returns-in-Scan-clause-ran : goal.returns-in-Scan-clause-ran
 returns-in-Scan-clause-ran g c =
-    let state = λ (i : g.row.I.Denot). inputs_state (g.I.Inputs.files i) (g.I.Inputs.open_sources i) (g.I.Inputs.given i) (g.I.Inputs.faults i) (g.I.Inputs.never_fails i) in
-    let went = effects_of c.args.disk c.scan.result.disk (output_state (g.K.Sink.written c.args.sink.now) (g.K.Sink.faults c.args.sink.now))
-    (output_state (g.K.Sink.written c.scan.new.sink) (g.K.Sink.faults c.scan.new.sink)) c.scan.result.report in
-    job_ran g.D.Disk.device went (g.I.Inputs.files c.args.inputs.now) (g.C.Clock.next c.args.clock.now) (state c.args.inputs.now) (state c.scan.new.inputs) c.args.job _ c.in-Scan.is c.scan.ensures.ran
+    let state = g.I.Inputs.state in
+    let went = effects_of c.args.disk c.scan.result.disk (g.K.Sink.state c.args.sink.now)
+    (g.K.Sink.state c.scan.new.sink) c.scan.result.report in
+    job_ran g.D.Disk.device went (g.I.Inputs.state c.args.inputs.now).files (g.C.Clock.state c.args.clock.now).next (state c.args.inputs.now) (state c.scan.new.inputs) c.args.job _ c.in-Scan.is c.scan.ensures.ran
 
 pub returns-in-Scan-clause-due : goal.returns-in-Scan-clause-due
 returns-in-Scan-clause-due g c = λ transparent known.
-    job_due g.D.Disk.device c.args.disk (g.I.Inputs.files c.args.inputs.now) (g.C.Clock.next c.args.clock.now) c.args.job _ c.scan.result.report.refusal c.in-Scan.is (c.scan.ensures.due known)
+    job_due g.D.Disk.device c.args.disk (g.I.Inputs.state c.args.inputs.now).files (g.C.Clock.state c.args.clock.now).next c.args.job _ c.scan.result.report.refusal c.in-Scan.is (c.scan.ensures.due known)
 
 pub returns-in-Values-clause-ran : goal.returns-in-Values-clause-ran
 returns-in-Values-clause-ran g c =
-    let state = λ (i : g.row.I.Denot). inputs_state (g.I.Inputs.files i) (g.I.Inputs.open_sources i) (g.I.Inputs.given i) (g.I.Inputs.faults i) (g.I.Inputs.never_fails i) in
-    let went = effects_of c.args.disk c.values.result.disk (output_state (g.K.Sink.written c.args.sink.now) (g.K.Sink.faults c.args.sink.now))
-    (output_state (g.K.Sink.written c.values.new.sink) (g.K.Sink.faults c.values.new.sink)) c.values.result.report in
-    job_ran g.D.Disk.device went (g.I.Inputs.files c.args.inputs.now) (g.C.Clock.next c.args.clock.now) (state c.args.inputs.now) (state c.values.new.inputs) c.args.job _ c.in-Values.is c.values.ensures.ran
+    let state = g.I.Inputs.state in
+    let went = effects_of c.args.disk c.values.result.disk (g.K.Sink.state c.args.sink.now)
+    (g.K.Sink.state c.values.new.sink) c.values.result.report in
+    job_ran g.D.Disk.device went (g.I.Inputs.state c.args.inputs.now).files (g.C.Clock.state c.args.clock.now).next (state c.args.inputs.now) (state c.values.new.inputs) c.args.job _ c.in-Values.is c.values.ensures.ran
 
 pub returns-in-Values-clause-due : goal.returns-in-Values-clause-due
 returns-in-Values-clause-due g c = λ transparent known.
-    job_due g.D.Disk.device c.args.disk (g.I.Inputs.files c.args.inputs.now) (g.C.Clock.next c.args.clock.now) c.args.job _ c.values.result.report.refusal c.in-Values.is (c.values.ensures.due known)
+    job_due g.D.Disk.device c.args.disk (g.I.Inputs.state c.args.inputs.now).files (g.C.Clock.state c.args.clock.now).next c.args.job _ c.values.result.report.refusal c.in-Values.is (c.values.ensures.due known)
 
 pub returns-in-Create-clause-ran : goal.returns-in-Create-clause-ran
 returns-in-Create-clause-ran g c =
-    let state = λ (i : g.row.I.Denot). inputs_state (g.I.Inputs.files i) (g.I.Inputs.open_sources i) (g.I.Inputs.given i) (g.I.Inputs.faults i) (g.I.Inputs.never_fails i) in
-    let went = effects_of c.args.disk c.create.result.disk (output_state (g.K.Sink.written c.args.sink.now) (g.K.Sink.faults c.args.sink.now))
-    (output_state (g.K.Sink.written c.create.new.sink) (g.K.Sink.faults c.create.new.sink)) c.create.result.report in
-    job_ran g.D.Disk.device went (g.I.Inputs.files c.args.inputs.now) (g.C.Clock.next c.args.clock.now) (state c.args.inputs.now) (state c.create.new.inputs) c.args.job _ c.in-Create.is c.create.ensures.ran
+    let state = g.I.Inputs.state in
+    let went = effects_of c.args.disk c.create.result.disk (g.K.Sink.state c.args.sink.now)
+    (g.K.Sink.state c.create.new.sink) c.create.result.report in
+    job_ran g.D.Disk.device went (g.I.Inputs.state c.args.inputs.now).files (g.C.Clock.state c.args.clock.now).next (state c.args.inputs.now) (state c.create.new.inputs) c.args.job _ c.in-Create.is c.create.ensures.ran
 
 pub returns-in-Create-clause-due : goal.returns-in-Create-clause-due
 returns-in-Create-clause-due g c = λ transparent known.
-    job_due g.D.Disk.device c.args.disk (g.I.Inputs.files c.args.inputs.now) (g.C.Clock.next c.args.clock.now) c.args.job _ c.create.result.report.refusal c.in-Create.is (c.create.ensures.due transparent known)
+    job_due g.D.Disk.device c.args.disk (g.I.Inputs.state c.args.inputs.now).files (g.C.Clock.state c.args.clock.now).next c.args.job _ c.create.result.report.refusal c.in-Create.is (c.create.ensures.due transparent known)
 
 pub returns-in-Load-clause-ran : goal.returns-in-Load-clause-ran
 returns-in-Load-clause-ran g c =
-    let state = λ (i : g.row.I.Denot). inputs_state (g.I.Inputs.files i) (g.I.Inputs.open_sources i) (g.I.Inputs.given i) (g.I.Inputs.faults i) (g.I.Inputs.never_fails i) in
-    let went = effects_of c.args.disk c.load.result.disk (output_state (g.K.Sink.written c.args.sink.now) (g.K.Sink.faults c.args.sink.now))
-    (output_state (g.K.Sink.written c.load.new.sink) (g.K.Sink.faults c.load.new.sink)) c.load.result.report in
-    job_ran g.D.Disk.device went (g.I.Inputs.files c.args.inputs.now) (g.C.Clock.next c.args.clock.now) (state c.args.inputs.now) (state c.load.new.inputs) c.args.job _ c.in-Load.is c.load.ensures.ran
+    let state = g.I.Inputs.state in
+    let went = effects_of c.args.disk c.load.result.disk (g.K.Sink.state c.args.sink.now)
+    (g.K.Sink.state c.load.new.sink) c.load.result.report in
+    job_ran g.D.Disk.device went (g.I.Inputs.state c.args.inputs.now).files (g.C.Clock.state c.args.clock.now).next (state c.args.inputs.now) (state c.load.new.inputs) c.args.job _ c.in-Load.is c.load.ensures.ran
 
 pub returns-in-Load-clause-due : goal.returns-in-Load-clause-due
 returns-in-Load-clause-due g c = λ transparent known.
-    job_due g.D.Disk.device c.args.disk (g.I.Inputs.files c.args.inputs.now) (g.C.Clock.next c.args.clock.now) c.args.job _ c.load.result.report.refusal c.in-Load.is (c.load.ensures.due transparent known)
+    job_due g.D.Disk.device c.args.disk (g.I.Inputs.state c.args.inputs.now).files (g.C.Clock.state c.args.clock.now).next c.args.job _ c.load.result.report.refusal c.in-Load.is (c.load.ensures.due transparent known)
 
 pub returns-in-Query-clause-ran : goal.returns-in-Query-clause-ran
 returns-in-Query-clause-ran g c =
-    let state = λ (i : g.row.I.Denot). inputs_state (g.I.Inputs.files i) (g.I.Inputs.open_sources i) (g.I.Inputs.given i) (g.I.Inputs.faults i) (g.I.Inputs.never_fails i) in
-    let went = effects_of c.args.disk c.query.result.disk (output_state (g.K.Sink.written c.args.sink.now) (g.K.Sink.faults c.args.sink.now))
-    (output_state (g.K.Sink.written c.query.new.sink) (g.K.Sink.faults c.query.new.sink)) c.query.result.report in
-    job_ran g.D.Disk.device went (g.I.Inputs.files c.args.inputs.now) (g.C.Clock.next c.args.clock.now) (state c.args.inputs.now) (state c.query.new.inputs) c.args.job _ c.in-Query.is c.query.ensures.ran
+    let state = g.I.Inputs.state in
+    let went = effects_of c.args.disk c.query.result.disk (g.K.Sink.state c.args.sink.now)
+    (g.K.Sink.state c.query.new.sink) c.query.result.report in
+    job_ran g.D.Disk.device went (g.I.Inputs.state c.args.inputs.now).files (g.C.Clock.state c.args.clock.now).next (state c.args.inputs.now) (state c.query.new.inputs) c.args.job _ c.in-Query.is c.query.ensures.ran
 
 pub returns-in-Query-clause-due : goal.returns-in-Query-clause-due
 returns-in-Query-clause-due g c = λ transparent known.
-    job_due g.D.Disk.device c.args.disk (g.I.Inputs.files c.args.inputs.now) (g.C.Clock.next c.args.clock.now) c.args.job _ c.query.result.report.refusal c.in-Query.is (c.query.ensures.due transparent known)
+    job_due g.D.Disk.device c.args.disk (g.I.Inputs.state c.args.inputs.now).files (g.C.Clock.state c.args.clock.now).next c.args.job _ c.query.result.report.refusal c.in-Query.is (c.query.ensures.due transparent known)
 
 pub returns-in-Recover-clause-ran : goal.returns-in-Recover-clause-ran
 returns-in-Recover-clause-ran g c =
-    let state = λ (i : g.row.I.Denot). inputs_state (g.I.Inputs.files i) (g.I.Inputs.open_sources i) (g.I.Inputs.given i) (g.I.Inputs.faults i) (g.I.Inputs.never_fails i) in
-    let went = effects_of c.args.disk c.recover.result.disk (output_state (g.K.Sink.written c.args.sink.now) (g.K.Sink.faults c.args.sink.now))
-    (output_state (g.K.Sink.written c.recover.new.sink) (g.K.Sink.faults c.recover.new.sink)) c.recover.result.report in
-    job_ran g.D.Disk.device went (g.I.Inputs.files c.args.inputs.now) (g.C.Clock.next c.args.clock.now) (state c.args.inputs.now) (state c.args.inputs.now) c.args.job _ c.in-Recover.is (recover_over g.D.Disk.device went c.recover.ensures.ran (state c.args.inputs.now))
+    let state = g.I.Inputs.state in
+    let went = effects_of c.args.disk c.recover.result.disk (g.K.Sink.state c.args.sink.now)
+    (g.K.Sink.state c.recover.new.sink) c.recover.result.report in
+    job_ran g.D.Disk.device went (g.I.Inputs.state c.args.inputs.now).files (g.C.Clock.state c.args.clock.now).next (state c.args.inputs.now) (state c.args.inputs.now) c.args.job _ c.in-Recover.is (recover_over g.D.Disk.device went c.recover.ensures.ran (state c.args.inputs.now))
 
 pub returns-in-Recover-clause-due : goal.returns-in-Recover-clause-due
 returns-in-Recover-clause-due g c = λ transparent known.
-    job_due g.D.Disk.device c.args.disk (g.I.Inputs.files c.args.inputs.now) (g.C.Clock.next c.args.clock.now) c.args.job _ c.recover.result.report.refusal c.in-Recover.is (c.recover.ensures.due transparent)
+    job_due g.D.Disk.device c.args.disk (g.I.Inputs.state c.args.inputs.now).files (g.C.Clock.state c.args.clock.now).next c.args.job _ c.recover.result.report.refusal c.in-Recover.is (c.recover.ensures.due transparent)
+
+pub returns-in-Create-clause-clock : goal.returns-in-Create-clause-clock
+returns-in-Create-clause-clock g c = clock_unused (g.C.Clock.state c.args.clock.now)
+
+pub returns-in-Query-clause-clock : goal.returns-in-Query-clause-clock
+returns-in-Query-clause-clock g c = clock_unused (g.C.Clock.state c.args.clock.now)
+
+pub returns-in-Recover-clause-clock : goal.returns-in-Recover-clause-clock
+returns-in-Recover-clause-clock g c = clock_unused (g.C.Clock.state c.args.clock.now)

@@ -8,7 +8,7 @@ use Rattle.archive_cli.proofs.scan.print_rows.Given as goal
 
 abbrev pub invariant-loop-row : goal.invariant-loop-row
 invariant-loop-row g l = record {
-  buffered : IsBuffered (g.K.Sink.written l.fn.sink) (g.K.Sink.written l.sink) (lines_of l.table.stored) (l.line_buffer ++ flat_map row_line l.row-iterator);
+  buffered : IsBuffered (g.K.Sink.state l.fn.sink).written (g.K.Sink.state l.sink).written (lines_of l.table.stored) (l.line_buffer ++ flat_map row_line l.row-iterator);
   room : length l.line_buffer < 65536;
-  no_fault : Stays (g.K.Sink.faults l.fn.sink) (g.K.Sink.faults l.sink);
+  no_fault : Stays (g.K.Sink.state l.fn.sink).faults (g.K.Sink.state l.sink).faults;
 }

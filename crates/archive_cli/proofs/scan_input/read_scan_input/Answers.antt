@@ -2,7 +2,7 @@ use Rattle.std.proofs.Common.{◌≤◌, length, arith, rules, w64, SFits}
 use Rattle.std.proofs.lemmas.Int.{to_z-of_z}
 use Rattle.archive_cli.specs.ReadDump.{dump_limit}
 use Rattle.arch_types.specs.declared.refusal.Which.TheVariants.{DumpOctets}
-use Rattle.outer_ledgers.specs.Ledger.{inputs_state}
+use Rattle.outer_ledgers.proofs.Ledgers.{clock_unused}
 use Rattle.archive_cli.proofs.OverInputs.{memory_behind}
 use Rattle.archive_cli.proofs.scan_command.Scanned.{moment_of}
 use Rattle.archive_cli.proofs.scan_input.read_scan_input.Goals as goal
@@ -17,11 +17,20 @@ returns-in-Ok-clause-read g c =
       moment = c.now-moment.result;
       read = c.in_ok-dump.ensures.read;
       short = short;
-      told = moment_of (g.C.Clock.next c.args.clock.now) c.now-moment.result c.now-moment.ensures.known c.now-moment.ensures.range;
+      known = moment_of (g.C.Clock.state c.args.clock.now).next c.now-moment.result c.now-moment.ensures.known c.now-moment.ensures.range;
       rows = rw same at c.in-Ok.ensures.loaded;
     }
 
 pub returns-in-Err-clause-unread : goal.returns-in-Err-clause-unread
 returns-in-Err-clause-unread g c =
-    let state = λ (i : g.row.I.Denot). inputs_state (g.I.Inputs.files i) (g.I.Inputs.open_sources i) (g.I.Inputs.given i) (g.I.Inputs.faults i) (g.I.Inputs.never_fails i) in
-    memory_behind (g.I.Inputs.files c.args.inputs.now) DumpOctets c.args.name.now (state c.args.inputs.now) (state c.read_limited.new.inputs) c.in_ok-dump.dump.items c.in_ok-dump.ensures.read c.in_ok-dump.ensures.whole
+    let state = g.I.Inputs.state in
+    memory_behind (g.I.Inputs.state c.args.inputs.now).files DumpOctets c.args.name.now (state c.args.inputs.now) (state c.read_limited.new.inputs) c.in_ok-dump.dump.items c.in_ok-dump.ensures.read c.in_ok-dump.ensures.whole
+
+pub returns-in_err-dump-clause-clock : goal.returns-in_err-dump-clause-clock
+returns-in_err-dump-clause-clock g c = clock_unused (g.C.Clock.state c.args.clock.now)
+
+pub returns-in-Ok-clause-clock : goal.returns-in-Ok-clause-clock
+returns-in-Ok-clause-clock g c = record { known = c.now-moment.ensures.same; stands = c.now-moment.ensures.reliable }
+
+pub returns-in-Err-clause-clock : goal.returns-in-Err-clause-clock
+returns-in-Err-clause-clock g c = record { known = c.now-moment.ensures.same; stands = c.now-moment.ensures.reliable }

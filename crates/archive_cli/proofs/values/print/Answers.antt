@@ -12,7 +12,7 @@ returns-in_err-count-clause-some g c =
     let number = c.args.known.now.number in
     let stored = c.args.loaded.now.table.stored in
     let p = err_from_is_err_and c.from_residual.result c.from_residual.ensures.1 in
-    rw p.1 (wrote_front (g.K.Sink.written c.args.sink.now) (g.K.Sink.written c.print_cells.new.sink) (lines_of_cells db number stored)
+    rw p.1 (wrote_front (g.K.Sink.state c.args.sink.now).written (g.K.Sink.state c.print_cells.new.sink).written (lines_of_cells db number stored)
     (end_of_cells c.args.loaded.now.why (length (cells_of_stored db number stored))) c.in_err-count.ensures.some)
 
 pub returns-clause-all : goal.returns-clause-all
@@ -21,9 +21,9 @@ returns-clause-all g c =
     let number = c.args.known.now.number in
     let stored = c.args.loaded.now.table.stored in
     let end = end_of_cells c.args.loaded.now.why (length (cells_of_stored db number stored)) in
-    let wrote : Appends (g.K.Sink.written c.print_cells.new.sink) (g.K.Sink.written c.flush.new.sink) (c.print_cells.new.line_buffer ++ end) =
+    let wrote : Appends (g.K.Sink.state c.print_cells.new.sink).written (g.K.Sink.state c.flush.new.sink).written (c.print_cells.new.line_buffer ++ end) =
     rw (c.put_end.ensures, c.in_ok-count.ensures.count) at c.in_ok-flush.ensures.all in
-    buffered_end (g.K.Sink.written c.args.sink.now) (g.K.Sink.written c.print_cells.new.sink) (g.K.Sink.written c.flush.new.sink) (lines_of_cells db number stored) c.print_cells.new.line_buffer end
+    buffered_end (g.K.Sink.state c.args.sink.now).written (g.K.Sink.state c.print_cells.new.sink).written (g.K.Sink.state c.flush.new.sink).written (lines_of_cells db number stored) c.print_cells.new.line_buffer end
     c.in_ok-count.ensures.buffered wrote
 
 pub returns-in_err-flush-clause-some : goal.returns-in_err-flush-clause-some
@@ -32,8 +32,8 @@ returns-in_err-flush-clause-some g c =
     let number = c.args.known.now.number in
     let stored = c.args.loaded.now.table.stored in
     let end = end_of_cells c.args.loaded.now.why (length (cells_of_stored db number stored)) in
-    let some : WritesSome (g.K.Sink.written c.print_cells.new.sink) (g.K.Sink.written c.flush.new.sink) (c.print_cells.new.line_buffer ++ end) =
+    let some : WritesSome (g.K.Sink.state c.print_cells.new.sink).written (g.K.Sink.state c.flush.new.sink).written (c.print_cells.new.line_buffer ++ end) =
     rw (c.put_end.ensures, c.in_ok-count.ensures.count) at c.in_err-flush.ensures.some in
     let p = err_from_is_err_and c.from_residual-in_err-flush.result c.from_residual-in_err-flush.ensures.1 in
-    rw p.1 (buffered_end_some (g.K.Sink.written c.args.sink.now) (g.K.Sink.written c.print_cells.new.sink) (g.K.Sink.written c.flush.new.sink) (lines_of_cells db number stored)
+    rw p.1 (buffered_end_some (g.K.Sink.state c.args.sink.now).written (g.K.Sink.state c.print_cells.new.sink).written (g.K.Sink.state c.flush.new.sink).written (lines_of_cells db number stored)
     c.print_cells.new.line_buffer end c.in_ok-count.ensures.buffered some)

@@ -14,7 +14,7 @@ pub loop-row-init : goal.loop-row-init
 loop-row-init g c =
     let seen = seen-all 18446744073709551615 c.args.table.now.stored (omega arith) c.requires.shown in record {
       buffered = rw (c.requires.empty, c.into_iter-row-iterator.ensures.into_iter_gives, c.rows_at-row-items.ensures, seen)
-          (buffered_none (g.K.Sink.written c.args.sink.now) (lines_of_cells c.args.known.now.mdb c.args.known.now.number c.args.table.now.stored));
+          (buffered_none (g.K.Sink.state c.args.sink.now).written (lines_of_cells c.args.known.now.mdb c.args.known.now.number c.args.table.now.stored));
       room = rw c.requires.empty (omega arith);
       counted = rw (c.into_iter-row-iterator.ensures.into_iter_gives, c.rows_at-row-items.ensures, seen) (omega arith);
       no_fault = refl;
@@ -34,15 +34,15 @@ pub loop-row-preserved : goal.loop-row-preserved
 loop-row-preserved g c =
     let db = c.args.known.now.mdb in
     let number = c.args.known.now.number in
-    let first = g.K.Sink.written c.args.sink.now in
+    let first = (g.K.Sink.state c.args.sink.now).written in
     let lines = lines_of_cells db number c.args.table.now.stored in
     let step : c.loop-row.row-iterator ≡ c.in-Some.row.now ∷ c.next.new.self = let s = c.in-Some.ensures.steps in cc in
-    let before = regroup (line_of db number) first (g.K.Sink.written c.loop-row.sink) lines c.loop-row.line_buffer c.loop-row.row-iterator c.next.new.self c.in-Some.row.now step c.loop-row.invariant.buffered in
-    let flushed : IsBuffered (g.K.Sink.written c.loop-row.sink) (g.K.Sink.written c.flush_if_full.new.sink) (c.loop-row.line_buffer ++ line_of db number c.in-Some.row.now) c.flush_if_full.new.self =
+    let before = regroup (line_of db number) first (g.K.Sink.state c.loop-row.sink).written lines c.loop-row.line_buffer c.loop-row.row-iterator c.next.new.self c.in-Some.row.now step c.loop-row.invariant.buffered in
+    let flushed : IsBuffered (g.K.Sink.state c.loop-row.sink).written (g.K.Sink.state c.flush_if_full.new.sink).written (c.loop-row.line_buffer ++ line_of db number c.in-Some.row.now) c.flush_if_full.new.self =
     rw c.put_cell_of-count.ensures.line at c.in_ok-flush_if_full.ensures.buffered in
     let total = rw step at c.loop-row.invariant.counted in
     let next = count_next db number c.in-Some.row.now c.next.new.self in record {
-      buffered = buffered_more first (g.K.Sink.written c.loop-row.sink) (g.K.Sink.written c.flush_if_full.new.sink) lines (c.loop-row.line_buffer ++ line_of db number c.in-Some.row.now) c.flush_if_full.new.self
+      buffered = buffered_more first (g.K.Sink.state c.loop-row.sink).written (g.K.Sink.state c.flush_if_full.new.sink).written lines (c.loop-row.line_buffer ++ line_of db number c.in-Some.row.now) c.flush_if_full.new.self
           (flat_map (line_of db number) c.next.new.self) before flushed;
       room = c.in_ok-flush_if_full.ensures.room;
       counted = omega (arith, total, next, c.put_cell_of-count.ensures.count);
@@ -51,7 +51,7 @@ loop-row-preserved g c =
 
 pub returns-in_err-extractor-clause-some : goal.returns-in_err-extractor-clause-some
 returns-in_err-extractor-clause-some g c =
-    let first = g.K.Sink.written c.args.sink.now in
+    let first = (g.K.Sink.state c.args.sink.now).written in
     let lines = lines_of_cells c.args.known.now.mdb c.args.known.now.number c.args.table.now.stored in
     let p = err_from_is_err_and c.from_residual.result c.from_residual.ensures.1 in
     rw p.1 (buffered_front first first lines lines (buffered_none first lines))
@@ -60,11 +60,11 @@ pub returns-in_err-flush_if_full-clause-some : goal.returns-in_err-flush_if_full
 returns-in_err-flush_if_full-clause-some g c =
     let db = c.args.known.now.mdb in
     let number = c.args.known.now.number in
-    let first = g.K.Sink.written c.args.sink.now in
+    let first = (g.K.Sink.state c.args.sink.now).written in
     let lines = lines_of_cells db number c.args.table.now.stored in
     let step : c.loop-row.row-iterator ≡ c.in-Some.row.now ∷ c.next.new.self = let s = c.in-Some.ensures.steps in cc in
-    let before = regroup (line_of db number) first (g.K.Sink.written c.loop-row.sink) lines c.loop-row.line_buffer c.loop-row.row-iterator c.next.new.self c.in-Some.row.now step c.loop-row.invariant.buffered in
+    let before = regroup (line_of db number) first (g.K.Sink.state c.loop-row.sink).written lines c.loop-row.line_buffer c.loop-row.row-iterator c.next.new.self c.in-Some.row.now step c.loop-row.invariant.buffered in
     let some = rw c.put_cell_of-count.ensures.line at c.in_err-flush_if_full.ensures.some in
     let p = err_from_is_err_and c.from_residual-in_err-flush_if_full.result c.from_residual-in_err-flush_if_full.ensures.1 in
-    rw p.1 (buffered_some first (g.K.Sink.written c.loop-row.sink) (g.K.Sink.written c.flush_if_full.new.sink) lines (c.loop-row.line_buffer ++ line_of db number c.in-Some.row.now)
+    rw p.1 (buffered_some first (g.K.Sink.state c.loop-row.sink).written (g.K.Sink.state c.flush_if_full.new.sink).written lines (c.loop-row.line_buffer ++ line_of db number c.in-Some.row.now)
     (flat_map (line_of db number) c.next.new.self) before some)

@@ -9,9 +9,9 @@ use Rattle.archive_cli.proofs.values.print_cells.Given as goal
 
 abbrev pub invariant-loop-row : goal.invariant-loop-row
 invariant-loop-row g l = record {
-  buffered : IsBuffered (g.K.Sink.written l.fn.sink) (g.K.Sink.written l.sink) (lines_of_cells l.known.mdb l.known.number l.table.stored)
+  buffered : IsBuffered (g.K.Sink.state l.fn.sink).written (g.K.Sink.state l.sink).written (lines_of_cells l.known.mdb l.known.number l.table.stored)
       (l.line_buffer ++ flat_map (line_of l.known.mdb l.known.number) l.row-iterator);
   room : length l.line_buffer < 65536;
   counted : l.count + length (filter_map (cell_of l.known.mdb l.known.number) l.row-iterator) ≡ length (cells_of_stored l.known.mdb l.known.number l.table.stored);
-  no_fault : Stays (g.K.Sink.faults l.fn.sink) (g.K.Sink.faults l.sink);
+  no_fault : Stays (g.K.Sink.state l.fn.sink).faults (g.K.Sink.state l.sink).faults;
 }

@@ -9,6 +9,6 @@ returns-then-known-rows-clause-none c few =
 
 pub overflow_add-result : goal.overflow_add-result
 overflow_add-result c =
-    let less : c.rows_of-known.result + c.rows_in.result < 2 ^ 64 =
-    omega (arith, c.rows_of-known.ensures, c.requires.counted, c.rows_in.ensures, few_filter (is_row_of_interval 22 c.args.interval) c.args.rows.now, c.requires.few) in
+    let less : c.rows_of-known.result + c.interval_rows_in.result < 2 ^ 64 =
+    omega (arith, c.rows_of-known.ensures, c.requires.counted, c.interval_rows_in.ensures, few_filter (is_row_of_interval 22 c.args.interval) c.args.rows.now, c.requires.few) in
     search (rules, arith)

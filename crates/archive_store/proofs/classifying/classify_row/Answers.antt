@@ -1,5 +1,4 @@
-use Rattle.std.proofs.Common.{◌≡◌, ◌++◌, [], ◌∷◌, List, false, refl, sym, ◌∙◌, ap, subst}
-use Rattle.std.specs.List.{list_any}
+use Rattle.std.proofs.Common.{◌≡◌, ◌++◌, [], ◌∷◌, List, sym, ◌∙◌, ap, subst}
 use Rattle.std.proofs.lemmas.List.{append-nil}
 use Rattle.arch_types.specs.declared.inserted.Inserted.{Inserted}
 use Rattle.arch_types.specs.declared.inserted.Inserted.TheVariants.{New, Duplicate}
@@ -7,38 +6,25 @@ use Rattle.arch_types.specs.declared.key.Key.{Key}
 use Rattle.arch_types.specs.declared.row.Row.{Row}
 use Rattle.archive_core.specs.Outcomes.{Says, fresh_of}
 use Rattle.archive_store.specs.Batches.{arrival_row}
-use Rattle.archive_history.specs.TableSet.{is_at_key}
-use Rattle.archive_store.specs.Classifying.{IsClassified, IndexesByKey}
-use Rattle.archive_store.proofs.Outcomes.{new_behind, outcomes_more, fresh_more}
+use Rattle.archive_store.specs.Classifying.{IsClassified, NoneAbove}
+use Rattle.archive_store.specs.declared.classifying.TableKey.{TableKey}
+use Rattle.archive_store.proofs.Outcomes.{outcomes_more, fresh_more}
 use Rattle.archive_history.proofs.Steps.{on_both}
 use Rattle.archive_store.proofs.classifying.classify_row.Goals as goal
-
-pub keep-requires-clause-new : goal.keep-requires-clause-new
-keep-requires-clause-new c =
-    let items = c.args.history.now.items in
-    let fresh = c.args.classified.now.fresh in
-    let row : Row = arrival_row c.args.batch.now.rectime c.args.arrival.now c.args.table in
-    let says = subst (Says (items ++ fresh) row) c.in-New.is (c.outcome-outcome.ensures.says row refl (sym c.key_at-key.ensures)) in
-    subst (λ (k : Key). list_any (is_at_key c.args.table k) fresh ≡ false) (sym c.key_at-key.ensures) (new_behind items fresh row c.in-New.field-0 says)
 
 pub returns-in-Duplicate : goal.returns-in-Duplicate
 returns-in-Duplicate c rows s =
     let items = c.args.history.now.items in
     let old = c.args.classified.now in
     let row : Row = arrival_row c.args.batch.now.rectime c.args.arrival.now c.args.table in
-    let says = subst (λ (l : List Row). Says (items ++ l) row (Duplicate c.in-Duplicate.field-0)) s.fresh (subst (Says (items ++ old.fresh) row) c.in-Duplicate.is (c.outcome-outcome.ensures.says row refl (sym c.key_at-key.ensures))) in
+    let says = subst (λ (l : List Row). Says (items ++ l) row (Duplicate c.in-Duplicate.field-0)) s.fresh (subst (Says (items ++ old.fresh) row) c.in-Duplicate.is (c.outcome-outcome.ensures.says row (ap (λ (k : Key). let at : TableKey = record { key = k; table = c.args.table } in at) (sym c.key_at-key.ensures)))) in
     let outcomes = outcomes_more items rows row (Duplicate c.in-Duplicate.field-0) c.outcome-outcome.ensures.history says in
     let fresh = fresh_more items rows row (Duplicate c.in-Duplicate.field-0) c.outcome-outcome.ensures.history says in
     record {
       outcomes = c.in_ok-push.ensures.ok ∙ ap (λ (o : Inserted). old.outcomes ++ o ∷ []) c.in-Duplicate.is ∙ ap (λ (l : List Inserted). l ++ Duplicate c.in-Duplicate.field-0 ∷ []) s.outcomes ∙ sym outcomes;
       fresh = s.fresh ∙ sym (append-nil (fresh_of items rows)) ∙ sym fresh;
-      places = s.places;
+      last = s.last;
     }
-
-pub keep-requires-clause-at : goal.keep-requires-clause-at
-keep-requires-clause-at c =
-    let is = c.in_ok-row-in-New.ensures in
-    (ap (λ (r : Row). r.table) is, ap (λ (r : Row). r.key) is ∙ sym c.key_at-key.ensures)
 
 pub returns-in_ok-row-in-New : goal.returns-in_ok-row-in-New
 returns-in_ok-row-in-New c rows s =
@@ -46,13 +32,13 @@ returns-in_ok-row-in-New c rows s =
     let old = c.args.classified.now in
     let n = c.in-New.field-0 in
     let row : Row = arrival_row c.args.batch.now.rectime c.args.arrival.now c.args.table in
-    let says = subst (λ (l : List Row). Says (items ++ l) row (New n)) s.fresh (subst (Says (items ++ old.fresh) row) c.in-New.is (c.outcome-outcome.ensures.says row refl (sym c.key_at-key.ensures))) in
+    let says = subst (λ (l : List Row). Says (items ++ l) row (New n)) s.fresh (subst (Says (items ++ old.fresh) row) c.in-New.is (c.outcome-outcome.ensures.says row (ap (λ (k : Key). let at : TableKey = record { key = k; table = c.args.table } in at) (sym c.key_at-key.ensures)))) in
     let outcomes = outcomes_more items rows row (New n) c.outcome-outcome.ensures.history says in
     let fresh = fresh_more items rows row (New n) c.outcome-outcome.ensures.history says in
-    on_both c.keep.result (c.keep.new.classified.fresh ≡ old.fresh ++ c.in_ok-row-in-New.row ∷ []) (IndexesByKey c.keep.new.classified.fresh c.keep.new.classified.places.entries) (IsClassified items (rows ++ row ∷ []) c.keep.new.classified)
-    (λ is is_transparent. record {
+    on_both c.keep.result (c.keep.new.classified.fresh ≡ old.fresh ++ c.in_ok-row-in-New.row ∷ []) (NoneAbove c.keep.new.classified.last c.keep.new.classified.fresh) (IsClassified items (rows ++ row ∷ []) c.keep.new.classified)
+    (λ is last. record {
       outcomes = c.keep.ensures.outcomes ∙ c.in_ok-push.ensures.ok ∙ ap (λ (o : Inserted). old.outcomes ++ o ∷ []) c.in-New.is ∙ ap (λ (l : List Inserted). l ++ New n ∷ []) s.outcomes ∙ sym outcomes;
       fresh = is ∙ ap (λ (r : Row). old.fresh ++ r ∷ []) c.in_ok-row-in-New.ensures ∙ ap (λ (l : List Row). l ++ row ∷ []) s.fresh ∙ sym fresh;
-      places = is_transparent;
+      last = last;
     })
-    c.keep.ensures.fresh c.keep.ensures.places
+    c.keep.ensures.fresh c.keep.ensures.last

@@ -28,10 +28,10 @@ healed_or_two {D = D} device old mid new rows e (Err r) none refused ok err tran
 pub returns-in-Ok : goal.returns-in-Ok
 returns-in-Ok g c transparent few image left =
     let store = c.ingest.new.self in
-    let no_failed_write = ap pending_fault_of c.in-Ok.ensures.ingested.fills ∙ c.requires.no_failed_write in
+    let no_failed_write = ap pending_fault_of c.in-Ok.ensures.ingested.fills ∙ c.requires.healed in
     subst (λ (o : Option (List Item)). IsNow store.head store.history o image) (none_unacknowledged store.fills no_failed_write) ((c.front.ensures.images transparent).now image left)
 
 pub returns : goal.returns
 returns g c transparent few image left =
-    healed_or_two g.D.Disk.device c.args.store.now c.ingest.new.self c.reopen.new.self (batch_rows c.args.batch.now) c.in-Err.field-0 c.reopen.result c.requires.no_failed_write c.in-Err.ensures.refused
+    healed_or_two g.D.Disk.device c.args.store.now c.ingest.new.self c.reopen.new.self (batch_rows c.args.batch.now) c.in-Err.field-0 c.reopen.result c.requires.healed c.in-Err.ensures.refused
     c.reopen.ensures.reopened c.reopen.ensures.refused transparent few image left

@@ -5,17 +5,17 @@ use Rattle.dump_lines.proofs.write.write_all.Goals as goal
 pub loop-at-init : goal.loop-at-init
 loop-at-init g c = record {
   within = omega arith;
-  known = wrote_none (g.K.Sink.written c.args.sink.now);
+  known = wrote_none (g.K.Sink.state c.args.sink.now).written;
   no_fault = refl;
 }
 
 pub loop-at-preserved : goal.loop-at-preserved
 loop-at-preserved g c = record {
   within = omega (arith, c.in-Ok.ensures.count, c.split_at.ensures.back_len);
-  known = wrote_more (g.K.Sink.written c.args.sink.now) (g.K.Sink.written c.loop-at.sink) (g.K.Sink.written c.write.new.self) c.args.text.now c.split_at.result.1.now c.loop-at.at c.in-Ok.n c.split_at.ensures.back c.loop-at.invariant.known c.in-Ok.ensures.appended;
+  known = wrote_more (g.K.Sink.state c.args.sink.now).written (g.K.Sink.state c.loop-at.sink).written (g.K.Sink.state c.write.new.self).written c.args.text.now c.split_at.result.1.now c.loop-at.at c.in-Ok.n c.split_at.ensures.back c.loop-at.invariant.known c.in-Ok.ensures.appended;
   no_fault = let some : 0 < c.in-Ok.n = omega arith in c.in-Ok.ensures.no_fault some ∙ c.loop-at.invariant.no_fault;
 }
 
 pub returns-in-Err-clause-some : goal.returns-in-Err-clause-some
 returns-in-Err-clause-some g c =
-    wrote_some (g.K.Sink.written c.args.sink.now) (g.K.Sink.written c.loop-at.sink) (g.K.Sink.written c.write.new.self) c.args.text.now c.split_at.result.1.now c.loop-at.at c.split_at.ensures.back c.loop-at.invariant.known c.in-Err.ensures.some
+    wrote_some (g.K.Sink.state c.args.sink.now).written (g.K.Sink.state c.loop-at.sink).written (g.K.Sink.state c.write.new.self).written c.args.text.now c.split_at.result.1.now c.loop-at.at c.split_at.ensures.back c.loop-at.invariant.known c.in-Err.ensures.some

@@ -6,8 +6,8 @@ use Rattle.dump_lines.proofs.write.write_all.Given as goal
 abbrev pub invariant-loop-at : goal.invariant-loop-at
 invariant-loop-at g l = record {
   within : l.at ≤ length l.text;
-  known : Appends (g.K.Sink.written l.fn.sink) (g.K.Sink.written l.sink) (take l.at l.text);
-  no_fault : Stays (g.K.Sink.faults l.fn.sink) (g.K.Sink.faults l.sink);
+  known : Appends (g.K.Sink.state l.fn.sink).written (g.K.Sink.state l.sink).written (take l.at l.text);
+  no_fault : Stays (g.K.Sink.state l.fn.sink).faults (g.K.Sink.state l.sink).faults;
 }
 
 abbrev pub decreases-loop-at : goal.decreases-loop-at

@@ -12,7 +12,7 @@ pub returns-in_err-extractor-clause-stopped : goal.returns-in_err-extractor-clau
 returns-in_err-extractor-clause-stopped g c =
     let moment = to_z-of_z w64 c.args.moment c.ranges.moment in
     let p = err_from_is_err_and c.from_residual.result c.from_residual.ensures.1 in
-    rw (p.1, p.2) (so_far_memory c.args.store.now c.args.dump.now c.args.link c.args.moment c.args.store.now 0 0 0 (so_far_none c.args.store.now c.args.dump.now c.args.link c.args.moment c.requires.no_failed_write))
+    rw (p.1, p.2) (so_far_memory c.args.store.now c.args.dump.now c.args.link c.args.moment c.args.store.now 0 0 0 (so_far_none c.args.store.now c.args.dump.now c.args.link c.args.moment c.requires.no_fault))
 
 pub returns-in_err-taken-clause-stopped : goal.returns-in_err-taken-clause-stopped
 returns-in_err-taken-clause-stopped g c =

@@ -2,7 +2,6 @@ use Rattle.std.proofs.Common.{◌∙◌, ◌≤◌, ℕ, List, length, ap, arith
 use Rattle.arch_types.specs.declared.refusal.Which.TheVariants.{SheetOctets}
 use Rattle.arch_types.specs.Limits.{limit_of}
 use Rattle.outer_traits.specs.Whole.{IsInputFault}
-use Rattle.outer_ledgers.specs.Ledger.{inputs_state}
 use Rattle.input_plans.specs.Inputs.{WasRead}
 use Rattle.input_plans.proofs.Whole.{not_read, was_read, without_memory}
 use Rattle.mdb_sheets.specs.Plans.{sheet_plan}
@@ -12,10 +11,10 @@ use Rattle.mdb_sheets.proofs.sheet.read_sheet.Goals as goal
 
 pub returns-in-Ok-records-clause-read : goal.returns-in-Ok-records-clause-read
 returns-in-Ok-records-clause-read g c =
-    let files = g.I.Inputs.files c.args.inputs.now in
-    let old = inputs_state files (g.I.Inputs.open_sources c.args.inputs.now) (g.I.Inputs.given c.args.inputs.now) (g.I.Inputs.faults c.args.inputs.now) (g.I.Inputs.never_fails c.args.inputs.now) in
+    let files = (g.I.Inputs.state c.args.inputs.now).files in
+    let old = g.I.Inputs.state c.args.inputs.now in
     let now = c.read_input.new.inputs in
-    let new = inputs_state (g.I.Inputs.files now) (g.I.Inputs.open_sources now) (g.I.Inputs.given now) (g.I.Inputs.faults now) (g.I.Inputs.never_fails now) in
+    let new = g.I.Inputs.state now in
     let e = c.in-Ok.ensures in
     let name = c.args.name.now in
     let len = c.as_slice.ensures.len in
@@ -26,21 +25,21 @@ returns-in-Ok-records-clause-read g c =
 
 pub returns-in-Ok-clause-read : goal.returns-in-Ok-clause-read
 returns-in-Ok-clause-read g c =
-    let files = g.I.Inputs.files c.args.inputs.now in
-    let old = inputs_state files (g.I.Inputs.open_sources c.args.inputs.now) (g.I.Inputs.given c.args.inputs.now) (g.I.Inputs.faults c.args.inputs.now) (g.I.Inputs.never_fails c.args.inputs.now) in
+    let files = (g.I.Inputs.state c.args.inputs.now).files in
+    let old = g.I.Inputs.state c.args.inputs.now in
     let now = c.read_input.new.inputs in
-    let new = inputs_state (g.I.Inputs.files now) (g.I.Inputs.open_sources now) (g.I.Inputs.given now) (g.I.Inputs.faults now) (g.I.Inputs.never_fails now) in
+    let new = g.I.Inputs.state now in
     let e = c.in-Ok.ensures in
     without_memory files SheetOctets (λ octets. sheet_of octets) c.args.name.now old new e.same e.closed e.reliable c.in-Ok.octets.items e.whole e.gave e.counted
 
 pub returns-clause-read : goal.returns-clause-read
 returns-clause-read g c =
-    let files = g.I.Inputs.files c.args.inputs.now in
-    let old = inputs_state files (g.I.Inputs.open_sources c.args.inputs.now) (g.I.Inputs.given c.args.inputs.now) (g.I.Inputs.faults c.args.inputs.now) (g.I.Inputs.never_fails c.args.inputs.now) in
+    let files = (g.I.Inputs.state c.args.inputs.now).files in
+    let old = g.I.Inputs.state c.args.inputs.now in
     let now = c.read_input.new.inputs in
-    let new = inputs_state (g.I.Inputs.files now) (g.I.Inputs.open_sources now) (g.I.Inputs.given now) (g.I.Inputs.faults now) (g.I.Inputs.never_fails now) in
+    let new = g.I.Inputs.state now in
     let e = c.in-Err.ensures in
     let name = c.args.name.now in
-    let fault = subst (λ (n : ℕ). IsInputFault files name n (g.I.Inputs.faults c.args.inputs.now) (g.I.Inputs.faults now) c.in-Err.fault) c.limit.ensures e.fault in
+    let fault = subst (λ (n : ℕ). IsInputFault files name n (g.I.Inputs.state c.args.inputs.now).faults (g.I.Inputs.state now).faults c.in-Err.fault) c.limit.ensures e.fault in
     not_read files SheetOctets (λ octets. sheet_of octets) name old new e.same e.closed e.reliable (List ℕ) c.in-Err.fault c.refusal.result fault
     (sheet_refusal_is c.in-Err.fault name c.refusal.result c.refusal.ensures) e.gave e.counted e.later

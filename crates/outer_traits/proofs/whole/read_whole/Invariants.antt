@@ -7,9 +7,9 @@ abbrev pub invariant-loop-n : goal.invariant-loop-n
 invariant-loop-n g l = record {
   piece : 0 < vec_len l.piece;
   within : vec_len l.octets ≤ l.limit;
-  known : IsTaken (g.S.Source.left l.fn.source) l.octets.items (g.S.Source.left l.source);
-  no_fault : Stays (g.S.Source.faults l.fn.source) (g.S.Source.faults l.source);
-  reliable : g.S.Source.never_fails l.fn.source → g.S.Source.never_fails l.source × Stays (g.S.Source.faults l.fn.source) (g.S.Source.faults l.source);
+  known : IsTaken (g.S.Source.state l.fn.source).left l.octets.items (g.S.Source.state l.source).left;
+  no_fault : Stays (g.S.Source.state l.fn.source).faults (g.S.Source.state l.source).faults;
+  reliable : (g.S.Source.state l.fn.source).never_fails → (g.S.Source.state l.source).never_fails × Stays (g.S.Source.state l.fn.source).faults (g.S.Source.state l.source).faults;
 }
 
 abbrev pub decreases-loop-n : goal.decreases-loop-n

@@ -1,38 +1,48 @@
-use Rattle.std.proofs.Common.{◌≡◌, ◌∙◌, ◌+◌, ◌++◌, ◌∷◌, List, arith, drop, length, ap, sym}
+use Rattle.std.proofs.Common.{rules, ◌≡◌, ◌∙◌, ◌+◌, ◌++◌, ◌∷◌, arith, length, true, false, refl, sym, w64, FitsSigned}
 use Rattle.std.specs.List.{filter_map}
-use Rattle.std.proofs.lemmas.List.{drop_more}
-use Rattle.archive_store.specs.declared.plan.Part.{Part}
-use Rattle.archive_store.specs.Plans.{rows_of_parts}
+use Rattle.std.proofs.lemmas.Int.{to_z-of_z}
+use Rattle.arch_types.specs.Table.{range_of}
+use Rattle.archive_core.specs.Items.{rows_in}
 use Rattle.container_extract.specs.Extraction.{cell_of}
-use Rattle.retrieval.specs.AnswerText.{truncated}
-use Rattle.retrieval.proofs.Counted.{first_part}
-use Rattle.retrieval.proofs.Limited.{next_part}
+use Rattle.retrieval.specs.AnswerText.{truncated, cell_list, is_full}
+use Rattle.retrieval.proofs.Counted.{first_row}
+use Rattle.retrieval.proofs.Limited.{none_yet, full, next_first}
 use Rattle.retrieval.proofs.answer.first_cells.Goals as goal
 
-pub loop-part-preserved : goal.loop-part-preserved
-loop-part-preserved g c =
-    let parts = c.args.parts.now in
-    let i = c.loop-part.part-index in
-    let part = c.part-item.result in
-    let f = cell_of c.args.mdb.now c.args.number in
-    let limit = c.args.limit in
-    let cells = c.loop-part.cells.items in
-    let step : drop i parts ≡ part ∷ drop (i + 1) parts = drop_more parts i part c.loop-part-test.true ∙ ap (λ (p : Part). p ∷ drop (i + 1) parts) (sym c.part-item.is) in
-    let left : truncated limit (cells ++ filter_map f (part.rows ++ rows_of_parts (drop (i + 1) parts))) ≡ truncated limit (filter_map f (rows_of_parts parts)) =
-    ap (λ (ps : List Part). truncated limit (cells ++ filter_map f (rows_of_parts ps))) (sym step) ∙ c.loop-part.invariant.all in
-    let added : c.add_cells.new.cells.items ≡ truncated limit (cells ++ filter_map f part.rows) = rw c.as_slice.ensures at c.in_ok-add_cells.ensures.cells in
-    let next = next_part f limit cells c.add_cells.new.cells.items part.rows (rows_of_parts (drop (i + 1) parts)) (truncated limit (filter_map f (rows_of_parts parts))) added left in
+pub loop-row-init : goal.loop-row-init
+loop-row-init g c =
+    let request = c.args.request.now in
+    let low : FitsSigned w64 request.from = search rules in
+    let high : FitsSigned w64 request.to = search rules in
+    let none = c.new-cells.ensures.items in
+    let start = c.into_iter-row-iterator.ensures.into_iter_gives in
+    let rows = rw (to_z-of_z w64 request.from low, to_z-of_z w64 request.to high) at c.range-row-items.ensures in
+    rw (none, start, rows) record { all = refl; within = none_yet request.limit; steps = omega arith }
+
+pub loop-row-preserved : goal.loop-row-preserved
+loop-row-preserved g c =
+    let store = c.args.store.now in
+    let request = c.args.request.now in
+    let f = cell_of store.head.mdb c.args.number in
+    let rows = range_of 0 request.from request.to (rows_in store.history) in
+    let cells = c.loop-row.cells.items in
+    let row = c.in-Some.row.now in
+    let rest = c.loop-row.row-iterator in
+    let left = c.next.new.self in
+    let step : rest ≡ row ∷ left = let s = c.in-Some.ensures.steps in cc in
+    let space : is_full request.limit cells ≡ false = rw c.as_slice.ensures.value at (sym c.is_full.ensures ∙ c.if-is_full.false) in
+    let added : c.add_cell.new.cells.items ≡ cells ++ cell_list (f row) = rw c.head.ensures.head at c.in_ok-add_cell.ensures.cell in
+    let next = next_first f request.limit cells c.add_cell.new.cells.items rest left row (truncated request.limit (filter_map f rows)) space added step c.loop-row.invariant.all in
     record {
       all = next.0;
       within = next.1;
-      steps = first_part (drop i parts) (drop (i + 1) parts) part c.loop-part.steps c.add_cells.new.steps (c.args.steps.now + length (rows_of_parts parts)) step c.loop-part.invariant.steps (rw c.as_slice.ensures at c.add_cells.ensures.steps);
+      steps = first_row rest left row c.loop-row.steps c.add_cell.new.steps (c.args.steps.now + length rows) step c.loop-row.invariant.steps c.add_cell.ensures.step;
     }
 
-pub returns-in_err-add_cells-clause-steps : goal.returns-in_err-add_cells-clause-steps
-returns-in_err-add_cells-clause-steps g c =
-    let parts = c.args.parts.now in
-    let i = c.loop-part.part-index in
-    let part = c.part-item.result in
-    let step : drop i parts ≡ part ∷ drop (i + 1) parts = drop_more parts i part c.loop-part-test.true ∙ ap (λ (p : Part). p ∷ drop (i + 1) parts) (sym c.part-item.is) in
-    let left = first_part (drop i parts) (drop (i + 1) parts) part c.loop-part.steps c.add_cells.new.steps (c.args.steps.now + length (rows_of_parts parts)) step c.loop-part.invariant.steps (rw c.as_slice.ensures at c.add_cells.ensures.steps) in
-    omega (arith, left)
+pub returns-then-is_full-clause-cells : goal.returns-then-is_full-clause-cells
+returns-then-is_full-clause-cells g c =
+    let request = c.args.request.now in
+    let f = cell_of c.args.store.now.head.mdb c.args.number in
+    let cells = c.loop-row.cells.items in
+    let most : is_full request.limit cells ≡ true = rw c.as_slice.ensures.value at (sym c.is_full.ensures ∙ c.if-is_full.true) in
+    sym (full request.limit cells (filter_map f c.loop-row.row-iterator) most c.loop-row.invariant.within) ∙ c.loop-row.invariant.all

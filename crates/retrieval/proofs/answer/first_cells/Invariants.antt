@@ -1,13 +1,15 @@
-use Rattle.std.proofs.Common.{◌≡◌, ◌+◌, ◌≤◌, ◌++◌, drop, length}
+use Rattle.std.proofs.Common.{◌≡◌, ◌+◌, ◌≤◌, ◌++◌, length}
 use Rattle.std.specs.List.{filter_map}
-use Rattle.archive_store.specs.Plans.{rows_of_parts}
+use Rattle.arch_types.specs.Table.{range_of}
+use Rattle.archive_core.specs.Items.{rows_in}
 use Rattle.container_extract.specs.Extraction.{cell_of}
 use Rattle.retrieval.specs.AnswerText.{truncated}
 use Rattle.retrieval.proofs.answer.first_cells.Given as goal
 
-abbrev pub invariant-loop-part : goal.invariant-loop-part
-invariant-loop-part g l = record {
-  all : truncated l.limit (l.cells.items ++ filter_map (cell_of l.mdb l.number) (rows_of_parts (drop l.part-index l.parts))) ≡ truncated l.limit (filter_map (cell_of l.mdb l.number) (rows_of_parts l.parts));
-  within : truncated l.limit l.cells.items ≡ l.cells.items;
-  steps : l.steps + length (rows_of_parts (drop l.part-index l.parts)) ≤ l.initial.steps + length (rows_of_parts l.parts);
+abbrev pub invariant-loop-row : goal.invariant-loop-row
+invariant-loop-row g l = record {
+  all : truncated l.request.limit (l.cells.items ++ filter_map (cell_of l.store.head.mdb l.number) l.row-iterator)
+      ≡ truncated l.request.limit (filter_map (cell_of l.store.head.mdb l.number) (range_of 0 l.request.from l.request.to (rows_in l.store.history)));
+  within : truncated l.request.limit l.cells.items ≡ l.cells.items;
+  steps : l.steps + length l.row-iterator ≤ l.initial.steps + length (range_of 0 l.request.from l.request.to (rows_in l.store.history));
 }

@@ -7,8 +7,8 @@ use Rattle.retrieval.proofs.answer_text.print_cells.Given as goal
 
 abbrev pub invariant-loop-cell : goal.invariant-loop-cell
 invariant-loop-cell g l = record {
-  buffered : IsBuffered (g.K.Sink.written l.fn.sink) (g.K.Sink.written l.sink) (l.initial.line_buffer ++ flat_map (cell_line (option_copied l.fn.calibration)) l.cells)
+  buffered : IsBuffered (g.K.Sink.state l.fn.sink).written (g.K.Sink.state l.sink).written (l.initial.line_buffer ++ flat_map (cell_line (option_copied l.fn.calibration)) l.cells)
       (l.line_buffer ++ flat_map (cell_line (option_copied l.fn.calibration)) (drop l.cell-index l.cells));
   room : length l.line_buffer < 65536;
-  no_fault : Stays (g.K.Sink.faults l.fn.sink) (g.K.Sink.faults l.sink);
+  no_fault : Stays (g.K.Sink.state l.fn.sink).faults (g.K.Sink.state l.sink).faults;
 }

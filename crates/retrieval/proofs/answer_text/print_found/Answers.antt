@@ -12,8 +12,8 @@ use Rattle.retrieval.proofs.answer_text.print_found.Goals as goal
 
 pub returns-in_err-flush_if_full-clause-some : goal.returns-in_err-flush_if_full-clause-some
 returns-in_err-flush_if_full-clause-some g c =
-    let w0 = g.K.Sink.written c.args.sink.now in
-    let w1 = g.K.Sink.written c.flush_if_full.new.sink in
+    let w0 = (g.K.Sink.state c.args.sink.now).written in
+    let w1 = (g.K.Sink.state c.flush_if_full.new.sink).written in
     let found = c.args.found.now in
     let cells = found.answer.cells in
     let mid = c.put_front.new.line_buffer in
@@ -26,15 +26,15 @@ returns-in_err-flush_if_full-clause-some g c =
 
 pub returns-in_err-print_cells-clause-some : goal.returns-in_err-print_cells-clause-some
 returns-in_err-print_cells-clause-some g c =
-    let w0 = g.K.Sink.written c.args.sink.now in
-    let w1 = g.K.Sink.written c.flush_if_full.new.sink in
+    let w0 = (g.K.Sink.state c.args.sink.now).written in
+    let w1 = (g.K.Sink.state c.flush_if_full.new.sink).written in
     let found = c.args.found.now in
     let cells = found.answer.cells in
     let mid = c.put_front.new.line_buffer in
     let front = front_line c.args.k found.answer.front in
     let lines = cell_lines (arc_value found.mdb) found.number cells in
     let end = end_line (length cells) in
-    let w2 = g.K.Sink.written c.print_cells.new.sink in
+    let w2 = (g.K.Sink.state c.print_cells.new.sink).written in
     let left = c.flush_if_full.new.self in
     let printed : flat_map (cell_line (option_copied c.calibration_of-calibration.result)) c.as_slice-cells.result.now ≡ lines =
     rw (c.calibration_of-calibration.ensures.value, c.deref.ensures, c.as_slice-cells.ensures) refl in
@@ -46,20 +46,20 @@ returns-in_err-print_cells-clause-some g c =
 
 pub returns-clause-buffered : goal.returns-clause-buffered
 returns-clause-buffered g c =
-    let w0 = g.K.Sink.written c.args.sink.now in
-    let w1 = g.K.Sink.written c.flush_if_full.new.sink in
+    let w0 = (g.K.Sink.state c.args.sink.now).written in
+    let w1 = (g.K.Sink.state c.flush_if_full.new.sink).written in
     let found = c.args.found.now in
     let cells = found.answer.cells in
     let mid = c.put_front.new.line_buffer in
     let front = front_line c.args.k found.answer.front in
     let lines = cell_lines (arc_value found.mdb) found.number cells in
     let end = end_line (length cells) in
-    let w2 = g.K.Sink.written c.print_cells.new.sink in
+    let w2 = (g.K.Sink.state c.print_cells.new.sink).written in
     let left = c.flush_if_full.new.self in
     let printed : flat_map (cell_line (option_copied c.calibration_of-calibration.result)) c.as_slice-cells.result.now ≡ lines =
     rw (c.calibration_of-calibration.ensures.value, c.deref.ensures, c.as_slice-cells.ensures) refl in
     let text = three_parts c.args.line_buffer.now front lines end mid c.put_front.ensures in
-    let w3 = g.K.Sink.written c.flush_if_full-2.new.sink in
+    let w3 = (g.K.Sink.state c.flush_if_full-2.new.sink).written in
     let last = c.print_cells.new.line_buffer in
     let buffered : IsBuffered w1 w2 (left ++ lines) last = subst (λ (l : List ℕ). IsBuffered w1 w2 (left ++ l) last) printed c.in_ok-print_cells.ensures.buffered in
     let gone : IsBuffered w0 w2 (mid ++ lines) last = buffered_then w0 w1 w2 mid left lines last c.in_ok-flush_if_full.ensures.buffered buffered in
@@ -71,20 +71,20 @@ returns-clause-buffered g c =
 
 pub returns-clause-some : goal.returns-clause-some
 returns-clause-some g c =
-    let w0 = g.K.Sink.written c.args.sink.now in
-    let w1 = g.K.Sink.written c.flush_if_full.new.sink in
+    let w0 = (g.K.Sink.state c.args.sink.now).written in
+    let w1 = (g.K.Sink.state c.flush_if_full.new.sink).written in
     let found = c.args.found.now in
     let cells = found.answer.cells in
     let mid = c.put_front.new.line_buffer in
     let front = front_line c.args.k found.answer.front in
     let lines = cell_lines (arc_value found.mdb) found.number cells in
     let end = end_line (length cells) in
-    let w2 = g.K.Sink.written c.print_cells.new.sink in
+    let w2 = (g.K.Sink.state c.print_cells.new.sink).written in
     let left = c.flush_if_full.new.self in
     let printed : flat_map (cell_line (option_copied c.calibration_of-calibration.result)) c.as_slice-cells.result.now ≡ lines =
     rw (c.calibration_of-calibration.ensures.value, c.deref.ensures, c.as_slice-cells.ensures) refl in
     let text = three_parts c.args.line_buffer.now front lines end mid c.put_front.ensures in
-    let w3 = g.K.Sink.written c.flush_if_full-2.new.sink in
+    let w3 = (g.K.Sink.state c.flush_if_full-2.new.sink).written in
     let last = c.print_cells.new.line_buffer in
     let buffered : IsBuffered w1 w2 (left ++ lines) last = subst (λ (l : List ℕ). IsBuffered w1 w2 (left ++ l) last) printed c.in_ok-print_cells.ensures.buffered in
     let gone : IsBuffered w0 w2 (mid ++ lines) last = buffered_then w0 w1 w2 mid left lines last c.in_ok-flush_if_full.ensures.buffered buffered in

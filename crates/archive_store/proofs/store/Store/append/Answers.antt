@@ -17,7 +17,7 @@ use Rattle.archive_store.specs.Inside.{StoreInvariant, view_of}
 use Rattle.archive_store.specs.StoreView.{StoreView}
 use Rattle.archive_store.specs.Stands.{StandsFor}
 use Rattle.archive_store.proofs.Batching.{placed_tables}
-use Rattle.archive_store.proofs.Kept.{kept_same, kept_ok, kept_err, moments_of, fault, stands_now}
+use Rattle.archive_store.proofs.Kept.{healthy, kept_same, kept_ok, kept_err, moments_of, fault, stands_now}
 use Rattle.archive_store.proofs.PlainLog.{crash_of}
 use Rattle.archive_store.proofs.store.Store.append.Goals as goal
 
@@ -89,7 +89,7 @@ invariant_of-self-in-Err g c =
     let elsewhere = c.append.ensures.others.crash in
     let moments = moments_of device s.disk c.append.new.disk s.opened.value s.journal mid s.head s.history.items fresh s.fills.items s.pending_fault k ok no_failed_write c.prepare-prepared.ensures.journal run elsewhere in
     let k_mid = kept_same device s.disk s.opened.value s.journal mid s.head s.history.items s.fills.items s.pending_fault k c.prepare-prepared.ensures.journal in
-    let none : unhealed_fault mid ≡ None = ap faults_of c.prepare-prepared.ensures.journal.pending_fault ∙ k.unhealed_fault_is ∙ no_failed_write in
+    let none : unhealed_fault mid ≡ None = ap faults_of c.prepare-prepared.ensures.journal.pending_fault ∙ healthy (unhealed_fault s.journal) (pending_fault_of s.fills.items) k.journal_fault no_failed_write in
     let below : count_of mid < 2 ^ 32 - 1 = omega (arith, c.requires.records, ap (λ (x : StoreView g.row.D.Denot). x.records) c.self.view_is, ap length c.prepare-prepared.ensures.journal.extents) in
     let failed = (refusal_failed device mid c.append.new.self s.disk c.append.new.disk c.in-Ok.frame c.in-Err.field-0 none below c.in-Err.ensures.refused).1 in
     let keeps = λ (transparent : IsTrue device.is_transparent) (bodies : List (List ℕ)) (pending : List ℕ) (keeps : JournalHasOnDisk device mid bodies pending s.disk).
@@ -100,6 +100,19 @@ invariant_of-self-in-Err g c =
       subst (λ (r : List Item). StoreInvariant device c.append.new.disk s.opened.value c.append.new.self s.head r c.note_fault.new.self.items (Some c.faults-count.result)) (sym c.prepare-prepared.ensures.history.0)
           (subst (λ (f : List Fill). StoreInvariant device c.append.new.disk s.opened.value c.append.new.self s.head s.history.items f (Some c.faults-count.result)) (sym fills) done),
       c.prepare-prepared.ensures.history.1 ∙ c.self.invariant.1,
+      c.self.invariant.2,
+    )
+
+pub invariant_of-self : goal.invariant_of-self
+invariant_of-self g c =
+    let device = g.D.Disk.device in
+    let s = c.self.inside in
+    let prepared = c.prepare-prepared.ensures in
+    let journal = c.prepare-prepared.new.journal in
+    let done = kept_same device s.disk s.opened.value s.journal journal s.head s.history.items s.fills.items s.pending_fault c.self.invariant.0 prepared.journal in (
+      subst (λ (r : List Item). StoreInvariant device s.disk s.opened.value journal s.head r c.prepare-prepared.new.fills.items s.pending_fault) (sym prepared.history.0)
+          (subst (λ (f : List Fill). StoreInvariant device s.disk s.opened.value journal s.head s.history.items f s.pending_fault) (sym prepared.fills) done),
+      prepared.history.1 ∙ c.self.invariant.1,
       c.self.invariant.2,
     )
 

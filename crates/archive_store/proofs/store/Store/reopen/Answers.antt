@@ -11,7 +11,7 @@ use Rattle.disk_journal.proofs.Calls.{healed_on, heal_failed_on, heal_crash_on, 
 use Rattle.archive_store.specs.StoreView.{StoreView, IsNow}
 use Rattle.archive_store.specs.declared.head.Head.{Head}
 use Rattle.archive_store.specs.Inside.{StoreInvariant, view_of}
-use Rattle.archive_store.proofs.Kept.{hand-reopened}
+use Rattle.archive_store.proofs.Kept.{hand-reopened, healthy}
 use Rattle.archive_store.proofs.Healing.{heal_moments, kept_healed, kept_unhealed}
 use Rattle.archive_store.proofs.PlainLog.{crash_of}
 use Rattle.archive_store.proofs.store.Store.reopen.Goals as goal
@@ -67,7 +67,7 @@ returns-in-Ok-clause-reopened g c =
           ∙ ap (λ (x : StoreView g.row.D.Denot). view_of_records c.heal.new.disk x.opened x.head x.history (reopened x.fills) x.records) c.self.view_is;
       healed = ap pending_fault_of cleared ∙ pending_fault_of-reopened c.args.self.now.fills;
       images = λ transparent image left. subst (λ (o : Option (List Item)). IsNow s.head s.history.items o image) (hand-reopened s.fills.items) ((crash_of device c.heal.new.disk s.opened.value c.heal.new.self s.head s.history.items (reopened s.fills.items) None done transparent).now image left);
-      no_call = λ none. c.in-Ok.ensures.healed.no_call (k.unhealed_fault_is ∙ ap (λ (x : StoreView g.row.D.Denot). pending_fault_of x.fills) c.self.view_is ∙ none) ∙ ap (λ (x : StoreView g.row.D.Denot). x.disk) c.self.view_is;
+      no_call = λ none. c.in-Ok.ensures.healed.no_call (healthy (unhealed_fault s.journal) (pending_fault_of s.fills.items) k.journal_fault (ap (λ (x : StoreView g.row.D.Denot). pending_fault_of x.fills) c.self.view_is ∙ none)) ∙ ap (λ (x : StoreView g.row.D.Denot). x.disk) c.self.view_is;
       no_failed_write = c.in-Ok.ensures.healed.no_failed_write ∙ ap (λ (x : StoreView g.row.D.Denot). device.failed_writes x.disk) c.self.view_is;
     }
 
@@ -78,7 +78,7 @@ returns-in-Err-clause-refused g c =
     let k = c.self.invariant.0 in
     let failed = (heal_refusal_failed device s.journal c.heal.new.self s.disk c.heal.new.disk c.in-Err.field-0 c.in-Err.ensures.refused).1 in
     record {
-      unhealed = λ none. failed.unhealed (k.unhealed_fault_is ∙ ap (λ (x : StoreView g.row.D.Denot). pending_fault_of x.fills) c.self.view_is ∙ none);
+      unhealed = λ none. failed.unhealed (healthy (unhealed_fault s.journal) (pending_fault_of s.fills.items) k.journal_fault (ap (λ (x : StoreView g.row.D.Denot). pending_fault_of x.fills) c.self.view_is ∙ none));
       store = ap (view_of_records c.heal.new.disk s.opened.value s.head s.history.items s.fills.items) (ap count_of failed.journal)
           ∙ ap (λ (x : StoreView g.row.D.Denot). view_of_records c.heal.new.disk x.opened x.head x.history x.fills x.records) c.self.view_is;
       rose = subst (λ (x : StoreView g.row.D.Denot). raised (device.fault_count x.disk) ≤ device.fault_count c.heal.new.disk) c.self.view_is failed.rose;

@@ -4,8 +4,8 @@ use Rattle.block_map.proofs.Counted.{excess_counts}
 use Rattle.block_map.proofs.Lookups.{rising_block, lookup_there, lookup_missing}
 use Rattle.block_map.proofs.body.Body.insert.Goals as goal
 
-pub open_block-b-requires-clause-room : goal.open_block-b-requires-clause-room
-open_block-b-requires-clause-room g c =
+pub open_block-b-requires-clause-spares : goal.open_block-b-requires-clause-spares
+open_block-b-requires-clause-spares g c =
     let some = rw (← c.self.view_is) at c.requires in
     let beyond = excess_counts SPLIT_AT MIN_FILL (omega arith) c.self.inside.blocks.items c.self.invariant.blocks_in_order.filled in
     let len = c.self.inside.blocks.ok.0 in

@@ -12,5 +12,5 @@ returns-clause-at c content bodies is whole =
       len = is.len;
       piece = is.piece;
       inside = omega (arith, is.len, whole.fits, whole.body_at);
-      first = λ zero_at. absurd (omega (arith, zero_at, whole.body_at));
+      begins_open = λ zero_at. absurd (omega (arith, zero_at, whole.body_at));
     }

@@ -1,29 +1,43 @@
-use Rattle.std.proofs.Common.{◌≡◌, subst, rules, FitsSigned, w64}
-use Rattle.std.proofs.lemmas.Int.{to_z-of_z}
-use Rattle.partitions.specs.Partition.{partition_of}
-use Rattle.partitions.specs.Partitions.{PartitionsView, AreTheSame, IsPartitionAdded}
-use Rattle.partitions.proofs.Members.{held_in, both_added, none_added}
+use Rattle.std.proofs.Common.{◌≡◌, ◌-◌, ◌^◌, ◌++◌, ◌∷◌, [], ℕ, length, ap, sym, ◌∙◌, arith}
+use Rattle.partitions.specs.declared.partition.Partition.{Partition}
+use Rattle.partitions.specs.Partitions.{PartitionsView}
+use Rattle.partitions.specs.Places.{last_place_below}
+use Rattle.partitions.specs.Links.{noted_in, place_of_word}
+use Rattle.partitions.proofs.LastPlaces.{chained_push, last_within, length-noted, noted_push}
 use Rattle.partitions.proofs.partitions.Partitions.add.Goals as goal
 
-both : (c : goal.After-insert-then-is_none) → AreTheSame c.insert.new.self c.insert-then-is_none.new.self × IsPartitionAdded (held_in c.self.inside.by_day c.self.inside.by_name) (held_in c.insert.new.self c.insert-then-is_none.new.self) c.partition_of-part.result
-both c =
-    let day = c.insert.ensures in
-    let name = c.insert-then-is_none.ensures in
-    both_added c.self.inside.by_day c.insert.new.self c.self.inside.by_name c.insert-then-is_none.new.self c.partition_of-part.result c.of.result c.insert.result c.insert-then-is_none.result c.of.ensures
-    c.self.invariant c.if-is_none.ensures day.found day.absent day.rising name.found name.absent name.rising
+pub new-requires : goal.new-requires
+new-requires c =
+    let fields = c.self.inside in
+    let links = fields.links.items in
+    let part = c.partition_of-part.result in
+    let last = c.put_last-before.ensures.before ∙ c.self.invariant.indexed.last part in
+    let len = fields.links.ok.0 in
+    let room = ap (λ (h : PartitionsView). h.room) c.self.view_is in
+    rw last (last_within (length (noted_in links)) part (noted_in links) (2 ^ 32 - 1) (omega (arith, length-noted links, len, c.self.invariant.has_places, c.requires, room)))
 
 pub invariant_of-self : goal.invariant_of-self
-invariant_of-self c = (both c).0
-
-pub returns-then-is_none-clause-added : goal.returns-then-is_none-clause-added
-returns-then-is_none-clause-added c =
-    let fits : FitsSigned w64 c.args.time = search rules in
-    let part : c.partition_of-part.result ≡ partition_of c.args.time c.args.pname = simp to_z-of_z at c.partition_of-part.ensures in
-    rw (← part) (subst (λ (h : PartitionsView). IsPartitionAdded h (held_in c.insert.new.self c.insert-then-is_none.new.self) c.partition_of-part.result) c.self.view_is (both c).1)
-
-pub returns-else-is_none-clause-added : goal.returns-else-is_none-clause-added
-returns-else-is_none-clause-added c =
-    let fits : FitsSigned w64 c.args.time = search rules in
-    let part : c.partition_of-part.result ≡ partition_of c.args.time c.args.pname = simp to_z-of_z at c.partition_of-part.ensures in
-    rw (← part) (subst (λ (h : PartitionsView). IsPartitionAdded h (held_in c.insert.new.self c.self.inside.by_name) c.partition_of-part.result) c.self.view_is
-    (none_added c.self.inside.by_day c.insert.new.self c.self.inside.by_name c.partition_of-part.result c.insert.result c.self.invariant c.if-is_none.ensures c.insert.ensures.found c.insert.ensures.present))
+invariant_of-self c =
+    let fields = c.self.inside in
+    let are = c.self.invariant in
+    let links = fields.links.items in
+    let noted = noted_in links in
+    let part = c.partition_of-part.result in
+    let link = c.new.result in
+    let put = c.put_last-before.ensures in
+    let len = fields.links.ok.0 in
+    let place : c.len-place.result ≡ length links = cc in
+    let room = ap (λ (h : PartitionsView). h.room) c.self.view_is in
+    let push = c.push_reserved.ensures in
+    let indexed = put.indexed noted are.indexed (place ∙ sym (length-noted links)) in
+    let now : noted_in (links ++ link ∷ []) ≡ noted ++ part ∷ [] = noted_push links link ∙ ap (λ (p : Partition). noted ++ p ∷ []) c.new.ensures.noted in
+    let last : place_of_word link.earlier ≡ last_place_below (length links) link.noted.value noted =
+    c.new.ensures.earlier ∙ put.before ∙ are.indexed.last part ∙ ap (λ (n : ℕ). last_place_below n part noted) (length-noted links) ∙ ap (λ (p : Partition). last_place_below (length links) p noted) (sym c.new.ensures.noted) in
+    record {
+      indexed = rw (push.items, now) indexed;
+      chained = rw push.items (chained_push links link are.chained last);
+      room_by_day = omega (arith, put.left_by_day, are.room_by_day);
+      room_by_name = omega (arith, put.left_by_name, are.room_by_name);
+      room_in_links = omega (arith, push.len, push.capacity, are.room_in_links, c.requires, room);
+      has_places = omega (arith, push.len, are.has_places, c.requires, room);
+    }

@@ -40,7 +40,7 @@ invariant_of-self-in-None c =
     record {
       names = rw (c.push_reserved.ensures.items, c.in-None.ensures.absent.0, c.of.ensures, n) index;
       has_room = omega (arith, c.push_reserved.ensures.len, c.push_reserved.ensures.capacity, c.in-None.ensures.absent.1, c.self.invariant.has_room);
-      has_places = omega (arith, c.push_reserved.ensures.len, c.in-None.ensures.absent.1, c.self.invariant.has_places);
+      short_places = omega (arith, c.push_reserved.ensures.len, c.in-None.ensures.absent.1, c.self.invariant.short_places);
     }
 
 pub returns-in-None-clause-inserted : goal.returns-in-None-clause-inserted

@@ -1,0 +1,59 @@
+use Rattle.std.proofs.lemmas.Result.{err_from_is_err_and}
+use Rattle.std.proofs.Common.{Some, ◌≡◌, ◌∙◌, length, refl, sym, ap, subst, inl}
+use Rattle.archive_store.specs.StoreView.{archive_of}
+use Rattle.dump_lines.specs.Output.{IsFinished}
+use Rattle.command_plans.specs.Plan.{OfMemory, Interrupted, and_then}
+use Rattle.archive_cli.specs.Command.{Ran, effects_of, nothing_done, archive_opened, opening_plan}
+use Rattle.archive_cli.specs.recover_command.Recover.{recover_plan, line_plan}
+use Rattle.archive_cli.specs.recover_command.RecoverLine.{recover_line}
+use Rattle.archive_cli.specs.Report.{read_only, unopened}
+use Rattle.archive_cli.proofs.Commands.{no_text, ran_later, ran_opened, ran_printed, ran_unopened}
+use Rattle.archive_cli.proofs.ReadOnly.{opened_outcome}
+use Rattle.archive_cli.proofs.recover.work.Goals as goal
+
+-- the way that its plan went
+
+pub returns-in_default : goal.returns-in_default
+returns-in_default g c = record {
+  way = Interrupted (nothing_done 0) OfMemory;
+  allows = inl refl;
+  did = record {
+    report = refl;
+    printed = no_text (g.K.Sink.state c.args.sink.now).written;
+    output = record { counted = refl };
+    disk = refl;
+  };
+}
+
+pub returns-in_err-store : goal.returns-in_err-store
+returns-in_err-store g c =
+    let device = g.D.Disk.device in
+    let output = g.K.Sink.state c.args.sink.now in
+    let e = c.in_err-store.ensures in
+    let refused = c.in_err-store.field-0.0 in
+    let went = effects_of c.args.disk refused.0 output output (unopened (Some refused.1)) in
+    let p = err_from_is_err_and c.from_residual.result c.from_residual.ensures.1 in
+    rw (p.1, p.2)
+    (ran_later device went OfMemory (nothing_done 0) (and_then (opening_plan 0 device c.args.disk) line_plan)
+    (ran_unopened device went line_plan 0 refused.1 e.refused e.reads e.crash e.counts refl refl))
+
+pub returns : goal.returns
+returns g c =
+    let device = g.D.Disk.device in
+    let s = c.in_ok-store.store in
+    let e = c.in_ok-store.ensures in
+    let refusal = c.finish-refusal.result in
+    let report = c.read_only.result in
+    let written = (g.K.Sink.state c.args.sink.now).written in
+    let written' = (g.K.Sink.state c.finish-refusal.new.sink).written in
+    let output = g.K.Sink.state c.args.sink.now in
+    let output' = g.K.Sink.state c.finish-refusal.new.sink in
+    let went = effects_of c.args.disk s.disk output output' report in
+    let is : report ≡ read_only refusal (length s.history) = c.read_only.ensures ∙ ap (read_only refusal) c.front-rows.ensures.front in
+    let line : c.put_line.new.line_buffer ≡ recover_line (length s.history) = c.put_line.ensures ∙ ap recover_line c.front-rows.ensures.front in
+    let text = subst (IsFinished refusal written written') line c.finish-refusal.ensures.finished in
+    let disk = opened_outcome device c.args.disk s e.opened e.reads e.crash e.counts c.into_disk.ensures.images c.into_disk.ensures.faults in
+    subst (λ (d : g.row.D.Denot). Ran device (recover_plan device c.args.disk) (effects_of c.args.disk d output output' report)) (sym c.into_disk.ensures.disk)
+    (ran_later device went OfMemory (nothing_done 0) (and_then (opening_plan 0 device c.args.disk) line_plan)
+    (ran_opened device went line_plan 0 (archive_of s) (λ known. e.opened.stands known)
+    (ran_printed device went (archive_opened 0 (archive_of s)) (recover_line (length s.history)) refusal refl refl text c.finish-refusal.ensures.later c.finish-refusal.ensures.counted is disk)))

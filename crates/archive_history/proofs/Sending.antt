@@ -1,0 +1,27 @@
+-- That tables of a history may go to another thread, by their parts, since one search through all of them runs out of steps.
+use denote.Param.Send.{IsSend, sendable}
+use Rattle.std.proofs.Crossing.{crosses}
+use Rattle.archive_history.specs.contracts.partitioned_table.PartitionedTable as PartitionedTable
+use Rattle.archive_history.specs.contracts.table_set.TableSet as TableSet
+use Rattle.partitions.specs.contracts.links.Link as Link
+use Rattle.partitions.specs.contracts.partitions.Partitions as Partitions
+use Rattle.yarch_table.specs.contracts.table.Stored as Stored
+use Rattle.yarch_table.specs.contracts.table.Table as Table
+
+stored_send : IsSend Stored.the_row
+stored_send = search (crosses, sendable) depth 60
+
+table_send : IsSend Table.the_row
+table_send = search (crosses, stored_send, sendable) depth 60 fits 10000
+
+link_send : IsSend Link.the_row
+link_send = search (crosses, sendable) depth 60
+
+partitions_send : IsSend Partitions.the_row
+partitions_send = search (crosses, link_send, sendable) depth 60 fits 10000
+
+partitioned_table_send : IsSend PartitionedTable.the_row
+partitioned_table_send = search (crosses, table_send, partitions_send, sendable) depth 60
+
+pub table_set_send : IsSend TableSet.the_row
+table_set_send = search (crosses, partitioned_table_send, sendable) depth 60

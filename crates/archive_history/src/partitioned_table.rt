@@ -1,0 +1,185 @@
+//! A table with its partitions.
+
+ghost use Rattle.std.specs.Prelude.{◌≡◌, ℕ, ◌+◌, ◌<◌, ◌≤◌, ◌↔◌, [], max, false, filter, length, Contains, IfOk, OnOk, OnErr, IfSome, IfNone, IsPermutation, IsSortedByKey};
+ghost use Rattle.std.specs.List.{list_any, AllByRecursion};
+ghost use Rattle.arch_types.specs.History.{has_key};
+ghost use Rattle.arch_types.specs.Order.{key_cmp};
+ghost use Rattle.histogram.specs.Times.{spans_of, spans_of_times, times_of};
+ghost use Rattle.partitions.specs.declared.partition.Partition.{Partition as APartition};
+ghost use Rattle.partitions.specs.Bounds.{MayHold};
+ghost use Rattle.partitions.specs.Partitions.{AreRising};
+ghost use Rattle.partitions.specs.Rows.{is_of_partition};
+ghost use Rattle.yarch_table.specs.Stored.{seen_at, seen_between, rows_of, IsInserted, IsKeptAt};
+ghost use Rattle.archive_history.specs.PartitionedTable.{partitions_of, named_times_of, rows_at_places};
+
+use arch_types::inserted::Inserted;
+use arch_types::key::Key;
+use arch_types::row::{Row, Rows};
+use arch_types::spans::Spans;
+use histogram::histogram::Histogram;
+use partitions::bounds::Bounds;
+use partitions::lists::PartList;
+use partitions::partition::Partition;
+use partitions::partitions::Partitions;
+use partitions::places::Places;
+use std::alloc::{AllocError, Global};
+use std::marker::Model;
+use yarch_table::rows::TableRows;
+use yarch_table::table::{Stored, Table};
+
+/// The rows of one table, and which of them each partition has.
+#[derive(Drop)]
+pub struct PartitionedTable {
+    alloc: Global,
+    table: Table,
+    /// The partition of each row, noted in the order of the rows.
+    partitions: Partitions,
+}
+
+impl Model for PartitionedTable {
+    ghost use Rattle.yarch_table.specs.Stored.{TableView};
+    ghost use Rattle.archive_history.specs.PartitionedTable.{IsPartitioned};
+
+    ghost Value = { TableView };
+
+    ghost view = { λ t. t.table };
+
+    ghost invariant = { λ t. IsPartitioned t.table t.partitions };
+}
+
+/// The rows at places with a position below a front, in the order of the places.
+fn rows_of_places(
+    alloc: Global,
+    table: &Table,
+    mut places: Places<'_>,
+    front: u64,
+) -> Result<Vec<Row>, AllocError>
+    requires { AllByRecursion (λ place. place < length table.now.stored) places }
+    ensures { IfOk result (λ rows. rows.items ≡ rows_at_places table.now.stored front places.entry) }
+{
+    let mut rows = Vec::new(alloc);
+    while let Some(place) = places.next() {
+        let stored = table.row_at(place);
+        if stored.position < front {
+            rows.push(stored.row.copy()?)?;
+        }
+    }
+    Ok(rows)
+}
+
+/// A histogram with the times of those rows that have a packet name. The one error is want of memory.
+fn histogram_of_name(alloc: Global, stored: &[Stored], pname: u16) -> Result<Histogram, AllocError>
+    ensures { IfOk result (λ histogram. spans_of pname histogram
+        ≡ spans_of_times (times_of pname (named_times_of (rows_of stored.now)))) }
+{
+    let mut histogram = Histogram::new(alloc);
+    for kept in stored {
+        if kept.row.pname == pname {
+            histogram.reserve(1)?;
+            histogram.add(pname, kept.row.key.time);
+        }
+    }
+    Ok(histogram)
+}
+
+/// The rows in the order of their keys.
+fn in_key_order(mut rows: Vec<Row>) -> Rows
+    ensures same { IsPermutation rows.items result }
+    ensures sorted { IsSortedByKey (λ row. row.key) key_cmp result }
+{
+    rows.sort_unstable_by_key(|row| row.key);
+    Rows::from_vec(rows)
+}
+
+impl PartitionedTable {
+    /// A table without rows or room. The one error is want of memory.
+    pub fn new(alloc: Global) -> Result<Self, AllocError>
+        ensures { IfOk result (λ t. t ≡ record { stored = []; room = 0 }) }
+    {
+        Ok(PartitionedTable {
+            alloc,
+            table: Table::new(alloc)?,
+            partitions: Partitions::new(alloc),
+        })
+    }
+
+    /// Makes room for at least so many more rows. The one error is want of memory, or of places of 32 bits, and then
+    /// all is as before.
+    pub fn reserve(&mut self, rows: u64) -> Result<(), AllocError>
+        ensures ok { OnOk result (self.new ≡ record { stored = self.old.stored; room = max self.old.room rows }) }
+        ensures err { OnErr result (self.new ≡ self.old) }
+    {
+        // The table comes last, since its room is the one that callers see.
+        self.partitions.reserve(rows)?;
+        self.table.reserve(rows)
+    }
+
+    /// Adds a row with its position in the history. Where a row of its key is there, that one stays, and the answer is
+    /// its position. Takes no memory.
+    pub fn insert(&mut self, row: Row, position: u64) -> Inserted
+        requires { 0 < self.old.room }
+        ensures inserted { IsInserted self.old self.new row position result }
+        ensures left { self.old.room ≤ self.new.room + 1 }
+    {
+        let Key { time, .. } = row.key;
+        let pname = row.pname;
+        match self.table.insert(row, position) {
+            Inserted::New(position) => {
+                self.partitions.add(time, pname);
+                Inserted::New(position)
+            }
+            Inserted::Duplicate(position) => Inserted::Duplicate(position),
+        }
+    }
+
+    /// The position of the row that has a key.
+    pub fn position(&self, key: Key) -> Option<u64>
+        ensures some { IfSome result (IsKeptAt self.now.stored key) }
+        ensures none { IfNone result (list_any (has_key key) (rows_of self.now.stored) ≡ false) }
+    {
+        self.table.position(key)
+    }
+
+    /// The rows with a position below the front and `from <= time < to`, in the order of their keys. Times are in
+    /// milliseconds.
+    pub fn range_at(&self, front: u64, from: i64, to: i64) -> TableRows<'_>
+        ensures { result ≡ seen_between front from to self.now.stored }
+    {
+        self.table.range_at(front, from, to)
+    }
+
+    /// The rows of a partition with a position below the front, in the order of their keys. The one error is want of
+    /// memory.
+    pub fn partition_rows(
+        &self,
+        alloc: Global,
+        part: &Partition,
+        front: u64,
+    ) -> Result<Rows, AllocError>
+        ensures { IfOk result (λ rows. rows ≡ filter (is_of_partition part.now) (seen_at front self.now.stored)) }
+    {
+        let places = self.partitions.places_of(*part);
+        let rows = rows_of_places(alloc, &self.table, places, front)?;
+        Ok(in_key_order(rows))
+    }
+
+    /// The partitions that hold a row and may hold one in the bounds, by day and then by the packet name's number.
+    /// The one error is want of memory.
+    pub fn pruned(&self, bounds: &Bounds) -> Result<PartList, AllocError>
+        ensures exactly { IfOk result (λ parts. (p : APartition) → Contains parts p
+            ↔ (Contains (partitions_of (rows_of self.now.stored)) p × MayHold bounds.now p)) }
+        ensures rising { IfOk result (λ parts. AreRising parts) }
+    {
+        self.partitions.pruned(bounds)
+    }
+
+    /// The spans of time in which a packet name has rows, counted in one pass over all rows. The one error is want of
+    /// memory.
+    pub fn spans(&self, pname: u16) -> Result<Spans, AllocError>
+        ensures { IfOk result (λ spans. spans
+            ≡ spans_of_times (times_of pname (named_times_of (rows_of self.now.stored)))) }
+    {
+        let histogram = histogram_of_name(self.alloc, self.table.stored(), pname)?;
+        histogram.records(pname)
+    }
+}

@@ -1,0 +1,110 @@
+-- What a store gives as a source, and that the partitions of a replay hold its rows.
+use Rattle.std.proofs.Common.{◌≡◌, ℕ, ◌<◌, ◌≤◌, ◌+◌, ◌↔◌, List, [], ◌∷◌, ◌++◌, length, get_or, take, drop, Bool, true, false, Option, Some, None, nat_lt, refl, sym, ap, ◌∙◌, subst, arith, append-nil, append_assoc, drop-cons, add-one}
+use Rattle.std.specs.Prelude.{filter, Contains, position}
+use Rattle.std.specs.List.{AllByRecursion, filter_map, cons_option}
+use mathlib.Core.List.{IsPrefix}
+use Rattle.std.proofs.Math.ListN.{get_or-map}
+use Rattle.std.proofs.Math.Seq.{take-append_seam}
+use Rattle.std.proofs.lemmas.Bool.Decides.{nat_tests}
+use Rattle.std.proofs.lemmas.List.{length-map, take-append-le}
+use Rattle.std.proofs.lemmas.List.Elements.{recursion_from_All, All-from_recursion}
+use Rattle.std.proofs.lemmas.List.Sums.{position_or_len_is}
+use Rattle.arch_types.specs.declared.row.Row.{Row}
+use Rattle.arch_types.specs.History.{IsHistory, is_in_table}
+use Rattle.archive_history.specs.PartitionedTable.{partitions_of}
+use Rattle.archive_history.proofs.Steps.{default_free}
+use Rattle.partitions.specs.declared.bounds.Bounds.{Bounds}
+use Rattle.partitions.specs.declared.partition.Partition.{Partition}
+use Rattle.partitions.specs.Bounds.{MayHold}
+use Rattle.replay_merge.specs.Cursor.{CursorView, rest_of}
+use Rattle.replay_merge.specs.Replay.{rows_asked, HoldEach}
+use Rattle.replay_merge.specs.Source.{IsKeyedRow, IsSourceHistory}
+use Rattle.replay_merge.proofs.Bounds.{own_partition, pruned_is_enough}
+use Rattle.replay_merge.proofs.Opening.{rest_at_front}
+use Rattle.replay_merge.proofs.Sources.{each_tested}
+use Rattle.archive_store.specs.declared.head.Head.{Head}
+use Rattle.archive_store.specs.Entries.{IsArchivedRow}
+use Rattle.archive_store.specs.Replays.{IsNamedPart}
+
+-- ---- rows of a source
+
+keyed_rows : (head : Head) (rows : List Row) → AllByRecursion (IsArchivedRow head) rows → AllByRecursion IsKeyedRow rows
+keyed_rows head [] all = tt
+keyed_rows head (row ∷ rows) all =
+    let stored = all.0.stored in
+    (record { packet = stored.packet; rectime = stored.rectime; key = stored.key }, keyed_rows head rows all.1)
+
+pub source_history : (head : Head) (rows : List Row) → IsHistory rows → AllByRecursion (IsArchivedRow head) rows → IsSourceHistory rows
+source_history head rows once all = record { once = once; each = keyed_rows head rows all }
+
+pub in_tables : (head : Head) (rows : List Row) → AllByRecursion (IsArchivedRow head) rows → AllByRecursion (λ row. row.table < length head.tables) rows
+in_tables head [] all = tt
+in_tables head (row ∷ rows) all = (all.0.placed.table, in_tables head rows all.1)
+
+-- ---- the first rows of a history that grew
+
+pub first_of_later : {X : Type 0} (history later : List X) (front : ℕ) → front ≡ length history → IsPrefix history later → take front later ≡ history
+first_of_later history later front is begins = ap (λ (n : ℕ). take n later) is ∙ ap (take (length history)) (sym begins.1) ∙ take-append_seam history begins.0
+
+-- what is left of a replay is the same over a history that grew behind its front
+pub rest_of_later : (c : CursorView) (history later : List Row) → c.front ≤ length history → IsPrefix history later → rest_of c later ≡ rest_of c history
+rest_of_later c history later within begins = rest_at_front c later history (ap (take c.front) (sym begins.1) ∙ take-append-le c.front history begins.0 within)
+
+-- ---- the partitions of a replay
+
+-- the partitions that hold a row of the table and may hold one in the bounds hold each row that is asked, also once rows came behind the front
+pub hold_each : (bounds : Bounds) (table front : ℕ) (parts : List Partition) (history later : List Row) → front ≡ length history → IsPrefix history later
+    → ((p : Partition) → Contains parts p ↔ (Contains (partitions_of (filter (is_in_table table) history)) p × MayHold bounds p))
+    → HoldEach parts (rows_asked table bounds.from bounds.to bounds.names (take front later))
+hold_each bounds table front parts history later is begins exactly =
+    let here = first_of_later history history front is ([], append-nil history) in
+    let there = first_of_later history later front is begins in
+    subst (λ (rows : List Row). HoldEach parts (rows_asked table bounds.from bounds.to bounds.names rows)) (here ∙ sym there)
+    (pruned_is_enough bounds table front parts history (λ p noted may. (exactly p).1 (noted, may)))
+
+-- the packet names of partitions that hold a row of a store are containers' numbers
+pub each_named : (head : Head) (table : ℕ) (history : List Row) (bounds : Bounds) (parts : List Partition) → AllByRecursion (IsArchivedRow head) history
+    → ((p : Partition) → Contains parts p ↔ (Contains (partitions_of (filter (is_in_table table) history)) p × MayHold bounds p))
+    → AllByRecursion (IsNamedPart head) parts
+each_named head table history bounds parts all exactly =
+    let rows = filter (is_in_table table) history in
+    let archived : AllByRecursion (IsArchivedRow head) rows = each_tested (IsArchivedRow head) (IsArchivedRow head) (is_in_table table) (λ row is e. is) history all in
+    recursion_from_All (IsNamedPart head) parts (λ k d h.
+    let part = get_or parts k d in
+    let noted = ((exactly part).0 (k, h, default_free parts k part d h)).0 in
+    let row : Row = get_or rows noted.0 (no_row part) in
+    let within : noted.0 < length rows = rw (length-map rows own_partition) at noted.1 in
+    let its : own_partition row ≡ part = sym (get_or-map own_partition rows noted.0 (no_row part)) ∙ default_free (partitions_of rows) noted.0 (own_partition (no_row part)) part noted.1 ∙ noted.2 in
+    subst (IsNamedPart head) its (All-from_recursion (IsArchivedRow head) rows archived noted.0 (no_row part) within).placed.pname)
+  where
+    no_row : Partition → Row
+    no_row part = record { key = record { time = part.day; seq = 0 }; rectime = part.day; packet = []; link = 0; pname = 0; table = 0 }
+
+-- ---- names that are looked up in a row
+
+module _ {X Y : Type 0} (f : X → Option Y) (xs : List X) (i : ℕ) (d : X) (done all : List Y) (within : i < length xs) (so_far : done ++ filter_map f (drop i xs) ≡ all) where
+  next_is : filter_map f (drop i xs) ≡ cons_option (f (get_or xs i d)) (filter_map f (drop (i + 1) xs))
+  next_is = rw (add-one, drop-cons xs i d within) refl
+
+  pub one_more : (y : Y) → f (get_or xs i d) ≡ Some y → (done ++ y ∷ []) ++ filter_map f (drop (i + 1) xs) ≡ all
+  one_more y is =
+      append_assoc done (y ∷ []) (filter_map f (drop (i + 1) xs))
+      ∙ ap (λ (rest : List Y). done ++ rest) (sym (next_is ∙ ap (λ (o : Option Y). cons_option o (filter_map f (drop (i + 1) xs))) is)) ∙ so_far
+
+  pub none_more : f (get_or xs i d) ≡ None → done ++ filter_map f (drop (i + 1) xs) ≡ all
+  none_more is = ap (λ (rest : List Y). done ++ rest) (sym (next_is ∙ ap (λ (o : Option Y). cons_option o (filter_map f (drop (i + 1) xs))) is)) ∙ so_far
+
+-- ---- the place of a name
+
+module _ {X : Type 0} (p : X → Bool) (xs : List X) (i : ℕ) (d : X) (before : (k : ℕ) → k < i → p (get_or xs k d) ≡ false) where
+  pub first_at : i < length xs → p (get_or xs i d) ≡ true → Some i ≡ position p xs
+  first_at within here =
+      let e = position_or_len_is p xs i d (omega (arith, within)) before (λ h. here) in
+      let less : nat_lt i (length xs) ≡ true = grind (arith, nat_tests, within) in
+      rw (e, less) refl
+
+  pub nowhere : i ≡ length xs → None ≡ position p xs
+  nowhere end =
+      let e = position_or_len_is p xs i d (omega (arith, end)) before (λ h. absurd (omega (arith, end, h))) in
+      let less : nat_lt i (length xs) ≡ false = grind (arith, nat_tests, end) in
+      rw (e, less) refl

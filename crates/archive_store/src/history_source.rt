@@ -1,0 +1,87 @@
+//! The rows of a store as a source of replays.
+
+ghost use Rattle.std.specs.Prelude.{◌≡◌};
+ghost use Rattle.archive_core.specs.Items.{rows_in};
+
+use crate::head::Head;
+use crate::store::Store;
+use arch_disk::Disk;
+use arch_types::refusal::Refusal;
+use arch_types::row::Rows;
+use archive_history::history::History;
+use partitions::partition::Partition;
+use replay_merge::source::RowSource;
+use std::alloc::Global;
+use std::marker::Model;
+
+/// The rows of a history in memory. That it only borrows them tells that a replay changes nothing of its store.
+#[derive(Drop)]
+pub(crate) struct HistorySource<'a> {
+    head: &'a Head,
+    history: &'a History,
+}
+
+impl<'a> Model for HistorySource<'a> {
+    ghost use Rattle.std.specs.Prelude.{List};
+    ghost use Rattle.arch_types.specs.declared.row.Row.{Row};
+    ghost use Rattle.archive_core.specs.Items.{rows_in};
+    ghost use Rattle.archive_store.specs.Replays.{IsStoredHistory};
+
+    ghost Value = { List Row };
+
+    ghost view = { λ s. rows_in s.history.now.items };
+
+    ghost invariant = { λ s. IsStoredHistory s.head.now s.history.now };
+}
+
+impl<'a> RowSource for HistorySource<'a> {
+    ghost use Rattle.archive_store.specs.Replays.{memory_state};
+
+    ghost state = { λ rows. memory_state rows };
+
+    /// No rows of a table that the head doesn't have. Refused for want of memory alone.
+    fn rows(
+        &mut self,
+        alloc: Global,
+        table: u8,
+        part: &Partition,
+        front: u64,
+    ) -> Result<Rows, Refusal> {
+        // It tells the proof that the rows are a history.
+        let _known = self.history.len();
+        if table as usize >= self.head.tables.as_slice().len() {
+            return Ok(Rows::new(alloc));
+        }
+        Ok(self.history.partition_rows(alloc, table, part, front)?)
+    }
+}
+
+impl<D: Disk> Store<D> {
+    /// The rows in memory.
+    pub(crate) fn source(&self) -> HistorySource<'_>
+        ensures { result ≡ rows_in self.now.history }
+    {
+        HistorySource {
+            head: &self.head,
+            history: &self.history,
+        }
+    }
+}
+
+impl<D: Disk> RowSource for Store<D> {
+    ghost use Rattle.archive_store.specs.Replays.{source_state};
+
+    ghost state = { λ s. source_state D.device s };
+
+    /// No rows of a table that the head doesn't have. Refused for want of memory alone.
+    fn rows(
+        &mut self,
+        alloc: Global,
+        table: u8,
+        part: &Partition,
+        front: u64,
+    ) -> Result<Rows, Refusal> {
+        let mut source = self.source();
+        source.rows(alloc, table, part, front)
+    }
+}

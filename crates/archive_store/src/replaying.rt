@@ -1,0 +1,174 @@
+//! Replays, and the partitions and times of packet names.
+
+ghost use Rattle.std.specs.Prelude.{◌≡◌, ◌<◌, ◌≤◌, ◌++◌, List, [], length, IfOk, IfErr, OnOk, IfSome};
+ghost use Rattle.std.specs.List.{AllByRecursion, filter_map};
+ghost use mathlib.Core.List.{IsPrefix};
+ghost use Rattle.arch_types.specs.declared.refusal.Refusal.TheVariants.{OutOfMemory};
+ghost use Rattle.archive_core.specs.Items.{Item, rows_in};
+ghost use Rattle.archive_history.specs.PartitionedTable.{named_times_of};
+ghost use Rattle.archive_history.specs.TableSet.{rows_in_table};
+ghost use Rattle.archive_store.specs.Replays.{packet_number, packet_numbers, replay_asked};
+ghost use Rattle.histogram.specs.Times.{spans_of_times, times_of};
+ghost use Rattle.mdb_items.specs.Texts.{place_of};
+ghost use Rattle.replay_merge.specs.Cursor.{rest_of};
+
+use crate::head::Head;
+use crate::names::text_of;
+use crate::store::Store;
+use arch_disk::Disk;
+use arch_types::ask::ReplayRequest;
+use arch_types::name::{Name, Names};
+use arch_types::refusal::Refusal;
+use arch_types::row::Rows;
+use arch_types::spans::Spans;
+use archive_history::history::History;
+use partitions::bounds::Bounds;
+use partitions::lists::{PartList, PnameList};
+use replay_merge::cursor::Cursor;
+use std::alloc::{AllocError, Global};
+
+/// The number of the table that has a name.
+fn table_number(tables: &Names, name: &Name) -> Option<u8>
+    requires { length tables.now ≤ 16 }
+    ensures value { result ≡ place_of name.now tables.now }
+    ensures within { IfSome result (λ n. n < length tables.now) }
+{
+    for (i, table) in tables.as_slice().iter().enumerate() {
+        if name.as_slice() == table.as_slice() {
+            return Some(i as u8);
+        }
+    }
+    None
+}
+
+/// The numbers of those packet names that the database has.
+fn numbers_of(alloc: Global, head: &Head, names: &Names) -> Result<PnameList, AllocError>
+    ensures { IfOk result (λ numbers. numbers ≡ filter_map (packet_number head.now) names.now) }
+{
+    let mut numbers = PnameList::new(alloc);
+    for name in names.as_slice() {
+        if let Some(number) = head.mdb.container_number(text_of(name)) {
+            numbers.push(number)?;
+        }
+    }
+    Ok(numbers)
+}
+
+/// The same, if names are asked for.
+fn asked_numbers(
+    alloc: Global,
+    head: &Head,
+    names: &Option<Names>,
+) -> Result<Option<PnameList>, AllocError>
+    ensures { IfOk result (λ numbers. numbers ≡ packet_numbers head.now names.now) }
+{
+    match names {
+        Some(names) => Ok(Some(numbers_of(alloc, head, names)?)),
+        None => Ok(None),
+    }
+}
+
+/// The bounds of a request, its packet names by these numbers.
+fn bounds_of(request: &ReplayRequest, names: Option<PnameList>) -> Bounds
+    ensures { result ≡ record { from = request.now.from; to = request.now.to; names = names } }
+{
+    Bounds {
+        from: request.from,
+        to: request.to,
+        names,
+    }
+}
+
+/// A cursor before the replay of a request to a table of a history, at its front.
+fn cursor_at_front(
+    alloc: Global,
+    head: &Head,
+    history: &History,
+    table: u8,
+    request: &ReplayRequest,
+) -> Result<Cursor, AllocError>
+    requires { table < history.now.tables }
+    ensures table { IfOk result (λ c. c.table ≡ table) }
+    ensures front { IfOk result (λ c. c.front ≡ length history.now.items) }
+    ensures replay { IfOk result (λ c. (later : List Item) → IsPrefix history.now.items later →
+        rest_of c (rows_in later) ≡ replay_asked head.now request.now table (rows_in history.now.items)) }
+{
+    let names = asked_numbers(alloc, head, &request.names)?;
+    let bounds = bounds_of(request, names);
+    let parts = history.pruned(table, &bounds)?;
+    let front = history.len() as u64;
+    Ok(Cursor::open(request, table, front, parts, bounds.names))
+}
+
+impl<D: Disk> Store<D> {
+    ghost use Rattle.archive_store.specs.Replays.{AreParts, IsNamedPart, IsReplayable, IsReplayOpened, IsReplayRefusal};
+    ghost use Rattle.replay_merge.specs.Cursor.{AsksTheSame, calls_left, EndExactly, IsRowAsked};
+
+    /// Opens the replay of a request: of the rows that its table holds now, whatever comes to the history later.
+    pub fn replay_open(&mut self, alloc: Global, request: &ReplayRequest) -> Result<Cursor, Refusal>
+        ensures opened { IfOk result (IsReplayOpened self.old.head self.old.history request.now) }
+        ensures same { self.new ≡ self.old }
+
+        // UnknownTable comes exactly where the head lacks the table, and then BadRange exactly where the range ends before it begins.
+        ensures refused { IfErr result (IsReplayRefusal self.old.head request.now) }
+        ensures replayable { OnOk result (IsReplayable self.old.head request.now) }
+    {
+        let Some(table) = table_number(&self.head.tables, &request.table) else {
+            let name = request.table.copy()?;
+            return Err(Refusal::UnknownTable { name });
+        };
+        if request.from > request.to {
+            return Err(Refusal::BadRange {
+                from: request.from,
+                to: request.to,
+            });
+        }
+        match cursor_at_front(alloc, &self.head, &self.history, table, request) {
+            Ok(cursor) => Ok(cursor),
+            Err(_) => Err(Refusal::OutOfMemory),
+        }
+    }
+
+    /// The next rows of a replay, at most `limit`: there may be more although these are fewer. None for a limit above 0 are the end.
+    pub fn replay_step(
+        &mut self,
+        alloc: Global,
+        cursor: &mut Cursor,
+        limit: u64,
+    ) -> Result<Rows, Refusal>
+        ensures rows { IfOk result (λ rows.
+            rows ++ rest_of cursor.new (rows_in self.old.history) ≡ rest_of cursor.old (rows_in self.old.history)) }
+        ensures end { IfOk result (EndExactly limit cursor.old cursor.new) }
+        ensures nearer { IfOk result (λ rows. (rows ≡ [] → ⊥) → calls_left cursor.new < calls_left cursor.old) }
+        ensures few { IfOk result (λ rows. length rows ≤ limit) }
+        ensures each { IfOk result (λ rows. AllByRecursion (IsRowAsked cursor.old) rows) }
+        ensures asked { AsksTheSame cursor.old cursor.new }
+        ensures refused { IfErr result (λ e. (e ≡ OutOfMemory) × (cursor.new ≡ cursor.old)) }
+        ensures same { self.new ≡ self.old }
+    {
+        let mut source = self.source();
+        cursor.next(alloc, &mut source, limit)
+    }
+
+    /// The spans of time in which a packet name, by its number, has rows in a table, in milliseconds since 1970.
+    pub fn histogram(&self, table: u8, pname: u16) -> Result<Spans, Refusal>
+        requires { table < length self.now.head.tables }
+        ensures spans { IfOk result (λ spans. spans
+            ≡ spans_of_times (times_of pname (named_times_of (rows_in_table table self.now.history)))) }
+        ensures only { IfErr result (λ e. e ≡ OutOfMemory) }
+    {
+        Ok(self.history.spans(table, pname)?)
+    }
+
+    /// The partitions of a table that hold a row and may hold one in the bounds, by day and then by the packet name's number.
+    pub fn parts(&self, table: u8, bounds: &Bounds) -> Result<PartList, Refusal>
+        requires { table < length self.now.head.tables }
+        ensures parts { IfOk result (AreParts self.now.history table bounds.now) }
+
+        // Whether or not the disk tells its contents.
+        ensures named { IfOk result (λ parts. AllByRecursion (IsNamedPart self.now.head) parts) }
+        ensures only { IfErr result (λ e. e ≡ OutOfMemory) }
+    {
+        Ok(self.history.pruned(table, bounds)?)
+    }
+}

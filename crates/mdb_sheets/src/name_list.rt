@@ -1,0 +1,31 @@
+//! Names in one text.
+
+ghost use Rattle.std.specs.Prelude.{◌≡◌, ◌==◌, map, IfOk};
+ghost use Rattle.std.specs.List.{slice_split};
+ghost use Rattle.mdb_sheets.specs.Asks.{listed_names};
+
+use arch_types::name::{Name, Names};
+use arch_types::octets::Octets;
+use std::alloc::{AllocError, Global};
+
+/// The parts of a text between its `;`.
+fn parts(alloc: Global, text: &[u8]) -> Result<Vec<&[u8]>, AllocError>
+    ensures { IfOk result (λ parts. map (λ part. part.now) parts.items ≡ slice_split (λ b. b == 59) text.now) }
+{
+    text.split(|b| *b == b';').collect(alloc)
+}
+
+/// The names that a text lists, joined by `;`, or `None` where one of them is no name.
+pub(crate) fn listed_names(alloc: Global, text: &[u8]) -> Result<Option<Names>, AllocError>
+    ensures { IfOk result (λ names. names ≡ listed_names text.now) }
+{
+    let parts = parts(alloc, text)?;
+    let mut names = Names::new(alloc);
+    for part in parts.as_slice() {
+        let Some(name) = Name::of(Octets::from_slice(alloc, part)?) else {
+            return Ok(None);
+        };
+        names.push(name)?;
+    }
+    Ok(Some(names))
+}

@@ -1,0 +1,27 @@
+-- The places of the rows that were noted: how many were noted before each. Not their positions in a history.
+use Rattle.std.specs.Prelude.{ℕ, zero, suc, List, [], ◌∷◌, length, filter, slice_get, Bool, false, Option, Some, None}
+use Rattle.std.specs.Ordering.{is_eq}
+use Rattle.partitions.specs.declared.partition.Partition.{Partition}
+use Rattle.partitions.specs.Partition.{partition_cmp}
+
+-- the numbers below one, the greatest first
+abbrev pub falling : ℕ → List ℕ
+falling zero = []
+falling (suc n) = n ∷ falling n
+
+-- whether a row was noted, and in this partition
+abbrev pub is_noted_in : Partition → Option Partition → Bool
+is_noted_in part None = false
+is_noted_in part (Some noted) = is_eq (partition_cmp part noted)
+
+-- the places below one at which rows were noted in a partition, the last first
+abbrev pub places_below : ℕ → Partition → List Partition → List ℕ
+places_below n part noted = filter (λ place. is_noted_in part (slice_get noted place)) (falling n)
+
+-- the places of the rows that were noted in a partition, the last first
+abbrev pub places_in : Partition → List Partition → List ℕ
+places_in part noted = places_below (length noted) part noted
+
+-- the last place below one at which a row was noted in a partition, if there is one
+abbrev pub last_place_below : ℕ → Partition → List Partition → Option ℕ
+last_place_below n part noted = slice_get (places_below n part noted) 0

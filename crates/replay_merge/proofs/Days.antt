@@ -1,0 +1,116 @@
+-- Rows of partitions, and that those of an earlier day come before those of a later one.
+use Rattle.std.proofs.Common.{◌≡◌, inl, inr, ℕ, zero, suc, ℤ, ◌+◌, ◌<◌, ◌≤◌, ◌<ℤ◌, ◌≤ℤ◌, List, length, get_or, take, drop, Bool, true, false, not, nat_lt, refl, sym, ap, ◌∙◌, subst, arith}
+use Rattle.std.specs.Prelude.{int_lt}
+use Rattle.std.specs.List.{AllWithin}
+use Rattle.std.specs.List.Sorted.{IsPartitionedBy, IsPartitionPoint}
+use Rattle.std.proofs.lemmas.Bool.Decides.{nat_tests}
+use Rattle.std.proofs.lemmas.Map.Keys.{Less-from_sorted}
+use Rattle.std.specs.Ordering.{is_eq}
+use Rattle.std.specs.declared.cmp.Ordering.{Ordering}
+use Rattle.std.specs.declared.cmp.Ordering.TheVariants.{Less, Equal, Greater}
+use Rattle.std.proofs.lemmas.Int.{ints}
+use Rattle.std.proofs.lemmas.List.{get_or-take, get_or-drop, length-take, length-drop}
+use Rattle.std.proofs.lemmas.List.Folds.{Any-from_list_any}
+use Rattle.arch_types.specs.declared.row.Row.{Row}
+use Rattle.arch_types.specs.Order.{is_before}
+use Rattle.time_text.specs.Day.{day_of}
+use Rattle.time_text.proofs.DayFacts.{days_rise}
+use Rattle.partitions.specs.declared.partition.Partition.{Partition}
+use Rattle.partitions.specs.Partition.{partition_cmp, partition_of}
+use Rattle.partitions.specs.Partitions.{AreRising}
+use Rattle.partitions.specs.Rows.{is_of_partition}
+use Rattle.partitions.proofs.Order.{IsBefore, before_from_less, exact_partitions}
+use Rattle.replay_merge.specs.Replay.{is_of_parts}
+use Rattle.replay_merge.specs.Fetch.{EndsDay}
+
+pub equal_by : (r : Ordering) → is_eq r ≡ true → r ≡ Equal
+equal_by Less is = absurd cc
+equal_by Equal is = refl
+equal_by Greater is = absurd cc
+
+-- a row stands in no other partition than its own
+pub its_partition : (part : Partition) (row : Row) → is_of_partition part row ≡ true → part ≡ partition_of row.key.time row.pname
+its_partition part row is = exact_partitions part (partition_of row.key.time row.pname) (equal_by _ is)
+
+pub its_day : (part : Partition) (row : Row) → is_of_partition part row ≡ true → part.day ≡ day_of row.key.time
+its_day part row is = ap (λ (p : Partition). p.day) (its_partition part row is)
+
+earlier : (a b : ℤ) → day_of a <ℤ day_of b → a <ℤ b
+earlier a b days = by (int_lt a b) refl
+  where
+    by : (t : Bool) → int_lt a b ≡ t → a <ℤ b
+    by true e = grind (arith, ints)
+    by false e = let back : b ≤ℤ a = grind (arith, ints) in let rise = days_rise b a back in absurd (omega (arith, ints))
+
+pub before_by_time : (x y : Row) → x.key.time <ℤ y.key.time → is_before x y ≡ true
+before_by_time x y less = let e : int_lt x.key.time y.key.time ≡ true = grind (arith, ints) in rw e refl
+
+in_front : (parts : List Partition) (n : ℕ) (P : Partition → Type 0) → AllWithin P parts 0 n → (row : Row) → is_of_parts (take n parts) row ≡ true →
+    (part : Partition) × (is_of_partition part row ≡ true) × P part
+in_front parts n P all row is =
+    let any = Any-from_list_any (λ part. is_of_partition part row) (take n parts) is in
+    let within : any.0 < n = omega (arith, any.2, length-take n parts) in
+    let at : get_or parts any.0 any.1 ≡ any.1 = sym (get_or-take n parts any.0 any.1 within) ∙ any.3 in
+    (any.1, any.4, subst P at (all any.0 any.1 (omega arith) within))
+
+in_rest : (parts : List Partition) (n : ℕ) (P : Partition → Type 0) → AllWithin P parts n (length parts) → (row : Row) → is_of_parts (drop n parts) row ≡ true →
+    (part : Partition) × (is_of_partition part row ≡ true) × P part
+in_rest parts n P all row is =
+    let any = Any-from_list_any (λ part. is_of_partition part row) (drop n parts) is in
+    let within : n + any.0 < length parts = omega (arith, any.2, length-drop n parts) in
+    let at : get_or parts (n + any.0) any.1 ≡ any.1 = sym (get_or-drop n parts any.0 any.1) ∙ any.3 in
+    (any.1, any.4, subst P at (all (n + any.0) any.1 (omega arith) within))
+
+-- rows of the first days come before rows of the others
+pub days_in_order : (parts : List Partition) (n : ℕ) → EndsDay parts n → (x y : Row) → is_of_parts (take n parts) x ≡ true → is_of_parts (drop n parts) y ≡ true → is_before x y ≡ true
+days_in_order parts n ends x y first later =
+    let a = in_front parts n (λ (part : Partition). part.day ≤ℤ ends.0) ends.1.0 x first in
+    let b = in_rest parts n (λ (part : Partition). ends.0 <ℤ part.day) ends.1.1 y later in
+    let day_x = its_day a.0 x a.1 in
+    let day_y = its_day b.0 y b.1 in
+    let low = a.2 in
+    let high = b.2 in
+    let less : day_of x.key.time <ℤ day_of y.key.time = rw (← day_x, ← day_y) (omega (arith, ints)) in
+    before_by_time x y (earlier x.key.time y.key.time less)
+
+-- ---- the first day of partitions
+
+day_rises : (parts : List Partition) → AreRising parts → (i j : ℕ) (d : Partition) → i ≤ j → j < length parts → (get_or parts i d).day ≤ℤ (get_or parts j d).day
+day_rises parts rising i j d le h = by (nat_lt i j) refl
+  where
+    from : IsBefore (get_or parts i d) (get_or parts j d) → (get_or parts i d).day ≤ℤ (get_or parts j d).day
+    from (inl days) = omega (arith, ints, days)
+    from (inr same) = let day = same.0 in omega (arith, ints, day)
+
+    by : (b : Bool) → nat_lt i j ≡ b → (get_or parts i d).day ≤ℤ (get_or parts j d).day
+    by true e = let less : i < j = grind (arith, nat_tests) in from (before_from_less _ _ (Less-from_sorted partition_cmp parts i j d rising less h))
+    by false e = let same : i ≡ j = grind (arith, nat_tests) in let P : ℕ → Type 0 = λ k. (get_or parts i d).day ≤ℤ (get_or parts k d).day in subst P same (omega (arith, ints))
+
+no_later_day : (day other : ℤ) → not (int_lt day other) ≡ true → other ≤ℤ day
+no_later_day day other e = grind (arith, ints)
+
+not_later : (day other : ℤ) → other ≤ℤ day → not (int_lt day other) ≡ true
+not_later day other le = grind (arith, ints)
+
+later_day : (day other : ℤ) → not (int_lt day other) ≡ false → day <ℤ other
+later_day day other e = grind (arith, ints)
+
+not_itself : (day : ℤ) → not (int_lt day day) ≡ false → ⊥
+not_itself day e = let less = later_day day day e in omega (arith, ints)
+
+-- whether a partition's day is no later
+abbrev pub is_upto : ℤ → Partition → Bool
+is_upto day part = not (int_lt day part.day)
+
+pub first_parted : (parts : List Partition) (day : ℤ) → AreRising parts → IsPartitionedBy (is_upto day) parts
+first_parted parts day rising i j d le h test =
+    let rises = day_rises parts rising i j d le h in
+    let upto = no_later_day day (get_or parts j d).day test in
+    not_later day (get_or parts i d).day (omega (arith, ints, rises, upto))
+
+pub ends_day : (parts : List Partition) (day : ℤ) (n : ℕ) → IsPartitionPoint (λ part. is_upto day part ≡ true) (λ part. is_upto day part ≡ false) parts n → EndsDay parts n
+ends_day parts day n point = (day, (λ k d low high. no_later_day day (get_or parts k d).day (point.0 k d low high), λ k d low high. later_day day (get_or parts k d).day (point.1 k d low high)))
+
+pub some_first : (parts : List Partition) (d : Partition) (n : ℕ) → 0 < length parts → AllWithin (λ part. is_upto (get_or parts 0 d).day part ≡ false) parts n (length parts) → 0 < n
+some_first parts d zero some all = absurd (not_itself (get_or parts 0 d).day (all 0 d (omega arith) some))
+some_first parts d (suc n) some all = omega arith

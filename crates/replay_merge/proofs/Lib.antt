@@ -1,0 +1,10 @@
+pub mod Splits
+pub mod Sorting
+pub mod Days
+pub mod Tied
+pub mod Reading
+pub mod Pieces
+pub mod Opening
+pub mod LookUps
+pub mod Bounds
+pub mod Sources

@@ -1,0 +1,118 @@
+-- Cursors at their opening, and at their end.
+use Rattle.std.proofs.Common.{◌≡◌, inl, inr, ◌↔◌, ℕ, List, [], ◌∷◌, ◌++◌, take, Option, Some, None, Bool, true, false, cond, ◌<◌, refl, sym, ap, ◌∙◌, subst, arith}
+use Rattle.std.specs.Prelude.{filter, Contains, ◌&&◌, ◌==◌, nat_lt}
+use Rattle.std.specs.List.{AllByRecursion}
+use Rattle.std.specs.List.Sorted.{IsPermutation, IsSorted}
+use Rattle.std.specs.List.Retain.{IsFiltered, DiffersFromLast}
+use Rattle.std.specs.Ordering.{eq_by_cmp, int_eq, int_cmp, nat_cmp, is_eq, ordering_then}
+use Rattle.std.specs.declared.cmp.Ordering.{Ordering}
+use Rattle.std.specs.declared.cmp.Ordering.TheVariants.{Less, Equal, Greater}
+use Rattle.std.proofs.lemmas.Bool.Decides.{nat_tests}
+use Rattle.std.specs.Cmp.{IsEquivalence, eq_by_cmp_equiv}
+use Rattle.std.proofs.lemmas.List.{take_all}
+use Rattle.std.proofs.lemmas.List.Elements.{filter_agree}
+use Rattle.std.proofs.lemmas.List.Filters.{dedup_is}
+use Rattle.std.proofs.lemmas.List.Folds.{Any-from_list_any, list_any-from_Any}
+use Rattle.std.proofs.lemmas.List.Kept.{IsStrictlySortedBy-dedup, Contains-dedup, Contains-from_dedup}
+use Rattle.std.proofs.lemmas.List.Sorted.{Contains-permutation, IsPermutation-sym}
+use Rattle.arch_types.specs.declared.row.Row.{Row}
+use Rattle.arch_types.specs.declared.ask.ReplayRequest.{ReplayRequest}
+use Rattle.arch_types.specs.Table.{range_of}
+use Rattle.partitions.specs.declared.partition.Partition.{Partition}
+use Rattle.partitions.specs.Partition.{partition_cmp}
+use Rattle.partitions.specs.Partitions.{AreRising}
+use Rattle.partitions.specs.Rows.{is_of_partition}
+use Rattle.partitions.proofs.Order.{partition_cmp_total, exact_partitions}
+use Rattle.replay_merge.specs.Replay.{has_listed_name, rows_asked, limited, replay_of, is_of_parts, HoldEach}
+use Rattle.replay_merge.specs.Cursor.{CursorView, rest_of, IsAtEnd, IsCursorOf}
+use Rattle.replay_merge.proofs.Tied.{none_in_parts}
+use Rattle.replay_merge.proofs.Reading.{all_pass}
+use Rattle.replay_merge.proofs.Days.{equal_by}
+
+-- ---- partitions in order, each once
+
+numbers_alike : (m n : ℕ) (b c : Bool) → nat_lt m n ≡ b → (m == n) ≡ c → c ≡ is_eq (cond b Less (cond c Equal Greater))
+numbers_alike m n true true less same = let lt : m < n = grind (arith, nat_tests) in let eq : m ≡ n = grind (arith, nat_tests) in absurd (omega arith)
+numbers_alike m n true false less same = refl
+numbers_alike m n false true less same = refl
+numbers_alike m n false false less same = refl
+
+days_alike : (r : Ordering) (m n : ℕ) → (is_eq r && (m == n)) ≡ is_eq (ordering_then r (nat_cmp m n))
+days_alike Less m n = refl
+days_alike Equal m n = numbers_alike m n (nat_lt m n) (m == n) refl refl
+days_alike Greater m n = refl
+
+-- whether two partitions are the same, as code asks it
+abbrev pub are_same : Partition → Partition → Bool
+are_same a b = int_eq a.day b.day && (a.pname == b.pname)
+
+pub same_by_order : (a b : Partition) → are_same a b ≡ eq_by_cmp partition_cmp a b
+same_by_order a b = days_alike (int_cmp a.day b.day) a.pname b.pname
+
+module _ (E : Partition → Partition → Bool) (tests : (a b : Partition) → E a b ≡ eq_by_cmp partition_cmp a b) (given sorted left : List Partition) (same : IsPermutation given sorted) (in_order : IsSorted partition_cmp sorted)
+    (once : IsFiltered (DiffersFromLast E) [] sorted left) where
+  pub once_rising : AreRising left
+  once_rising = subst AreRising (sym (dedup_is E sorted left once)) (IsStrictlySortedBy-dedup partition_cmp_total tests sorted in_order)
+
+  equal : (a b : Partition) → E a b ≡ true → a ≡ b
+  equal a b e = exact_partitions a b (equal_by _ (sym (tests a b) ∙ e))
+
+  alike : IsEquivalence E
+  alike = record {
+    refl = λ a. tests a a ∙ (eq_by_cmp_equiv partition_cmp_total).refl a;
+    symm = λ a b. tests a b ∙ (eq_by_cmp_equiv partition_cmp_total).symm a b ∙ sym (tests b a);
+    congr = λ a b d e. tests a d ∙ (eq_by_cmp_equiv partition_cmp_total).congr a b d (sym (tests a b) ∙ e) ∙ sym (tests b d);
+  }
+
+  pub once_same : (part : Partition) → Contains left part ↔ Contains given part
+  once_same part = (to, from)
+    where
+      to : Contains left part → Contains given part
+      to is = Contains-permutation sorted given part (IsPermutation-sym given sorted same) (Contains-from_dedup E sorted part (subst (λ (l : List Partition). Contains l part) (dedup_is E sorted left once) is))
+
+      from : Contains given part → Contains left part
+      from is = subst (λ (l : List Partition). Contains l part) (sym (dedup_is E sorted left once)) (Contains-dedup alike equal sorted part (Contains-permutation given sorted part same is))
+
+-- ---- what is left at the opening
+
+there : (given parts : List Partition) → ((part : Partition) → Contains parts part ↔ Contains given part) → (row : Row) → is_of_parts given row ≡ true → is_of_parts parts row ≡ true
+there given parts same row is =
+    let any = Any-from_list_any (λ part. is_of_partition part row) given is in
+    let at = (same any.1).1 (any.0, any.2, any.3) in
+    list_any-from_Any (λ part. is_of_partition part row) parts (at.0, any.1, at.1, at.2, any.4)
+
+all_there : (given parts : List Partition) → ((part : Partition) → Contains parts part ↔ Contains given part) → (rows : List Row) → HoldEach given rows → AllByRecursion (λ row. is_of_parts parts row ≡ true) rows
+all_there given parts same [] all = tt
+all_there given parts same (row ∷ rows) all = (there given parts same row all.0, all_there given parts same rows all.1)
+
+-- a cursor that was just opened, over all partitions that it needs, has the replay before it
+pub opened_is_replay : (request : ReplayRequest) (table front : ℕ) (parts : List Partition) (names : Option (List ℕ)) (c : CursorView) → IsCursorOf request table front parts names c → (history : List Row) →
+    HoldEach parts (rows_asked table request.from request.to names (take front history)) →
+    rest_of c history ≡ replay_of table request.from request.to names request.limit (take front history)
+opened_is_replay request table front parts names c is history hold =
+    let range = range_of table request.from request.to (take front history) in
+    let asked : rows_asked c.table c.from c.to c.names (take c.front history) ≡ rows_asked table request.from request.to names (take front history) =
+    rw (is.of_table, is.at_front, is.starts, is.ends) (filter_agree (has_listed_name c.names) (has_listed_name names) (λ row. is.listed row.pname) range) in
+    let held = all_pass (is_of_parts c.parts) (rows_asked table request.from request.to names (take front history)) (all_there parts c.parts is.same_parts _ hold) in
+    ap (λ (w : List Row). limited c.left (w ++ filter (is_of_parts c.parts) (rows_asked c.table c.from c.to c.names (take c.front history)))) is.unread
+    ∙ ap (λ (w : List Row). limited c.left (filter (is_of_parts c.parts) w)) asked
+    ∙ ap (limited c.left) held
+    ∙ ap (λ (l : Option ℕ). limited l (rows_asked table request.from request.to names (take front history))) is.limit
+
+-- ---- the end
+
+limited_none : (left : Option ℕ) → limited left [] ≡ []
+limited_none None = refl
+limited_none (Some n) = take_all n [] (omega arith)
+
+pub end_no_rest : (c : CursorView) (history : List Row) → IsAtEnd c → rest_of c history ≡ []
+end_no_rest c history (inl zero) = rw zero refl
+end_no_rest c history (inr (ahead, parts)) =
+    let asked = rows_asked c.table c.from c.to c.names (take c.front history) in
+    let none : filter (is_of_parts c.parts) asked ≡ [] = rw parts (none_in_parts [] asked refl) in
+    ap (λ (w : List Row). limited c.left (w ++ filter (is_of_parts c.parts) asked)) ahead ∙ ap (limited c.left) none ∙ limited_none c.left
+
+-- ---- the front
+
+pub rest_at_front : (c : CursorView) (one other : List Row) → take c.front one ≡ take c.front other → rest_of c one ≡ rest_of c other
+rest_at_front c one other same = ap (λ (rows : List Row). limited c.left (c.ahead ++ filter (is_of_parts c.parts) (rows_asked c.table c.from c.to c.names rows))) same

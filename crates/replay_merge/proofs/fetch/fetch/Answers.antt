@@ -1,0 +1,6 @@
+use Rattle.std.proofs.lemmas.List.{take_rest}
+use Rattle.replay_merge.proofs.Reading.{rising_rest}
+use Rattle.replay_merge.proofs.fetch.fetch.Goals as goal
+
+pub read_day-requires-clause-rising : goal.read_day-requires-clause-rising
+read_day-requires-clause-rising g c = rw (take_rest c.args.parts.now c.loop-read.read) (rising_rest c.loop-read.read c.args.parts.now c.requires)

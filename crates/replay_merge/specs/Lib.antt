@@ -1,0 +1,5 @@
+pub mod Source
+pub mod Replay
+pub mod Cursor
+pub mod Fetch
+pub mod Laws

@@ -1,0 +1,54 @@
+-- What a source of rows tells, and what it gives.
+use Rattle.std.specs.Prelude.{◌≡◌, ◌≤◌, ℕ, List, Option, IsNone, true}
+use Rattle.std.specs.List.{AllByRecursion}
+use Rattle.std.specs.List.Sorted.{IsStrictlySortedBy}
+use Rattle.text_forms.specs.ClockTime.{IsClockTime}
+use Rattle.arch_types.specs.declared.row.Row.{Row}
+use Rattle.arch_types.specs.declared.refusal.Refusal.{Refusal}
+use Rattle.arch_types.specs.declared.refusal.Refusal.TheVariants.{DiskFault, Damaged, OutOfMemory}
+use Rattle.arch_types.specs.Packet.{IsPacket}
+use Rattle.arch_types.specs.GenerationTime.{key_of}
+use Rattle.arch_types.specs.Order.{key_cmp}
+use Rattle.arch_types.specs.History.{IsHistory}
+use Rattle.arch_disk.specs.Disk.{raised}
+use Rattle.partitions.specs.declared.partition.Partition.{Partition}
+use Rattle.partitions.specs.Rows.{is_of_partition}
+
+-- the rows that a source tells, in the order in which they came to stay, and how often it has failed
+pub record RowSourceState : Type 0 where
+  pub history : Option (List Row)
+  pub faults : ℕ
+
+-- a whole packet, received within the clock's range, with the key that it gives then
+pub record IsKeyedRow (row : Row) : Type 0 where
+  pub packet : IsPacket row.packet
+  pub rectime : IsClockTime row.rectime
+  pub key : row.key ≡ key_of row.packet row.rectime
+
+-- a history of such rows
+pub record IsSourceHistory (history : List Row) : Type 0 where
+  pub once : IsHistory history
+  pub each : AllByRecursion IsKeyedRow history
+
+-- such a row of a table and a partition
+pub record IsRowOf (table : ℕ) (part : Partition) (row : Row) : Type 0 where
+  pub keyed : IsKeyedRow row
+  pub in_table : row.table ≡ table
+  pub in_part : is_of_partition part row ≡ true
+
+-- such rows, each with a key below those of the rows after it
+pub record AreRowsOf (table : ℕ) (part : Partition) (rows : List Row) : Type 0 where
+  pub each : AllByRecursion (IsRowOf table part) rows
+  pub rising : IsStrictlySortedBy (λ (a b : Row). key_cmp a.key b.key) rows
+
+-- a source refuses for a fault where its count has risen, for damage where it doesn't tell its rows, and else for want of memory
+abbrev pub IsSourceRefusal : RowSourceState → RowSourceState → Refusal → Type 0
+IsSourceRefusal old new DiskFault = raised old.faults ≤ new.faults
+IsSourceRefusal old new (Damaged file at) = IsNone old.history
+IsSourceRefusal old new OutOfMemory = Unit {0}
+IsSourceRefusal old new _ = ⊥
+
+-- a source tells what it told, and its count of faults hasn't fallen
+pub record UsedSource (old new : RowSourceState) : Type 0 where
+  pub told : new.history ≡ old.history
+  pub later : old.faults ≤ new.faults

@@ -1,0 +1,22 @@
+// Replays: the rows of a table with a time in a range and a packet name of some, in key order, as they stood at a front.
+//
+// A `RowSource` gives the rows of one partition, a day and a packet name, below a front. A `Cursor` goes over the partitions that
+// it was given, day after day, and hands their rows on piece by piece: what the calls of `next` gave, one after the other, is the
+// replay (`replay_of`, specs/Replay.antt), whatever was added to the source in the meantime. Contracts see it as a `CursorView`
+// (specs/Cursor.antt), and `rest_of` is what it has still to give.
+// Callers: the store is a source, and opens and continues replays.
+//
+// The one idea of the proof: days in order, because a key begins with its time, so that the rows of a day's partitions come before
+// those of any later day. A step reads days until one has a row, and keeps what it can't give yet. No clause of `next` needs that the
+// source tells the same at each call: a step keeps what was asked, and what is left is of the rows below the front alone
+// (`laws::rest_at_front`), so that the pieces join also where the source has grown.
+// To be changed together: the order of partitions (`partition_cmp`) and that of keys, which both begin with the time.
+#![tactic(auto)]
+
+mod ahead;
+pub mod cursor;
+mod fetch;
+pub mod laws;
+mod names;
+pub mod source;
+mod wanted;

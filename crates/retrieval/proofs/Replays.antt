@@ -1,0 +1,108 @@
+-- The replay of a request, printed step by step.
+use Rattle.std.proofs.Common.{◌≡◌, ◌∙◌, ◌+◌, ◌≤◌, ◌<◌, ℕ, ℤ, List, [], ◌∷◌, ◌++◌, length, take, Bool, true, false, not, Option, Some, None, refl, ap, sym, subst, arith, append_assoc, append-nil, length-append, length-take}
+use Rattle.std.specs.Prelude.{filter, fold, unwrap_or, if◌then◌else◌}
+use Rattle.std.proofs.lemmas.Grind.{flat_map-append}
+use Rattle.std.proofs.lemmas.List.{nil_from_length}
+use Rattle.std.proofs.lemmas.List.Filters.{length-filter_both}
+use Rattle.arch_types.specs.declared.ask.ReplayRequest.{ReplayRequest}
+use Rattle.arch_types.specs.declared.row.Row.{Row}
+use Rattle.arch_types.specs.History.{is_in_table}
+use Rattle.arch_types.specs.Order.{is_before, order_by, place_by}
+use Rattle.arch_types.specs.Table.{is_in_time_range}
+use Rattle.archive_core.specs.Items.{Item, rows_in}
+use Rattle.archive_store.specs.declared.head.Head.{Head}
+use Rattle.archive_store.specs.Replays.{IsReplayOpened, packet_numbers, replay_asked, table_asked}
+use Rattle.mdb_items.specs.Database.{Database}
+use Rattle.replay_merge.specs.Cursor.{CursorView, rest_of}
+use Rattle.replay_merge.specs.Replay.{has_listed_name, limited, replay_of}
+use Rattle.dump_lines.specs.Output.{IsBuffered}
+use Rattle.retrieval.specs.ReplayText.{packet_line, packet_lines, rows_replayed}
+
+-- ---- there are at most as many rows as in the history
+
+few_filter : {X : Type 0} (p : X → Bool) (xs : List X) → length (filter p xs) ≤ length xs
+few_filter {X} p xs = omega (arith, length-filter_both p (λ (x : X). not (p x)) (λ x. refl) xs)
+
+place-cases : (b : Bool) (row first : Row) (rows placed : List Row) → length placed ≡ length rows + 1 →
+    length (if b then row ∷ first ∷ rows else first ∷ placed) ≡ length (first ∷ rows) + 1
+place-cases true row first rows placed e = omega arith
+place-cases false row first rows placed e = omega arith
+
+length-place : (rows : List Row) (row : Row) → length (place_by is_before rows row) ≡ length rows + 1
+length-place [] row = omega arith
+length-place (first ∷ rows) row = place-cases (is_before row first) row first rows (place_by is_before rows row) (length-place rows row)
+
+-- putting rows in the order of their keys leaves out none
+pub length-order : (done rows : List Row) → length (fold (place_by is_before) done rows) ≡ length done + length rows
+length-order done [] = omega arith
+length-order done (row ∷ rows) =
+    let placed = length-place done row in
+    let more = length-order (place_by is_before done row) rows in
+    omega (arith, placed, more)
+
+few_limited : (limit : Option ℕ) (rows : List Row) → length (limited limit rows) ≤ length rows
+few_limited None rows = omega arith
+few_limited (Some n) rows = omega (arith, length-take n rows)
+
+pub few_replayed : (table : ℕ) (from to : ℤ) (names : Option (List ℕ)) (limit : Option ℕ) (history : List Row) → length (replay_of table from to names limit history) ≤ length history
+few_replayed table from to names limit history =
+    let rows = filter (is_in_table table) history in
+    let ordered = order_by is_before rows in
+    let ranged = filter (is_in_time_range from to) ordered in
+    let named = filter (has_listed_name names) ranged in
+    let e1 = few_limited limit named in
+    let e2 = few_filter (has_listed_name names) ranged in
+    let e3 = few_filter (is_in_time_range from to) ordered in
+    let e4 = length-order [] rows in
+    let e5 = few_filter (is_in_table table) history in
+    omega (arith, e1, e2, e3, e4, e5)
+
+-- ---- a cursor that was opened
+
+-- what it has to give is the replay
+pub opened_is : (head : Head) (history : List Item) (request : ReplayRequest) (c : CursorView) → IsReplayOpened head history request c →
+    rest_of c (rows_in history) ≡ rows_replayed head request (rows_in history)
+opened_is head history request c is =
+    let table : c.table ≡ unwrap_or (table_asked head request) 0 = sym (ap (λ (place : Option ℕ). unwrap_or place 0) is.table) in
+    is.replay history ([], append-nil history) ∙ ap (λ (number : ℕ). replay_asked head request number (rows_in history)) table
+
+-- no more rows than the history has
+pub few_rest : (head : Head) (history : List Item) (request : ReplayRequest) (c : CursorView) → IsReplayOpened head history request c → length (rest_of c (rows_in history)) ≤ length history
+few_rest head history request c is =
+    let few = few_replayed c.table request.from request.to (packet_numbers head request.names) request.limit (rows_in history) in
+    let same = ap (λ (rows : List Row). length rows) (is.replay history ([], append-nil history)) in
+    omega (arith, few, same)
+
+-- ---- a step of it
+
+-- a step that gave no row, behind which nothing is left
+pub nothing_left : (rows rest left : List Row) → rows ++ rest ≡ left → length rows ≡ 0 → (rows ≡ [] → rest ≡ []) → left ≡ []
+nothing_left rows rest left step none end =
+    let here = nil_from_length rows none in
+    sym step ∙ ap (λ (rs : List Row). rs ++ rest) here ∙ end here
+
+-- so all is printed
+pub all_printed : (db : Database) (table : List ℕ) (first now : Option (List ℕ)) (all held : List ℕ) (left : List Row) → left ≡ [] →
+    IsBuffered first now all (held ++ packet_lines db table left) → IsBuffered first now all held
+all_printed db table first now all held left none h =
+    subst (IsBuffered first now all) (ap (λ (rows : List Row). held ++ packet_lines db table rows) none ∙ append-nil held) h
+
+-- and counted
+pub all_counted : (count total : ℕ) (left : List Row) → left ≡ [] → count + length left ≡ total → count ≡ total
+all_counted count total left none e =
+    let zero : length left ≡ 0 = ap (λ (rows : List Row). length rows) none in
+    omega (arith, zero, e)
+
+-- the lines of a step's rows are the first of those that are left
+pub step_printed : (db : Database) (table : List ℕ) (first now : Option (List ℕ)) (all held : List ℕ) (rows rest left : List Row) → rows ++ rest ≡ left →
+    IsBuffered first now all (held ++ packet_lines db table left) → IsBuffered first now all ((held ++ packet_lines db table rows) ++ packet_lines db table rest)
+step_printed db table first now all held rows rest left step h =
+    let lines : packet_lines db table left ≡ packet_lines db table rows ++ packet_lines db table rest =
+    ap (packet_lines db table) (sym step) ∙ flat_map-append (packet_line db table) rows rest in
+    subst (IsBuffered first now all) (ap (λ (text : List ℕ). held ++ text) lines ∙ sym (append_assoc held (packet_lines db table rows) (packet_lines db table rest))) h
+
+-- and its rows are counted
+pub step_counted : (count total : ℕ) (rows rest left : List Row) → rows ++ rest ≡ left → count + length left ≡ total → (count + length rows) + length rest ≡ total
+step_counted count total rows rest left step e =
+    let parts : length left ≡ length rows + length rest = ap (λ (rs : List Row). length rs) (sym step) ∙ length-append rows rest in
+    omega (arith, parts, e)

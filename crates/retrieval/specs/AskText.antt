@@ -1,0 +1,31 @@
+-- The asks of a sheet: why one isn't answered, and the text of their answers.
+use Rattle.std.specs.Prelude.{ℕ, suc, List, [], ◌∷◌, ◌++◌, Option, None}
+use Rattle.arch_types.specs.declared.ask.Ask.{Ask}
+use Rattle.arch_types.specs.declared.ask.Ask.TheVariants.{Values, Replay}
+use Rattle.arch_types.specs.declared.refusal.Refusal.{Refusal}
+use Rattle.archive_core.specs.Items.{Item}
+use Rattle.archive_store.specs.declared.head.Head.{Head}
+use Rattle.mdb_items.specs.Checks.{or_else}
+use Rattle.retrieval.specs.AnswerText.{request_refusal, answer_text}
+use Rattle.retrieval.specs.Parameter.{number_named}
+use Rattle.retrieval.specs.ReplayText.{replay_refusal, replay_text}
+
+-- the text of the ask with a number
+abbrev pub ask_text : Head → List Item → ℕ → Ask → List ℕ
+ask_text head history k (Values request) = answer_text head.mdb history k request
+ask_text head history k (Replay request) = replay_text head history k request
+
+-- the texts of asks, numbered from k on
+abbrev pub asks_text : Head → List Item → ℕ → List Ask → List ℕ
+asks_text head history k [] = []
+asks_text head history k (ask ∷ asks) = ask_text head history k ask ++ asks_text head history (suc k) asks
+
+-- why an ask isn't answered: its parameter or its table is unknown, or else its range ends before it begins
+abbrev pub ask_refusal : Head → Ask → Option Refusal
+ask_refusal head (Values request) = request_refusal (number_named head.mdb request.parameter) request
+ask_refusal head (Replay request) = replay_refusal head request
+
+-- the refusal of the first ask that isn't answered
+abbrev pub asks_refusal : Head → List Ask → Option Refusal
+asks_refusal head [] = None
+asks_refusal head (ask ∷ asks) = or_else (ask_refusal head ask) (asks_refusal head asks)

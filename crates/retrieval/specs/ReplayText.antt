@@ -1,0 +1,62 @@
+-- The replays that are asked for, and their text.
+use Rattle.std.specs.Prelude.{ℕ, List, [], ◌++◌, flat_map, length, Option, Some, None, codes, decimal, slice_get, unwrap_or}
+use Rattle.std.specs.Fmt.{signed_decimal}
+use Rattle.arch_types.specs.declared.ask.ReplayRequest.{ReplayRequest}
+use Rattle.arch_types.specs.declared.key.Key.{Key}
+use Rattle.arch_types.specs.declared.refusal.Refusal.{Refusal}
+use Rattle.arch_types.specs.declared.refusal.Refusal.TheVariants.{UnknownTable}
+use Rattle.arch_types.specs.declared.row.Row.{Row}
+use Rattle.archive_core.specs.Items.{Item, rows_in}
+use Rattle.archive_store.specs.declared.head.Head.{Head}
+use Rattle.archive_store.specs.Replays.{replay_asked, table_asked}
+use Rattle.mdb_items.specs.declared.container.Container.{Container}
+use Rattle.mdb_items.specs.Database.{Database}
+use Rattle.retrieval.specs.AnswerText.{end_line, front_line, range_refusal}
+
+-- a container's name; none has none
+abbrev pub container_name : Option Container → List ℕ
+container_name None = []
+container_name (Some container) = container.name
+
+-- the name of packets, by the number of the container that gives it
+abbrev pub pname_text : Database → ℕ → List ℕ
+pname_text db number = container_name (slice_get db.containers number)
+
+-- the first words of the line of a row: its table and its key
+abbrev pub key_words : List ℕ → Key → List ℕ
+key_words table key = codes "packet " ++ table ++ codes " " ++ signed_decimal key.time ++ codes " " ++ decimal key.seq
+
+-- the other words: its link, its packet's name, and how many octets the packet has
+abbrev pub packet_words : Database → Row → List ℕ
+packet_words db row =
+    codes " " ++ decimal row.link ++ codes " " ++ pname_text db row.pname ++ codes " " ++ decimal (length row.packet) ++ codes "\n"
+
+-- the line of a row of a table
+abbrev pub packet_line : Database → List ℕ → Row → List ℕ
+packet_line db table row = key_words table row.key ++ packet_words db row
+
+-- the lines of rows of a table
+abbrev pub packet_lines : Database → List ℕ → List Row → List ℕ
+packet_lines db table rows = flat_map (packet_line db table) rows
+
+-- the lines of a replay: its number and the front, the rows of a table, and how many there are
+abbrev pub replay_lines : ℕ → ℕ → Database → List ℕ → List Row → List ℕ
+replay_lines k front db table rows = front_line k front ++ packet_lines db table rows ++ end_line (length rows)
+
+-- the rows that a request asks of a history, where the head has its table
+abbrev pub rows_replayed : Head → ReplayRequest → List Row → List Row
+rows_replayed head request history = replay_asked head request (unwrap_or (table_asked head request) 0) history
+
+-- the text of the replay of a request, the ask with a number
+abbrev pub replay_text : Head → List Item → ℕ → ReplayRequest → List ℕ
+replay_text head history k request =
+    replay_lines k (length history) head.mdb request.table (rows_replayed head request (rows_in history))
+
+-- why there's no replay: no table has the name, or else the range is reversed
+abbrev pub table_refusal : Option ℕ → ReplayRequest → Option Refusal
+table_refusal None request = Some (UnknownTable request.table)
+table_refusal (Some table) request = range_refusal request.from request.to
+
+-- why a replay isn't given: the head has no table of its name, or else its range ends before it begins
+abbrev pub replay_refusal : Head → ReplayRequest → Option Refusal
+replay_refusal head request = table_refusal (table_asked head request) request

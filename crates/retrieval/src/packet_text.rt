@@ -1,0 +1,72 @@
+//! The lines of packets.
+
+ghost use Rattle.std.specs.Prelude.{◌≡◌, ◌+◌, ◌<◌, ◌≤◌, ◌++◌, length, slice_get};
+ghost use Rattle.std.specs.List.{AllByRecursion};
+ghost use Rattle.retrieval.specs.ReplayText.{container_name, key_words, packet_line, packet_words, pname_text};
+
+use arch_types::key::Key;
+use arch_types::name::Name;
+use arch_types::row::Row;
+use dump_lines::line_buffer::LineBuffer;
+use mdb_model::{Container, Mdb};
+
+/// Adds the line of a row of a table.
+pub(crate) fn put_packet(line_buffer: &mut LineBuffer, mdb: &Mdb, table: &Name, row: &Row)
+    requires { length line_buffer.old < 65536 }
+    ensures { line_buffer.new ≡ line_buffer.old ++ packet_line mdb.now table.now row.now }
+{
+    put_key(line_buffer, table, row.key);
+    put_packet_words(line_buffer, mdb, row);
+}
+
+/// Adds the table and the key.
+fn put_key(line_buffer: &mut LineBuffer, table: &Name, key: Key)
+    requires { length line_buffer.old < 65536 }
+    ensures text { line_buffer.new ≡ line_buffer.old ++ key_words table.now key }
+    ensures short { length line_buffer.new ≤ length line_buffer.old + 153 }
+{
+    line_buffer.put(b"packet ");
+    line_buffer.put(octets_of(table));
+    line_buffer.put_field(key.time);
+    line_buffer.put_field(key.seq);
+}
+
+/// Adds the link, the packet's name, and how many octets it has.
+fn put_packet_words(line_buffer: &mut LineBuffer, mdb: &Mdb, row: &Row)
+    requires { length line_buffer.old ≤ 65700 }
+    ensures { line_buffer.new ≡ line_buffer.old ++ packet_words mdb.now row.now }
+{
+    line_buffer.put_field(row.link);
+    line_buffer.put_octet(b' ');
+    line_buffer.put(pname_text(mdb, row.pname));
+    line_buffer.put_field(row.packet.len());
+    line_buffer.put_octet(b'\n');
+}
+
+/// The octets of a name, few enough for a line.
+fn octets_of(name: &Name) -> &[u8]
+    ensures text { result.now ≡ name.now }
+    ensures short { length result.now ≤ 64 }
+{
+    name.as_slice()
+}
+
+/// The name of the container with a number, few enough octets for a line.
+fn pname_text(mdb: &Mdb, number: u16) -> &[u8]
+    ensures text { result.now ≡ pname_text mdb.now number }
+    ensures short { length result.now ≤ 64 }
+{
+    container_name(mdb.container_list(), number)
+}
+
+/// The name at a place.
+fn container_name(containers: &[Container], number: u16) -> &[u8]
+    requires { AllByRecursion (λ container. length container.name ≤ 64) containers.now }
+    ensures text { result.now ≡ container_name (slice_get containers.now number) }
+    ensures short { length result.now ≤ 64 }
+{
+    match containers.get(number as usize) {
+        None => b"",
+        Some(container) => container.name.as_bytes(),
+    }
+}

@@ -1,0 +1,153 @@
+//! The lines of a replay.
+
+ghost use Rattle.std.specs.Prelude.{◌≡◌, ◌<◌, ◌≤◌, ◌^◌, ◌++◌, [], OnOk, OnErr, IfOk, IsErr, None, length};
+ghost use Rattle.std.specs.Result.{result_err};
+ghost use Rattle.outer_traits.specs.Outside.{HasRisen, Stays, WritesSome};
+ghost use Rattle.archive_core.specs.Items.{rows_in};
+ghost use Rattle.archive_store.specs.Replays.{IsReplayOpened};
+ghost use Rattle.dump_lines.specs.Output.{IsBuffered, PrintCounted};
+ghost use Rattle.replay_merge.specs.Cursor.{calls_left, rest_of};
+ghost use Rattle.retrieval.specs.ReplayText.{packet_lines, replay_refusal, replay_text};
+
+use crate::answer_text::{put_end, put_front};
+use crate::packet_text::put_packet;
+use arch_disk::Disk;
+use arch_types::ask::ReplayRequest;
+use arch_types::name::Name;
+use arch_types::refusal::Refusal;
+use arch_types::row::{Row, Rows};
+use archive_store::Store;
+use dump_lines::line_buffer::LineBuffer;
+use dump_lines::print_fault::PrintFault;
+use mdb_model::Mdb;
+use outer_traits::fault::Failed;
+use outer_traits::sink::Sink;
+use replay_merge::cursor::Cursor;
+use replay_merge::laws::end_has_no_rest;
+use std::alloc::{AllocError, Global};
+
+/// Prints the replay of a request over the whole history of a store, the ask with number `k`. The store has its table, and its range doesn't end
+/// before it begins. Rows are printed as they come, so no more than a day's are held. The end may still be buffered.
+pub fn print_replay<D: Disk, K: Sink>(
+    alloc: Global,
+    k: u64,
+    request: &ReplayRequest,
+    store: &mut Store<D>,
+    line_buffer: &mut LineBuffer,
+    sink: &mut K,
+) -> Result<(), PrintFault>
+    requires known { replay_refusal store.old.head request.now ≡ None }
+    requires room { length line_buffer.old < 65536 }
+    ensures buffered { OnOk result (IsBuffered (K.state sink.old).written (K.state sink.new).written
+        (line_buffer.old ++ replay_text store.old.head store.old.history k request.now) line_buffer.new) }
+    ensures room { OnOk result (length line_buffer.new < 65536) }
+    ensures some { OnErr result (WritesSome (K.state sink.old).written (K.state sink.new).written
+        (line_buffer.old ++ replay_text store.old.head store.old.history k request.now)) }
+    ensures later { (K.state sink.old).faults ≤ (K.state sink.new).faults }
+    ensures counted { PrintCounted (result_err result) (K.state sink.old).faults (K.state sink.new).faults }
+    ensures same { store.new ≡ store.old }
+{
+    let cursor = opened(alloc, request, store)?;
+    put_front(line_buffer, k, cursor.front());
+    line_buffer.flush_if_full(sink)?;
+    let count = print_rest(alloc, &request.table, cursor, store, line_buffer, sink)?;
+    put_end(line_buffer, count);
+    line_buffer.flush_if_full(sink)?;
+    Ok(())
+}
+
+/// A cursor before the replay of a request.
+fn opened<D: Disk>(
+    alloc: Global,
+    request: &ReplayRequest,
+    store: &mut Store<D>,
+) -> Result<Cursor, AllocError>
+    requires { replay_refusal store.old.head request.now ≡ None }
+    ensures opened { IfOk result (IsReplayOpened store.old.head store.old.history request.now) }
+    ensures same { store.new ≡ store.old }
+{
+    match store.replay_open(alloc, request) {
+        Ok(cursor) => Ok(cursor),
+        Err(Refusal::OutOfMemory) => Err(AllocError),
+        Err(_) => unreachable!(),
+    }
+}
+
+/// Prints the rows that are left of a replay, of which the last may still be buffered, and counts them.
+fn print_rest<D: Disk, K: Sink>(
+    alloc: Global,
+    table: &Name,
+    cursor: Cursor,
+    store: &mut Store<D>,
+    line_buffer: &mut LineBuffer,
+    sink: &mut K,
+) -> Result<usize, PrintFault>
+    requires room { length line_buffer.old < 65536 }
+    requires few { length (rest_of cursor (rows_in store.old.history)) < 2 ^ 64 }
+    ensures buffered { OnOk result (IsBuffered (K.state sink.old).written (K.state sink.new).written
+        (line_buffer.old ++ packet_lines store.old.head.mdb table.now (rest_of cursor (rows_in store.old.history)))
+        line_buffer.new) }
+    ensures room { OnOk result (length line_buffer.new < 65536) }
+    ensures count { IfOk result (λ count. count ≡ length (rest_of cursor (rows_in store.old.history))) }
+    ensures some { OnErr result (WritesSome (K.state sink.old).written (K.state sink.new).written
+        (line_buffer.old ++ packet_lines store.old.head.mdb table.now (rest_of cursor (rows_in store.old.history)))) }
+    ensures later { (K.state sink.old).faults ≤ (K.state sink.new).faults }
+    ensures counted { PrintCounted (result_err result) (K.state sink.old).faults (K.state sink.new).faults }
+    ensures same { store.new ≡ store.old }
+{
+    let mut cursor = cursor;
+    let mut count = 0;
+    'steps: loop {
+        let rows = next_rows(alloc, &mut cursor, store)?;
+        if rows.len() == 0 {
+            return Ok(count);
+        }
+        print_rows(&store.head().mdb, table, rows.as_slice(), line_buffer, sink)?;
+        count += rows.len();
+    }
+}
+
+/// The next rows of a replay: those of a day. None are its end.
+fn next_rows<D: Disk>(
+    alloc: Global,
+    cursor: &mut Cursor,
+    store: &mut Store<D>,
+) -> Result<Rows, AllocError>
+    ensures rows { IfOk result (λ rows.
+        rows ++ rest_of cursor.new (rows_in store.old.history) ≡ rest_of cursor.old (rows_in store.old.history)) }
+    ensures end { IfOk result (λ rows. rows ≡ [] → rest_of cursor.new (rows_in store.old.history) ≡ []) }
+    ensures nearer { IfOk result (λ rows. (rows ≡ [] → ⊥) → calls_left cursor.new < calls_left cursor.old) }
+    ensures same { store.new ≡ store.old }
+{
+    end_has_no_rest();
+    match store.replay_step(alloc, cursor, u64::MAX) {
+        Ok(rows) => Ok(rows),
+        Err(Refusal::OutOfMemory) => Err(AllocError),
+        Err(_) => unreachable!(),
+    }
+}
+
+/// Prints the lines of rows of a table, of which the last may still be buffered.
+fn print_rows<K: Sink>(
+    mdb: &Mdb,
+    table: &Name,
+    rows: &[Row],
+    line_buffer: &mut LineBuffer,
+    sink: &mut K,
+) -> Result<(), Failed>
+    requires { length line_buffer.old < 65536 }
+    ensures buffered { OnOk result (IsBuffered (K.state sink.old).written (K.state sink.new).written
+        (line_buffer.old ++ packet_lines mdb.now table.now rows.now) line_buffer.new) }
+    ensures room { OnOk result (length line_buffer.new < 65536) }
+    ensures some { OnErr result (WritesSome (K.state sink.old).written (K.state sink.new).written
+        (line_buffer.old ++ packet_lines mdb.now table.now rows.now)) }
+    ensures later { (K.state sink.old).faults ≤ (K.state sink.new).faults }
+    ensures failed { IsErr result → HasRisen (K.state sink.old).faults (K.state sink.new).faults }
+    ensures no_fault { OnOk result (Stays (K.state sink.old).faults (K.state sink.new).faults) }
+{
+    for row in rows {
+        put_packet(line_buffer, mdb, table, row);
+        line_buffer.flush_if_full(sink)?;
+    }
+    Ok(())
+}
