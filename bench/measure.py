@@ -1,10 +1,18 @@
 """Runs program and peer in turn: processor time and peak memory, least of three rounds, and whether they print the same."""
-import hashlib, os, resource, subprocess, sys, tempfile
+import hashlib, os, subprocess, sys, tempfile
+
+EVER = (0, 999_999_999_999_999)
+DAY = (1_772_409_600_000, 1_772_496_000_000)  # 2026-03-02, in milliseconds
+REPLAYS = {
+    "replay-nothing": (0, 0),
+    "replay-name-day": (*DAY, "radio"),
+    "replay-name": (*EVER, "radio"),
+    "replay-all": EVER,
+}
 
 
-def once(words):
-    with tempfile.TemporaryFile() as out:
-        before = resource.getrusage(resource.RUSAGE_CHILDREN)
+def once(words, folder):
+    with tempfile.TemporaryFile(dir=folder) as out:
         child = subprocess.Popen(words, stdout=out)
         _, status, used = os.wait4(child.pid, 0)
         child.returncode = os.waitstatus_to_exitcode(status)
@@ -17,22 +25,55 @@ def once(words):
     return used.ru_utime + used.ru_stime, used.ru_maxrss / 1024, digest.hexdigest()
 
 
+def compare(label, program, peer, folder):
+    ours, peers = [], []
+    for _ in range(3):
+        ours.append(once(program, folder))
+        peers.append(once(peer, folder))
+    a, b = min(x[0] for x in ours), min(x[0] for x in peers)
+    m, n = min(x[1] for x in ours), min(x[1] for x in peers)
+    same = ours[0][2] == peers[0][2]
+    print(f"{label}  {a:.3f} {b:.3f} {a / b:.2f}  {m:.0f} {n:.0f} {m / n:.2f}  {same}", flush=True)
+
+
+def sheets(folder):
+    return [f"{folder}/{name}.csv" for name in ("parameters", "calibrations", "containers")]
+
+
+def dump_of(folder, size, *kind):
+    dump = f"{folder}/{'-'.join((size, *kind))}.dump"
+    if not os.path.exists(dump):
+        subprocess.check_call([f"{folder}/dumps", dump, size, *kind])
+    return dump
+
+
+def measure_dumps(bench, folder, program, size):
+    dump = dump_of(folder, size)
+    for words in (["scan", dump], ["values", *sheets(f"{bench}/sheets"), dump, "temp"]):
+        compare(f"{words[0]} {size}", [program, *words], [f"{folder}/plain", *words], folder)
+
+
+def measure_replays(bench, folder, program, size):
+    dump, archive = dump_of(folder, size, "days"), f"{folder}/{size}.archive"
+    os.environ["YARCH_HOME"] = archive
+    if not os.path.exists(archive):
+        subprocess.check_call([program, "create", *sheets(f"{bench}/twelve")], stdout=subprocess.DEVNULL)
+    # an archive that stands there whole takes every packet as a duplicate
+    subprocess.check_call([program, "load", dump], stdout=subprocess.DEVNULL)
+    for label, (start, end, *names) in REPLAYS.items():
+        asks = f"{folder}/{label}.csv"
+        with open(asks, "w") as sheet:
+            sheet.write(f"kind,name,from,to,order,limit,names\nreplay,tm,{start},{end},,,{';'.join(names)}\n")
+        peer = [f"{folder}/plain", "replay", archive, str(start), str(end), *names]
+        compare(f"{label} {size}", [program, "query", "--ask", asks], peer, folder)
+
+
 def main():
-    folder, program, sheets, sizes = sys.argv[1], sys.argv[2], sys.argv[3], " ".join(sys.argv[4:]).split()
-    sheets = [f"{sheets}/{name}.csv" for name in ("parameters", "calibrations", "containers")]
+    bench, folder, program, sizes = sys.argv[1], sys.argv[2], sys.argv[3], " ".join(sys.argv[4:]).split()
     print("command packets  program-cpu-s peer-cpu-s ratio  program-MB peer-MB ratio  same")
     for size in sizes:
-        dump = f"{folder}/{size}.dump"
-        if not os.path.exists(dump):
-            subprocess.check_call([f"{folder}/dumps", dump, size])
-        for words in (["scan", dump], ["values", *sheets, dump, "temp"]):
-            ours, peers = [], []
-            for _ in range(3):
-                ours.append(once([program, *words]))
-                peers.append(once([f"{folder}/plain", *words]))
-            a, b = min(x[0] for x in ours), min(x[0] for x in peers)
-            m, n = min(x[1] for x in ours), min(x[1] for x in peers)
-            print(f"{words[0]} {size}  {a:.2f} {b:.2f} {a / b:.2f}  {m:.0f} {n:.0f} {m / n:.2f}  {ours[0][2] == peers[0][2]}")
+        measure_dumps(bench, folder, program, size)
+        measure_replays(bench, folder, program, size)
 
 
 main()

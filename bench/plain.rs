@@ -1,4 +1,6 @@
-//! The plain peers of `scan` and `values`: `plain scan DUMP` and `plain values PARAMETERS CALIBRATIONS CONTAINERS DUMP NAME`.
+//! The plain peers of `scan`, `values`, and of `query` with one replay of table `tm`: `plain scan DUMP`,
+//! `plain values PARAMETERS CALIBRATIONS CONTAINERS DUMP NAME`, and `plain replay FOLDER FROM TO [NAME..]`, for an archive's folder, times in
+//! milliseconds, and packet names, of which none stand for all.
 
 use std::collections::btree_map::Entry;
 use std::collections::BTreeMap;
@@ -247,11 +249,143 @@ fn values(words: &[String], out: &mut impl Write) {
     writeln!(out, "values {count}").unwrap();
 }
 
+/// Octets of a journal that weren't read yet. `docs/FORMATS.md` says what stands there.
+struct Reader<'a>(&'a [u8]);
+
+impl<'a> Reader<'a> {
+    fn take(&mut self, count: usize) -> &'a [u8] {
+        let (taken, left) = self.0.split_at(count);
+        self.0 = left;
+        taken
+    }
+
+    fn number(&mut self, octets: usize) -> usize {
+        number(self.take(octets)) as usize
+    }
+
+    fn name(&mut self) -> &'a str {
+        let octets = self.number(1);
+        std::str::from_utf8(self.take(octets)).unwrap()
+    }
+
+    fn packet(&mut self) -> &'a [u8] {
+        let length = 7 + number(&self.0[4..6]) as usize;
+        self.take(length)
+    }
+}
+
+/// A row of table `tm`, whose packet stands in the journal.
+struct Row<'a> {
+    key: (i64, u32),
+    link: u8,
+    pname: u16,
+    packet: &'a [u8],
+}
+
+/// What a journal holds: the packet names, how many rows it has, and those of table `tm`, in key order.
+#[derive(Default)]
+struct Archive<'a> {
+    names: Vec<&'a str>,
+    front: usize,
+    rows: Vec<Row<'a>>,
+}
+
+impl<'a> Archive<'a> {
+    fn read(journal: &'a [u8]) -> Archive<'a> {
+        let mut archive = Archive::default();
+        let mut journal = Reader(journal);
+        while journal.number(1) == 1 {
+            let length = journal.number(4);
+            let mut body = Reader(journal.take(length));
+            match body.number(1) {
+                1 => archive.head(&mut body),
+                2 => archive.batch(&mut body),
+                kind => panic!("an entry of kind {kind}"),
+            }
+        }
+        archive.rows.sort_by_key(|row| row.key);
+        assert!(archive.rows.windows(2).all(|pair| pair[0].key < pair[1].key), "a key stands twice");
+        archive
+    }
+
+    /// Takes the names of the containers, which stand behind the tables, the parameters and the calibrations.
+    fn head(&mut self, head: &mut Reader<'a>) {
+        assert_eq!(head.take(2), [1, 22]);
+        for _ in 0..head.number(1) {
+            head.name();
+        }
+        for _ in 0..head.number(2) {
+            head.name();
+            head.take(4);
+        }
+        for _ in 0..head.number(2) {
+            head.name();
+            let kind = head.number(1);
+            for _ in 0..head.number(4) {
+                match kind {
+                    0 => drop(head.take(9)),
+                    1 => drop(head.take(24)),
+                    _ => drop((head.take(16), head.name())),
+                }
+            }
+        }
+        for _ in 0..head.number(2) {
+            self.names.push(head.name());
+            head.take(3);
+            let comparisons = head.number(1);
+            head.take(19 * comparisons);
+            let entries = head.number(2);
+            head.take(6 * entries);
+        }
+    }
+
+    fn batch(&mut self, batch: &mut Reader<'a>) {
+        for _ in 0..batch.number(2) {
+            let table = batch.number(1);
+            let received = batch.number(8) as i64;
+            let link = batch.number(1) as u8;
+            let pname = batch.number(2) as u16;
+            let packet = batch.packet();
+            self.front += 1;
+            if table == 0 {
+                self.rows.push(Row { key: key_of(packet, received), link, pname, packet });
+            }
+        }
+    }
+}
+
+/// A packet's key. A packet that says no time has that of its reception.
+fn key_of(p: &[u8], received: i64) -> (i64, u32) {
+    let says_time = p[0] & 8 != 0 && p.len() >= 12;
+    let time = if says_time { 1000 * number(&p[6..10]) + number(&p[10..12]) * 1000 / 65_536 } else { received as u64 };
+    (time as i64, number(&p[..4]) as u32)
+}
+
+fn replay(words: &[String], out: &mut impl Write) {
+    let journal = std::fs::read(format!("{}/00000000", words[0])).unwrap();
+    let archive = Archive::read(&journal);
+    let (from, to): (i64, i64) = (words[1].parse().unwrap(), words[2].parse().unwrap());
+    let asked = |name: &str| words.len() == 3 || words[3..].iter().any(|word| word == name);
+    let asked: Vec<bool> = archive.names.iter().map(|name| asked(name)).collect();
+    let first = archive.rows.partition_point(|row| row.key.0 < from);
+    let end = archive.rows.partition_point(|row| row.key.0 < to);
+    let mut count = 0u64;
+    writeln!(out, "ask 1 front {}", archive.front).unwrap();
+    for row in archive.rows[first..end].iter().filter(|row| asked[row.pname as usize]) {
+        let (time, seq) = row.key;
+        let name = archive.names[row.pname as usize];
+        writeln!(out, "packet tm {time} {seq} {} {name} {}", row.link, row.packet.len()).unwrap();
+        count += 1;
+    }
+    writeln!(out, "end {count}").unwrap();
+}
+
 fn main() {
     let words: Vec<String> = std::env::args().skip(1).collect();
     let mut out = std::io::BufWriter::with_capacity(65_536, std::io::stdout().lock());
     match words[0].as_str() {
         "scan" => scan(&words[1..], &mut out),
-        _ => values(&words[1..], &mut out),
+        "values" => values(&words[1..], &mut out),
+        _ => replay(&words[1..], &mut out),
     }
 }

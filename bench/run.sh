@@ -8,4 +8,4 @@ mkdir -p "$dir"
 for name in dumps plain; do
   [ "$dir/$name" -nt "$here/$name.rs" ] || rustc --edition 2021 -C opt-level=3 -o "$dir/$name" "$here/$name.rs"
 done
-exec python3 "$here/measure.py" "$dir" "$program" "$here/sheets" "${@:-250000 1000000}"
+exec python3 "$here/measure.py" "$here" "$dir" "$program" "${@:-250000 1000000}"
