@@ -44,7 +44,7 @@ pub fn create<D: Disk, I: Inputs, K: Sink>(
         (effects_of disk result.disk (K.state sink.old) (K.state sink.new) result.report)
         (I.state inputs.old) (I.state inputs.new) }
 
-    // Where disk and inputs are known the answer that is due comes, or that of a fault at its place.
+    // Where disk and inputs are known the answer that is due comes, or that of an interruption at its place.
     ensures due { IsTrue D.device.is_transparent → IsSome (I.state inputs.old).files →
         IsDue (create_plan D.device disk (I.state inputs.old).files (sheet_words_of words.entry))
         result.report.refusal }

@@ -24,7 +24,7 @@ pub fn recover<D: Disk, K: Sink>(alloc: Global, disk: D, sink: &mut K) -> Ended<
     ensures ran { Ran D.device (recover_plan D.device disk) (effects_of disk result.disk (K.state sink.old)
         (K.state sink.new) result.report) }
 
-    // Where the disk is transparent the answer that is due comes, or that of a fault at its place.
+    // Where the disk is transparent the answer that is due comes, or that of an interruption at its place.
     ensures due { IsTrue D.device.is_transparent → IsDue (recover_plan D.device disk) result.report.refusal }
 
     // The number of the refusal, and 0 exactly where there's none.

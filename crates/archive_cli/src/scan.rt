@@ -44,7 +44,7 @@ pub fn scan<D: Disk, I: Inputs, K: Sink, C: Clock>(
         (effects_of disk result.disk (K.state sink.old) (K.state sink.new) result.report)
         (I.state inputs.old) (I.state inputs.new) }
 
-    // Where the inputs are known the answer that is due comes, or that of a fault at its place.
+    // Where the inputs are known the answer that is due comes, or that of an interruption at its place.
     ensures due { IsSome (I.state inputs.old).files →
         IsDue (scan_plan (I.state inputs.old).files (C.state clock.old).next name.now) result.report.refusal }
 

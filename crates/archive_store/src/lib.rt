@@ -12,7 +12,8 @@
 // (`FaultInvariant`), of the value alone. So `front` and `into_disk` hand both out (`CrashInvariant`), and each call proves one step:
 // a record more, an unacknowledged record, a record taken back (proofs/Kept.antt, proofs/Healing.antt).
 //
-// In memory the rows stand in a `Table` for each table; their order is kept for contracts alone (archive_history).
+// In memory the rows stand in a table with its partitions for each name of the head; their order is kept for contracts
+// alone (archive_history). A replay goes over them by a cursor of replay_merge; a step of it borrows them.
 // To be changed together: `Applies` in specs/Entries.antt, src/reading.rt and `IsBatch`; the limits, in archive_history.
 #![tactic(auto)]
 

@@ -129,7 +129,7 @@ impl<D: Disk> Store<D> {
         }
     }
 
-    /// The next rows of a replay, at most `limit`: there may be more although these are fewer. None for a limit above 0 are the end.
+    /// The next rows of a replay, at most `limit`: there may be more although these are fewer. No row, for a limit above 0, is the end.
     pub fn replay_step(
         &mut self,
         alloc: Global,

@@ -2,8 +2,8 @@
 // must not fail half-way reserves first, where want of memory can still be answered, and then inserts.
 // Contracts see an `Index` or a `GrowingIndex` as its entries in strictly rising key order, and its room (`Listing`,
 // specs/Index.antt); a look-up, an insert and a removal are the list functions that std's `BTreeMap` has for its entries.
-// Callers of `GrowingIndex`, from which nothing is taken out: the tables (key to place of a row), the rows of each interval,
-// a batch's new rows. Callers of `Index`: the late intervals, the partitions and the histogram.
+// Callers of `GrowingIndex`, from which nothing is taken out: the tables (key to place of a row), their partitions, the rows
+// of each interval. Callers of `Index`: the late intervals and the histogram.
 //
 // An index takes no memory before its first `reserve`; then it has a body.
 // The entries stand in blocks of at most `CAPACITY` entries. A full block is split, and its upper part goes into a spare

@@ -4,7 +4,7 @@
 // sorted times, cut between neighbours that differ by more than 60,000 ms, each piece as its first and last time and their number
 // (`histogram_of`, specs/Spans.antt). A caller that knows which times it added keeps `IsHistogramOf` of them (specs/Times.antt): a new
 // histogram is that of no time, and an addition makes that of any list of times that of the list with one more.
-// Callers: the store, which adds the time of each row and prints the records.
+// Callers: the history, which makes the histogram of a packet name from a table's rows where one is asked.
 //
 // Memory holds the records and not the times: an ordered index has each record under its name and its last time. An addition takes
 // out the records that are near its time, at most two, joins them with it, and puts the one record in.

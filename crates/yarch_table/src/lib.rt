@@ -4,7 +4,8 @@
 // many more go in without memory (`TableView`, specs/Stored.antt). What it answers at a front are the rows with a position below the
 // front, in the order of their keys. `laws` ties that to a history: where the stored rows are the table's rows of a history at their
 // positions (specs/Placed.antt), the answers are `table_at` and `range_of` of arch_types, and an insert is an ingest.
-// One value holds one table. Callers: scan, which reads all rows; the store and its replays, which read ranges at a front.
+// One value holds one table. Callers: scan, which reads all rows; the history, which reads ranges at a front, and the rows of
+// a partition by their places.
 //
 // The rows stand in a `Vec` in the order of their insertion, and an ordered index of block_map names them by key, so that an insert
 // moves no row and takes no memory. The one idea of the proof is `IsKeyIndex`: the rows that the entries name, in the order of the entries,
