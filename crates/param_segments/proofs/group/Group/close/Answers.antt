@@ -1,0 +1,7 @@
+use Rattle.param_segments.proofs.group.Group.close.Goals as goal
+
+pub put_rows-requires : goal.put_rows-requires
+put_rows-requires c = record {
+  len = rw (c.deref.ensures.value, c.deref-2.ensures.value, c.deref-3.ensures.value) c.requires.raw_count;
+  segment = rw (c.deref.ensures.value, c.deref-2.ensures.value, c.deref-3.ensures.value) c.requires.segment;
+}

@@ -1,0 +1,105 @@
+//! A segment set.
+
+ghost use Rattle.std.specs.Prelude.{◌≡◌, ◌+◌, ◌<◌, length, IfOk};
+ghost use Rattle.param_segments.specs.Cells.{AreValuesOf, set_cells};
+ghost use Rattle.param_segments.specs.Groups.{set_of};
+ghost use Rattle.param_segments.specs.Octets.{IsSpelledSet, part_rows, rows_in_octets, set_octets};
+
+use crate::cells::{calibrated_cells, part_raw_cells, raw_cells};
+use arch_types::cell::Cells;
+use arch_types::octets::Octets;
+use arch_types::steps::Steps;
+use mdb_model::Mdb;
+use std::alloc::{AllocError, Global};
+use std::marker::Model;
+use std::sync::ledger::Ledger;
+
+/// Rows with their raw values, by columns: each parameter's are read without the others'.
+#[derive(Drop)]
+pub struct SegSet {
+    /// The one spelling of the rows. Copies share it.
+    octets: Octets,
+    /// The place where each segment begins in it.
+    starts: Vec<u32>,
+}
+
+impl Model for SegSet {
+    ghost use Rattle.std.specs.Prelude.{List};
+    ghost use Rattle.param_segments.specs.Rows.{SetRow};
+    ghost use Rattle.param_segments.specs.Octets.{IsSpelledSet, rows_in_octets};
+
+    ghost Value = { List SetRow };
+
+    ghost view = { λ s. rows_in_octets s.octets };
+
+    ghost invariant = { λ s. IsSpelledSet s.octets s.starts.items };
+}
+
+impl SegSet {
+    /// The set that octets spell, with the places where its segments begin.
+    pub(crate) fn of_spelling(octets: Octets, starts: Vec<u32>) -> SegSet
+        requires { IsSpelledSet octets starts.items }
+        ensures { result ≡ rows_in_octets octets }
+    {
+        SegSet { octets, starts }
+    }
+
+    /// The cells of a parameter, in the order of their keys: what an extraction of the rows' packets gives of it. The
+    /// database is one of which the set's values are, as that by which it was built or read.
+    pub fn cells(&self, alloc: Global, mdb: &Mdb, parameter: u16) -> Result<Cells, AllocError>
+        requires { AreValuesOf mdb.now self.now }
+        ensures { IfOk result (λ cells. cells ≡ set_cells mdb.now parameter self.now) }
+    {
+        let raw = raw_cells(alloc, self.octets.as_slice(), &self.starts, parameter)?;
+        calibrated_cells(alloc, mdb, parameter, &raw)
+    }
+
+    /// The number of its segments.
+    pub fn parts(&self) -> u32
+        ensures { result ≡ length (set_of self.now) }
+    {
+        self.starts.len() as u32
+    }
+
+    /// The cells of a parameter in the segment with a number, in the order of their keys, in one step.
+    pub fn part_cells<L: Ledger>(
+        &self,
+        alloc: Global,
+        mdb: &Mdb,
+        part: u32,
+        parameter: u16,
+        steps: &mut Steps<L>,
+    ) -> Result<Cells, AllocError>
+        requires part { part < length (set_of self.now) }
+        requires values { AreValuesOf mdb.now self.now }
+        ensures cells { IfOk result (λ cells. cells ≡ set_cells mdb.now parameter (part_rows self.now part)) }
+        ensures step { steps.new ≡ steps.old + 1 }
+    {
+        steps.tick();
+        let raw = part_raw_cells(
+            alloc,
+            self.octets.as_slice(),
+            &self.starts,
+            part as usize,
+            parameter,
+        )?;
+        calibrated_cells(alloc, mdb, parameter, &raw)
+    }
+
+    /// Its one spelling, whose octets it shares.
+    pub fn to_bytes(&self) -> Result<Octets, AllocError>
+        ensures { IfOk result (λ octets. octets ≡ set_octets self.now) }
+    {
+        self.octets.copy()
+    }
+
+    /// An equal value, which shares the octets.
+    pub fn copy(&self, alloc: Global) -> Result<SegSet, AllocError>
+        ensures { IfOk result (λ copy. copy ≡ self.now) }
+    {
+        Ok(SegSet {
+            octets: self.octets.copy()?,
+            starts: Vec::from_slice(alloc, &self.starts)?,
+        })
+    }
+}

@@ -1,0 +1,12 @@
+pub mod Leaves
+pub mod Varints
+pub mod Numbers
+pub mod Packing
+pub mod Keys
+pub mod Columns
+pub mod Distinct
+pub mod Segments
+pub mod Looping
+pub mod Written
+pub mod Skipped
+pub mod Places

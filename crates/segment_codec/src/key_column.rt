@@ -1,0 +1,97 @@
+//! The key column, both ways.
+
+ghost use Rattle.std.specs.Prelude.{◌≡◌, ◌≤◌, ◌++◌, length, OnOk};
+ghost use Rattle.octet_fields.specs.Answers.{Answers, Gives};
+ghost use Rattle.segment_codec.specs.KeyColumn.{first_key_at, key_after_at, key_column, key_gap, key_gaps, keys_at};
+
+use crate::segment::KeyList;
+use crate::varint::{put_varint, varint_at};
+use arch_types::key::Key;
+use octet_fields::{DecodeError, Short, i64_at, put_i64, put_u32, room_for, u32_at};
+use std::alloc::{AllocError, Global};
+
+/// The first key, and the octets after it.
+#[tactic(auto, unfolding(crate::specs::KeyColumn::first_key_at))]
+fn first_key_at(octets: &[u8]) -> Result<(Key, &[u8]), Short>
+    ensures { Answers (λ x. (x.0, x.1.now)) result (first_key_at octets.now) }
+{
+    let (time, rest) = i64_at(octets)?;
+    let (seq, rest) = u32_at(rest)?;
+    Ok((Key { time, seq }, rest))
+}
+
+/// The key behind another, and the octets after its gap.
+#[tactic(auto, unfolding(crate::specs::KeyColumn::key_after_at, crate::specs::KeyColumn::is_gap))]
+fn key_after_at(last: Key, octets: &[u8]) -> Result<(Key, &[u8]), Short>
+    ensures { Answers (λ x. (x.0, x.1.now)) result (key_after_at last octets.now) }
+{
+    let (gap, rest) = varint_at(octets)?;
+    let sum = u128::from(last.seq) + gap;
+    let time = i128::from(last.time) + (sum / 0x1_0000_0000) as i128;
+    if gap == 0 || time > i128::from(i64::MAX) {
+        return Err(Short);
+    }
+    let time = time as i64;
+    let seq = (sum % 0x1_0000_0000) as u32;
+    Ok((Key { time, seq }, rest))
+}
+
+/// So many keys, and the octets after them.
+#[tactic(auto, unfolding(crate::specs::KeyColumn::keys_at))]
+pub(crate) fn keys_at(
+    alloc: Global,
+    count: u16,
+    octets: &[u8],
+) -> Result<(KeyList, &[u8]), DecodeError>
+    requires { 1 ≤ count }
+    ensures { Gives (λ x. (x.0, x.1.now)) result (keys_at count octets.now) }
+{
+    let (first, after_first) = first_key_at(octets)?;
+    // each key takes an octet at least
+    let room = room_for(count as usize, octets, 1);
+    let mut keys = KeyList::from_vec(Vec::with_capacity(alloc, room)?);
+    keys.push(first)?;
+    let mut last = first;
+    let mut rest = after_first;
+    for _ in 1..count {
+        let (key, after) = key_after_at(last, rest)?;
+        keys.push(key)?;
+        last = key;
+        rest = after;
+    }
+    Ok((keys, rest))
+}
+
+/// How far a key lies behind another.
+#[tactic(auto, unfolding(crate::specs::KeyColumn::key_gap))]
+fn key_gap(last: Key, key: Key) -> u128
+    ensures { result ≡ key_gap last key }
+{
+    let before = i128::from(last.time) * 0x1_0000_0000 + i128::from(last.seq);
+    let after = i128::from(key.time) * 0x1_0000_0000 + i128::from(key.seq);
+    after.abs_diff(before)
+}
+
+/// Writes the gap before each key.
+fn put_gaps(out: &mut Vec<u8>, first: Key, keys: &[Key]) -> Result<(), AllocError>
+    ensures { OnOk result (out.new.items ≡ out.old.items ++ key_gaps first keys.now) }
+{
+    let mut last = first;
+    for key in keys {
+        put_varint(out, key_gap(last, *key))?;
+        last = *key;
+    }
+    Ok(())
+}
+
+/// Writes the key column.
+pub(crate) fn put_keys(out: &mut Vec<u8>, keys: &[Key]) -> Result<(), AllocError>
+    requires { 1 ≤ length keys.now }
+    ensures { OnOk result (out.new.items ≡ out.old.items ++ key_column keys.now) }
+{
+    let (_, others) = keys.split_at(1);
+    let first = keys[0];
+    put_i64(out, first.time)?;
+    put_u32(out, first.seq)?;
+    put_gaps(out, first, others)
+}

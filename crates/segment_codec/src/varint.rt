@@ -1,0 +1,58 @@
+//! Unsigned varints.
+
+ghost use Rattle.std.specs.Prelude.{◌≡◌, ◌++◌, ◌∷◌, [], OnOk, MatchResult};
+ghost use Rattle.octet_fields.specs.Answers.{Answers};
+ghost use Rattle.segment_codec.specs.Varint.{varint, short_varint_at};
+
+use octet_fields::Short;
+use std::alloc::AllocError;
+
+/// Adds the varint of a number to a buffer.
+pub(crate) fn put_varint(out: &mut Vec<u8>, n: u128) -> Result<(), AllocError>
+    ensures { OnOk result (out.new.items ≡ out.old.items ++ varint n) }
+{
+    let mut rest = n;
+    while rest >= 128 {
+        out.push((rest % 128) as u8 + 128)?;
+        rest /= 128;
+    }
+    out.push(rest as u8)?;
+    Ok(())
+}
+
+/// One octet, and the octets after it.
+fn octet_at(octets: &[u8]) -> Result<(u8, &[u8]), Short>
+    ensures { MatchResult result (λ x. octets.now ≡ x.0 ∷ x.1.now) (λ _. octets.now ≡ []) }
+{
+    if octets.is_empty() {
+        return Err(Short);
+    }
+    let (front, rest) = octets.split_at(1);
+    Ok((front[0], rest))
+}
+
+/// The number whose varint of at most 14 octets stands at the front, and the octets after it.
+pub(crate) fn varint_at(octets: &[u8]) -> Result<(u128, &[u8]), Short>
+    ensures { Answers (λ x. (x.0, x.1.now)) result (short_varint_at octets.now) }
+{
+    let (first, after_first) = octet_at(octets)?;
+    if first < 128 {
+        return Ok((u128::from(first), after_first));
+    }
+    let mut value = u128::from(first - 128);
+    let mut weight: u128 = 128;
+    let mut rest = after_first;
+    for _ in 1u32..14 {
+        let (octet, after) = octet_at(rest)?;
+        if octet == 0 {
+            return Err(Short);
+        }
+        if octet < 128 {
+            return Ok((value + u128::from(octet) * weight, after));
+        }
+        value += u128::from(octet - 128) * weight;
+        weight *= 128;
+        rest = after;
+    }
+    Err(Short)
+}
