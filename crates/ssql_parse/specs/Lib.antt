@@ -1,0 +1,11 @@
+pub mod Reading
+pub mod Exact
+pub mod Grammar
+pub mod Pieces
+pub mod Queries
+pub mod Statements
+pub mod Depth
+pub mod Scripts
+pub mod Parsing
+pub mod Printing
+pub mod Laws

@@ -1,0 +1,8 @@
+use Rattle.std.proofs.Common.{◌≡◌, find}
+use Rattle.std.specs.Array.Iter.{array_into_iter_items}
+use Rattle.std.specs.Str.{str_eq_ignore_ascii_case}
+use Rattle.ssql_tokens.specs.Symbols.{symbol_text, read_keyword}
+use Rattle.ssql_tokens.proofs.symbols.read_keyword.Given as goal
+
+abbrev pub invariant-loop-keyword : goal.invariant-loop-keyword
+invariant-loop-keyword l = find (λ k. str_eq_ignore_ascii_case (symbol_text k) l.octets) (array_into_iter_items l.keyword-iterator) ≡ read_keyword l.octets

@@ -1,0 +1,10 @@
+pub mod Symbols
+pub mod TokenTexts
+pub mod SymbolTests
+pub mod Longest
+pub mod Lengths
+pub mod Blanks
+pub mod Tokens
+pub mod Tokenizing
+pub mod Written
+pub mod Laws
