@@ -21,7 +21,7 @@ use Rattle.block_map.proofs.Rising.{flip_less, flip_greater}
 use Rattle.partitions.specs.declared.partition.Partition.{Partition}
 use Rattle.partitions.specs.Rows.{is_of_partition}
 use Rattle.yarch_table.specs.declared.table.Stored.{Stored}
-use Rattle.yarch_table.specs.Stored.{rows_of, rows_below}
+use Rattle.yarch_table.specs.Stored.{rows_of, rows_below, seen_at}
 use Rattle.archive_history.specs.PartitionedTable.{HaveOwnKeys}
 
 -- each key is below those of the rows after it
@@ -159,13 +159,24 @@ keys_of_stored : (stored : List Stored) → map (λ row. row.key) (rows_of store
 keys_of_stored [] = refl
 keys_of_stored (s ∷ stored) = ap (λ (l : List Key). s.row.key ∷ l) (keys_of_stored stored)
 
--- the rows of a partition below a front have keys of their own where all rows have
-pub own-partition : (part : Partition) (front : ℕ) (stored : List Stored) → HaveOwnKeys (rows_of stored) → HaveOwnKeys (filter (is_of_partition part) (rows_below front stored))
-own-partition part front stored own =
-    let below : HaveOwnKeys (rows_below front stored) =
+-- the rows below a front have keys of their own where all rows have
+own-below : (front : ℕ) (stored : List Stored) → HaveOwnKeys (rows_of stored) → HaveOwnKeys (rows_below front stored)
+own-below front stored own =
     subst (IsDistinct (eq_by_cmp key_cmp)) (sym (keys_of_stored (filter (λ s. nat_lt s.position front) stored)))
-    (distinct-filter (λ (s : Stored). s.row.key) (λ s. nat_lt s.position front) stored (subst (IsDistinct (eq_by_cmp key_cmp)) (keys_of_stored stored) own)) in
-    distinct-filter (λ (row : Row). row.key) (is_of_partition part) (rows_below front stored) below
+    (distinct-filter (λ (s : Stored). s.row.key) (λ s. nat_lt s.position front) stored (subst (IsDistinct (eq_by_cmp key_cmp)) (keys_of_stored stored) own))
+
+-- so have those of a partition
+pub own-partition : (part : Partition) (front : ℕ) (stored : List Stored) → HaveOwnKeys (rows_of stored) → HaveOwnKeys (filter (is_of_partition part) (rows_below front stored))
+own-partition part front stored own = distinct-filter (λ (row : Row). row.key) (is_of_partition part) (rows_below front stored) (own-below front stored own)
+
+-- and those put in order that pass two tests
+pub own-seen : (p q : Row → Bool) (front : ℕ) (stored : List Stored) → HaveOwnKeys (rows_of stored) → HaveOwnKeys (filter p (filter q (seen_at front stored)))
+own-seen p q front stored own =
+    let rows = rows_below front stored in
+    let seen : HaveOwnKeys (seen_at front stored) =
+    IsDistinct-IsPermutation (eq_by_cmp key_cmp) (eq_by_cmp_equiv key_cmp_total).symm (map (λ row. row.key) rows) (map (λ row. row.key) (order_by is_before rows))
+    (IsPermutation-map (λ row. row.key) rows (order_by is_before rows) (order_same is_before rows)) (own-below front stored own) in
+    distinct-filter (λ (row : Row). row.key) p (filter q (seen_at front stored)) (distinct-filter (λ (row : Row). row.key) q (seen_at front stored) seen)
 
 -- a row of a key that none of them has
 pub own-push : (rows : List Row) (row : Row) → HaveOwnKeys rows → list_any (has_key row.key) rows ≡ false → HaveOwnKeys (rows ++ row ∷ [])

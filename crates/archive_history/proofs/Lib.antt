@@ -8,3 +8,4 @@ pub mod PartitionRows
 pub mod Partitioned
 pub mod Sums
 pub mod Sending
+pub mod RangeRows

@@ -14,11 +14,11 @@ use Rattle.arch_types.proofs.Ranks.{rows_rank}
 use Rattle.partitions.specs.declared.partition.Partition.{Partition}
 use Rattle.partitions.specs.Partition.{partition_of}
 use Rattle.partitions.specs.Places.{is_noted_in, places_below, places_in}
-use Rattle.partitions.specs.Rows.{is_of_partition}
+use Rattle.partitions.specs.Rows.{is_of_partition, partitions_of}
 use Rattle.yarch_table.specs.declared.table.Stored.{Stored}
 use Rattle.yarch_table.specs.Stored.{rows_of, rows_below, seen_at}
 use Rattle.yarch_table.specs.Index.{seen_row}
-use Rattle.archive_history.specs.PartitionedTable.{partitions_of, rows_at_places, HaveOwnKeys}
+use Rattle.archive_history.specs.PartitionedTable.{rows_at_places, HaveOwnKeys}
 use Rattle.archive_history.proofs.KeyOrder.{only_order, own-partition}
 
 found_at : {X : Type 0} (xs : List X) (i : ℕ) → i < length xs → (x : X) × (slice_get xs i ≡ Some x)

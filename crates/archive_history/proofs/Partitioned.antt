@@ -19,7 +19,8 @@ use Rattle.partitions.specs.Partitions.{PartitionsView}
 use Rattle.yarch_table.specs.declared.table.Stored.{Stored}
 use Rattle.yarch_table.specs.Stored.{TableView, rows_of}
 use Rattle.yarch_table.specs.Placed.{placed, at_position}
-use Rattle.archive_history.specs.PartitionedTable.{partitions_of, HaveOwnKeys, IsPartitioned, named_times_of}
+use Rattle.partitions.specs.Rows.{partitions_of}
+use Rattle.archive_history.specs.PartitionedTable.{HaveOwnKeys, IsPartitioned, named_times_of}
 use Rattle.archive_history.proofs.KeyOrder.{own-push}
 
 -- what a sort by the key ensures

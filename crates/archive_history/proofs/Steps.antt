@@ -22,6 +22,10 @@ pub if_ok : {T E : Type 0} (r : Result T E) (P Q : T → Type 0) → ((x : T) �
 if_ok (Ok x) P Q f p = f x p
 if_ok (Err e) P Q f p = p
 
+pub if_ok_both : {T E : Type 0} (r : Result T E) (P Q R : T → Type 0) → ((x : T) → P x → Q x → R x) → IfOk r P → IfOk r Q → IfOk r R
+if_ok_both (Ok x) P Q R f p q = f x p q
+if_ok_both (Err e) P Q R f p q = p
+
 pub if_some : {T : Type 0} (o : Option T) (P Q : T → Type 0) → ((x : T) → P x → Q x) → IfSome o P → IfSome o Q
 if_some (Some x) P Q f p = f x p
 if_some None P Q f p = p

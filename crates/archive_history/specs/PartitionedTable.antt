@@ -5,16 +5,11 @@ use Rattle.std.specs.Ordering.{eq_by_cmp}
 use Rattle.arch_types.specs.declared.row.Row.{Row}
 use Rattle.arch_types.specs.Order.{key_cmp}
 use Rattle.histogram.specs.declared.histogram.NamedTime.{NamedTime}
-use Rattle.partitions.specs.declared.partition.Partition.{Partition}
-use Rattle.partitions.specs.Partition.{partition_of}
 use Rattle.partitions.specs.Partitions.{PartitionsView}
+use Rattle.partitions.specs.Rows.{partitions_of}
 use Rattle.yarch_table.specs.declared.table.Stored.{Stored}
 use Rattle.yarch_table.specs.Stored.{TableView, rows_of}
 use Rattle.yarch_table.specs.Index.{seen_row}
-
--- the partition of each row, in order
-abbrev pub partitions_of : List Row → List Partition
-partitions_of rows = map (λ row. partition_of row.key.time row.pname) rows
 
 -- the packet name and the time of each row, in order
 abbrev pub named_times_of : List Row → List NamedTime

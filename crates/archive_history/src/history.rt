@@ -7,13 +7,13 @@ ghost use Rattle.arch_types.specs.History.{IsHistory};
 ghost use Rattle.arch_types.specs.Interval.{interval_of};
 ghost use Rattle.arch_types.specs.Table.{range_of};
 ghost use Rattle.archive_core.specs.Items.{Item, after_row, after_rows, items_of, row_item, rows_in};
-ghost use Rattle.archive_history.specs.PartitionedTable.{partitions_of, named_times_of};
+ghost use Rattle.archive_history.specs.PartitionedTable.{named_times_of};
 ghost use Rattle.archive_history.specs.TableSet.{is_at_key, rows_in_table};
 ghost use Rattle.histogram.specs.Times.{spans_of_times, times_of};
 ghost use Rattle.partitions.specs.declared.partition.Partition.{Partition as APartition};
 ghost use Rattle.partitions.specs.Bounds.{MayHold};
 ghost use Rattle.partitions.specs.Partitions.{AreRising};
-ghost use Rattle.partitions.specs.Rows.{partition_at};
+ghost use Rattle.partitions.specs.Rows.{partition_at, partitions_of, parts_between};
 ghost use Rattle.arch_types.specs.Limits.{limit_of};
 ghost use Rattle.arch_types.specs.declared.refusal.Which.TheVariants as limits;
 ghost use Rattle.archive_history.specs.Limits.{octets_of, interval_rows, IsWithin, PassesFirst};
@@ -250,6 +250,25 @@ impl History {
         ensures { IfOk result (λ rows. rows ≡ partition_at front table part.now (rows_in self.now.items)) }
     {
         self.table_set.partition_rows(alloc, table, part, front)
+    }
+
+    /// The rows of some partitions of a table at a front, which rise, with `from <= time < to`, in the order of their keys. The
+    /// one error is want of memory.
+    pub fn rows_between(
+        &self,
+        alloc: Global,
+        table: u8,
+        parts: &[Partition],
+        from: i64,
+        to: i64,
+        front: u64,
+    ) -> Result<Rows, AllocError>
+        requires table { table < self.now.tables }
+        requires rising { AreRising parts.now }
+        ensures { IfOk result (λ rows. rows ≡ parts_between front table parts.now from to (rows_in self.now.items)) }
+    {
+        self.table_set
+            .rows_between(alloc, table, parts, from, to, front)
     }
 
     /// The partitions of a table that hold a row and may hold one in the bounds, by day and then by the packet name's

@@ -7,7 +7,8 @@
 //! store.
 //!
 //! The rows of a partition are gathered by their places and put in order: where each has its own key there is one order
-//! (`only_order`, proofs/KeyOrder.antt).
+//! (`only_order`, proofs/KeyOrder.antt). Those of several partitions in a range are looked for among the keys, as long as
+//! that costs no more than their places would (src/ranged.rt).
 //!
 //! To be changed together: the limits in specs/Limits.antt and src/history.rt; what `PartitionedTable::insert` notes and
 //! `IsPartitioned`.
@@ -16,4 +17,5 @@
 pub mod history;
 pub mod limit_counts;
 pub mod partitioned_table;
+mod ranged;
 pub mod table_set;

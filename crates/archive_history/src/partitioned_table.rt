@@ -8,10 +8,11 @@ ghost use Rattle.histogram.specs.Times.{spans_of, spans_of_times, times_of};
 ghost use Rattle.partitions.specs.declared.partition.Partition.{Partition as APartition};
 ghost use Rattle.partitions.specs.Bounds.{MayHold};
 ghost use Rattle.partitions.specs.Partitions.{AreRising};
-ghost use Rattle.partitions.specs.Rows.{is_of_partition};
+ghost use Rattle.partitions.specs.Rows.{is_of_partition, is_of_parts, partitions_of};
 ghost use Rattle.yarch_table.specs.Stored.{seen_at, seen_between, rows_of, IsInserted, IsKeptAt};
-ghost use Rattle.archive_history.specs.PartitionedTable.{partitions_of, named_times_of, rows_at_places};
+ghost use Rattle.archive_history.specs.PartitionedTable.{named_times_of, rows_at_places};
 
+use crate::ranged::rows_in_steps;
 use arch_types::inserted::Inserted;
 use arch_types::key::Key;
 use arch_types::row::{Row, Rows};
@@ -22,6 +23,7 @@ use partitions::lists::PartList;
 use partitions::partition::Partition;
 use partitions::partitions::Partitions;
 use partitions::places::Places;
+use partitions::rows::{append_between, are_whole_days, merged_by_key};
 use std::alloc::{AllocError, Global};
 use std::marker::Model;
 use yarch_table::rows::TableRows;
@@ -47,17 +49,18 @@ impl Model for PartitionedTable {
     ghost invariant = { λ t. IsPartitioned t.table t.partitions };
 }
 
-/// The rows at places with a position below a front, in the order of the places.
+/// The rows at places with a position below a front, in the order of the places: so many at most are expected.
 fn rows_of_places(
     alloc: Global,
     table: &Table,
     mut places: Places<'_>,
+    count: usize,
     front: u64,
 ) -> Result<Vec<Row>, AllocError>
     requires { AllByRecursion (λ place. place < length table.now.stored) places }
     ensures { IfOk result (λ rows. rows.items ≡ rows_at_places table.now.stored front places.entry) }
 {
-    let mut rows = Vec::new(alloc);
+    let mut rows = Vec::with_capacity(alloc, count)?;
     while let Some(place) = places.next() {
         let stored = table.row_at(place);
         if stored.position < front {
@@ -159,8 +162,75 @@ impl PartitionedTable {
         ensures { IfOk result (λ rows. rows ≡ filter (is_of_partition part.now) (seen_at front self.now.stored)) }
     {
         let places = self.partitions.places_of(*part);
-        let rows = rows_of_places(alloc, &self.table, places, front)?;
+        // No more rows than the front have a position below it.
+        let count = self.partitions.row_count(*part).min(front as usize);
+        let rows = rows_of_places(alloc, &self.table, places, count, front)?;
         Ok(in_key_order(rows))
+    }
+
+    /// The rows of some partitions with a position below the front and `from <= time < to`, in the order of their keys. Of whole days
+    /// the partitions are read. Else the rows of the range are looked at, as many as the partitions have, and those behind the front
+    /// passed over uncounted; only where the range has more the partitions are read too. The one error is want of memory.
+    pub fn rows_between(
+        &self,
+        alloc: Global,
+        parts: &[Partition],
+        from: i64,
+        to: i64,
+        front: u64,
+    ) -> Result<Rows, AllocError>
+        requires { AreRising parts.now }
+        ensures { IfOk result (λ rows. rows
+            ≡ filter (is_of_parts parts.now) (seen_between front from to self.now.stored)) }
+    {
+        match self.rows_by_keys(alloc, parts, from, to, front)? {
+            Some(rows) => Ok(rows),
+            None => self.rows_by_partitions(alloc, parts, from, to, front),
+        }
+    }
+
+    /// The same by the index of keys, unless the partitions have fewer rows.
+    fn rows_by_keys(
+        &self,
+        alloc: Global,
+        parts: &[Partition],
+        from: i64,
+        to: i64,
+        front: u64,
+    ) -> Result<Option<Rows>, AllocError>
+        requires { AreRising parts.now }
+        ensures { IfOk result (λ found. IfSome found (λ rows. rows
+            ≡ filter (is_of_parts parts.now) (seen_between front from to self.now.stored))) }
+    {
+        // Among the rows of whole days are all of the partitions.
+        if are_whole_days(parts, from, to) {
+            return Ok(None);
+        }
+        let range = self.table.range_at(front, from, to);
+        rows_in_steps(alloc, range, parts, self.partitions.steps_of(parts))
+    }
+
+    /// The same by the places of the partitions.
+    fn rows_by_partitions(
+        &self,
+        alloc: Global,
+        parts: &[Partition],
+        from: i64,
+        to: i64,
+        front: u64,
+    ) -> Result<Rows, AllocError>
+        requires { AreRising parts.now }
+        ensures { IfOk result (λ rows. rows
+            ≡ filter (is_of_parts parts.now) (seen_between front from to self.now.stored)) }
+    {
+        // It tells the proof that each row has a key of its own.
+        let _table = &self.table;
+        let mut rows = Vec::new(alloc);
+        for part in parts {
+            let part_rows = self.partition_rows(alloc, part, front)?;
+            rows = append_between(rows, part_rows, from, to)?;
+        }
+        merged_by_key(rows)
     }
 
     /// The partitions that hold a row and may hold one in the bounds, by day and then by the packet name's number.

@@ -4,13 +4,13 @@ ghost use Rattle.std.specs.Prelude.{◌≡◌, ◌+◌, ◌<◌, ◌≤◌, ◌^
 ghost use Rattle.std.specs.List.{list_any};
 ghost use Rattle.arch_types.specs.Table.{range_of};
 ghost use Rattle.archive_core.specs.Items.{Item, after_row, row_item, rows_in};
-ghost use Rattle.archive_history.specs.PartitionedTable.{partitions_of, named_times_of};
+ghost use Rattle.archive_history.specs.PartitionedTable.{named_times_of};
 ghost use Rattle.archive_history.specs.TableSet.{is_at_key, no_table, rows_in_table, table_in};
 ghost use Rattle.histogram.specs.Times.{spans_of_times, times_of};
 ghost use Rattle.partitions.specs.declared.partition.Partition.{Partition as APartition};
 ghost use Rattle.partitions.specs.Bounds.{MayHold};
 ghost use Rattle.partitions.specs.Partitions.{AreRising};
-ghost use Rattle.partitions.specs.Rows.{partition_at};
+ghost use Rattle.partitions.specs.Rows.{partition_at, partitions_of, parts_between};
 
 use crate::partitioned_table::PartitionedTable;
 use arch_types::inserted::Inserted;
@@ -162,6 +162,24 @@ impl TableSet {
         ensures { IfOk result (λ rows. rows ≡ partition_at front table part.now (rows_in self.now.items)) }
     {
         self.tables[table as usize].partition_rows(alloc, part, front)
+    }
+
+    /// The rows of some partitions of a table at a front, which rise, with `from <= time < to`, in the order of their keys. The
+    /// one error is want of memory.
+    pub fn rows_between(
+        &self,
+        alloc: Global,
+        table: u8,
+        parts: &[Partition],
+        from: i64,
+        to: i64,
+        front: u64,
+    ) -> Result<Rows, AllocError>
+        requires table { table < self.now.tables }
+        requires rising { AreRising parts.now }
+        ensures { IfOk result (λ rows. rows ≡ parts_between front table parts.now from to (rows_in self.now.items)) }
+    {
+        self.tables[table as usize].rows_between(alloc, parts, from, to, front)
     }
 
     /// The partitions of a table that hold a row and may hold one in the bounds, by day and then by the packet name's

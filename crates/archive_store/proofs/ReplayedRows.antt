@@ -11,14 +11,14 @@ use Rattle.std.proofs.lemmas.List.Elements.{recursion_from_All, All-from_recursi
 use Rattle.std.proofs.lemmas.List.Sums.{position_or_len_is}
 use Rattle.arch_types.specs.declared.row.Row.{Row}
 use Rattle.arch_types.specs.History.{IsHistory, is_in_table}
-use Rattle.archive_history.specs.PartitionedTable.{partitions_of}
+use Rattle.partitions.specs.Rows.{partitions_of}
 use Rattle.archive_history.proofs.Steps.{default_free}
 use Rattle.partitions.specs.declared.bounds.Bounds.{Bounds}
 use Rattle.partitions.specs.declared.partition.Partition.{Partition}
 use Rattle.partitions.specs.Bounds.{MayHold}
 use Rattle.replay_merge.specs.Cursor.{CursorView, rest_of}
-use Rattle.replay_merge.specs.Replay.{rows_asked, HoldEach}
-use Rattle.replay_merge.specs.Source.{IsKeyedRow, IsSourceHistory}
+use Rattle.replay_merge.specs.Replay.{rows_asked, HoldsEachRow}
+use Rattle.replay_merge.specs.Source.{IsKeyedRow, IsRowSourceHistory}
 use Rattle.replay_merge.proofs.Bounds.{own_partition, pruned_is_enough}
 use Rattle.replay_merge.proofs.Opening.{rest_at_front}
 use Rattle.replay_merge.proofs.Sources.{each_tested}
@@ -34,7 +34,7 @@ keyed_rows head (row ∷ rows) all =
     let stored = all.0.stored in
     (record { packet = stored.packet; rectime = stored.rectime; key = stored.key }, keyed_rows head rows all.1)
 
-pub source_history : (head : Head) (rows : List Row) → IsHistory rows → AllByRecursion (IsArchivedRow head) rows → IsSourceHistory rows
+pub source_history : (head : Head) (rows : List Row) → IsHistory rows → AllByRecursion (IsArchivedRow head) rows → IsRowSourceHistory rows
 source_history head rows once all = record { once = once; each = keyed_rows head rows all }
 
 pub in_tables : (head : Head) (rows : List Row) → AllByRecursion (IsArchivedRow head) rows → AllByRecursion (λ row. row.table < length head.tables) rows
@@ -55,11 +55,11 @@ rest_of_later c history later within begins = rest_at_front c later history (ap 
 -- the partitions that hold a row of the table and may hold one in the bounds hold each row that is asked, also once rows came behind the front
 pub hold_each : (bounds : Bounds) (table front : ℕ) (parts : List Partition) (history later : List Row) → front ≡ length history → IsPrefix history later
     → ((p : Partition) → Contains parts p ↔ (Contains (partitions_of (filter (is_in_table table) history)) p × MayHold bounds p))
-    → HoldEach parts (rows_asked table bounds.from bounds.to bounds.names (take front later))
+    → HoldsEachRow parts (rows_asked table bounds.from bounds.to bounds.names (take front later))
 hold_each bounds table front parts history later is begins exactly =
     let here = first_of_later history history front is ([], append-nil history) in
     let there = first_of_later history later front is begins in
-    subst (λ (rows : List Row). HoldEach parts (rows_asked table bounds.from bounds.to bounds.names rows)) (here ∙ sym there)
+    subst (λ (rows : List Row). HoldsEachRow parts (rows_asked table bounds.from bounds.to bounds.names rows)) (here ∙ sym there)
     (pruned_is_enough bounds table front parts history (λ p noted may. (exactly p).1 (noted, may)))
 
 -- the packet names of partitions that hold a row of a store are containers' numbers

@@ -54,6 +54,27 @@ impl<'a> RowSource for HistorySource<'a> {
         }
         Ok(self.history.partition_rows(alloc, table, part, front)?)
     }
+
+    /// Likewise, by the index of keys where that costs less than the rows of the partitions.
+    fn rows_between(
+        &mut self,
+        alloc: Global,
+        table: u8,
+        parts: &[Partition],
+        from: i64,
+        to: i64,
+        front: u64,
+    ) -> Result<Rows, Refusal> {
+        // It tells the proof that the rows are a history.
+        let _known = self.history.len();
+        if table as usize >= self.head.tables.as_slice().len() {
+            return Ok(Rows::new(alloc));
+        }
+        Ok(
+            self.history
+                .rows_between(alloc, table, parts, from, to, front)?,
+        )
+    }
 }
 
 impl<D: Disk> Store<D> {
@@ -83,5 +104,19 @@ impl<D: Disk> RowSource for Store<D> {
     ) -> Result<Rows, Refusal> {
         let mut source = self.source();
         source.rows(alloc, table, part, front)
+    }
+
+    /// Likewise.
+    fn rows_between(
+        &mut self,
+        alloc: Global,
+        table: u8,
+        parts: &[Partition],
+        from: i64,
+        to: i64,
+        front: u64,
+    ) -> Result<Rows, Refusal> {
+        let mut source = self.source();
+        source.rows_between(alloc, table, parts, from, to, front)
     }
 }

@@ -102,7 +102,7 @@ fn cursor_at_front(
 
 impl<D: Disk> Store<D> {
     ghost use Rattle.archive_store.specs.Replays.{AreParts, IsNamedPart, IsReplayable, IsReplayOpened, IsReplayRefusal};
-    ghost use Rattle.replay_merge.specs.Cursor.{AsksTheSame, calls_left, EndExactly, IsRowAsked};
+    ghost use Rattle.replay_merge.specs.Cursor.{AsksTheSame, steps_at_most, EndsExactly, IsRowAsked};
 
     /// Opens the replay of a request: of the rows that its table holds now, whatever comes to the history later.
     pub fn replay_open(&mut self, alloc: Global, request: &ReplayRequest) -> Result<Cursor, Refusal>
@@ -138,8 +138,8 @@ impl<D: Disk> Store<D> {
     ) -> Result<Rows, Refusal>
         ensures rows { IfOk result (λ rows.
             rows ++ rest_of cursor.new (rows_in self.old.history) ≡ rest_of cursor.old (rows_in self.old.history)) }
-        ensures end { IfOk result (EndExactly limit cursor.old cursor.new) }
-        ensures nearer { IfOk result (λ rows. (rows ≡ [] → ⊥) → calls_left cursor.new < calls_left cursor.old) }
+        ensures end { IfOk result (EndsExactly limit cursor.old cursor.new) }
+        ensures nearer { IfOk result (λ rows. (rows ≡ [] → ⊥) → steps_at_most cursor.new < steps_at_most cursor.old) }
         ensures few { IfOk result (λ rows. length rows ≤ limit) }
         ensures each { IfOk result (λ rows. AllByRecursion (IsRowAsked cursor.old) rows) }
         ensures asked { AsksTheSame cursor.old cursor.new }

@@ -17,6 +17,8 @@ mod parts;
 #[cfg(test)]
 mod plans;
 #[cfg(test)]
+mod ranges;
+#[cfg(test)]
 mod replays;
 #[cfg(test)]
 mod rules;

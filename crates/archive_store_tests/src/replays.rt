@@ -161,6 +161,9 @@ const REPLAYS: &[Step] = &[
     // a range that ends on a day's first millisecond, and one millisecond later
     Step::Replay((b"tm", 0, DAY, None, None), 2, &[0, 1, 7]),
     Step::Replay((b"tm", 0, DAY + 1, None, None), 2, &[0, 1, 7, 6]),
+    // a minute inside a day, and one over its end
+    Step::Replay((b"tm", 0, 60_000, None, None), 2, &[0, 1]),
+    Step::Replay((b"tm", DAY - 1, DAY + 1, None, None), 2, &[7, 6]),
     Step::Replay((b"tm", 1_501, 1_501, None, None), 2, &[]),
     // the other table
     Step::Replay((b"hk", 0, 9 * DAY, None, None), 2, &[6]),

@@ -11,7 +11,7 @@ use Rattle.partitions.specs.declared.bounds.Bounds.{Bounds}
 use Rattle.partitions.specs.declared.days.Days.{Days}
 use Rattle.partitions.specs.declared.name_day_filter.NameDayFilter.{NameDayFilter}
 use Rattle.time_text.specs.Day.{day_of}
-use Rattle.partitions.specs.NamedDay.{named_day}
+use Rattle.partitions.specs.NameDay.{name_day}
 use Rattle.partitions.specs.Bounds.{HasTimeOn, MayHold}
 use Rattle.partitions.specs.NameDayFilter.{is_on, passes_filter}
 use Rattle.time_text.proofs.DayFacts.{days_rise}
@@ -39,19 +39,19 @@ module _ (bounds : Bounds) (days : Days) (on : (day : ℤ) → (is_on days day �
 
   -- a list with the same names wants the same
   pub named_exactly : (names sorted : List ℕ) → bounds.names ≡ Some names → ((p : ℕ) → list_any (nat_eq p) sorted ≡ list_any (nat_eq p) names) →
-      (p : Partition) → (passes_filter (record { days = days; names = sorted }) (named_day p) ≡ true) ↔ MayHold bounds p
+      (p : Partition) → (passes_filter (record { days = days; names = sorted }) (name_day p) ≡ true) ↔ MayHold bounds p
   named_exactly names sorted is same p = (to, from)
     where
       w : NameDayFilter
       w = record { days = days; names = sorted }
 
-      to : passes_filter w (named_day p) ≡ true → MayHold bounds p
-      to wants = let has = passes_filter_is w (named_day p) wants in
+      to : passes_filter w (name_day p) ≡ true → MayHold bounds p
+      to wants = let has = passes_filter_is w (name_day p) wants in
           record {
             day = (on p.day).0 (on_from days p.day (record { first = has.first; last = has.last }));
             name = rw is (Contains-from_any {eq = nat_eq} same_names p.pname names (sym (same p.pname) ∙ has.name));
           }
 
-      from : MayHold bounds p → passes_filter w (named_day p) ≡ true
+      from : MayHold bounds p → passes_filter w (name_day p) ≡ true
       from may = let has = on_is days p.day ((on p.day).1 may.day) in
-          passes_filter_from w (named_day p) (record { first = has.first; last = has.last; name = same p.pname ∙ list_any-from_Contains nat_eq_equiv p.pname names (rw is at may.name) })
+          passes_filter_from w (name_day p) (record { first = has.first; last = has.last; name = same p.pname ∙ list_any-from_Contains nat_eq_equiv p.pname names (rw is at may.name) })

@@ -1,4 +1,4 @@
--- Which days and named days are wanted.
+-- Which days and name days are wanted.
 use Rattle.std.proofs.Common.{◌≡◌, ℤ, ◌≤ℤ◌, ◌<ℤ◌, inl, inr, Bool, true, false, not, ◌&&◌, refl, arith}
 use Rattle.std.specs.Prelude.{int_lt, nat_eq}
 use Rattle.std.specs.List.{list_any}
@@ -6,7 +6,7 @@ use Rattle.std.specs.declared.cmp.Ordering.TheVariants.{Less, Greater}
 use Rattle.std.proofs.lemmas.Bool.{false_from_ne_true}
 use Rattle.std.proofs.lemmas.Int.{ints}
 use Rattle.partitions.specs.declared.partition.Partition.{Partition}
-use Rattle.partitions.specs.declared.named_day.NamedDay.{NamedDay}
+use Rattle.partitions.specs.declared.name_day.NameDay.{NameDay}
 use Rattle.partitions.specs.declared.days.Days.{Days}
 use Rattle.partitions.specs.declared.name_day_filter.NameDayFilter.{NameDayFilter}
 use Rattle.partitions.specs.Partition.{partition_cmp}
@@ -56,13 +56,13 @@ module _ (days : Days) where
       by (inl x) is = omega (arith, ints, x, past, is.last)
       by (inr x) is = omega (arith, ints, x.0, past, is.last)
 
--- what is true of a named day that is wanted
-pub record IsWanted (name_day_filter : NameDayFilter) (at : NamedDay) : Type 0 where
+-- what is true of a name day that is wanted
+pub record IsWanted (name_day_filter : NameDayFilter) (at : NameDay) : Type 0 where
   pub first : name_day_filter.days.first ≤ℤ at.day
   pub last : at.day ≤ℤ name_day_filter.days.last
   pub name : list_any (nat_eq at.pname) name_day_filter.names ≡ true
 
-pub passes_filter_is : (w : NameDayFilter) (k : NamedDay) → passes_filter w k ≡ true → IsWanted w k
+pub passes_filter_is : (w : NameDayFilter) (k : NameDay) → passes_filter w k ≡ true → IsWanted w k
 passes_filter_is w k h = by (is_on w.days k.day) (list_any (nat_eq k.pname) w.names) refl refl h
   where
     by : (b c : Bool) → is_on w.days k.day ≡ b → list_any (nat_eq k.pname) w.names ≡ c → (b && c) ≡ true → IsWanted w k
@@ -70,5 +70,5 @@ passes_filter_is w k h = by (is_on w.days k.day) (list_any (nat_eq k.pname) w.na
     by true false on name h = cc
     by false c on name h = cc
 
-pub passes_filter_from : (w : NameDayFilter) (k : NamedDay) → IsWanted w k → passes_filter w k ≡ true
+pub passes_filter_from : (w : NameDayFilter) (k : NameDay) → IsWanted w k → passes_filter w k ≡ true
 passes_filter_from w k is = rw (on_from w.days k.day (record { first = is.first; last = is.last }), is.name)

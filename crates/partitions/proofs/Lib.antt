@@ -1,3 +1,4 @@
+pub mod Filters
 pub mod Order
 pub mod NamedOrder
 pub mod TimesOfDays
@@ -8,3 +9,5 @@ pub mod LastPlaces
 pub mod Noting
 pub mod Least
 pub mod Exactly
+pub mod Parted
+pub mod Chains

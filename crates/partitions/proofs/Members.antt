@@ -22,9 +22,9 @@ use Rattle.block_map.specs.Rising.{IsRising}
 use Rattle.block_map.proofs.Rising.{flip_greater}
 use Rattle.block_map.proofs.KeyedLists.{sorted_from_rising, lookup-insert_entry}
 use Rattle.partitions.specs.declared.partition.Partition.{Partition}
-use Rattle.partitions.specs.declared.named_day.NamedDay.{NamedDay}
+use Rattle.partitions.specs.declared.name_day.NameDay.{NameDay}
 use Rattle.partitions.specs.Partition.{partition_cmp}
-use Rattle.partitions.specs.NamedDay.{named_day_cmp, named_day}
+use Rattle.partitions.specs.NameDay.{name_day_cmp, name_day}
 use Rattle.partitions.specs.Partitions.{AreRising}
 use Rattle.partitions.proofs.Order.{partition_cmp_total, exact_partitions, together}
 use Rattle.partitions.proofs.NamedOrder.{named_cmp_total}
@@ -80,8 +80,8 @@ module _ {K : Type 0} {cmp : K → K → Ordering} (o : IsTotalOrder cmp) (exact
         by false some = some
     from_old k (inr one) = found k (insert_entry cmp es key tt) (rw (lookup-insert_entry o k key tt es, one, (eq_by_cmp_equiv o).refl key) refl)
 
-pub named_once : (p q : Partition) → named_day p ≡ named_day q → p ≡ q
-named_once p q same = together p q (ap (λ (k : NamedDay). k.day) same) (ap (λ (k : NamedDay). k.pname) same)
+pub named_once : (p q : Partition) → name_day p ≡ name_day q → p ≡ q
+named_once p q same = together p q (ap (λ (k : NameDay). k.day) same) (ap (λ (k : NameDay). k.pname) same)
 
 -- ---- what is wanted of rising partitions
 
@@ -95,23 +95,23 @@ filter_rises test es up = IsStrictlySortedBy-filter partition_cmp test (keys_of 
 pub none_rise : AreRising []
 none_rise = sorted_from_rising {V = Unit} partition_cmp [] tt
 
--- ---- what is wanted of named days, put in the order of partitions
+-- ---- what is wanted of name days, put in the order of partitions
 
 module _ (parts : List Partition) where
-  pub named_in : (p : Partition) → Contains parts p → Contains (map named_day parts) (named_day p)
-  named_in p (k, h, e) = (k, rw (length-map parts named_day) h, get_or-map named_day parts k p ∙ ap named_day e)
+  pub named_in : (p : Partition) → Contains parts p → Contains (map name_day parts) (name_day p)
+  named_in p (k, h, e) = (k, rw (length-map parts name_day) h, get_or-map name_day parts k p ∙ ap name_day e)
 
-  pub unnamed_in : (p : Partition) → Contains (map named_day parts) (named_day p) → Contains parts p
-  unnamed_in p (k, h, e) = (k, rw (length-map parts named_day) at h, named_once (slice_index_or parts k p) p (sym (get_or-map named_day parts k p) ∙ e))
+  pub unnamed_in : (p : Partition) → Contains (map name_day parts) (name_day p) → Contains parts p
+  unnamed_in p (k, h, e) = (k, rw (length-map parts name_day) at h, named_once (slice_index_or parts k p) p (sym (get_or-map name_day parts k p) ∙ e))
 
-same_named : (p q : Partition) → eq_by_cmp named_day_cmp (named_day p) (named_day q) ≡ false → eq_by_cmp partition_cmp p q ≡ false
-same_named p q apart = false_from_ne_true (eq_by_cmp partition_cmp p q) (λ same. (let one = tells_apart exact_partitions p q same in let itself = (eq_by_cmp_equiv named_cmp_total).refl (named_day q) in let no : eq_by_cmp named_day_cmp (named_day q) (named_day q) ≡ false = rw one at apart in cc))
+same_named : (p q : Partition) → eq_by_cmp name_day_cmp (name_day p) (name_day q) ≡ false → eq_by_cmp partition_cmp p q ≡ false
+same_named p q apart = false_from_ne_true (eq_by_cmp partition_cmp p q) (λ same. (let one = tells_apart exact_partitions p q same in let itself = (eq_by_cmp_equiv named_cmp_total).refl (name_day q) in let no : eq_by_cmp name_day_cmp (name_day q) (name_day q) ≡ false = rw one at apart in cc))
 
-apart_from_all : (p : Partition) (parts : List Partition) → AllByRecursion (λ y. eq_by_cmp named_day_cmp (named_day p) y ≡ false) (map named_day parts) → AllByRecursion (λ y. eq_by_cmp partition_cmp p y ≡ false) parts
+apart_from_all : (p : Partition) (parts : List Partition) → AllByRecursion (λ y. eq_by_cmp name_day_cmp (name_day p) y ≡ false) (map name_day parts) → AllByRecursion (λ y. eq_by_cmp partition_cmp p y ≡ false) parts
 apart_from_all p [] all = tt
 apart_from_all p (q ∷ parts) all = (same_named p q all.0, apart_from_all p parts all.1)
 
-distinct_parts : (parts : List Partition) → IsDistinct (eq_by_cmp named_day_cmp) (map named_day parts) → IsDistinct (eq_by_cmp partition_cmp) parts
+distinct_parts : (parts : List Partition) → IsDistinct (eq_by_cmp name_day_cmp) (map name_day parts) → IsDistinct (eq_by_cmp partition_cmp) parts
 unfolding IsDistinct
 distinct_parts [] apart = tt
 distinct_parts (p ∷ parts) apart = (apart_from_all p parts apart.0, distinct_parts parts apart.1)
@@ -133,20 +133,20 @@ rising_from_sorted parts sorted apart = sorted_from_all_adjacent partition_cmp_t
         by Equal e = absurd (let no : is_eq (partition_cmp p q) ≡ false = not_same in cc)
         by Greater e = absurd (let under = flip_greater partition_cmp_total p q e in cc)
 
-module _ (test : NamedDay → Bool) (es : List (NamedDay × Unit)) (parts sorted : List Partition) (named : map named_day parts ≡ filter test (keys_of es)) (same : IsPermutation parts sorted) where
-  pub sorted_exactly : (noted : List Partition) → ((p : Partition) → Contains (keys_of es) (named_day p) ↔ Contains noted p) → (p : Partition) → Contains sorted p ↔ (Contains noted p × (test (named_day p) ≡ true))
+module _ (test : NameDay → Bool) (es : List (NameDay × Unit)) (parts sorted : List Partition) (named : map name_day parts ≡ filter test (keys_of es)) (same : IsPermutation parts sorted) where
+  pub sorted_exactly : (noted : List Partition) → ((p : Partition) → Contains (keys_of es) (name_day p) ↔ Contains noted p) → (p : Partition) → Contains sorted p ↔ (Contains noted p × (test (name_day p) ≡ true))
   sorted_exactly noted names p = (to, from)
     where
-      to : Contains sorted p → Contains noted p × (test (named_day p) ≡ true)
-      to is = let both = (filter_has test (keys_of es) (named_day p)).0 (rw named at (named_in parts p (Contains-permutation sorted parts p (IsPermutation-sym parts sorted same) is))) in ((names p).0 both.0, both.1)
+      to : Contains sorted p → Contains noted p × (test (name_day p) ≡ true)
+      to is = let both = (filter_has test (keys_of es) (name_day p)).0 (rw named at (named_in parts p (Contains-permutation sorted parts p (IsPermutation-sym parts sorted same) is))) in ((names p).0 both.0, both.1)
 
-      from : Contains noted p × (test (named_day p) ≡ true) → Contains sorted p
-      from both = Contains-permutation parts sorted p same (unnamed_in parts p (rw named ((filter_has test (keys_of es) (named_day p)).1 ((names p).1 both.0, both.1))))
+      from : Contains noted p × (test (name_day p) ≡ true) → Contains sorted p
+      from both = Contains-permutation parts sorted p same (unnamed_in parts p (rw named ((filter_has test (keys_of es) (name_day p)).1 ((names p).1 both.0, both.1))))
 
-  pub sorted_rises : IsRising named_day_cmp es → IsSorted partition_cmp sorted → AreRising sorted
+  pub sorted_rises : IsRising name_day_cmp es → IsSorted partition_cmp sorted → AreRising sorted
   sorted_rises rising up =
-      let rises = IsStrictlySortedBy-filter named_day_cmp test (keys_of es) (sorted_from_rising named_day_cmp es rising) in
-      let apart = distinct_parts parts (rw named (IsDistinct-from_sorted named_day_cmp (filter test (keys_of es)) rises)) in
+      let rises = IsStrictlySortedBy-filter name_day_cmp test (keys_of es) (sorted_from_rising name_day_cmp es rising) in
+      let apart = distinct_parts parts (rw named (IsDistinct-from_sorted name_day_cmp (filter test (keys_of es)) rises)) in
       rising_from_sorted sorted up (IsDistinct-IsPermutation (eq_by_cmp partition_cmp) (eq_by_cmp_equiv partition_cmp_total).symm parts sorted same apart)
 
 -- ---- the rest of what calls need

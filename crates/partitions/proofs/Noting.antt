@@ -10,9 +10,9 @@ use Rattle.block_map.specs.Index.{Listing}
 use Rattle.block_map.specs.Rising.{IsRising}
 use Rattle.block_map.proofs.KeyedLists.{lookup-insert_entry}
 use Rattle.partitions.specs.declared.partition.Partition.{Partition}
-use Rattle.partitions.specs.declared.named_day.NamedDay.{NamedDay}
+use Rattle.partitions.specs.declared.name_day.NameDay.{NameDay}
 use Rattle.partitions.specs.Partition.{partition_cmp}
-use Rattle.partitions.specs.NamedDay.{named_day_cmp, named_day}
+use Rattle.partitions.specs.NameDay.{name_day_cmp, name_day}
 use Rattle.partitions.specs.Places.{last_place_below}
 use Rattle.partitions.specs.Partitions.{AreIndexed}
 use Rattle.partitions.proofs.Order.{partition_cmp_total, exact_partitions}
@@ -25,7 +25,7 @@ pub at_none : {V : Type 0} (r : Option V) (P : Type 0) → r ≡ None → IfNone
 at_none None P e h = h
 at_none (Some v) P e h = cc
 
-module _ (by_day : Listing Partition ℕ) (by_name : Listing NamedDay Unit) (noted : List Partition) (are : AreIndexed by_day by_name noted) where
+module _ (by_day : Listing Partition ℕ) (by_name : Listing NameDay Unit) (noted : List Partition) (are : AreIndexed by_day by_name noted) where
   -- the first index has the partitions that hold a row
   pub day_keys : (p : Partition) → Contains (keys_of by_day.entries) p ↔ Contains noted p
   day_keys p = (
@@ -56,7 +56,7 @@ module _ (by_day : Listing Partition ℕ) (by_name : Listing NamedDay Unit) (not
         there : Contains noted part
         there = contained part noted before (last_is (length noted) part noted before (sym (was ∙ are.last part))).1
 
-        from : (p : Partition) → Contains noted p ⊎ (part ≡ p) → Contains (keys_of by_name.entries) (named_day p)
+        from : (p : Partition) → Contains noted p ⊎ (part ≡ p) → Contains (keys_of by_name.entries) (name_day p)
         from p (inl before) = (are.names p).1 before
         from p (inr one) = (are.names p).1 (subst (Contains noted) one there)
 
@@ -66,31 +66,31 @@ module _ (by_day : Listing Partition ℕ) (by_name : Listing NamedDay Unit) (not
       absent is = let some : IsSome (lookup (is_at (partition_cmp part)) by_day.entries) = subst IsSome (sym (are.last part)) (contained_some part noted is) in cc
 
       -- and isn't among the names
-      pub name_absent : (s : Option Unit) → s ≡ lookup (is_at (named_day_cmp (named_day part))) by_name.entries → s ≡ None
+      pub name_absent : (s : Option Unit) → s ≡ lookup (is_at (name_day_cmp (name_day part))) by_name.entries → s ≡ None
       name_absent None is = refl
-      name_absent (Some v) is = absurd (absent ((are.names part).0 (found named_cmp_total exact_named (named_day part) by_name.entries (rw (← is) refl))))
+      name_absent (Some v) is = absurd (absent ((are.names part).0 (found named_cmp_total exact_named (name_day part) by_name.entries (rw (← is) refl))))
 
-      pub indexed_new : (new_day : Listing Partition ℕ) (new_name : Listing NamedDay Unit) → new_day.entries ≡ insert_entry partition_cmp by_day.entries part place →
-          IsRising partition_cmp new_day.entries → new_name.entries ≡ insert_entry named_day_cmp by_name.entries (named_day part) tt → IsRising named_day_cmp new_name.entries →
+      pub indexed_new : (new_day : Listing Partition ℕ) (new_name : Listing NameDay Unit) → new_day.entries ≡ insert_entry partition_cmp by_day.entries part place →
+          IsRising partition_cmp new_day.entries → new_name.entries ≡ insert_entry name_day_cmp by_name.entries (name_day part) tt → IsRising name_day_cmp new_name.entries →
           AreIndexed new_day new_name (noted ++ part ∷ [])
       indexed_new new_day new_name put day_rises put_name name_rises = record {
         by_day_rises = day_rises;
         by_name_rises = name_rises;
         last = λ p. (ap (lookup (is_at (partition_cmp p))) put ∙ last_more p);
-        names = rw put_name (λ p. (λ is. to p (in_new named_cmp_total exact_named (named_day part) by_name.entries (named_day p) is), λ is. from_old named_cmp_total exact_named (named_day part) by_name.entries (named_day p) (from p (Contains-push_cases noted part p is))));
+        names = rw put_name (λ p. (λ is. to p (in_new named_cmp_total exact_named (name_day part) by_name.entries (name_day p) is), λ is. from_old named_cmp_total exact_named (name_day part) by_name.entries (name_day p) (from p (Contains-push_cases noted part p is))));
       }
         where
-          to : (p : Partition) → Contains (keys_of by_name.entries) (named_day p) ⊎ (named_day p ≡ named_day part) → Contains (noted ++ part ∷ []) p
+          to : (p : Partition) → Contains (keys_of by_name.entries) (name_day p) ⊎ (name_day p ≡ name_day part) → Contains (noted ++ part ∷ []) p
           to p (inl was) = Contains-append_left noted (part ∷ []) p ((are.names p).0 was)
           to p (inr one) = subst (Contains (noted ++ part ∷ [])) (sym (named_once p part one)) (Contains-push noted part)
 
-          from : (p : Partition) → Contains noted p ⊎ (part ≡ p) → Contains (keys_of by_name.entries) (named_day p) ⊎ (named_day p ≡ named_day part)
+          from : (p : Partition) → Contains noted p ⊎ (part ≡ p) → Contains (keys_of by_name.entries) (name_day p) ⊎ (name_day p ≡ name_day part)
           from p (inl was) = inl ((are.names p).1 was)
-          from p (inr one) = inr (ap named_day (sym one))
+          from p (inr one) = inr (ap name_day (sym one))
 
 -- ---- more room
 
-pub roomier : (old_day new_day : Listing Partition ℕ) (old_name new_name : Listing NamedDay Unit) (noted : List Partition) → AreIndexed old_day old_name noted →
+pub roomier : (old_day new_day : Listing Partition ℕ) (old_name new_name : Listing NameDay Unit) (noted : List Partition) → AreIndexed old_day old_name noted →
     new_day.entries ≡ old_day.entries → new_name.entries ≡ old_name.entries → AreIndexed new_day new_name noted
 roomier old_day new_day old_name new_name noted are day name = record {
   by_day_rises = rw day are.by_day_rises;

@@ -1,6 +1,6 @@
 pub mod Partition
 pub mod Rows
-pub mod NamedDay
+pub mod NameDay
 pub mod Bounds
 pub mod Names
 pub mod Places

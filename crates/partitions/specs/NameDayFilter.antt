@@ -4,7 +4,7 @@ use Rattle.std.specs.List.{list_any}
 use Rattle.std.specs.declared.cmp.Ordering.{Ordering}
 use Rattle.std.specs.declared.cmp.Ordering.TheVariants.{Less, Greater}
 use Rattle.partitions.specs.declared.partition.Partition.{Partition}
-use Rattle.partitions.specs.declared.named_day.NamedDay.{NamedDay}
+use Rattle.partitions.specs.declared.name_day.NameDay.{NameDay}
 use Rattle.partitions.specs.declared.days.Days.{Days}
 use Rattle.partitions.specs.declared.name_day_filter.NameDayFilter.{NameDayFilter}
 
@@ -16,8 +16,8 @@ is_on days day = not (int_lt day days.first) && not (int_lt days.last day)
 abbrev pub is_on_days : Days → Partition → Bool
 is_on_days days part = is_on days part.day
 
--- whether a named day has one of the days and one of the packet names that are wanted
-abbrev pub passes_filter : NameDayFilter → NamedDay → Bool
+-- whether a name day has one of the days and one of the packet names that are wanted
+abbrev pub passes_filter : NameDayFilter → NameDay → Bool
 passes_filter name_day_filter at = is_on name_day_filter.days at.day && list_any (nat_eq at.pname) name_day_filter.names
 
 -- the first key that passes a test, from a key on, or that there is none

@@ -7,10 +7,10 @@ use Rattle.std.specs.List.Sorted.{IsStrictlySortedBy}
 use Rattle.block_map.specs.Index.{Listing}
 use Rattle.block_map.specs.Rising.{IsRising}
 use Rattle.partitions.specs.declared.partition.Partition.{Partition}
-use Rattle.partitions.specs.declared.named_day.NamedDay.{NamedDay}
+use Rattle.partitions.specs.declared.name_day.NameDay.{NameDay}
 use Rattle.partitions.specs.declared.links.Link.{Link}
 use Rattle.partitions.specs.Partition.{partition_cmp}
-use Rattle.partitions.specs.NamedDay.{named_day_cmp, named_day}
+use Rattle.partitions.specs.NameDay.{name_day_cmp, name_day}
 use Rattle.partitions.specs.Places.{last_place_below}
 use Rattle.partitions.specs.Links.{noted_in, AreChained}
 
@@ -24,14 +24,14 @@ abbrev pub AreRising : List Partition → Type 0
 AreRising parts = IsStrictlySortedBy partition_cmp parts
 
 -- two indexes of the partitions that hold a row, each in its order; the first has the last place of each
-pub record AreIndexed (by_day : Listing Partition ℕ) (by_name : Listing NamedDay Unit) (noted : List Partition) : Type 0 where
+pub record AreIndexed (by_day : Listing Partition ℕ) (by_name : Listing NameDay Unit) (noted : List Partition) : Type 0 where
   pub by_day_rises : IsRising partition_cmp by_day.entries
-  pub by_name_rises : IsRising named_day_cmp by_name.entries
+  pub by_name_rises : IsRising name_day_cmp by_name.entries
   pub last : (p : Partition) → lookup (is_at (partition_cmp p)) by_day.entries ≡ last_place_below (length noted) p noted
-  pub names : (p : Partition) → Contains (keys_of by_name.entries) (named_day p) ↔ Contains noted p
+  pub names : (p : Partition) → Contains (keys_of by_name.entries) (name_day p) ↔ Contains noted p
 
 -- rows are noted in links and in indexes, with room in each for as many more; places have 32 bits
-pub record AreNoted (by_day : Listing Partition ℕ) (by_name : Listing NamedDay Unit) (links : Vec Link) (room : ℕ) : Type 0 where
+pub record AreNoted (by_day : Listing Partition ℕ) (by_name : Listing NameDay Unit) (links : Vec Link) (room : ℕ) : Type 0 where
   pub indexed : AreIndexed by_day by_name (noted_in links.items)
   pub chained : AreChained links.items
   pub room_by_day : room ≤ by_day.room

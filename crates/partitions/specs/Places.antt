@@ -1,5 +1,6 @@
 -- The places of the rows that were noted: how many were noted before each. Not their positions in a history.
-use Rattle.std.specs.Prelude.{ℕ, zero, suc, List, [], ◌∷◌, length, filter, slice_get, Bool, false, Option, Some, None}
+use Rattle.std.specs.Prelude.{ℕ, zero, suc, ◌+◌, List, [], ◌∷◌, length, filter, slice_get, Bool, false, Option, Some, None}
+use Rattle.std.specs.List.{sum_by}
 use Rattle.std.specs.Ordering.{is_eq}
 use Rattle.partitions.specs.declared.partition.Partition.{Partition}
 use Rattle.partitions.specs.Partition.{partition_cmp}
@@ -25,3 +26,7 @@ places_in part noted = places_below (length noted) part noted
 -- the last place below one at which a row was noted in a partition, if there is one
 abbrev pub last_place_below : ℕ → Partition → List Partition → Option ℕ
 last_place_below n part noted = slice_get (places_below n part noted) 0
+
+-- the steps along the chains of some partitions: one for each of them, and one for each of their rows
+abbrev pub chain_steps : List Partition → List Partition → ℕ
+chain_steps parts noted = sum_by (λ part. 1 + length (places_in part noted)) parts

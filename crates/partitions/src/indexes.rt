@@ -6,14 +6,14 @@ ghost use Rattle.std.specs.BTreeMap.{is_at};
 ghost use Rattle.block_map.specs.Rising.{IsRising};
 ghost use Rattle.partitions.specs.declared.partition.Partition.{Partition as APartition};
 ghost use Rattle.partitions.specs.Partition.{partition_cmp};
-ghost use Rattle.partitions.specs.NamedDay.{named_day};
+ghost use Rattle.partitions.specs.NameDay.{name_day};
 ghost use Rattle.partitions.specs.NameDayFilter.{is_on_days, passes_filter};
 ghost use Rattle.partitions.specs.Partitions.{AreIndexed};
 
 use crate::days::Days;
 use crate::lists::PartList;
+use crate::name_day::NameDay;
 use crate::name_day_filter::NameDayFilter;
-use crate::named_day::NamedDay;
 use crate::partition::Partition;
 use block_map::growing_index::GrowingIndex;
 use std::alloc::{AllocError, Global};
@@ -21,7 +21,7 @@ use std::alloc::{AllocError, Global};
 /// Makes a place the last of a partition, and answers the one that was the last before. Takes no memory.
 pub(crate) fn put_last(
     by_day: &mut GrowingIndex<Partition, u32>,
-    by_name: &mut GrowingIndex<NamedDay, ()>,
+    by_name: &mut GrowingIndex<NameDay, ()>,
     part: Partition,
     place: u32,
 ) -> Option<u32>
@@ -37,7 +37,7 @@ pub(crate) fn put_last(
         Some(before) => Some(before),
         None => {
             let _ = by_day.insert(part, place);
-            let _ = by_name.insert(NamedDay::of(part), ());
+            let _ = by_name.insert(NameDay::of(part), ());
             None
         }
     }
@@ -69,11 +69,11 @@ pub(crate) fn on_days(
 /// The partitions of an index that are wanted, in its order. Where an entry isn't, the next one looked at is the first that may be.
 pub(crate) fn of_names(
     alloc: Global,
-    index: &GrowingIndex<NamedDay, ()>,
+    index: &GrowingIndex<NameDay, ()>,
     name_day_filter: &NameDayFilter,
 ) -> Result<PartList, AllocError>
     requires { name_day_filter.now.days.first ≤ℤ name_day_filter.now.days.last }
-    ensures { IfOk result (λ parts. map named_day parts
+    ensures { IfOk result (λ parts. map name_day parts
         ≡ filter (passes_filter name_day_filter.now) (keys_of index.now.entries)) }
 {
     let mut parts = PartList::new(alloc);

@@ -1,11 +1,11 @@
 //! The days of listed packet names.
 
 ghost use Rattle.std.specs.Prelude.{◌≡◌, ◌≤ℤ◌};
-ghost use Rattle.partitions.specs.NamedDay.{named_day_cmp};
+ghost use Rattle.partitions.specs.NameDay.{name_day_cmp};
 ghost use Rattle.partitions.specs.NameDayFilter.{passes_filter, IsFirstFrom};
 
 use crate::days::Days;
-use crate::named_day::NamedDay;
+use crate::name_day::NameDay;
 use crate::names::SortedNames;
 
 /// Some days of some packet names.
@@ -16,10 +16,10 @@ pub(crate) struct NameDayFilter {
 }
 
 impl NameDayFilter {
-    /// The first named day that is wanted, from this one on.
-    pub(crate) fn first_from(&self, at: NamedDay) -> Option<NamedDay>
+    /// The first name day that is wanted, from this one on.
+    pub(crate) fn first_from(&self, at: NameDay) -> Option<NameDay>
         requires { self.now.days.first ≤ℤ self.now.days.last }
-        ensures { IsFirstFrom named_day_cmp (passes_filter self.now) at result }
+        ensures { IsFirstFrom name_day_cmp (passes_filter self.now) at result }
     {
         let pname = self.names.first_from(at.pname)?;
         if pname > at.pname || at.day < self.days.first {
@@ -33,10 +33,10 @@ impl NameDayFilter {
     }
 
     /// The first day of a packet name.
-    fn first_of(&self, pname: u16) -> NamedDay
+    fn first_of(&self, pname: u16) -> NameDay
         ensures { result ≡ record { pname = pname; day = self.now.days.first } }
     {
-        NamedDay {
+        NameDay {
             pname,
             day: self.days.first,
         }

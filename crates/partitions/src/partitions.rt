@@ -1,8 +1,8 @@
 //! The partitions of rows.
 
-ghost use Rattle.std.specs.Prelude.{◌≡◌, ◌+◌, ◌<◌, ◌≤◌, ◌≤ℤ◌, ◌↔◌, [], ◌∷◌, ◌++◌, true, max, IfOk, OnOk, OnErr, Contains};
+ghost use Rattle.std.specs.Prelude.{◌≡◌, ◌+◌, ◌<◌, ◌≤◌, ◌≤ℤ◌, ◌↔◌, [], ◌∷◌, ◌++◌, length, true, max, IfOk, OnOk, OnErr, Contains};
 ghost use Rattle.partitions.specs.Partition.{partition_of};
-ghost use Rattle.partitions.specs.NamedDay.{named_day};
+ghost use Rattle.partitions.specs.NameDay.{name_day};
 ghost use Rattle.partitions.specs.Bounds.{MayHold};
 ghost use Rattle.partitions.specs.NameDayFilter.{is_on, passes_filter};
 ghost use Rattle.partitions.specs.Places.{places_in};
@@ -13,8 +13,8 @@ use crate::days::Days;
 use crate::indexes::{of_names, on_days, put_last};
 use crate::links::Link;
 use crate::lists::{PartList, in_order};
+use crate::name_day::NameDay;
 use crate::name_day_filter::NameDayFilter;
-use crate::named_day::NamedDay;
 use crate::names::SortedNames;
 use crate::partition::{Partition, partition_of};
 use crate::places::Places;
@@ -29,7 +29,7 @@ pub struct Partitions {
     /// The place of the last row of each partition that holds one.
     by_day: GrowingIndex<Partition, u32>,
     /// The same partitions, by packet name first.
-    by_name: GrowingIndex<NamedDay, ()>,
+    by_name: GrowingIndex<NameDay, ()>,
     /// Of each row noted, the row before it of its partition.
     links: Vec<Link>,
     /// How many more rows are noted without memory.
@@ -105,6 +105,20 @@ impl Partitions {
         Places::new(self.links.as_slice(), self.by_day.get(part))
     }
 
+    /// How many rows were noted in a partition. They are counted along its chain.
+    pub fn row_count(&self, part: Partition) -> usize
+        ensures { result ≡ length (places_in part self.now.noted) }
+    {
+        // It tells the proof that places have 32 bits.
+        let _links = &self.links;
+        let mut places = self.places_of(part);
+        let mut count = 0;
+        while let Some(_) = places.next() {
+            count += 1;
+        }
+        count
+    }
+
     /// The partitions that hold a row and may hold one in the bounds, by day and then by the packet name's number.
     /// The one error is want of memory.
     pub fn pruned(&self, bounds: &Bounds) -> Result<PartList, AllocError>
@@ -138,7 +152,7 @@ impl Partitions {
     fn of_names(&self, name_day_filter: &NameDayFilter) -> Result<PartList, AllocError>
         requires { name_day_filter.now.days.first ≤ℤ name_day_filter.now.days.last }
         ensures exactly { IfOk result (λ parts. (p : Partition) → Contains parts p
-            ↔ (Contains self.now.noted p × (passes_filter name_day_filter.now (named_day p) ≡ true))) }
+            ↔ (Contains self.now.noted p × (passes_filter name_day_filter.now (name_day p) ≡ true))) }
         ensures rising { IfOk result (λ parts. AreRising parts) }
     {
         let parts = of_names(self.alloc, &self.by_name, name_day_filter)?;

@@ -1,6 +1,6 @@
 //! The places of a partition's rows, one after the other.
 
-ghost use Rattle.std.specs.Prelude.{◌≡◌, length};
+ghost use Rattle.std.specs.Prelude.{◌≡◌, [], length};
 ghost use Rattle.std.specs.Iterator.{at_most};
 ghost use Rattle.std.specs.Map.Iter.{TakesFirst};
 ghost use Rattle.partitions.specs.Links.{places_up_to, AreAt};
@@ -29,6 +29,16 @@ impl<'a> Model for Places<'a> {
 }
 
 impl<'a> Places<'a> {
+    /// No place.
+    pub(crate) fn none() -> Self
+        ensures { result ≡ [] }
+    {
+        Places {
+            links: &[],
+            next: None,
+        }
+    }
+
     /// A place, if there is one, and those before it of its partition.
     pub(crate) fn new(links: &'a [Link], next: Option<u32>) -> Self
         requires { AreAt links.now next }

@@ -1,9 +1,11 @@
 //! Worked rows, and that each public call succeeds where memory is ample.
 
 use partitions::bounds::Bounds;
+use partitions::chain_steps::ChainSteps;
 use partitions::lists::{PartList, PnameList};
 use partitions::partition::{Partition, partition_of};
 use partitions::partitions::Partitions;
+use partitions::rows::are_whole_days;
 use std::alloc::{AllocError, Global};
 use std::test::Fail;
 
@@ -141,8 +143,60 @@ fn places_of_one_partition(rt: HostRuntime) -> Result<(), Fail> {
     let alloc = rt.alloc();
     let held = held(alloc, &ROWS)?;
     for (day, pname, want) in PLACES {
-        let places = places(alloc, &held, Partition { day, pname })?;
+        let part = Partition { day, pname };
+        let places = places(alloc, &held, part)?;
         assert_eq!(rt; places.as_slice(), want, "day {day} name {pname}");
+        assert_eq!(rt; held.row_count(part), want.len());
+    }
+    Ok(())
+}
+
+/// The steps that are taken, at most 20.
+fn taken(mut steps: ChainSteps<'_>) -> usize {
+    for taken in 0..20 {
+        if !steps.take_one() {
+            return taken;
+        }
+    }
+    20
+}
+
+#[test]
+fn steps_along_chains(rt: HostRuntime) -> Result<(), Fail> {
+    let held = held(rt.alloc(), &ROWS)?;
+    // three rows, none, and one
+    let parts = [
+        Partition { day: 0, pname: 3 },
+        Partition { day: 0, pname: 5 },
+        Partition { day: 1, pname: 5 },
+    ];
+    assert_eq!(rt; taken(held.steps_of(&parts)), 7);
+    assert_eq!(rt; taken(held.steps_of(&[])), 0);
+    Ok(())
+}
+
+/// Ranges, and whether they have all times of the days from 0 to 1.
+const WHOLE_DAYS: [(i64, i64, bool); 6] = [
+    (0, 2 * DAY, true),
+    (-5, i64::MAX, true),
+    (1, 2 * DAY, false),
+    (0, 2 * DAY - 1, false),
+    (DAY, 2 * DAY, false),
+    // from the least time on it isn't told
+    (i64::MIN, i64::MAX, false),
+];
+
+#[test]
+fn ranges_of_whole_days(rt: HostRuntime) -> Result<(), Fail> {
+    let alloc = rt.alloc();
+    let held = held(alloc, &ROWS)?;
+    let parts = held.pruned(&bounds(alloc, 0, 2 * DAY, None)?)?;
+    for (from, to, want) in WHOLE_DAYS {
+        assert_eq!(rt;
+            are_whole_days(parts.as_slice(), from, to),
+            want,
+            "from {from} to {to}"
+        );
     }
     Ok(())
 }

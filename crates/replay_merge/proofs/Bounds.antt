@@ -18,9 +18,10 @@ use Rattle.partitions.specs.declared.partition.Partition.{Partition}
 use Rattle.partitions.specs.declared.bounds.Bounds.{Bounds}
 use Rattle.partitions.specs.Partition.{partition_of}
 use Rattle.partitions.specs.Bounds.{IsAmong, MayHold}
-use Rattle.partitions.specs.Rows.{is_of_partition}
+use Rattle.partitions.specs.Rows.{is_of_partition, is_of_parts}
 use Rattle.partitions.proofs.Order.{partition_cmp_total}
-use Rattle.replay_merge.specs.Replay.{is_listed_name, has_listed_name, rows_asked, is_of_parts, HoldEach}
+use Rattle.replay_merge.specs.Replay.{is_listed_name, has_listed_name, rows_asked, HoldsEachRow}
+use Rattle.replay_merge.specs.Laws.{HoldsPruned}
 
 same_number : (x : ℕ) → nat_eq x x ≡ true
 same_number x = grind (arith, nat_tests)
@@ -62,7 +63,7 @@ within_range from to row is = by (int_lt row.key.time from) (int_lt row.key.time
     by false false ea eb is = absurd cc
 
 module _ (bounds : Bounds) (table front : ℕ) (parts : List Partition) (history : List Row)
-    (enough : (p : Partition) → Contains (map own_partition (filter (is_in_table table) history)) p → MayHold bounds p → Contains parts p) where
+    (enough : HoldsPruned bounds (filter (is_in_table table) history) parts) where
   rows : List Row
   rows = filter (is_in_table table) history
 
@@ -83,7 +84,7 @@ module _ (bounds : Bounds) (table front : ℕ) (parts : List Partition) (history
       list_any-from_Any (λ part. is_of_partition part row) parts (at.0, own_partition row, at.1, at.2, in_own row)
 
   -- partitions that hold each that has a row of the table, and may hold one in the bounds, hold each row that is asked
-  pub pruned_is_enough : HoldEach parts (rows_asked table bounds.from bounds.to bounds.names (take front history))
+  pub pruned_is_enough : HoldsEachRow parts (rows_asked table bounds.from bounds.to bounds.names (take front history))
   pruned_is_enough =
       let asked = rows_asked table bounds.from bounds.to bounds.names (take front history) in
       let of_table = table_of table (take front history) in

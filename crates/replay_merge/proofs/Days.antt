@@ -1,46 +1,19 @@
 -- Rows of partitions, and that those of an earlier day come before those of a later one.
-use Rattle.std.proofs.Common.{◌≡◌, inl, inr, ℕ, zero, suc, ℤ, ◌+◌, ◌<◌, ◌≤◌, ◌<ℤ◌, ◌≤ℤ◌, List, length, get_or, take, drop, Bool, true, false, not, nat_lt, refl, sym, ap, ◌∙◌, subst, arith}
+use Rattle.std.proofs.Common.{◌≡◌, ℕ, zero, suc, ℤ, ◌+◌, ◌<◌, ◌<ℤ◌, ◌≤ℤ◌, List, length, get_or, take, drop, Bool, true, false, not, refl, sym, ◌∙◌, subst, arith}
 use Rattle.std.specs.Prelude.{int_lt}
 use Rattle.std.specs.List.{AllWithin}
 use Rattle.std.specs.List.Sorted.{IsPartitionedBy, IsPartitionPoint}
-use Rattle.std.proofs.lemmas.Bool.Decides.{nat_tests}
-use Rattle.std.proofs.lemmas.Map.Keys.{Less-from_sorted}
-use Rattle.std.specs.Ordering.{is_eq}
-use Rattle.std.specs.declared.cmp.Ordering.{Ordering}
-use Rattle.std.specs.declared.cmp.Ordering.TheVariants.{Less, Equal, Greater}
 use Rattle.std.proofs.lemmas.Int.{ints}
 use Rattle.std.proofs.lemmas.List.{get_or-take, get_or-drop, length-take, length-drop}
 use Rattle.std.proofs.lemmas.List.Folds.{Any-from_list_any}
 use Rattle.arch_types.specs.declared.row.Row.{Row}
 use Rattle.arch_types.specs.Order.{is_before}
 use Rattle.time_text.specs.Day.{day_of}
-use Rattle.time_text.proofs.DayFacts.{days_rise}
 use Rattle.partitions.specs.declared.partition.Partition.{Partition}
-use Rattle.partitions.specs.Partition.{partition_cmp, partition_of}
 use Rattle.partitions.specs.Partitions.{AreRising}
-use Rattle.partitions.specs.Rows.{is_of_partition}
-use Rattle.partitions.proofs.Order.{IsBefore, before_from_less, exact_partitions}
-use Rattle.replay_merge.specs.Replay.{is_of_parts}
+use Rattle.partitions.specs.Rows.{is_of_partition, is_of_parts}
+use Rattle.partitions.proofs.Parted.{its_day, earlier, day_rises}
 use Rattle.replay_merge.specs.Fetch.{EndsDay}
-
-pub equal_by : (r : Ordering) → is_eq r ≡ true → r ≡ Equal
-equal_by Less is = absurd cc
-equal_by Equal is = refl
-equal_by Greater is = absurd cc
-
--- a row stands in no other partition than its own
-pub its_partition : (part : Partition) (row : Row) → is_of_partition part row ≡ true → part ≡ partition_of row.key.time row.pname
-its_partition part row is = exact_partitions part (partition_of row.key.time row.pname) (equal_by _ is)
-
-pub its_day : (part : Partition) (row : Row) → is_of_partition part row ≡ true → part.day ≡ day_of row.key.time
-its_day part row is = ap (λ (p : Partition). p.day) (its_partition part row is)
-
-earlier : (a b : ℤ) → day_of a <ℤ day_of b → a <ℤ b
-earlier a b days = by (int_lt a b) refl
-  where
-    by : (t : Bool) → int_lt a b ≡ t → a <ℤ b
-    by true e = grind (arith, ints)
-    by false e = let back : b ≤ℤ a = grind (arith, ints) in let rise = days_rise b a back in absurd (omega (arith, ints))
 
 pub before_by_time : (x y : Row) → x.key.time <ℤ y.key.time → is_before x y ≡ true
 before_by_time x y less = let e : int_lt x.key.time y.key.time ≡ true = grind (arith, ints) in rw e refl
@@ -74,17 +47,6 @@ days_in_order parts n ends x y first later =
     before_by_time x y (earlier x.key.time y.key.time less)
 
 -- ---- the first day of partitions
-
-day_rises : (parts : List Partition) → AreRising parts → (i j : ℕ) (d : Partition) → i ≤ j → j < length parts → (get_or parts i d).day ≤ℤ (get_or parts j d).day
-day_rises parts rising i j d le h = by (nat_lt i j) refl
-  where
-    from : IsBefore (get_or parts i d) (get_or parts j d) → (get_or parts i d).day ≤ℤ (get_or parts j d).day
-    from (inl days) = omega (arith, ints, days)
-    from (inr same) = let day = same.0 in omega (arith, ints, day)
-
-    by : (b : Bool) → nat_lt i j ≡ b → (get_or parts i d).day ≤ℤ (get_or parts j d).day
-    by true e = let less : i < j = grind (arith, nat_tests) in from (before_from_less _ _ (Less-from_sorted partition_cmp parts i j d rising less h))
-    by false e = let same : i ≡ j = grind (arith, nat_tests) in let P : ℕ → Type 0 = λ k. (get_or parts i d).day ≤ℤ (get_or parts k d).day in subst P same (omega (arith, ints))
 
 no_later_day : (day other : ℤ) → not (int_lt day other) ≡ true → other ≤ℤ day
 no_later_day day other e = grind (arith, ints)

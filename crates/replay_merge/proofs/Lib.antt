@@ -8,3 +8,5 @@ pub mod Opening
 pub mod LookUps
 pub mod Bounds
 pub mod Sources
+pub mod Gathered
+pub mod Cut

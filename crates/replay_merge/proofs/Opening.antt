@@ -21,13 +21,13 @@ use Rattle.arch_types.specs.Table.{range_of}
 use Rattle.partitions.specs.declared.partition.Partition.{Partition}
 use Rattle.partitions.specs.Partition.{partition_cmp}
 use Rattle.partitions.specs.Partitions.{AreRising}
-use Rattle.partitions.specs.Rows.{is_of_partition}
+use Rattle.partitions.specs.Rows.{is_of_partition, is_of_parts}
 use Rattle.partitions.proofs.Order.{partition_cmp_total, exact_partitions}
-use Rattle.replay_merge.specs.Replay.{has_listed_name, rows_asked, limited, replay_of, is_of_parts, HoldEach}
+use Rattle.partitions.proofs.Parted.{equal_by}
+use Rattle.replay_merge.specs.Replay.{has_listed_name, rows_asked, truncated, replay_of, HoldsEachRow}
 use Rattle.replay_merge.specs.Cursor.{CursorView, rest_of, IsAtEnd, IsCursorOf}
 use Rattle.replay_merge.proofs.Tied.{none_in_parts}
 use Rattle.replay_merge.proofs.Reading.{all_pass}
-use Rattle.replay_merge.proofs.Days.{equal_by}
 
 -- ---- partitions in order, each once
 
@@ -81,38 +81,38 @@ there given parts same row is =
     let at = (same any.1).1 (any.0, any.2, any.3) in
     list_any-from_Any (λ part. is_of_partition part row) parts (at.0, any.1, at.1, at.2, any.4)
 
-all_there : (given parts : List Partition) → ((part : Partition) → Contains parts part ↔ Contains given part) → (rows : List Row) → HoldEach given rows → AllByRecursion (λ row. is_of_parts parts row ≡ true) rows
+all_there : (given parts : List Partition) → ((part : Partition) → Contains parts part ↔ Contains given part) → (rows : List Row) → HoldsEachRow given rows → AllByRecursion (λ row. is_of_parts parts row ≡ true) rows
 all_there given parts same [] all = tt
 all_there given parts same (row ∷ rows) all = (there given parts same row all.0, all_there given parts same rows all.1)
 
 -- a cursor that was just opened, over all partitions that it needs, has the replay before it
 pub opened_is_replay : (request : ReplayRequest) (table front : ℕ) (parts : List Partition) (names : Option (List ℕ)) (c : CursorView) → IsCursorOf request table front parts names c → (history : List Row) →
-    HoldEach parts (rows_asked table request.from request.to names (take front history)) →
+    HoldsEachRow parts (rows_asked table request.from request.to names (take front history)) →
     rest_of c history ≡ replay_of table request.from request.to names request.limit (take front history)
 opened_is_replay request table front parts names c is history hold =
     let range = range_of table request.from request.to (take front history) in
     let asked : rows_asked c.table c.from c.to c.names (take c.front history) ≡ rows_asked table request.from request.to names (take front history) =
     rw (is.of_table, is.at_front, is.starts, is.ends) (filter_agree (has_listed_name c.names) (has_listed_name names) (λ row. is.listed row.pname) range) in
     let held = all_pass (is_of_parts c.parts) (rows_asked table request.from request.to names (take front history)) (all_there parts c.parts is.same_parts _ hold) in
-    ap (λ (w : List Row). limited c.left (w ++ filter (is_of_parts c.parts) (rows_asked c.table c.from c.to c.names (take c.front history)))) is.unread
-    ∙ ap (λ (w : List Row). limited c.left (filter (is_of_parts c.parts) w)) asked
-    ∙ ap (limited c.left) held
-    ∙ ap (λ (l : Option ℕ). limited l (rows_asked table request.from request.to names (take front history))) is.limit
+    ap (λ (w : List Row). truncated c.left (w ++ filter (is_of_parts c.parts) (rows_asked c.table c.from c.to c.names (take c.front history)))) is.unread
+    ∙ ap (λ (w : List Row). truncated c.left (filter (is_of_parts c.parts) w)) asked
+    ∙ ap (truncated c.left) held
+    ∙ ap (λ (l : Option ℕ). truncated l (rows_asked table request.from request.to names (take front history))) is.limit
 
 -- ---- the end
 
-limited_none : (left : Option ℕ) → limited left [] ≡ []
-limited_none None = refl
-limited_none (Some n) = take_all n [] (omega arith)
+truncated_none : (left : Option ℕ) → truncated {X = Row} left [] ≡ []
+truncated_none None = refl
+truncated_none (Some n) = take_all n [] (omega arith)
 
 pub end_no_rest : (c : CursorView) (history : List Row) → IsAtEnd c → rest_of c history ≡ []
 end_no_rest c history (inl zero) = rw zero refl
 end_no_rest c history (inr (ahead, parts)) =
     let asked = rows_asked c.table c.from c.to c.names (take c.front history) in
     let none : filter (is_of_parts c.parts) asked ≡ [] = rw parts (none_in_parts [] asked refl) in
-    ap (λ (w : List Row). limited c.left (w ++ filter (is_of_parts c.parts) asked)) ahead ∙ ap (limited c.left) none ∙ limited_none c.left
+    ap (λ (w : List Row). truncated c.left (w ++ filter (is_of_parts c.parts) asked)) ahead ∙ ap (truncated c.left) none ∙ truncated_none c.left
 
 -- ---- the front
 
 pub rest_at_front : (c : CursorView) (one other : List Row) → take c.front one ≡ take c.front other → rest_of c one ≡ rest_of c other
-rest_at_front c one other same = ap (λ (rows : List Row). limited c.left (c.ahead ++ filter (is_of_parts c.parts) (rows_asked c.table c.from c.to c.names rows))) same
+rest_at_front c one other same = ap (λ (rows : List Row). truncated c.left (c.ahead ++ filter (is_of_parts c.parts) (rows_asked c.table c.from c.to c.names rows))) same

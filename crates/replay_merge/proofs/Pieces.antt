@@ -8,7 +8,7 @@ use Rattle.std.proofs.lemmas.List.{take-append-drop, take_all, drop_all, take_at
 use Rattle.arch_types.specs.declared.row.Row.{Row}
 use Rattle.partitions.specs.declared.partition.Partition.{Partition}
 use Rattle.replay_merge.specs.declared.wanted.Wanted.{Wanted}
-use Rattle.replay_merge.specs.Replay.{limited}
+use Rattle.replay_merge.specs.Replay.{truncated}
 use Rattle.replay_merge.specs.Cursor.{CursorView, rest_of, still_ahead, left_after}
 use Rattle.replay_merge.specs.Fetch.{wanted_in}
 
@@ -26,7 +26,7 @@ piece (x ∷ a) d (suc left) (suc most) le =
     rw e (ap (λ (w : List Row). x ∷ w) (piece a d left most (omega (arith, le))))
 
 -- the first rows of a list, and what is left behind them
-pub piece_of : (a d : List Row) (left : Option ℕ) (most : ℕ) → IfSome left (λ n. most ≤ n) → take most a ++ limited (left_after left (length (take most a))) (drop most a ++ d) ≡ limited left (a ++ d)
+pub piece_of : (a d : List Row) (left : Option ℕ) (most : ℕ) → IfSome left (λ n. most ≤ n) → take most a ++ truncated (left_after left (length (take most a))) (drop most a ++ d) ≡ truncated left (a ++ d)
 piece_of a d None most le = sym (append_assoc (take most a) (drop most a) d) ∙ ap (λ (w : List Row). w ++ d) (take-append-drop most a)
 piece_of a d (Some left) most le = piece a d left most le
 
@@ -34,10 +34,10 @@ above_none : (n : ℕ) → (suc n == 0) ≡ false
 above_none n = grind (arith, nat_tests)
 
 -- no row is kept once the limit is reached
-pub still_limited : (left : Option ℕ) (rows others : List Row) → limited left (still_ahead left rows ++ others) ≡ limited left (rows ++ others)
-still_limited None rows others = refl
-still_limited (Some zero) rows others = refl
-still_limited (Some (suc n)) rows others = rw (above_none n) refl
+pub still_truncated : (left : Option ℕ) (rows others : List Row) → truncated left (still_ahead left rows ++ others) ≡ truncated left (rows ++ others)
+still_truncated None rows others = refl
+still_truncated (Some zero) rows others = refl
+still_truncated (Some (suc n)) rows others = rw (above_none n) refl
 
 -- some of the rows ahead, or of a day that was read, were given
 pub given : (told : Option (List Row)) (wanted : Wanted) (left left' : Option ℕ) (parts parts' : List Partition) (ahead ahead' kept day rows : List Row) (most : ℕ) → IfSome left (λ n. most ≤ n) →
@@ -46,13 +46,13 @@ pub given : (told : Option (List Row)) (wanted : Wanted) (left left' : Option �
 given None wanted left left' parts parts' ahead ahead' kept day rows most within before are rest less still = tt
 given (Some history) wanted left left' parts parts' ahead ahead' kept day rows most within before are rest less still =
     let others = wanted_in wanted parts' history in
-    ap (λ (w : List Row). rows ++ limited left' (w ++ others)) still
-    ∙ ap (λ (w : List Row). rows ++ w) (still_limited left' ahead' others)
-    ∙ ap (λ (l : Option ℕ). rows ++ limited l (ahead' ++ others)) less
-    ∙ ap (λ (w : List Row). rows ++ limited (left_after left (length rows)) (w ++ others)) rest
-    ∙ ap (λ (w : List Row). w ++ limited (left_after left (length w)) (drop most day ++ others)) are
+    ap (λ (w : List Row). rows ++ truncated left' (w ++ others)) still
+    ∙ ap (λ (w : List Row). rows ++ w) (still_truncated left' ahead' others)
+    ∙ ap (λ (l : Option ℕ). rows ++ truncated l (ahead' ++ others)) less
+    ∙ ap (λ (w : List Row). rows ++ truncated (left_after left (length rows)) (w ++ others)) rest
+    ∙ ap (λ (w : List Row). w ++ truncated (left_after left (length w)) (drop most day ++ others)) are
     ∙ piece_of day others left most within
-    ∙ ap (limited left) (sym before)
+    ∙ ap (truncated left) (sym before)
 
 pub same_rest : (told : Option (List Row)) (wanted : Wanted) (parts : List Partition) (ahead : List Row) → IfSome told (λ history. ahead ++ wanted_in wanted parts history ≡ ahead ++ wanted_in wanted parts history)
 same_rest None wanted parts ahead = tt

@@ -7,7 +7,7 @@ use Rattle.std.specs.Cmp.{IsStrictWeakOrder}
 use Rattle.std.proofs.lemmas.List.Elements.{recursion_from_All}
 use Rattle.std.proofs.lemmas.List.Sorted.{sorted_far}
 use Rattle.arch_types.proofs.Ordered.{IsAscending}
-use Rattle.replay_merge.proofs.Splits.{none_pass}
+use Rattle.partitions.proofs.Filters.{none_pass}
 
 module _ {X : Type 0} {lt : X → X → Bool} (o : IsStrictWeakOrder lt) where
   pub ascending : (xs : List X) → IsSortedBy lt xs → IsAscending lt xs

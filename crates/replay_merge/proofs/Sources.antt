@@ -13,16 +13,16 @@ use Rattle.std.proofs.lemmas.List.Sorted.{All-permutation}
 use Rattle.arch_types.specs.declared.row.Row.{Row}
 use Rattle.arch_types.specs.Order.{key_cmp, is_before, order_by}
 use Rattle.arch_types.specs.History.{is_in_table}
-use Rattle.arch_types.specs.Table.{table_of}
+use Rattle.arch_types.specs.Table.{table_of, table_at_front}
 use Rattle.arch_types.proofs.Ranks.{key_cmp_total, rows_rank}
 use Rattle.arch_types.proofs.Ordered.{IsAscending}
 use Rattle.arch_types.proofs.InOrder.{order_same, order_sorted}
 use Rattle.partitions.specs.declared.partition.Partition.{Partition}
 use Rattle.partitions.specs.Rows.{is_of_partition, partition_at}
-use Rattle.replay_merge.specs.Source.{IsKeyedRow, IsRowOf, AreRowsOf, IsSourceHistory}
+use Rattle.partitions.proofs.Filters.{none_pass}
+use Rattle.replay_merge.specs.Source.{IsKeyedRow, IsRowOf, AreRowsOf, IsRowSourceHistory}
 use Rattle.replay_merge.proofs.Pieces.{all_first}
 use Rattle.replay_merge.proofs.Sorting.{ascending, tied_with_itself}
-use Rattle.replay_merge.proofs.Splits.{none_pass}
 use Rattle.replay_merge.proofs.Tied.{is_tied, AtMostOne, one_after, one_in_table, first_rows}
 
 -- ---- ascending rows of which no two tie
@@ -72,21 +72,21 @@ module _ {X : Type 0} (P Q : X → Type 0) where
       by false e later = later
 
 -- a keyed row of a table
-record IsKeyedIn (table : ℕ) (row : Row) : Type 0 where
-  keyed : IsKeyedRow row
-  in_table : row.table ≡ table
+pub record IsKeyedIn (table : ℕ) (row : Row) : Type 0 where
+  pub keyed : IsKeyedRow row
+  pub in_table : row.table ≡ table
 
 one_number : (a b : ℕ) → (a == b) ≡ true → b ≡ a
 one_number a b e = grind (arith, nat_tests, e)
 
-in_table_keyed : (table : ℕ) (history : List Row) → AllByRecursion IsKeyedRow history → AllByRecursion (IsKeyedIn table) (table_of table history)
+pub in_table_keyed : (table : ℕ) (history : List Row) → AllByRecursion IsKeyedRow history → AllByRecursion (IsKeyedIn table) (table_of table history)
 in_table_keyed table history all =
     let those = filter (is_in_table table) history in
     let each = each_tested IsKeyedRow (IsKeyedIn table) (is_in_table table) (λ row keyed e. record { keyed = keyed; in_table = one_number table row.table e }) history all in
     recursion_from_All (IsKeyedIn table) (order_by is_before those) (All-permutation (IsKeyedIn table) those (order_by is_before those) (order_same is_before those) (All-from_recursion (IsKeyedIn table) those each))
 
 -- those of a history at a front are rows of the partition, in the order of their keys
-pub partition_rows_are : (front table : ℕ) (part : Partition) (history : List Row) → IsSourceHistory history → AreRowsOf table part (partition_at front table part history)
+pub partition_rows_are : (front table : ℕ) (part : Partition) (history : List Row) → IsRowSourceHistory history → AreRowsOf table part (partition_at front table part history)
 partition_rows_are front table part history is =
     let first = take front history in
     let rows = table_of table first in
@@ -107,7 +107,9 @@ none_in table n [] all most = tt
 none_in table n (row ∷ rows) all most = (other_number table row.table n all.0 most, none_in table n rows all.1 most)
 
 -- where all rows are in tables of lower numbers, it has none
+pub no_rows_in : (front table n : ℕ) (history : List Row) → AllByRecursion (λ row. row.table < n) history → n ≤ table → table_at_front front table history ≡ []
+no_rows_in front table n history all most =
+    ap (order_by is_before) (none_pass (is_in_table table) (take front history) (none_in table n (take front history) (all_first (λ row. row.table < n) front history all) most))
+
 pub no_rows_of_table : (front table n : ℕ) (part : Partition) (history : List Row) → AllByRecursion (λ row. row.table < n) history → n ≤ table → partition_at front table part history ≡ []
-no_rows_of_table front table n part history all most =
-    let none = none_pass (is_in_table table) (take front history) (none_in table n (take front history) (all_first (λ row. row.table < n) front history all) most) in
-    ap (λ (rows : List Row). filter (is_of_partition part) (order_by is_before rows)) none
+no_rows_of_table front table n part history all most = ap (filter (is_of_partition part)) (no_rows_in front table n history all most)

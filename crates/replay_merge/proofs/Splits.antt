@@ -1,32 +1,12 @@
 -- Filters of a list by two tests.
-use Rattle.std.proofs.Common.{◌≡◌, List, [], ◌∷◌, ◌++◌, Bool, true, false, cond, refl, sym, ap, ◌∙◌}
+use Rattle.std.proofs.Common.{◌≡◌, List, [], ◌∷◌, ◌++◌, Bool, true, false, refl, sym, ap, ◌∙◌}
 use Rattle.std.specs.Prelude.{filter, ◌||◌}
 use Rattle.std.specs.List.{AllByRecursion}
 use Rattle.std.specs.Cmp.{IsStrictWeakOrder}
 use Rattle.arch_types.proofs.Ordered.{IsAscending}
+use Rattle.partitions.proofs.Filters.{none_pass}
 
 module _ {X : Type 0} where
-  -- where no item passes, none is left
-  pub none_pass : (q : X → Bool) (xs : List X) → AllByRecursion (λ x. q x ≡ false) xs → filter q xs ≡ []
-  none_pass q [] all = refl
-  none_pass q (x ∷ xs) all = rw all.0 (none_pass q xs all.1)
-
-  swap_cases : (p q : X → Bool) (x : X) (xs : List X) (a b : Bool) → p x ≡ a → q x ≡ b → filter p (filter q xs) ≡ filter q (filter p xs) →
-      filter p (cond b (x ∷ filter q xs) (filter q xs)) ≡ filter q (cond a (x ∷ filter p xs) (filter p xs))
-  swap_cases p q x xs true true ea eb same = rw (ea, eb) (ap (λ (w : List X). x ∷ w) same)
-  swap_cases p q x xs true false ea eb same = rw eb same
-  swap_cases p q x xs false true ea eb same = rw ea same
-  swap_cases p q x xs false false ea eb same = same
-
-  filter_twice : (p q : X → Bool) (x : X) (xs : List X) (a b : Bool) → p x ≡ a → q x ≡ b → filter p (filter q xs) ≡ filter q (filter p xs) →
-      filter p (filter q (x ∷ xs)) ≡ filter q (filter p (x ∷ xs))
-  filter_twice p q x xs a b ea eb same = rw (ea, eb) (swap_cases p q x xs a b ea eb same)
-
-  -- in which order two tests are asked is the same
-  pub filter_swap : (p q : X → Bool) (xs : List X) → filter p (filter q xs) ≡ filter q (filter p xs)
-  filter_swap p q [] = refl
-  filter_swap p q (x ∷ xs) = filter_twice p q x xs (p x) (q x) refl refl (filter_swap p q xs)
-
   pub append_nil_left : (xs ys : List X) → xs ++ ys ≡ [] → xs ≡ []
   append_nil_left [] ys none = refl
   append_nil_left (x ∷ xs) ys none = absurd cc

@@ -20,11 +20,11 @@ use Rattle.arch_types.proofs.Ordered.{filter-order}
 use Rattle.partitions.specs.declared.partition.Partition.{Partition}
 use Rattle.partitions.specs.Partition.{partition_cmp}
 use Rattle.partitions.specs.Partitions.{AreRising}
-use Rattle.partitions.specs.Rows.{is_of_partition}
+use Rattle.partitions.specs.Rows.{is_of_partition, is_of_parts}
+use Rattle.partitions.proofs.Filters.{none_pass, filter_swap}
 use Rattle.partitions.proofs.Order.{partition_cmp_total}
-use Rattle.replay_merge.specs.Replay.{is_of_parts}
-use Rattle.replay_merge.proofs.Splits.{none_pass, none_pass_either, append_nil_left, append_nil_right, filter_swap}
-use Rattle.replay_merge.proofs.Days.{its_partition}
+use Rattle.partitions.proofs.Parted.{its_partition}
+use Rattle.replay_merge.proofs.Splits.{none_pass_either, append_nil_left, append_nil_right}
 
 -- no item or one
 abbrev pub AtMostOne : List Row → Type 0

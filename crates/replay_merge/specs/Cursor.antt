@@ -4,7 +4,8 @@ use Rattle.arch_types.specs.declared.row.Row.{Row}
 use Rattle.arch_types.specs.declared.ask.ReplayRequest.{ReplayRequest}
 use Rattle.partitions.specs.declared.partition.Partition.{Partition}
 use Rattle.partitions.specs.Partitions.{AreRising}
-use Rattle.replay_merge.specs.Replay.{is_listed_name, rows_asked, limited, is_of_parts, IsReplayedRow}
+use Rattle.partitions.specs.Rows.{is_of_parts}
+use Rattle.replay_merge.specs.Replay.{is_listed_name, rows_asked, truncated, IsReplayedRow}
 
 -- what contracts see of a cursor
 pub record CursorView : Type 0 where
@@ -23,7 +24,7 @@ pub record CursorView : Type 0 where
 
 -- what is left to give of a replay of a history
 abbrev pub rest_of : CursorView → List Row → List Row
-rest_of c history = limited c.left (c.ahead ++ filter (is_of_parts c.parts) (rows_asked c.table c.from c.to c.names (take c.front history)))
+rest_of c history = truncated c.left (c.ahead ++ filter (is_of_parts c.parts) (rows_asked c.table c.from c.to c.names (take c.front history)))
 
 -- nothing is left, whatever the history: the limit is reached, or all was read and given
 abbrev pub IsAtEnd : CursorView → Type 0
@@ -37,14 +38,14 @@ pub record AsksTheSame (old new : CursorView) : Type 0 where
   pub ends : new.to ≡ old.to
   pub same_names : new.names ≡ old.names
 
--- at most so many calls give a row yet
-abbrev pub calls_left : CursorView → ℕ
-calls_left c = 2 ^ 64 * length c.parts + length c.ahead
+-- falls with each call that gives a row
+abbrev pub steps_at_most : CursorView → ℕ
+steps_at_most c = 2 ^ 64 * length c.parts + length c.ahead
 
--- of rows that were given at once, at most so many: there are none, where one might have been, only at the end, and at the end none
-pub record EndExactly (limit : ℕ) (old new : CursorView) (rows : List Row) : Type 0 where
-  pub ended : rows ≡ [] → 0 < limit → IsAtEnd new
-  pub over : IsAtEnd old → rows ≡ []
+-- a step that was asked for so many rows: if it gave none although some were asked for, the end is reached; from the end on it gives none
+pub record EndsExactly (limit : ℕ) (old new : CursorView) (rows : List Row) : Type 0 where
+  pub none_is_end : rows ≡ [] → 0 < limit → IsAtEnd new
+  pub end_is_none : IsAtEnd old → rows ≡ []
 
 -- a row that is of what was asked
 abbrev pub IsRowAsked : CursorView → Row → Type 0

@@ -1,15 +1,15 @@
 -- What is read of a source for a replay.
-use Rattle.std.specs.Prelude.{◌≡◌, ◌⊎◌, ℕ, ℤ, ◌<ℤ◌, ◌≤ℤ◌, ◌<◌, ◌≤◌, ◌^◌, List, [], length, take, filter, Option, IfSome}
+use Rattle.std.specs.Prelude.{◌≡◌, ℕ, ℤ, ◌<ℤ◌, ◌≤ℤ◌, ◌<◌, ◌≤◌, ◌^◌, List, length, take, filter, Option}
 use Rattle.std.specs.List.{AllByRecursion}
-use Rattle.std.specs.List.Sorted.{IsPartitionPoint, IsSortedByKey}
+use Rattle.std.specs.List.Sorted.{IsPartitionPoint}
 use Rattle.arch_types.specs.declared.row.Row.{Row}
-use Rattle.arch_types.specs.Order.{key_cmp}
 use Rattle.arch_types.specs.declared.ask.ReplayRequest.{ReplayRequest}
 use Rattle.partitions.specs.declared.partition.Partition.{Partition}
 use Rattle.partitions.specs.Partitions.{AreRising}
+use Rattle.partitions.specs.Rows.{is_of_parts}
 use Rattle.replay_merge.specs.declared.wanted.Wanted.{Wanted}
-use Rattle.replay_merge.specs.Source.{IsSourceHistory}
-use Rattle.replay_merge.specs.Replay.{is_listed_name, rows_asked, is_of_parts, IsReplayedRow}
+use Rattle.replay_merge.specs.Source.{AreInKeyOrder}
+use Rattle.replay_merge.specs.Replay.{is_listed_name, rows_asked, IsReplayedRow}
 
 -- what a request asks of a table at a front, its packet names by their numbers
 pub record IsAskedBy (request : ReplayRequest) (table front : ℕ) (names : Option (List ℕ)) (wanted : Wanted) : Type 0 where
@@ -34,14 +34,6 @@ IsWanted wanted row = IsReplayedRow wanted.table wanted.from wanted.to wanted.na
 -- the first so many partitions are those of the days up to some day
 abbrev pub EndsDay : List Partition → ℕ → Type 0
 EndsDay parts count = (day : ℤ) × IsPartitionPoint (λ (part : Partition). part.day ≤ℤ day) (λ (part : Partition). day <ℤ part.day) parts count
-
--- where a row was read, what the source tells is a history
-abbrev pub IsToldHistory : Option (List Row) → List Row → Type 0
-IsToldHistory told rows = (rows ≡ []) ⊎ IfSome told IsSourceHistory
-
--- no row's key is below that of the row before it
-abbrev pub AreInKeyOrder : List Row → Type 0
-AreInKeyOrder rows = IsSortedByKey (λ (row : Row). row.key) key_cmp rows
 
 -- a cursor's partitions rise, and it has read so many of them; the rows ahead are wanted, in the order of their keys
 pub record IsUnderway (wanted : Wanted) (parts : List Partition) (at : ℕ) (ahead : List Row) : Type 0 where

@@ -1,12 +1,12 @@
 -- What holds of cursors.
-use Rattle.std.specs.Prelude.{◌≡◌, ◌↔◌, ℕ, List, [], take, map, filter, Option, true, Contains}
+use Rattle.std.specs.Prelude.{◌≡◌, ◌↔◌, ℕ, List, [], take, filter, Option, true, Contains}
 use Rattle.arch_types.specs.declared.row.Row.{Row}
 use Rattle.arch_types.specs.History.{is_in_table}
 use Rattle.partitions.specs.declared.partition.Partition.{Partition}
 use Rattle.partitions.specs.declared.bounds.Bounds.{Bounds}
-use Rattle.partitions.specs.Partition.{partition_of}
 use Rattle.partitions.specs.Bounds.{IsAmong, MayHold}
-use Rattle.replay_merge.specs.Replay.{is_listed_name, rows_asked, HoldEach}
+use Rattle.partitions.specs.Rows.{partitions_of}
+use Rattle.replay_merge.specs.Replay.{is_listed_name, rows_asked, HoldsEachRow}
 use Rattle.replay_merge.specs.Cursor.{CursorView, rest_of, IsAtEnd}
 
 -- what is left is of the rows below the front alone, whatever was added behind them
@@ -21,8 +21,13 @@ EndHasNoRest = (c : CursorView) (history : List Row) → IsAtEnd c → rest_of c
 abbrev pub ListedIsAmong : Type 0
 ListedIsAmong = (names : Option (List ℕ)) (pname : ℕ) → (is_listed_name names pname ≡ true) ↔ IsAmong names pname
 
--- partitions among which is each that has a row of the table and may hold one in the bounds hold each row that is asked by the bounds
+-- among the partitions is each that has one of the rows and may hold one in the bounds
+abbrev pub HoldsPruned : Bounds → List Row → List Partition → Type 0
+HoldsPruned bounds rows parts =
+    (part : Partition) → Contains (partitions_of rows) part → MayHold bounds part → Contains parts part
+
+-- such partitions of the rows of a table hold each row that is asked by the bounds
 abbrev pub PrunedIsEnough : Type 0
 PrunedIsEnough = (bounds : Bounds) (table front : ℕ) (parts : List Partition) (history : List Row) →
-    ((part : Partition) → Contains (map (λ (row : Row). partition_of row.key.time row.pname) (filter (is_in_table table) history)) part → MayHold bounds part → Contains parts part) →
-    HoldEach parts (rows_asked table bounds.from bounds.to bounds.names (take front history))
+    HoldsPruned bounds (filter (is_in_table table) history) parts →
+    HoldsEachRow parts (rows_asked table bounds.from bounds.to bounds.names (take front history))

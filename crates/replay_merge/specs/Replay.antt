@@ -4,7 +4,7 @@ use Rattle.std.specs.List.{list_any, AllByRecursion}
 use Rattle.arch_types.specs.declared.row.Row.{Row}
 use Rattle.arch_types.specs.Table.{is_in_time_range, range_of}
 use Rattle.partitions.specs.declared.partition.Partition.{Partition}
-use Rattle.partitions.specs.Rows.{is_of_partition}
+use Rattle.partitions.specs.Rows.{is_of_parts}
 use Rattle.replay_merge.specs.Source.{IsKeyedRow}
 
 -- whether a packet name is among those listed; where there is no list, each is
@@ -20,22 +20,18 @@ has_listed_name names row = is_listed_name names row.pname
 abbrev pub rows_asked : ℕ → ℤ → ℤ → Option (List ℕ) → List Row → List Row
 rows_asked table from to names history = filter (has_listed_name names) (range_of table from to history)
 
--- the first rows, so many or all
-abbrev pub limited : Option ℕ → List Row → List Row
-limited None rows = rows
-limited (Some n) rows = take n rows
+-- the first items, so many at most where there is a limit
+abbrev pub truncated : {X : Type 0} → Option ℕ → List X → List X
+truncated None xs = xs
+truncated (Some limit) xs = take limit xs
 
 -- the replay of a history
 abbrev pub replay_of : ℕ → ℤ → ℤ → Option (List ℕ) → Option ℕ → List Row → List Row
-replay_of table from to names limit history = limited limit (rows_asked table from to names history)
-
--- whether a row stands in one of these partitions
-abbrev pub is_of_parts : List Partition → Row → Bool
-is_of_parts parts row = list_any (λ part. is_of_partition part row) parts
+replay_of table from to names limit history = truncated limit (rows_asked table from to names history)
 
 -- each of the rows stands in one of these partitions
-abbrev pub HoldEach : List Partition → List Row → Type 0
-HoldEach parts rows = AllByRecursion (λ row. is_of_parts parts row ≡ true) rows
+abbrev pub HoldsEachRow : List Partition → List Row → Type 0
+HoldsEachRow parts rows = AllByRecursion (λ row. is_of_parts parts row ≡ true) rows
 
 -- a row that such a replay may give: of the table, the range and the names, with a whole packet that gives its key
 pub record IsReplayedRow (table : ℕ) (from to : ℤ) (names : Option (List ℕ)) (row : Row) : Type 0 where

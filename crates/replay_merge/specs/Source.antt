@@ -1,7 +1,7 @@
 -- What a source of rows tells, and what it gives.
-use Rattle.std.specs.Prelude.{◌≡◌, ◌≤◌, ℕ, List, Option, IsNone, true}
+use Rattle.std.specs.Prelude.{◌≡◌, ◌≤◌, ℕ, ℤ, List, Option, IsNone, true}
 use Rattle.std.specs.List.{AllByRecursion}
-use Rattle.std.specs.List.Sorted.{IsStrictlySortedBy}
+use Rattle.std.specs.List.Sorted.{IsSortedByKey, IsStrictlySortedBy}
 use Rattle.text_forms.specs.ClockTime.{IsClockTime}
 use Rattle.arch_types.specs.declared.row.Row.{Row}
 use Rattle.arch_types.specs.declared.refusal.Refusal.{Refusal}
@@ -10,9 +10,10 @@ use Rattle.arch_types.specs.Packet.{IsPacket}
 use Rattle.arch_types.specs.GenerationTime.{key_of}
 use Rattle.arch_types.specs.Order.{key_cmp}
 use Rattle.arch_types.specs.History.{IsHistory}
+use Rattle.arch_types.specs.Table.{is_in_time_range}
 use Rattle.arch_disk.specs.Disk.{raised}
 use Rattle.partitions.specs.declared.partition.Partition.{Partition}
-use Rattle.partitions.specs.Rows.{is_of_partition}
+use Rattle.partitions.specs.Rows.{is_of_partition, is_of_parts}
 
 -- the rows that a source tells, in the order in which they came to stay, and how often it has failed
 pub record RowSourceState : Type 0 where
@@ -26,7 +27,7 @@ pub record IsKeyedRow (row : Row) : Type 0 where
   pub key : row.key ≡ key_of row.packet row.rectime
 
 -- a history of such rows
-pub record IsSourceHistory (history : List Row) : Type 0 where
+pub record IsRowSourceHistory (history : List Row) : Type 0 where
   pub once : IsHistory history
   pub each : AllByRecursion IsKeyedRow history
 
@@ -41,14 +42,25 @@ pub record AreRowsOf (table : ℕ) (part : Partition) (rows : List Row) : Type 0
   pub each : AllByRecursion (IsRowOf table part) rows
   pub rising : IsStrictlySortedBy (λ (a b : Row). key_cmp a.key b.key) rows
 
+-- such a row of a table, of one of some partitions, with from <= time < to
+pub record IsRowBetween (table : ℕ) (parts : List Partition) (from to : ℤ) (row : Row) : Type 0 where
+  pub keyed : IsKeyedRow row
+  pub in_table : row.table ≡ table
+  pub in_parts : is_of_parts parts row ≡ true
+  pub in_range : is_in_time_range from to row ≡ true
+
+-- no row's key is below that of the row before it
+abbrev pub AreInKeyOrder : List Row → Type 0
+AreInKeyOrder rows = IsSortedByKey (λ (row : Row). row.key) key_cmp rows
+
 -- a source refuses for a fault where its count has risen, for damage where it doesn't tell its rows, and else for want of memory
-abbrev pub IsSourceRefusal : RowSourceState → RowSourceState → Refusal → Type 0
-IsSourceRefusal old new DiskFault = raised old.faults ≤ new.faults
-IsSourceRefusal old new (Damaged file at) = IsNone old.history
-IsSourceRefusal old new OutOfMemory = Unit {0}
-IsSourceRefusal old new _ = ⊥
+abbrev pub IsRowSourceRefusal : RowSourceState → RowSourceState → Refusal → Type 0
+IsRowSourceRefusal old new DiskFault = raised old.faults ≤ new.faults
+IsRowSourceRefusal old new (Damaged file at) = IsNone old.history
+IsRowSourceRefusal old new OutOfMemory = Unit {0}
+IsRowSourceRefusal old new _ = ⊥
 
 -- a source tells what it told, and its count of faults hasn't fallen
-pub record UsedSource (old new : RowSourceState) : Type 0 where
+pub record UsedRowSource (old new : RowSourceState) : Type 0 where
   pub told : new.history ≡ old.history
   pub later : old.faults ≤ new.faults

@@ -4,10 +4,9 @@ ghost use Rattle.std.specs.Prelude.{◌≡◌, ◌<◌, ◌≤◌, ◌++◌, ◌
 ghost use Rattle.std.specs.List.{AllByRecursion};
 ghost use Rattle.arch_types.specs.declared.row.Row.{Row};
 ghost use Rattle.partitions.specs.Partitions.{AreRising};
-ghost use Rattle.replay_merge.specs.Source.{IsSourceRefusal, UsedSource};
-ghost use Rattle.replay_merge.specs.Replay.{rows_asked, replay_of, HoldEach};
-ghost use Rattle.replay_merge.specs.Fetch.{AreInKeyOrder};
-ghost use Rattle.replay_merge.specs.Cursor.{rest_of, calls_left, AsksTheSame, EndExactly, IsRowAsked, IsCursorOf, left_after};
+ghost use Rattle.replay_merge.specs.Source.{AreInKeyOrder, IsRowSourceRefusal, UsedRowSource};
+ghost use Rattle.replay_merge.specs.Replay.{rows_asked, replay_of, HoldsEachRow};
+ghost use Rattle.replay_merge.specs.Cursor.{rest_of, steps_at_most, AsksTheSame, EndsExactly, IsRowAsked, IsCursorOf, left_after};
 
 use crate::ahead::{Ahead, split_first};
 use crate::fetch::fetch;
@@ -69,7 +68,7 @@ impl Cursor {
     ) -> Cursor
         ensures opened { IsCursorOf request.now table front parts names result }
         ensures replays { (history : List Row)
-            → HoldEach parts (rows_asked table request.now.from request.now.to names (take front history))
+            → HoldsEachRow parts (rows_asked table request.now.from request.now.to names (take front history))
             → rest_of result history
             ≡ replay_of table request.now.from request.now.to names request.now.limit (take front history) }
     {
@@ -101,15 +100,15 @@ impl Cursor {
     ) -> Result<Rows, Refusal>
         ensures rows { IfOk result (λ rows. IfSome (R.state source.old).history (λ history.
             rows ++ rest_of self.new history ≡ rest_of self.old history)) }
-        ensures end { IfOk result (EndExactly limit self.old self.new) }
-        ensures nearer { IfOk result (λ rows. (rows ≡ [] → ⊥) → calls_left self.new < calls_left self.old) }
+        ensures end { IfOk result (EndsExactly limit self.old self.new) }
+        ensures nearer { IfOk result (λ rows. (rows ≡ [] → ⊥) → steps_at_most self.new < steps_at_most self.old) }
         ensures few { IfOk result (λ rows. length rows ≤ limit) }
         ensures each { IfOk result (λ rows. AllByRecursion (IsRowAsked self.old) rows) }
         ensures in_key_order { IfOk result AreInKeyOrder }
         ensures asked { AsksTheSame self.old self.new }
-        ensures refused { IfErr result (IsSourceRefusal (R.state source.old) (R.state source.new)) }
+        ensures refused { IfErr result (IsRowSourceRefusal (R.state source.old) (R.state source.new)) }
         ensures unmoved { OnErr result (self.new ≡ self.old) }
-        ensures source { UsedSource (R.state source.old) (R.state source.new) }
+        ensures source { UsedRowSource (R.state source.old) (R.state source.new) }
     {
         let most = given_at_most(limit, self.left) as usize;
         if most == 0 {

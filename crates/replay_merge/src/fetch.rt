@@ -1,74 +1,36 @@
 //! The next rows of a replay, read of a source.
 
 ghost use Rattle.std.specs.Prelude.{◌≡◌, ◌<◌, ◌≤◌, ◌++◌, [], length, drop, filter, IfOk, IfErr, IfSome};
-ghost use Rattle.std.specs.List.{AllByRecursion, flat_map};
+ghost use Rattle.std.specs.List.{AllByRecursion};
 ghost use Rattle.partitions.specs.Partitions.{AreRising};
-ghost use Rattle.partitions.specs.Rows.{is_of_partition};
-ghost use Rattle.replay_merge.specs.Source.{IsSourceRefusal, UsedSource};
-ghost use Rattle.replay_merge.specs.Fetch.{rows_wanted, wanted_in, IsWanted, EndsDay, IsToldHistory, AreInKeyOrder};
+ghost use Rattle.replay_merge.specs.Replay.{is_listed_name};
+ghost use Rattle.replay_merge.specs.Source.{AreInKeyOrder, IsRowSourceRefusal, UsedRowSource};
+ghost use Rattle.replay_merge.specs.Fetch.{wanted_in, IsWanted, EndsDay};
 
+use crate::day_range::cut_to_days;
 use crate::source::RowSource;
 use crate::wanted::Wanted;
 use arch_types::refusal::Refusal;
-use arch_types::row::{Row, Rows};
+use arch_types::row::Rows;
 use partitions::partition::Partition;
 use std::alloc::{AllocError, Global};
 
-/// The wanted rows of a partition, in the order of their keys.
-fn read_part<R: RowSource>(
+/// Those of some partitions whose packet names are wanted. The one error is want of memory.
+fn listed_parts(
     alloc: Global,
-    source: &mut R,
-    wanted: &Wanted,
-    part: &Partition,
-) -> Result<Vec<Row>, Refusal>
-    ensures rows { IfOk result (λ rows. IfSome (R.state source.old).history (λ history.
-        rows.items ≡ filter (is_of_partition part.now) (rows_wanted wanted.now history))) }
-    ensures each { IfOk result (λ rows. AllByRecursion (IsWanted wanted.now) rows.items) }
-    ensures told { IfOk result (λ rows. IsToldHistory (R.state source.old).history rows.items) }
-    ensures refused { IfErr result (IsSourceRefusal (R.state source.old) (R.state source.new)) }
-    ensures source { UsedSource (R.state source.old) (R.state source.new) }
-{
-    if !wanted.has_name(part.pname) {
-        return Ok(Vec::new(alloc));
-    }
-    let mut rows = source
-        .rows(alloc, wanted.table, part, wanted.front)?
-        .into_vec();
-    wanted.keep_range(&mut rows);
-    Ok(rows)
-}
-
-/// Rows, and then others. The one error is want of memory.
-fn joined(mut rows: Vec<Row>, mut more: Vec<Row>) -> Result<Vec<Row>, AllocError>
-    ensures { IfOk result (λ all. all.items ≡ rows.items ++ more.items) }
-{
-    if rows.is_empty() {
-        return Ok(more);
-    }
-    rows.append(&mut more)?;
-    Ok(rows)
-}
-
-/// The wanted rows of some partitions, those of each behind those of the one before.
-fn gather<R: RowSource>(
-    alloc: Global,
-    source: &mut R,
     wanted: &Wanted,
     parts: &[Partition],
-) -> Result<Vec<Row>, Refusal>
-    ensures rows { IfOk result (λ rows. IfSome (R.state source.old).history (λ history.
-        rows.items ≡ flat_map (λ part. filter (is_of_partition part) (rows_wanted wanted.now history)) parts.now)) }
-    ensures each { IfOk result (λ rows. AllByRecursion (IsWanted wanted.now) rows.items) }
-    ensures told { IfOk result (λ rows. IsToldHistory (R.state source.old).history rows.items) }
-    ensures refused { IfErr result (IsSourceRefusal (R.state source.old) (R.state source.new)) }
-    ensures source { UsedSource (R.state source.old) (R.state source.new) }
+) -> Result<Vec<Partition>, AllocError>
+    ensures { IfOk result (λ listed. listed.items
+        ≡ filter (λ part. is_listed_name wanted.now.names part.pname) parts.now) }
 {
-    let mut rows = Vec::new(alloc);
+    let mut listed = Vec::with_capacity(alloc, parts.len())?;
     for part in parts {
-        let more = read_part(alloc, source, wanted, part)?;
-        rows = joined(rows, more)?;
+        if wanted.has_name(part.pname) {
+            listed.push(*part)?;
+        }
     }
-    Ok(rows)
+    Ok(listed)
 }
 
 /// How many of some partitions, which rise, are of the first one's day.
@@ -89,21 +51,23 @@ fn read_day<R: RowSource>(
     source: &mut R,
     wanted: &Wanted,
     parts: &[Partition],
-) -> Result<(usize, Vec<Row>), Refusal>
+) -> Result<(usize, Rows), Refusal>
     requires rising { AreRising parts.now }
     requires some { 0 < length parts.now }
     ensures within { IfOk result (λ day. day.0 ≤ length parts.now) }
     ensures some { IfOk result (λ day. 0 < day.0) }
-    ensures in_order { IfOk result (λ day. AreInKeyOrder day.1.items) }
+    ensures in_order { IfOk result (λ day. AreInKeyOrder day.1) }
     ensures rows { IfOk result (λ day. IfSome (R.state source.old).history (λ history.
-        wanted_in wanted.now parts.now history ≡ day.1.items ++ wanted_in wanted.now (drop day.0 parts.now) history)) }
-    ensures each { IfOk result (λ day. AllByRecursion (IsWanted wanted.now) day.1.items) }
-    ensures refused { IfErr result (IsSourceRefusal (R.state source.old) (R.state source.new)) }
-    ensures source { UsedSource (R.state source.old) (R.state source.new) }
+        wanted_in wanted.now parts.now history ≡ day.1 ++ wanted_in wanted.now (drop day.0 parts.now) history)) }
+    ensures each { IfOk result (λ day. AllByRecursion (IsWanted wanted.now) day.1) }
+    ensures refused { IfErr result (IsRowSourceRefusal (R.state source.old) (R.state source.new)) }
+    ensures source { UsedRowSource (R.state source.old) (R.state source.new) }
 {
     let count = first_day(parts);
-    let mut rows = gather(alloc, source, wanted, &parts[..count])?;
-    rows.sort_by_key(|row| row.key)?;
+    let listed = listed_parts(alloc, wanted, &parts[..count])?;
+    let listed = listed.as_slice();
+    let (from, to) = cut_to_days(listed, wanted.from, wanted.to);
+    let rows = source.rows_between(alloc, wanted.table, listed, from, to, wanted.front)?;
     Ok((count, rows))
 }
 
@@ -124,15 +88,15 @@ pub(crate) fn fetch<R: RowSource>(
     ensures read { IfOk result (λ day. (day.1 ≡ [] → ⊥) → 0 < day.0) }
     ensures in_order { IfOk result (λ day. AreInKeyOrder day.1) }
     ensures each { IfOk result (λ day. AllByRecursion (IsWanted wanted.now) day.1) }
-    ensures refused { IfErr result (IsSourceRefusal (R.state source.old) (R.state source.new)) }
-    ensures source { UsedSource (R.state source.old) (R.state source.new) }
+    ensures refused { IfErr result (IsRowSourceRefusal (R.state source.old) (R.state source.new)) }
+    ensures source { UsedRowSource (R.state source.old) (R.state source.new) }
 {
     let mut read = 0;
     while read < parts.len() {
         let (count, rows) = read_day(alloc, source, wanted, &parts[read..])?;
         read += count;
-        if !rows.is_empty() {
-            return Ok((read, Rows::from_vec(rows)));
+        if rows.len() > 0 {
+            return Ok((read, rows));
         }
     }
     Ok((read, Rows::new(alloc)))

@@ -1,7 +1,7 @@
 // Replays: the rows of a table with a time in a range and a packet name of some, in key order, as they stood at a front.
 //
-// A `RowSource` gives the rows of one partition, a day and a packet name, below a front. A `Cursor` goes over the partitions that
-// it was given, day after day, and hands their rows on piece by piece: what the calls of `next` gave, one after the other, is the
+// A `RowSource` gives the rows below a front of one partition, a day and a packet name, or of several in a range of times. A `Cursor`
+// goes over the partitions that it was given, day after day, and hands their rows on piece by piece: what the calls of `next` gave is the
 // replay (`replay_of`, specs/Replay.antt), whatever was added to the source in the meantime. Contracts see it as a `CursorView`
 // (specs/Cursor.antt), and `rest_of` is what it has still to give.
 // Callers: the store is a source, and opens and continues replays.
@@ -15,6 +15,7 @@
 
 mod ahead;
 pub mod cursor;
+mod day_range;
 mod fetch;
 pub mod laws;
 mod names;

@@ -1,13 +1,11 @@
 //! Which rows a replay gives.
 
-ghost use Rattle.std.specs.Prelude.{◌≡◌, filter};
-ghost use Rattle.arch_types.specs.Table.{is_in_time_range};
+ghost use Rattle.std.specs.Prelude.{◌≡◌};
 ghost use Rattle.replay_merge.specs.Replay.{is_listed_name};
 ghost use Rattle.replay_merge.specs.Fetch.{IsAskedBy};
 
 use crate::names::{ListedNames, sorted_names};
 use arch_types::ask::ReplayRequest;
-use arch_types::row::Row;
 use partitions::lists::PnameList;
 
 /// The rows of a table at a front, with `from <= time < to`, in milliseconds since 1970, and one of some packet names.
@@ -49,19 +47,5 @@ impl Wanted {
             Some(names) => names.has(pname),
             None => true,
         }
-    }
-
-    /// Whether a row's time is wanted.
-    fn has_time(&self, row: &Row) -> bool
-        ensures { result ≡ is_in_time_range self.now.from self.now.to row.now }
-    {
-        self.from <= row.key.time && row.key.time < self.to
-    }
-
-    /// Takes out the rows whose times aren't wanted.
-    pub(crate) fn keep_range(&self, rows: &mut Vec<Row>)
-        ensures { rows.new.items ≡ filter (is_in_time_range self.now.from self.now.to) rows.old.items }
-    {
-        rows.retain(|row| self.has_time(row));
     }
 }

@@ -16,7 +16,7 @@ use Rattle.arch_types.proofs.InOrder.{order_sorted}
 use Rattle.arch_types.proofs.Histories.{keeps_history}
 use Rattle.partitions.specs.declared.partition.Partition.{Partition}
 use Rattle.partitions.specs.Rows.{is_of_partition, partition_at}
-use Rattle.replay_merge.specs.Source.{IsKeyedRow, IsRowOf, AreRowsOf, IsSourceHistory}
+use Rattle.replay_merge.specs.Source.{IsKeyedRow, IsRowOf, AreRowsOf, IsRowSourceHistory}
 use Rattle.replay_merge.proofs.Sorting.{ascending, same_sorted}
 use Rattle.replay_merge.proofs.Tied.{is_tied, AtMostOne, one_tied, one_after, ordered_one, first_rows}
 use Rattle.replay_merge.proofs.Reading.{all_both}
@@ -50,7 +50,7 @@ found_each table part (row ∷ rows) all = by (is_in_table table row) (is_of_par
     by true false eb ec later = rw (eb, ec) later
     by false c eb ec later = rw eb later
 
-module _ (table : ℕ) (part : Partition) (rows found sorted : List Row) (history : IsSourceHistory rows) (got : found ≡ filter (is_in_table_and_partition table part) rows) (same : IsPermutation found sorted)
+module _ (table : ℕ) (part : Partition) (rows found sorted : List Row) (history : IsRowSourceHistory rows) (got : found ≡ filter (is_in_table_and_partition table part) rows) (same : IsPermutation found sorted)
     (in_order : IsSortedBy is_before sorted) (stable : (z : Row) → filter (is_tied z) sorted ≡ filter (is_tied z) found) where
   twice : found ≡ filter (is_of_partition part) (filter (is_in_table table) rows)
   twice = got ∙ two_tests table part rows
@@ -75,16 +75,16 @@ module _ (table : ℕ) (part : Partition) (rows found sorted : List Row) (histor
 
 -- ---- a row more
 
-pub added : (rows : List Row) (row : Row) → IsSourceHistory rows → IsKeyedRow row → list_any (is_duplicate_of row) rows ≡ false → IsSourceHistory (rows ++ row ∷ [])
+pub added : (rows : List Row) (row : Row) → IsRowSourceHistory rows → IsKeyedRow row → list_any (is_duplicate_of row) rows ≡ false → IsRowSourceHistory (rows ++ row ∷ [])
 added rows row history keyed none = record {
   once = (let kept = keeps_history rows (row ∷ []) history.once in rw none at kept);
   each = all_both IsKeyedRow rows (row ∷ []) history.each (keyed, tt);
 }
 
-pub first_known : (n : ℕ) (rows : List Row) → IsSourceHistory rows → IsSourceHistory (take n rows)
+pub first_known : (n : ℕ) (rows : List Row) → IsRowSourceHistory rows → IsRowSourceHistory (take n rows)
 first_known n rows history = record { once = first_rows n rows history.once; each = all_first IsKeyedRow n rows history.each }
 
-pub known_sound : (is_known : Bool) (rows : List Row) → IsSourceHistory rows → IfSome (known_history is_known rows) IsSourceHistory
+pub known_sound : (is_known : Bool) (rows : List Row) → IsRowSourceHistory rows → IfSome (known_history is_known rows) IsRowSourceHistory
 known_sound true rows history = history
 known_sound false rows history = tt
 

@@ -6,7 +6,7 @@ ghost use Rattle.std.specs.List.{list_any};
 ghost use Rattle.arch_types.specs.Packet.{IsPacket};
 ghost use Rattle.arch_types.specs.History.{is_duplicate_of};
 ghost use Rattle.partitions.specs.Rows.{partition_at};
-ghost use Rattle.replay_merge.specs.Source.{IsKeyedRow, IsSourceHistory, AreRowsOf, IsSourceRefusal, UsedSource};
+ghost use Rattle.replay_merge.specs.Source.{IsKeyedRow, IsRowSourceHistory, AreRowsOf, IsRowSourceRefusal, UsedRowSource};
 ghost use Rattle.text_forms.specs.ClockTime.{is_clock_time};
 ghost use Rattle.replay_merge_tests.specs.MemSource.{known_history, is_in_table_and_partition};
 
@@ -33,14 +33,14 @@ pub struct MemSource {
 }
 
 impl Model for MemSource {
-    ghost use Rattle.replay_merge.specs.Source.{RowSourceState, IsSourceHistory};
+    ghost use Rattle.replay_merge.specs.Source.{RowSourceState, IsRowSourceHistory};
     ghost use Rattle.replay_merge_tests.specs.MemSource.{known_history};
 
     ghost Value = { RowSourceState };
 
     ghost view = { λ s. record { history = known_history s.is_known s.history.items; faults = s.faults } };
 
-    ghost invariant = { λ s. IsSourceHistory s.history.items };
+    ghost invariant = { λ s. IsRowSourceHistory s.history.items };
 }
 
 impl MemSource {
@@ -91,9 +91,9 @@ impl MemSource {
     /// Refuses the call that is to fail.
     #[tactic(auto, using(crate::proofs::Found::known_sound))]
     fn fail_in_turn(&mut self) -> Result<(), Refusal>
-        ensures history { IfSome self.old.history IsSourceHistory }
-        ensures refused { IfErr result (IsSourceRefusal self.old self.new) }
-        ensures source { UsedSource self.old self.new }
+        ensures history { IfSome self.old.history IsRowSourceHistory }
+        ensures refused { IfErr result (IsRowSourceRefusal self.old self.new) }
+        ensures source { UsedRowSource self.old self.new }
     {
         match self.calls {
             Some(0) => {
@@ -185,7 +185,7 @@ fn part_rows(
     table: u8,
     part: &Partition,
 ) -> Result<Vec<Row>, AllocError>
-    requires { IsSourceHistory rows.now }
+    requires { IsRowSourceHistory rows.now }
     ensures rows { IfOk result (λ found. (front : ℕ) (history : List Row) → rows.now ≡ take front history
         → found.items ≡ partition_at front table part.now history) }
     ensures each { IfOk result (λ found. AreRowsOf table part.now found.items) }

@@ -97,7 +97,7 @@ fn replayed(
 const ALL: i64 = 9 * DAY;
 
 /// Asks, and the counts of the packets of their replays.
-const ASKS: [(Ask, &[u8]); 16] = [
+const ASKS: [(Ask, &[u8]); 19] = [
     ((0, ALL, None, None, 9), &[8, 1, 2, 3, 7, 4, 9, 6]),
     (
         (i64::MIN, i64::MAX, None, None, 9),
@@ -110,6 +110,10 @@ const ASKS: [(Ask, &[u8]); 16] = [
     // from inside a day, and to inside one
     ((5, DAY + 3, None, None, 9), &[1, 2, 3, 7]),
     ((DAY, DAY, None, None, 9), &[]),
+    // inside a day of two names: both, one, and the other below a front in the middle
+    ((DAY, DAY + 7, None, None, 9), &[3, 7]),
+    ((DAY, DAY + 8, Some(&[1]), None, 9), &[3, 9]),
+    ((DAY, DAY + 8, Some(&[2]), None, 6), &[4]),
     // names given twice, unknown, none, and one with rows on one day only
     ((0, ALL, Some(&[2, 1, 2]), None, 9), &[8, 1, 2, 3, 7, 4, 9]),
     ((0, ALL, Some(&[77]), None, 9), &[]),

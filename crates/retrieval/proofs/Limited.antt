@@ -8,7 +8,8 @@ use Rattle.arch_types.specs.declared.cell.Cell.{Cell}
 use Rattle.arch_types.specs.declared.row.Row.{Row}
 use Rattle.archive_store.specs.declared.plan.Part.{Part}
 use Rattle.archive_store.specs.Plans.{rows_of_parts}
-use Rattle.retrieval.specs.AnswerText.{truncated, cell_list, is_full}
+use Rattle.replay_merge.specs.Replay.{truncated}
+use Rattle.retrieval.specs.AnswerText.{cell_list, is_full}
 
 take_front : (n : ℕ) (xs ys : List Cell) → take n (take n xs ++ ys) ≡ take n (xs ++ ys)
 take_front zero xs ys = refl
@@ -24,7 +25,7 @@ pub at_most_twice : (limit : Option ℕ) (xs : List Cell) → truncated limit (t
 at_most_twice limit xs =
     ap (truncated limit) (sym (append-nil (truncated limit xs))) ∙ at_most_front limit xs [] ∙ ap (truncated limit) (append-nil xs)
 
-pub none_yet : (limit : Option ℕ) → truncated limit [] ≡ []
+pub none_yet : (limit : Option ℕ) → truncated {X = Cell} limit [] ≡ []
 none_yet None = refl
 none_yet (Some zero) = refl
 none_yet (Some (suc n)) = refl

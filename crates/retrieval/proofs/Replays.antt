@@ -1,5 +1,5 @@
 -- The replay of a request, printed step by step.
-use Rattle.std.proofs.Common.{◌≡◌, ◌∙◌, ◌+◌, ◌≤◌, ◌<◌, ℕ, ℤ, List, [], ◌∷◌, ◌++◌, length, take, Bool, true, false, not, Option, Some, None, refl, ap, sym, subst, arith, append_assoc, append-nil, length-append, length-take}
+use Rattle.std.proofs.Common.{◌≡◌, ◌∙◌, ◌+◌, ◌≤◌, ℕ, ℤ, List, [], ◌∷◌, ◌++◌, length, Bool, true, false, not, Option, Some, None, refl, ap, sym, subst, arith, append_assoc, append-nil, length-append, length-take}
 use Rattle.std.specs.Prelude.{filter, fold, unwrap_or, if◌then◌else◌}
 use Rattle.std.proofs.lemmas.Grind.{flat_map-append}
 use Rattle.std.proofs.lemmas.List.{nil_from_length}
@@ -14,7 +14,7 @@ use Rattle.archive_store.specs.declared.head.Head.{Head}
 use Rattle.archive_store.specs.Replays.{IsReplayOpened, packet_numbers, replay_asked, table_asked}
 use Rattle.mdb_items.specs.Database.{Database}
 use Rattle.replay_merge.specs.Cursor.{CursorView, rest_of}
-use Rattle.replay_merge.specs.Replay.{has_listed_name, limited, replay_of}
+use Rattle.replay_merge.specs.Replay.{has_listed_name, truncated, replay_of}
 use Rattle.dump_lines.specs.Output.{IsBuffered}
 use Rattle.retrieval.specs.ReplayText.{packet_line, packet_lines, rows_replayed}
 
@@ -40,9 +40,9 @@ length-order done (row ∷ rows) =
     let more = length-order (place_by is_before done row) rows in
     omega (arith, placed, more)
 
-few_limited : (limit : Option ℕ) (rows : List Row) → length (limited limit rows) ≤ length rows
-few_limited None rows = omega arith
-few_limited (Some n) rows = omega (arith, length-take n rows)
+few_truncated : (limit : Option ℕ) (rows : List Row) → length (truncated limit rows) ≤ length rows
+few_truncated None rows = omega arith
+few_truncated (Some n) rows = omega (arith, length-take n rows)
 
 pub few_replayed : (table : ℕ) (from to : ℤ) (names : Option (List ℕ)) (limit : Option ℕ) (history : List Row) → length (replay_of table from to names limit history) ≤ length history
 few_replayed table from to names limit history =
@@ -50,7 +50,7 @@ few_replayed table from to names limit history =
     let ordered = order_by is_before rows in
     let ranged = filter (is_in_time_range from to) ordered in
     let named = filter (has_listed_name names) ranged in
-    let e1 = few_limited limit named in
+    let e1 = few_truncated limit named in
     let e2 = few_filter (has_listed_name names) ranged in
     let e3 = few_filter (is_in_time_range from to) ordered in
     let e4 = length-order [] rows in

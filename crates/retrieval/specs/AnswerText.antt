@@ -1,5 +1,5 @@
 -- The answers to asks for values, and their text.
-use Rattle.std.specs.Prelude.{◌≡◌, ℕ, ℤ, List, [], ◌∷◌, ◌++◌, length, reverse, take, Bool, true, false, not, nat_lt, Option, Some, None, codes, decimal, unwrap_or, if◌then◌else◌, int_lt}
+use Rattle.std.specs.Prelude.{◌≡◌, ℕ, ℤ, List, [], ◌∷◌, ◌++◌, length, reverse, Bool, true, false, not, nat_lt, Option, Some, None, codes, decimal, unwrap_or, if◌then◌else◌, int_lt}
 use Rattle.std.specs.Arc.{arc_value}
 use Rattle.arch_types.specs.declared.ask.Request.{Request}
 use Rattle.arch_types.specs.declared.cell.Cell.{Cell}
@@ -9,6 +9,7 @@ use Rattle.arch_types.specs.declared.refusal.Refusal.TheVariants.{UnknownParamet
 use Rattle.archive_core.specs.Items.{Item, rows_in}
 use Rattle.mdb_items.specs.Database.{Database}
 use Rattle.container_extract.specs.Extraction.{values_of}
+use Rattle.replay_merge.specs.Replay.{truncated}
 use Rattle.retrieval.specs.declared.answer.ParameterAnswer.{ParameterAnswer}
 use Rattle.retrieval.specs.Parameter.{number_named}
 use Rattle.retrieval.specs.ValuesText.{cell_lines}
@@ -17,11 +18,6 @@ use Rattle.retrieval.specs.ValuesText.{cell_lines}
 abbrev pub in_asked_order : Bool → List Cell → List Cell
 in_asked_order false cells = cells
 in_asked_order true cells = reverse cells
-
--- so many at most, where that is asked
-abbrev pub truncated : Option ℕ → List Cell → List Cell
-truncated None cells = cells
-truncated (Some limit) cells = take limit cells
 
 -- whether there are as many as may be
 abbrev pub is_full : Option ℕ → List Cell → Bool

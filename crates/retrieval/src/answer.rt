@@ -6,7 +6,8 @@ ghost use Rattle.arch_types.specs.Table.{range_of};
 ghost use Rattle.archive_core.specs.Items.{rows_in};
 ghost use Rattle.archive_store.specs.Plans.{rows_of_parts};
 ghost use Rattle.container_extract.specs.Extraction.{cell_of};
-ghost use Rattle.retrieval.specs.AnswerText.{IsParameterAnswer, truncated, cell_list, is_full, request_refusal, in_asked_order};
+ghost use Rattle.replay_merge.specs.Replay.{truncated};
+ghost use Rattle.retrieval.specs.AnswerText.{IsParameterAnswer, cell_list, is_full, request_refusal, in_asked_order};
 ghost use Rattle.retrieval.specs.Parameter.{number_named};
 
 use crate::cells::cell_of;

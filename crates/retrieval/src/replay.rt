@@ -6,7 +6,7 @@ ghost use Rattle.outer_traits.specs.Outside.{HasRisen, Stays, WritesSome};
 ghost use Rattle.archive_core.specs.Items.{rows_in};
 ghost use Rattle.archive_store.specs.Replays.{IsReplayOpened};
 ghost use Rattle.dump_lines.specs.Output.{IsBuffered, PrintCounted};
-ghost use Rattle.replay_merge.specs.Cursor.{calls_left, rest_of};
+ghost use Rattle.replay_merge.specs.Cursor.{steps_at_most, rest_of};
 ghost use Rattle.retrieval.specs.ReplayText.{packet_lines, replay_refusal, replay_text};
 
 use crate::answer_text::{put_end, put_front};
@@ -116,7 +116,7 @@ fn next_rows<D: Disk>(
     ensures rows { IfOk result (λ rows.
         rows ++ rest_of cursor.new (rows_in store.old.history) ≡ rest_of cursor.old (rows_in store.old.history)) }
     ensures end { IfOk result (λ rows. rows ≡ [] → rest_of cursor.new (rows_in store.old.history) ≡ []) }
-    ensures nearer { IfOk result (λ rows. (rows ≡ [] → ⊥) → calls_left cursor.new < calls_left cursor.old) }
+    ensures nearer { IfOk result (λ rows. (rows ≡ [] → ⊥) → steps_at_most cursor.new < steps_at_most cursor.old) }
     ensures same { store.new ≡ store.old }
 {
     end_has_no_rest();

@@ -1,7 +1,7 @@
 use Rattle.std.proofs.Common.{get_or, rules}
 use Rattle.std.proofs.lemmas.List.Sorted.{IsPartitionPoint-from_clause}
+use Rattle.partitions.proofs.Parted.{no_part}
 use Rattle.replay_merge.proofs.Days.{is_upto, first_parted, ends_day, some_first}
-use Rattle.replay_merge.proofs.Reading.{no_part}
 use Rattle.replay_merge.proofs.fetch.first_day.Goals as goal
 
 pub returns-clause-some : goal.returns-clause-some

@@ -3,7 +3,8 @@ use Rattle.std.specs.Iterator.Adapters.{rev_source}
 use Rattle.std.specs.List.{filter_map}
 use Rattle.std.specs.Slice.Iter.{iter_rest}
 use Rattle.container_extract.specs.Extraction.{cell_of}
-use Rattle.retrieval.specs.AnswerText.{truncated, is_full}
+use Rattle.replay_merge.specs.Replay.{truncated}
+use Rattle.retrieval.specs.AnswerText.{is_full}
 use Rattle.retrieval.proofs.Counted.{last_row}
 use Rattle.retrieval.proofs.Limited.{full, next_last, rows_done}
 use Rattle.retrieval.proofs.answer.add_last_cells.Goals as goal

@@ -3,7 +3,7 @@ use Rattle.std.specs.Iterator.Adapters.{rev_source}
 use Rattle.std.specs.List.{filter_map}
 use Rattle.std.specs.Slice.Iter.{iter_rest}
 use Rattle.container_extract.specs.Extraction.{cell_of}
-use Rattle.retrieval.specs.AnswerText.{truncated}
+use Rattle.replay_merge.specs.Replay.{truncated}
 use Rattle.retrieval.proofs.answer.add_last_cells.Given as goal
 
 abbrev pub invariant-loop-row : goal.invariant-loop-row

@@ -4,7 +4,8 @@ use Rattle.std.proofs.lemmas.Int.{to_z-of_z}
 use Rattle.arch_types.specs.Table.{range_of}
 use Rattle.archive_core.specs.Items.{rows_in}
 use Rattle.container_extract.specs.Extraction.{cell_of}
-use Rattle.retrieval.specs.AnswerText.{truncated, cell_list, is_full}
+use Rattle.replay_merge.specs.Replay.{truncated}
+use Rattle.retrieval.specs.AnswerText.{cell_list, is_full}
 use Rattle.retrieval.proofs.Counted.{first_row}
 use Rattle.retrieval.proofs.Limited.{none_yet, full, next_first}
 use Rattle.retrieval.proofs.answer.first_cells.Goals as goal

@@ -3,7 +3,7 @@ use Rattle.std.specs.List.{filter_map}
 use Rattle.arch_types.specs.Table.{range_of}
 use Rattle.archive_core.specs.Items.{rows_in}
 use Rattle.container_extract.specs.Extraction.{cell_of}
-use Rattle.retrieval.specs.AnswerText.{truncated}
+use Rattle.replay_merge.specs.Replay.{truncated}
 use Rattle.retrieval.proofs.answer.first_cells.Given as goal
 
 abbrev pub invariant-loop-row : goal.invariant-loop-row

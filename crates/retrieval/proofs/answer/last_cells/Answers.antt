@@ -4,7 +4,7 @@ use Rattle.std.specs.List.{filter_map}
 use Rattle.std.specs.Slice.Iter.{iter_rest}
 use Rattle.archive_store.specs.Plans.{rows_of_parts}
 use Rattle.container_extract.specs.Extraction.{cell_of}
-use Rattle.retrieval.specs.AnswerText.{truncated}
+use Rattle.replay_merge.specs.Replay.{truncated}
 use Rattle.retrieval.proofs.Counted.{last_part}
 use Rattle.retrieval.proofs.Limited.{last_done, next_last_part}
 use Rattle.retrieval.proofs.answer.last_cells.Goals as goal

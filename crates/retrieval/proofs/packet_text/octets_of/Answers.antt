@@ -1,4 +1,3 @@
-use Rattle.std.proofs.Common.{◌≤◌, ℕ, List, length, subst}
 use Rattle.retrieval.proofs.PacketNames.{name_short}
 use Rattle.retrieval.proofs.packet_text.octets_of.Goals as goal
 

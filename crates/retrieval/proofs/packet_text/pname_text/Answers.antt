@@ -1,4 +1,4 @@
-use Rattle.std.proofs.Common.{◌≤◌, List, length, subst, sym}
+use Rattle.std.proofs.Common.{◌≤◌, length, subst, sym}
 use Rattle.std.specs.List.{AllByRecursion}
 use Rattle.mdb_items.specs.declared.container.Container.{Container}
 use Rattle.retrieval.proofs.PacketNames.{short_names}

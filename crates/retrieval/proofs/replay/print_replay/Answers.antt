@@ -1,4 +1,4 @@
-use Rattle.std.proofs.Common.{◌≡◌, ◌∙◌, ◌++◌, ◌<◌, List, ap, arith, length, subst, sym}
+use Rattle.std.proofs.Common.{◌≡◌, ◌++◌, ◌<◌, arith, length, subst, sym}
 use Rattle.std.proofs.lemmas.Result.{err_from_is_err_and}
 use Rattle.outer_traits.specs.Outside.{WritesSome}
 use Rattle.archive_core.specs.Items.{rows_in}

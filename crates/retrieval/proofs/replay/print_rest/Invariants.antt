@@ -2,7 +2,7 @@ use Rattle.std.proofs.Common.{◌≡◌, ◌+◌, ◌++◌, ◌<◌, length}
 use Rattle.outer_traits.specs.Outside.{Stays}
 use Rattle.archive_core.specs.Items.{rows_in}
 use Rattle.dump_lines.specs.Output.{IsBuffered}
-use Rattle.replay_merge.specs.Cursor.{calls_left, rest_of}
+use Rattle.replay_merge.specs.Cursor.{steps_at_most, rest_of}
 use Rattle.retrieval.specs.ReplayText.{packet_lines}
 use Rattle.retrieval.proofs.replay.print_rest.Given as goal
 
@@ -18,4 +18,4 @@ invariant-steps g l = record {
 }
 
 abbrev pub decreases-steps : goal.decreases-steps
-decreases-steps g l = calls_left l.cursor
+decreases-steps g l = steps_at_most l.cursor

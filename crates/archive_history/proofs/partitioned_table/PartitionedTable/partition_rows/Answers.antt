@@ -1,7 +1,8 @@
 use Rattle.std.proofs.Common.{◌≡◌}
 use Rattle.partitions.specs.Places.{places_in}
 use Rattle.yarch_table.specs.Stored.{rows_of}
-use Rattle.archive_history.specs.PartitionedTable.{partitions_of, rows_at_places}
+use Rattle.partitions.specs.Rows.{partitions_of}
+use Rattle.archive_history.specs.PartitionedTable.{rows_at_places}
 use Rattle.archive_history.proofs.PartitionRows.{all_stored, partition_in_order}
 use Rattle.archive_history.proofs.partitioned_table.PartitionedTable.partition_rows.Goals as goal
 

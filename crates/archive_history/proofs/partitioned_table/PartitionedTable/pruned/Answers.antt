@@ -1,6 +1,6 @@
 use Rattle.std.proofs.Common.{◌≡◌, ap, ◌∙◌}
 use Rattle.yarch_table.specs.Stored.{TableView, rows_of}
-use Rattle.archive_history.specs.PartitionedTable.{partitions_of}
+use Rattle.partitions.specs.Rows.{partitions_of}
 use Rattle.archive_history.proofs.partitioned_table.PartitionedTable.pruned.Goals as goal
 
 pub returns-clause-exactly : goal.returns-clause-exactly

@@ -1,7 +1,7 @@
 use Rattle.std.proofs.Common.{◌≡◌, ◌≤◌, ℕ, [], length, sym, ap, ◌∙◌, subst, List, arith}
 use Rattle.arch_types.specs.declared.row.Row.{Row}
 use Rattle.partitions.specs.Rows.{partition_at}
-use Rattle.replay_merge.specs.Source.{AreRowsOf, IsSourceHistory}
+use Rattle.replay_merge.specs.Source.{AreRowsOf, IsRowSourceHistory}
 use Rattle.replay_merge.proofs.Sources.{no_rows_of_table, partition_rows_are}
 use Rattle.archive_store.proofs.ReplayedRows.{in_tables, source_history}
 use Rattle.archive_store.proofs.history_source.HistorySourceRowSource.rows.Goals as goal
@@ -25,12 +25,12 @@ returns-then-table-as_slice-clause-each c =
 pub returns-then-table-as_slice-clause-history : goal.returns-then-table-as_slice-clause-history
 returns-then-table-as_slice-clause-history c =
     let s = c.self.inside in
-    subst IsSourceHistory c.self.view_is (source_history s.head.now s.history.now.items c.len-known.ensures.history c.self.invariant.rows)
+    subst IsRowSourceHistory c.self.view_is (source_history s.head.now s.history.now.items c.len-known.ensures.history c.self.invariant.rows)
 
 pub returns-in_err-partition_rows-clause-history : goal.returns-in_err-partition_rows-clause-history
 returns-in_err-partition_rows-clause-history c =
     let s = c.self.inside in
-    subst IsSourceHistory c.self.view_is (source_history s.head.now s.history.now.items c.len-known.ensures.history c.self.invariant.rows)
+    subst IsRowSourceHistory c.self.view_is (source_history s.head.now s.history.now.items c.len-known.ensures.history c.self.invariant.rows)
 
 pub returns-clause-each : goal.returns-clause-each
 returns-clause-each c =
@@ -41,4 +41,4 @@ returns-clause-each c =
 pub returns-clause-history : goal.returns-clause-history
 returns-clause-history c =
     let s = c.self.inside in
-    subst IsSourceHistory c.self.view_is (source_history s.head.now s.history.now.items c.len-known.ensures.history c.self.invariant.rows)
+    subst IsRowSourceHistory c.self.view_is (source_history s.head.now s.history.now.items c.len-known.ensures.history c.self.invariant.rows)

@@ -1,29 +1,29 @@
 //! A packet name's day.
 
 ghost use Rattle.std.specs.Prelude.{◌≡◌};
-ghost use Rattle.partitions.specs.NamedDay.{named_day};
+ghost use Rattle.partitions.specs.NameDay.{name_day};
 
 use crate::partition::Partition;
 
 /// The number of a packet name and a civil day: a partition, ordered by the name's number and then by day.
 #[derive(Clone, Copy, PartialEq, Eq, PartialOrd, Ord)]
-pub(crate) struct NamedDay {
+pub(crate) struct NameDay {
     pub(crate) pname: u16,
     pub(crate) day: i64,
 }
 
-impl NamedDay {
+impl NameDay {
     pub(crate) fn of(part: Partition) -> Self
-        ensures { result ≡ named_day part }
+        ensures { result ≡ name_day part }
     {
-        NamedDay {
+        NameDay {
             pname: part.pname,
             day: part.day,
         }
     }
 
     pub(crate) fn partition(self) -> Partition
-        ensures { named_day result ≡ self }
+        ensures { name_day result ≡ self }
     {
         Partition {
             day: self.day,

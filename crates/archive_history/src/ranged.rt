@@ -1,0 +1,37 @@
+//! Rows of a range, looked through one after the other.
+
+ghost use Rattle.std.specs.Prelude.{◌≡◌, ◌<◌, ◌≤◌, length, filter, IfOk, IfSome, IfNone};
+ghost use Rattle.partitions.specs.Partitions.{AreRising};
+ghost use Rattle.partitions.specs.Rows.{is_of_parts};
+
+use arch_types::row::Rows;
+use partitions::chain_steps::ChainSteps;
+use partitions::partition::Partition;
+use partitions::rows::is_of_parts;
+use std::alloc::{AllocError, Global};
+use yarch_table::rows::TableRows;
+
+/// The rows of a range that stand in some partitions, in its order, unless it has more rows than there are steps: a row that is
+/// looked at takes one. The one error is want of memory.
+pub(crate) fn rows_in_steps(
+    alloc: Global,
+    mut range: TableRows<'_>,
+    parts: &[Partition],
+    mut steps: ChainSteps<'_>,
+) -> Result<Option<Rows>, AllocError>
+    requires { AreRising parts.now }
+    ensures rows { IfOk result (λ found. IfSome found (λ rows. rows ≡ filter (is_of_parts parts.now) range.entry)) }
+    ensures few { IfOk result (λ found. IfSome found (λ _. length range.entry ≤ steps.entry)) }
+    ensures many { IfOk result (λ found. IfNone found (steps.entry < length range.entry)) }
+{
+    let mut rows = Rows::new(alloc);
+    while let Some(row) = range.next() {
+        if !steps.take_one() {
+            return Ok(None);
+        }
+        if is_of_parts(parts, row) {
+            rows.push(row.copy()?)?;
+        }
+    }
+    Ok(Some(rows))
+}

@@ -1,0 +1,123 @@
+// The rows of some partitions in a range, of a table in memory: found by keys where the range has few rows, else by the partitions' places.
+use arch_types::key::Key;
+use arch_types::octets::Octets;
+use arch_types::row::{Row, Rows};
+use archive_history::partitioned_table::PartitionedTable;
+use partitions::bounds::Bounds;
+use partitions::lists::PnameList;
+use std::alloc::{AllocError, Global};
+use std::test::Fail;
+
+const DAY: i64 = 86_400_000;
+
+const MINUTE: i64 = 60_000;
+
+/// The time and the packet name of each row, in the order in which they came. A row's place here is its key's second part, too.
+const ROWS: [(i64, u16); 12] = [
+    (10, 1),
+    (MINUTE + 5, 2),
+    (MINUTE, 1),
+    (MINUTE + 5, 3),
+    (2 * MINUTE, 2),
+    (DAY - 1, 1),
+    (DAY, 1),
+    (DAY + 3, 2),
+    (MINUTE + 7, 1),
+    (MINUTE + 9, 2),
+    (MINUTE + 11, 2),
+    (20, 3),
+];
+
+fn row(alloc: Global, time: i64, seq: u32, pname: u16) -> Result<Row, AllocError> {
+    Ok(Row {
+        table: 0,
+        key: Key { time, seq },
+        rectime: time,
+        link: 1,
+        pname,
+        packet: Octets::from_slice(alloc, &[])?,
+    })
+}
+
+fn table(alloc: Global) -> Result<PartitionedTable, AllocError> {
+    let mut table = PartitionedTable::new(alloc)?;
+    let mut seq = 0u32;
+    for (time, pname) in ROWS {
+        table.reserve(1)?;
+        table.insert(row(alloc, time, seq, pname)?, seq as u64);
+        seq = seq.wrapping_add(1);
+    }
+    Ok(table)
+}
+
+fn bounds(alloc: Global, from: i64, to: i64, names: Option<&[u16]>) -> Result<Bounds, AllocError> {
+    let names = match names {
+        Some(names) => Some(PnameList::from_vec(Vec::from_slice(alloc, names)?)),
+        None => None,
+    };
+    Ok(Bounds { from, to, names })
+}
+
+/// A range, packet names, a front, and the places of the rows that are given.
+type Asked = (i64, i64, Option<&'static [u16]>, u64, &'static [u32]);
+
+const ASKED: &[Asked] = &[
+    // a minute of a day with three names: fewer rows than the day's
+    (MINUTE, 2 * MINUTE, None, 12, &[2, 1, 3, 8, 9, 10]),
+    // the same below a front in the middle
+    (MINUTE, 2 * MINUTE, None, 9, &[2, 1, 3, 8]),
+    // two of the names: six rows are looked at, of ten steps
+    (MINUTE, 2 * MINUTE, Some(&[1, 2]), 12, &[2, 1, 8, 9, 10]),
+    // one name of two rows, where the minute has six
+    (MINUTE, 2 * MINUTE, Some(&[3]), 12, &[3]),
+    (MINUTE, 2 * MINUTE, Some(&[3]), 3, &[]),
+    // a range that ends at a day's first millisecond, and one millisecond later
+    (0, DAY, Some(&[1]), 12, &[0, 2, 8, 5]),
+    (0, DAY + 1, Some(&[1]), 12, &[0, 2, 8, 5, 6]),
+    // from inside a day
+    (11, DAY + 1, None, 12, &[11, 2, 1, 3, 8, 9, 10, 4, 5, 6]),
+    (MINUTE, MINUTE, None, 12, &[]),
+    (3 * DAY, 4 * DAY, None, 12, &[]),
+    (
+        i64::MIN,
+        i64::MAX,
+        None,
+        12,
+        &[0, 11, 2, 1, 3, 8, 9, 10, 4, 5, 6, 7],
+    ),
+];
+
+/// They are a function, so that they stand in no goal of its callers.
+fn asked() -> &'static [Asked] {
+    ASKED
+}
+
+fn given(alloc: Global, table: &PartitionedTable, asked: &Asked) -> Result<Rows, AllocError> {
+    let (from, to, names, front, _) = *asked;
+    let parts = table.pruned(&bounds(alloc, from, to, names)?)?;
+    table.rows_between(alloc, parts.as_slice(), from, to, front)
+}
+
+fn places(alloc: Global, rows: &Rows) -> Result<Vec<u32>, AllocError> {
+    let mut places = Vec::new(alloc);
+    for row in rows.as_slice() {
+        places.push(row.key.seq)?;
+    }
+    Ok(places)
+}
+
+#[test]
+fn rows_of_parts_of_days(rt: HostRuntime) -> Result<(), Fail> {
+    let alloc = rt.alloc();
+    let table = table(alloc)?;
+    for asked in asked() {
+        let rows = given(alloc, &table, asked)?;
+        let (from, to, _, _, want) = *asked;
+        assert_eq!(rt;
+            places(alloc, &rows)?.as_slice(),
+            want,
+            "from {from} to {to}"
+        );
+    }
+    Ok(())
+}

@@ -1,0 +1,122 @@
+-- Rows that are gathered of one partition after the other, and put in order.
+use Rattle.std.proofs.Common.{◌≡◌, ◌⊎◌, inl, inr, ℕ, suc, ℤ, ◌+◌, ◌<◌, ◌≤◌, List, [], ◌∷◌, ◌++◌, length, get_or, take, Option, Some, None, true, sym, ap, ◌∙◌, subst, arith}
+use Rattle.std.specs.Prelude.{filter, IfSome, IsPermutation}
+use Rattle.std.specs.List.{AllByRecursion, flat_map}
+use Rattle.std.specs.List.Sorted.{IsSortedBy}
+use Rattle.std.proofs.Math.Seq.{take-suc}
+use Rattle.std.proofs.lemmas.Grind.{flat_map-append}
+use Rattle.std.proofs.lemmas.List.{take_all, nil_from_length, append-nil}
+use Rattle.std.proofs.lemmas.List.Elements.{recursion_from_All, All-from_recursion}
+use Rattle.std.proofs.lemmas.List.Folds.{list_any_at}
+use Rattle.std.proofs.lemmas.List.Kept.{IsSortedBy-filter}
+use Rattle.std.proofs.lemmas.List.Sorted.{All-permutation, length_permutation}
+use Rattle.arch_types.specs.declared.row.Row.{Row}
+use Rattle.arch_types.specs.Order.{is_before}
+use Rattle.arch_types.specs.History.{IsHistory, is_in_table}
+use Rattle.arch_types.specs.Table.{is_in_time_range, range_of, table_of, table_at_front}
+use Rattle.arch_types.proofs.Ranks.{rows_rank}
+use Rattle.arch_types.proofs.InOrder.{order_sorted}
+use Rattle.partitions.specs.declared.partition.Partition.{Partition}
+use Rattle.partitions.specs.Partitions.{AreRising}
+use Rattle.partitions.specs.Rows.{is_of_partition, is_of_parts, partition_at, parts_between}
+use Rattle.partitions.proofs.Filters.{filter_swap}
+use Rattle.replay_merge.specs.Source.{IsKeyedRow, IsRowOf, IsRowBetween, AreInKeyOrder, IsRowSourceHistory}
+use Rattle.replay_merge.proofs.Reading.{all_both}
+use Rattle.replay_merge.proofs.Sorting.{ascending, same_sorted}
+use Rattle.replay_merge.proofs.Sources.{each_tested, in_table_keyed, IsKeyedIn, no_rows_in}
+use Rattle.replay_merge.proofs.Tied.{is_tied, AtMostOne, one_in_table, one_after, first_rows, by_parts, same_tied, none_in_parts}
+use Rattle.replay_merge.proofs.Pieces.{all_first}
+
+-- where a row was read, what the source tells is a history
+abbrev pub IsToldHistory : Option (List Row) → List Row → Type 0
+IsToldHistory told rows = (rows ≡ []) ⊎ IfSome told IsRowSourceHistory
+
+pub range_sorted : (table : ℕ) (from to : ℤ) (history : List Row) → IsSortedBy is_before (range_of table from to history)
+range_sorted table from to history = IsSortedBy-filter is_before rows_rank (is_in_time_range from to) (table_of table history) (order_sorted (filter (is_in_table table) history))
+
+one_in_range : (table : ℕ) (from to : ℤ) (history : List Row) (z : Row) → IsHistory history → AtMostOne (filter (is_tied z) (range_of table from to history))
+one_in_range table from to history z is = one_after (is_in_time_range from to) z (table_of table history) (one_in_table table z history is)
+
+-- ---- one partition more
+
+flat_one : {X Y : Type 0} (f : X → List Y) (xs : List X) (i : ℕ) (x : X) → i < length xs → x ≡ get_or xs i x → flat_map f (take i xs) ++ f x ≡ flat_map f (take (i + 1) xs)
+flat_one {X} {Y} f xs i x within is =
+    let next : i + 1 ≡ suc i = omega arith in
+    let last : flat_map f (x ∷ []) ≡ f x = append-nil (f x) in
+    ap (λ (l : List Y). flat_map f (take i xs) ++ l) (sym last) ∙ sym (flat_map-append f (take i xs) (x ∷ []))
+    ∙ ap (λ (y : X). flat_map f (take i xs ++ y ∷ [])) is ∙ ap (flat_map f) (sym (take-suc xs i x within)) ∙ ap (λ (n : ℕ). flat_map f (take n xs)) (sym next)
+
+module _ (table front : ℕ) (from to : ℤ) (parts : List Partition) (i : ℕ) (part : Partition) (within : i < length parts) (is : part ≡ get_or parts i part) where
+  pub one_part_more : (told : Option (List Row)) (rows given all : List Row) →
+      IfSome told (λ history. rows ≡ by_parts (take i parts) (range_of table from to (take front history))) → IfSome told (λ history. given ≡ partition_at front table part history) →
+      all ≡ rows ++ filter (is_in_time_range from to) given → IfSome told (λ history. all ≡ by_parts (take (i + 1) parts) (range_of table from to (take front history)))
+  one_part_more None rows given all so_far got more = tt
+  one_part_more (Some history) rows given all so_far got more =
+      let range = range_of table from to (take front history) in
+      let its : filter (is_in_time_range from to) given ≡ filter (is_of_partition part) range =
+      ap (filter (is_in_time_range from to)) got ∙ filter_swap (is_in_time_range from to) (is_of_partition part) (table_at_front front table history) in
+      more ∙ ap (λ (w : List Row). w ++ filter (is_in_time_range from to) given) so_far ∙ ap (λ (w : List Row). by_parts (take i parts) range ++ w) its
+      ∙ flat_one (λ p. filter (is_of_partition p) range) parts i part within is
+
+  in_these : (row : Row) → is_of_partition part row ≡ true → is_of_parts parts row ≡ true
+  in_these row of = list_any_at (λ p. is_of_partition p row) parts i part within (subst (λ (p : Partition). is_of_partition p row ≡ true) is of)
+
+  pub each_part_more : (rows given all : List Row) → AllByRecursion (IsRowBetween table parts from to) rows → AllByRecursion (IsRowOf table part) given →
+      all ≡ rows ++ filter (is_in_time_range from to) given → AllByRecursion (IsRowBetween table parts from to) all
+  each_part_more rows given all so_far each more =
+      let kept = each_tested (IsRowOf table part) (IsRowBetween table parts from to) (is_in_time_range from to)
+      (λ row of range. record { keyed = of.keyed; in_table = of.in_table; in_parts = in_these row of.in_part; in_range = range }) given each in
+      subst (λ (l : List Row). AllByRecursion (IsRowBetween table parts from to) l) (sym more) (all_both (IsRowBetween table parts from to) rows (filter (is_in_time_range from to) given) so_far kept)
+
+-- ---- all of them
+
+pub all_gathered : (told : Option (List Row)) (table front : ℕ) (from to : ℤ) (parts : List Partition) (i : ℕ) (rows : List Row) → length parts ≤ i →
+    IfSome told (λ history. rows ≡ by_parts (take i parts) (range_of table from to (take front history))) → IfSome told (λ history. rows ≡ by_parts parts (range_of table from to (take front history)))
+all_gathered told table front from to parts i rows le got =
+    subst (λ (ps : List Partition). IfSome told (λ history. rows ≡ by_parts ps (range_of table from to (take front history)))) (take_all i parts le) got
+
+-- gathered of partitions and put in order, the rows are those of the table in these partitions
+pub between_read : (told : Option (List Row)) (table front : ℕ) (from to : ℤ) (parts : List Partition) (gathered rows : List Row) → AreRising parts →
+    IfSome told (λ history. gathered ≡ by_parts parts (range_of table from to (take front history))) → IsToldHistory told gathered → IsPermutation gathered rows → IsSortedBy is_before rows →
+    ((z : Row) → filter (is_tied z) rows ≡ filter (is_tied z) gathered) → IfSome told (λ history. rows ≡ parts_between front table parts from to history)
+between_read None table front from to parts gathered rows rising got sound same in_order stable = tt
+between_read (Some history) table front from to parts gathered rows rising got (inr sound) same in_order stable =
+    let range = range_of table from to (take front history) in
+    same_sorted rows_rank rows (filter (is_of_parts parts) range) (ascending rows_rank rows in_order)
+    (ascending rows_rank (filter (is_of_parts parts) range) (IsSortedBy-filter is_before rows_rank (is_of_parts parts) range (range_sorted table from to (take front history))))
+    (λ z. stable z ∙ ap (filter (is_tied z)) got ∙ same_tied parts range z rising (one_in_range table from to (take front history) z (first_rows front history sound.once)))
+between_read (Some history) table front from to parts gathered rows rising got (inl none) same in_order stable =
+    let range = range_of table from to (take front history) in
+    let no_rows : rows ≡ [] = nil_from_length rows (length_permutation gathered rows same ∙ ap length none) in
+    no_rows ∙ sym (none_in_parts parts range (sym got ∙ none))
+
+pub each_moved : (table : ℕ) (from to : ℤ) (parts : List Partition) (gathered rows : List Row) → IsPermutation gathered rows →
+    AllByRecursion (IsRowBetween table parts from to) gathered → AllByRecursion (IsRowBetween table parts from to) rows
+each_moved table from to parts gathered rows same each =
+    recursion_from_All (IsRowBetween table parts from to) rows (All-permutation (IsRowBetween table parts from to) gathered rows same (All-from_recursion (IsRowBetween table parts from to) gathered each))
+
+-- ---- what a source whose rows are a history gives
+
+-- a keyed row of a table in a range
+record IsKeyedBetween (table : ℕ) (from to : ℤ) (row : Row) : Type 0 where
+  both : IsKeyedIn table row
+  in_range : is_in_time_range from to row ≡ true
+
+-- those of a history at a front, in some partitions and a range, are such rows in the order of their keys
+pub rows_between_are : (front table : ℕ) (parts : List Partition) (from to : ℤ) (history : List Row) → IsRowSourceHistory history →
+    AllByRecursion (IsRowBetween table parts from to) (parts_between front table parts from to history)
+rows_between_are front table parts from to history is =
+    let first = take front history in
+    let range = range_of table from to first in
+    let keyed = in_table_keyed table first (all_first IsKeyedRow front history is.each) in
+    let ranged = each_tested (IsKeyedIn table) (IsKeyedBetween table from to) (is_in_time_range from to) (λ row both e. record { both = both; in_range = e }) (table_of table first) keyed in
+    each_tested (IsKeyedBetween table from to) (IsRowBetween table parts from to) (is_of_parts parts) (λ row of e. record { keyed = of.both.keyed; in_table = of.both.in_table; in_parts = e; in_range = of.in_range }) range ranged
+
+pub between_in_order : (front table : ℕ) (parts : List Partition) (from to : ℤ) (history : List Row) → AreInKeyOrder (parts_between front table parts from to history)
+between_in_order front table parts from to history =
+    IsSortedBy-filter is_before rows_rank (is_of_parts parts) (range_of table from to (take front history)) (range_sorted table from to (take front history))
+
+-- where all rows are in tables of lower numbers, there is none
+pub no_rows_between : (front table n : ℕ) (parts : List Partition) (from to : ℤ) (history : List Row) → AllByRecursion (λ row. row.table < n) history → n ≤ table → parts_between front table parts from to history ≡ []
+no_rows_between front table n parts from to history all most =
+    ap (λ (rows : List Row). filter (is_of_parts parts) (filter (is_in_time_range from to) rows)) (no_rows_in front table n history all most)
