@@ -7,7 +7,7 @@ _cudrakh_parameters() {
 
 # Puts into COMPREPLY the words that may stand at the cursor. Where a file is due, bash completes its name.
 _cudrakh() {
-  local current=${COMP_WORDS[COMP_CWORD]} command=${COMP_WORDS[1]} option='' files=0
+  local current=${COMP_WORDS[COMP_CWORD]} command=${COMP_WORDS[1]} options='' files=0
   COMPREPLY=()
   if [ "$COMP_CWORD" -eq 1 ]; then
     mapfile -t COMPREPLY < <(compgen -W 'scan values create load query recover' -- "$current")
@@ -17,12 +17,12 @@ _cudrakh() {
     scan) files=1 ;;
     values) files=4 ;;
     create) files=3 ;;
-    load) files=1 option=--link ;;
-    query) option=--ask ;;
+    load) files=1 options='--ask --link' ;;
+    query) options=--ask ;;
   esac
 
   # what the words before the cursor are; bash makes three words of --name=value
-  local word given='' due='' ended=''
+  local word due='' ended=''
   local -a words=()
   for word in "${COMP_WORDS[@]:2:COMP_CWORD-2}"; do
     if [ "$due" ]; then
@@ -31,17 +31,17 @@ _cudrakh() {
       words+=("$word")
     elif [ "$word" = -- ]; then
       ended=yes
-    elif [ "$option" ] && [ "$word" = "$option" ]; then
-      given=yes due=yes
+    elif [ "${word#--}" != "$word" ] && [[ " $options " = *" $word "* ]]; then
+      due=$word options=${options/"$word"/}
     elif [ "${word#-}" = "$word" ]; then
       words+=("$word")
     fi
   done
 
   if [ "$due" ]; then
-    [ "$option" = --ask ] && compopt -o default
+    [ "$due" = --ask ] && compopt -o default
   elif [ ! "$ended" ] && { [ "${current#-}" != "$current" ] || [ "$command" = query ]; }; then
-    [ "$given" ] || mapfile -t COMPREPLY < <(compgen -W "$option" -- "$current")
+    mapfile -t COMPREPLY < <(compgen -W "$options" -- "$current")
   elif [ ${#words[@]} -lt "$files" ]; then
     compopt -o default
   elif [ "$command" = values ] && [ ${#words[@]} -eq "$files" ]; then

@@ -11,11 +11,11 @@ use Rattle.disk_journal.specs.Calls.{CountsNeverFall, IsJournalOpenFailed}
 use Rattle.command_plans.specs.Plan.{Interruption, OfMemory, OfInputs, OfDisk, OfOutput, CommandPlan, May, Way, Returned, Stopped, Interrupted, Allows, IsDetermined, IsDue, refusal_at, and_then}
 use Rattle.command_plans.proofs.Plans.{required, gave}
 use Rattle.dump_lines.specs.Output.{Appends, IsFinished, WritesCounted}
-use Rattle.outer_traits.specs.States.{InputsState}
+use Rattle.outer_traits.specs.States.{InputsState, OutputState}
 use Rattle.outer_ledgers.specs.Ledger.{UsedDisk}
 use Rattle.outer_ledgers.proofs.Ledgers.{risen_counted}
 use Rattle.archive_cli.specs.declared.report.Report.{Report}
-use Rattle.archive_cli.specs.Command.{Progress, HasEffects, archive_sought, seeking_failed, Effects, Ran, RanOver, HasDiskOutcome, NoneFound, DamageFound, ArchiveFound, failed_at, opening_plan, printing_plan, sources_at}
+use Rattle.archive_cli.specs.Command.{Progress, HasEffects, archive_sought, seeking_failed, Effects, Ran, RanOver, HasDiskOutcome, NoneFound, DamageFound, ArchiveFound, effects_of, failed_at, nothing_done, opening_plan, printing_plan, sources_at}
 use Rattle.archive_cli.specs.Report.{unopened}
 
 -- no text was printed
@@ -142,3 +142,23 @@ module _ {D : Type 0} (device : Device D) (e : Effects D) (f : Archive → Comma
   -- an archive was opened, and what followed ran
   pub ran_opened : (archive : Archive) → (IsTrue device.is_transparent → StandsFor (device.reads e.disk) archive) → Ran device (f archive) e → Ran device (and_then (opening_plan sources device e.disk) f) e
   ran_opened archive stands ran = ran_then device e (opening_plan sources device e.disk) f archive (inr (inr (ArchiveFound archive, stands, refl))) ran
+
+-- ---- the first steps of a command that opens an archive and takes memory before
+
+module _ {D : Type 0} (device : Device D) (disk : D) (output : OutputState) (sources : ℕ) where
+  -- there was none
+  pub ran_without_memory : (plan : CommandPlan Progress ⊥) → Ran device (May OfMemory (nothing_done sources) plan) (effects_of disk disk output output (unopened (Some OutOfMemory)))
+  ran_without_memory plan = record {
+    way = Interrupted (nothing_done sources) OfMemory;
+    allows = inl refl;
+    did = record { report = refl; printed = no_text output.written; output = record { counted = refl }; disk = refl };
+  }
+
+  -- the opening was refused
+  pub ran_refused_opening : (f : Archive → CommandPlan Progress ⊥) (refused : D × Refusal) → IsStoreOpenRefusal device disk refused.0 refused.1 → device.reads refused.0 ≡ device.reads disk →
+      LeavesOnly device disk refused.0 (device.images disk) → CountsNeverFall device disk refused.0 →
+      Ran device (May OfMemory (nothing_done sources) (and_then (opening_plan sources device disk) f)) (effects_of disk refused.0 output output (unopened (Some refused.1)))
+  ran_refused_opening f refused cause reads images counts =
+      let went = effects_of disk refused.0 output output (unopened (Some refused.1)) in
+      ran_later device went OfMemory (nothing_done sources) (and_then (opening_plan sources device disk) f)
+      (ran_unopened device went f sources refused.1 cause reads images counts refl refl)

@@ -1,11 +1,12 @@
 -- How many writes of the disk failed in a load that opened an archive.
 use Rattle.std.proofs.Common.{◌≡◌, ◌∙◌, ℕ, List, Option, Some, None, sym, subst}
+use Rattle.arch_types.specs.declared.ask.Ask.{Ask}
 use Rattle.arch_types.specs.declared.refusal.Refusal.{Refusal}
-use Rattle.arch_types.specs.declared.refusal.Refusal.TheVariants.{WriteFault}
+use Rattle.arch_types.specs.declared.refusal.Refusal.TheVariants.{OutOfMemory, WriteFault}
 use Rattle.archive_cli.specs.declared.report.Report.{Report}
 use Rattle.load_session.specs.Session.{OneOrTwo}
 use Rattle.archive_cli.specs.ReadDump.{ending_of}
-use Rattle.dump_lines.specs.Output.{IsFinished}
+use Rattle.archive_cli.specs.Asks.{ArePrinted}
 use Rattle.space_packet.specs.declared.dump.Why.{Why}
 use Rattle.space_packet.specs.declared.dump.Why.TheVariants as why
 
@@ -24,9 +25,10 @@ pub bad_writes : (reason : Why) (at : ℕ) (refusal : Refusal) (report : Report)
 bad_writes reason at refusal report before now ending is same =
     subst (λ (o : Option Refusal). OneOrTwo o before now) (ending ∙ sym is) (bad_cases reason at before now same)
 
--- its line was printed, or not to its end
-pub printed_writes : (refusal : Option Refusal) (before now : ℕ) (written written' : Option (List ℕ)) (text : List ℕ) → IsFinished refusal written written' text → now ≡ before
+-- all was printed, or not to its end
+pub printed_writes : (asks : List Ask) (refusal : Option Refusal) (before now : ℕ) (written written' : Option (List ℕ)) (text : List ℕ) → ArePrinted asks refusal written written' text → now ≡ before
     → OneOrTwo refusal before now
-printed_writes None before now written written' text finished same = same
-printed_writes (Some WriteFault) before now written written' text finished same = same
-printed_writes (Some other) before now written written' text finished same = absurd finished
+printed_writes asks None before now written written' text printed same = same
+printed_writes asks (Some WriteFault) before now written written' text printed same = same
+printed_writes asks (Some OutOfMemory) before now written written' text printed same = same
+printed_writes asks (Some other) before now written written' text printed same = absurd printed

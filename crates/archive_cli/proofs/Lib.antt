@@ -6,6 +6,7 @@ pub mod values_command
 pub mod ReadOnly
 pub mod Commands
 pub mod OverInputs
+pub mod AskSheets
 pub mod recover_command
 pub mod create_command
 pub mod query_command

@@ -3,8 +3,9 @@ use Rattle.std.proofs.Common.{◌≡◌, ◌∙◌, ℕ, refl, sym, ap}
 use Rattle.std.specs.Prelude.{IsTrue}
 use Rattle.arch_disk.specs.Disk.{Device}
 use Rattle.archive_store.proofs.Exact.{stands_once, stands_not_damaged, damaged_once, none_not_damaged, none_not_stands}
-use Rattle.command_plans.specs.Plan.{IsDetermined}
+use Rattle.command_plans.specs.Plan.{EachEnd, IsDetermined}
 use Rattle.archive_cli.specs.Command.{OpeningResult, NoneFound, DamageFound, ArchiveFound, IsOpeningResult, opening_plan, after_opening}
+use Rattle.archive_cli.proofs.OverInputs.{HasRead}
 
 -- a disk has one answer to it
 pub held_once : {D : Type 0} (device : Device D) (disk : D) (a b : OpeningResult) → IsOpeningResult (device.reads disk) a → IsOpeningResult (device.reads disk) b → a ≡ b
@@ -26,4 +27,13 @@ opens_determined sources device disk known = (λ a b h k. held_once device disk 
     each : (held : OpeningResult) → IsDetermined (after_opening sources held)
     each NoneFound = tt
     each (DamageFound file at) = tt
+    each (ArchiveFound archive) = tt
+
+-- it asks nothing of the inputs, of which so many sources were given before
+pub opening_reads : {D : Type 0} (sources : ℕ) (device : Device D) (disk : D) → EachEnd (HasRead sources) (opening_plan sources device disk)
+opening_reads sources device disk = ((refl, refl), ((refl, refl), λ held h. each held))
+  where
+    each : (held : OpeningResult) → EachEnd (HasRead sources) (after_opening sources held)
+    each NoneFound = (refl, refl)
+    each (DamageFound file at) = (refl, refl)
     each (ArchiveFound archive) = tt

@@ -13,6 +13,7 @@ use Rattle.input_plans.specs.Inputs.{AnsweredByPlan, WasRead, reading_fault, inp
 use Rattle.input_plans.proofs.Inputs.{no_memory_then, there_some}
 use Rattle.outer_traits.specs.States.{InputsState}
 use Rattle.outer_ledgers.specs.Ledger.{UsedInputs}
+use Rattle.outer_ledgers.proofs.Ledgers.{inputs_unused}
 use Rattle.archive_cli.specs.Command.{Progress, Effects, Ran, RanOver, failed_at, nothing_done, sources_at}
 use Rattle.archive_cli.specs.Reading.{IsInputUnread}
 use Rattle.archive_cli.specs.Report.{unopened}
@@ -26,6 +27,13 @@ HasRead n way = (sources_at way ≡ n) × (failed_at way OfInputs ≡ false)
 
 none_before : (n : ℕ) → n ≡ 0 + n
 none_before n = omega arith
+
+-- what asks nothing of the inputs goes so over any
+pub over_any_inputs : {D : Type 0} (device : Device D) (e : Effects D) (plan : CommandPlan Progress ⊥) → EachEnd (HasRead 0) plan → Ran device plan e → (state : InputsState) →
+    RanOver device plan e state state
+over_any_inputs device e plan reads went state =
+    let none = end_of (HasRead 0) plan went.way reads went.allows in
+    record { ran = went; inputs = rw (none.0, none.1) (inputs_unused state) }
 
 module _ {D : Type 0} (device : Device D) (e : Effects D) {X : Type 0} (plan : ℕ → CommandPlan ℕ X) (f : X → CommandPlan Progress ⊥) (a b : InputsState) (n : ℕ) where
   -- the inputs were read, and what followed asked no more of them

@@ -10,6 +10,7 @@ pub mod values_command
 pub mod ReadDump
 pub mod ReadOnly
 pub mod Command
+pub mod Asks
 pub mod DumpRest
 pub mod Report
 pub mod Run

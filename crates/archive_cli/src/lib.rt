@@ -6,13 +6,14 @@
 //! a line of `job_plan`.
 //!
 //! The way of a dump: for `scan` and `values` `read_scan_input` takes it in, and dump_lines keeps its rows; for `load` load_session hands its packets to
-//! the archive's store. The way of an ask: mdb_sheets reads it; retrieval says whether it can be answered, and extracts the cells of the
-//! store's plan or goes on with its replay, and prints them.
+//! the archive's store. The way of an ask, for `query` and `load`: mdb_sheets reads it; retrieval says whether it can be answered (src/asks.rt),
+//! and extracts the cells of the store's plan or goes on with its replay, and prints them.
 //!
 //! The one idea of the proofs: an archive that was opened is the one that the disk stands for. Where each question of a plan has one answer, a way that
 //! the plan allows is the one that it has to go, so the answer is the one that is due (`is_due` in proofs/Commands.antt).
 #![tactic(auto)]
 
+mod asks;
 mod create;
 mod load;
 mod query;

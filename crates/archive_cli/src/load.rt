@@ -1,31 +1,36 @@
 //! The command `load`: the packets of a dump, ingested into an archive.
 
-ghost use Rattle.std.specs.Prelude.{◌≡◌, ◌<◌, ◌≤◌, ◌+◌, ◌-◌, [], IsSome, IsTrue, IfOk, IfErr, IfSome, MatchResult, None, Some, length};
+ghost use Rattle.std.specs.Prelude.{◌≡◌, ◌<◌, ◌≤◌, ◌+◌, ◌-◌, ◌++◌, [], IsSome, IsTrue, IfOk, IfErr, IfSome, MatchResult, OnOk, None, Some, length};
 ghost use Rattle.outer_traits.specs.Outside.{Stays};
 ghost use Rattle.outer_ledgers.specs.Ledger.{UsedClock};
 ghost use Rattle.text_forms.specs.ClockTime.{IsClockTime};
 ghost use Rattle.mdb_sheets.specs.Sheets.{ReadsCounted};
 ghost use Rattle.command_plans.specs.Plan.{IsDue};
 ghost use Rattle.command_words.specs.JobView.{load_words_of};
-ghost use Rattle.dump_lines.specs.Output.{WritesCounted, IsFinished};
+ghost use Rattle.dump_lines.specs.Output.{WritesCounted};
+ghost use Rattle.retrieval.specs.AskText.{asks_refusal, asks_text};
+ghost use Rattle.archive_cli.specs.Asks.{ArePrinted};
 ghost use Rattle.archive_cli.specs.Command.{RanOver, effects_of};
 ghost use Rattle.load_session.specs.Session.{OneOrTwo};
-ghost use Rattle.archive_cli.specs.load_command.Load.{load_plan};
+ghost use Rattle.archive_cli.specs.load_command.Load.{archive_load_plan, load_plan};
 ghost use Rattle.archive_cli.specs.load_command.LoadLine.{load_line};
-ghost use Rattle.archive_cli.specs.load_command.Loading.{printed_report, IsLoadRun, IsDumpRefusal, IsDumpRefusalFor};
+ghost use Rattle.archive_cli.specs.load_command.Loading.{printed_report, link_refusal, IsLoadRun, IsDumpRefusal, IsDumpRefusalFor, IsNotReceived, IsReady};
 ghost use Rattle.archive_cli.specs.ReadDump.{dump_limit, ending_of};
 ghost use Rattle.archive_cli.specs.Report.{disk_of_work, loaded, read_only, report_of_work, status_at};
 
+use crate::asks::{check_asks, print_asks, print_refusal};
 use crate::read::refusal_of_opening;
 use crate::report::{Ended, LoadCounts, Report};
 use crate::scan_input::bad_packet;
 use arch_disk::Disk;
+use arch_types::ask::{Ask, Asks};
 use arch_types::octets::Octets;
 use arch_types::refusal::{BadKind, Refusal, Which};
-use archive_store::Store;
+use archive_store::{Head, Store};
 use command_words::job::LoadWords;
 use dump_lines::line_buffer::LineBuffer;
 use load_session::{DumpSummary, run_session};
+use mdb_sheets::read_asks;
 use outer_traits::clock::Clock;
 use outer_traits::inputs::Inputs;
 use outer_traits::sink::Sink;
@@ -34,12 +39,13 @@ use outer_traits::whole::{ReadFault, read_whole};
 use space_packet::dump::Why;
 use std::alloc::Global;
 
-/// Opens a dump and the archive of a disk, ingests the dump's packets in batches of 64, and prints what became of them. Room for the line is taken
-/// before.
+/// Opens a dump and the archive of a disk, ingests the dump's packets in batches of 64, answers the asks of a sheet, where one is given, over the
+/// history after them, and prints what became of the packets. Room for the line is taken before.
 ///
-/// Refuses, in this order: by `Missing` or `ReadFault` where the dump isn't opened; by `DiskFault`, `NoArchive` or `Damaged`; by `Limit` Links; by
-/// `ReadFault` or `Limit` DumpOctets; batch by batch by a `Limit` of the history or by `DiskFault`; by `BadPacket`; by `WriteFault`. `OutOfMemory` may come
-/// anywhere before the line.
+/// Refuses, in this order: by `Missing`, `ReadFault` or `Limit` SheetOctets of the sheet; by `Missing` or `ReadFault` where the dump isn't opened; by
+/// `DiskFault`, `NoArchive` or `Damaged`; by `Limit` Links; by `BadSheet`; by `Limit` Asks; each ask in turn by `UnknownParameter` or `UnknownTable`, then by
+/// `BadRange`; by `ReadFault` or `Limit` DumpOctets; batch by batch by a `Limit` of the history or by `DiskFault`; by `BadPacket`; by `WriteFault`.
+/// `OutOfMemory` may come anywhere before the line, but behind the session only where there are asks.
 ///
 /// Where a call of the disk failed in a batch, the write is taken back before it ends, as far as the disk lets it.
 pub fn load<D: Disk, I: Inputs, K: Sink, C: Clock>(
@@ -72,7 +78,7 @@ pub fn load<D: Disk, I: Inputs, K: Sink, C: Clock>(
     Ended::of_work(work(alloc, words, disk, inputs, sink, clock))
 }
 
-/// Does the command.
+/// Does the command: reads the sheet of asks, where one is given, and then loads the dump.
 fn work<D: Disk, I: Inputs, K: Sink, C: Clock>(
     alloc: Global,
     words: LoadWords<'_>,
@@ -85,6 +91,40 @@ fn work<D: Disk, I: Inputs, K: Sink, C: Clock>(
     ensures ran { RanOver D.device
         (load_plan D.device disk (I.state inputs.old).files (C.state clock.old).next (load_words_of words.entry))
         (effects_of disk (disk_of_work result) (K.state sink.old) (K.state sink.new) (report_of_work result))
+        (I.state inputs.old) (I.state inputs.new) }
+    ensures clock { UsedClock (C.state clock.old) (C.state clock.new) }
+{
+    match words.asks {
+        None => load_archive(
+            alloc,
+            Ok(Asks::new(alloc)),
+            words,
+            disk,
+            inputs,
+            sink,
+            clock,
+        ),
+        Some(name) => match read_asks(alloc, inputs, name) {
+            Ok(sheet) => load_archive(alloc, sheet, words, disk, inputs, sink, clock),
+            Err(refusal) => Err((disk, refusal)),
+        },
+    }
+}
+
+/// Opens a dump and the archive of a disk, and loads the dump, behind which the asks of a sheet are answered.
+fn load_archive<D: Disk, I: Inputs, K: Sink, C: Clock>(
+    alloc: Global,
+    sheet: Result<Asks, Refusal>,
+    words: LoadWords<'_>,
+    disk: D,
+    inputs: &mut I,
+    sink: &mut K,
+    clock: &mut C,
+) -> Result<(D, Report), (D, Refusal)>
+    requires link { 1 ≤ words.link }
+    ensures ran { RanOver D.device
+        (archive_load_plan D.device disk (I.state inputs.old).files (C.state clock.old).next (load_words_of words.entry)
+        sheet) (effects_of disk (disk_of_work result) (K.state sink.old) (K.state sink.new) (report_of_work result))
         (I.state inputs.old) (I.state inputs.new) }
     ensures clock { UsedClock (C.state clock.old) (C.state clock.new) }
 {
@@ -102,7 +142,7 @@ fn work<D: Disk, I: Inputs, K: Sink, C: Clock>(
             return Err(refused);
         }
     };
-    let received = read_dump(alloc, &mut source, words.link);
+    let received = receive(alloc, store.head(), sheet, &mut source, words.link);
     inputs.close(source);
     let report = match received {
         Ok(received) => {
@@ -114,10 +154,11 @@ fn work<D: Disk, I: Inputs, K: Sink, C: Clock>(
     Ok((store.into_disk(), report))
 }
 
-/// A dump that was read to its end, and the link that it came by.
+/// A dump that was read to its end, the link that it came by, and the asks that are answered behind it.
 #[derive(Drop)]
-struct LinkedDump {
+struct LoadInput {
     link: u16,
+    asks: Asks,
     dump: Octets,
 }
 
@@ -129,11 +170,49 @@ struct DumpRefusal {
     link: Option<u16>,
 }
 
-/// Reads a dump to its end, where there's a link of its number.
-fn read_dump<S: Source>(alloc: Global, source: &mut S, link: u64) -> Result<LinkedDump, DumpRefusal>
+/// Reads a dump to its end, where there's a link of its number and an archive's head can answer the asks of a sheet.
+fn receive<S: Source>(
+    alloc: Global,
+    head: &Head,
+    sheet: Result<Asks, Refusal>,
+    source: &mut S,
+    link: u64,
+) -> Result<LoadInput, DumpRefusal>
+    ensures ready { IfOk result (λ received. IsReady head.now sheet link received.asks) }
+    ensures link { IfOk result (λ received. (received.link ≡ link) × (received.link ≤ 255)) }
     ensures whole { IfOk result (λ received. IfSome (S.state source.old).left (λ left. left ≡ received.dump)) }
     ensures short { IfOk result (λ received. length received.dump ≤ dump_limit) }
-    ensures link { IfOk result (λ received. (received.link ≡ link) × (received.link ≤ 255)) }
+    ensures unread { IfErr result (λ unread. IsNotReceived head.now sheet link (S.state source.old).left
+        (S.state source.old).faults (S.state source.new).faults unread.refusal unread.link) }
+    ensures no_fault { OnOk result (Stays (S.state source.old).faults (S.state source.new).faults) }
+    ensures later { (S.state source.old).faults ≤ (S.state source.new).faults }
+    ensures reliable { (S.state source.old).never_fails →
+        Stays (S.state source.old).faults (S.state source.new).faults }
+{
+    let link = link_numbered(link)?;
+    let asks = check_asks(head, sheet)?;
+    let dump = read_dump(alloc, source, link)?;
+    Ok(LoadInput { link, asks, dump })
+}
+
+/// The link with a number.
+fn link_numbered(link: u64) -> Result<u16, Refusal>
+    ensures link { IfOk result (λ number. (number ≡ link) × (number ≤ 255) × (link_refusal link ≡ None)) }
+    ensures refused { IfErr result (λ refusal. link_refusal link ≡ Some refusal) }
+{
+    if link > Which::Links.limit() {
+        return Err(Refusal::Limit {
+            which: Which::Links,
+            number: Which::Links.limit(),
+        });
+    }
+    Ok(link as u16)
+}
+
+/// Reads the dump of a link to its end.
+fn read_dump<S: Source>(alloc: Global, source: &mut S, link: u16) -> Result<Octets, DumpRefusal>
+    ensures whole { IfOk result (λ dump. IfSome (S.state source.old).left (λ left. left ≡ dump)) }
+    ensures short { IfOk result (λ dump. length dump ≤ dump_limit) }
     ensures unread { IfErr result (λ unread. IsDumpRefusal (S.state source.old).left link unread.refusal unread.link) }
     ensures counted { MatchResult result (λ _. Stays (S.state source.old).faults (S.state source.new).faults)
         (λ unread. ReadsCounted (Some unread.refusal) (S.state source.old).faults (S.state source.new).faults) }
@@ -141,37 +220,21 @@ fn read_dump<S: Source>(alloc: Global, source: &mut S, link: u64) -> Result<Link
     ensures reliable { (S.state source.old).never_fails →
         Stays (S.state source.old).faults (S.state source.new).faults }
 {
-    let link = link_numbered(link)?;
     match read_whole(alloc, source, Which::DumpOctets.limit() as usize) {
         Ok(octets) => match Octets::from_vec(alloc, octets) {
-            Ok(dump) => Ok(LinkedDump { link, dump }),
-            Err(_) => Err(DumpRefusal::of(Refusal::OutOfMemory)),
+            Ok(dump) => Ok(dump),
+            Err(_) => Err(DumpRefusal::from(Refusal::OutOfMemory)),
         },
         Err(fault) => Err(unread_for(fault, link)),
     }
 }
 
-/// The link with a number.
-fn link_numbered(link: u64) -> Result<u16, DumpRefusal>
-    ensures link { IfOk result (λ number. (number ≡ link) × (number ≤ 255)) }
-    ensures none { IfErr result (λ unread. (unread.refusal ≡ Refusal.Limit Which.Links 255) × (unread.link ≡ None) ×
-        (255 < link)) }
-{
-    if link > Which::Links.limit() {
-        return Err(DumpRefusal::of(Refusal::Limit {
-            which: Which::Links,
-            number: Which::Links.limit(),
-        }));
-    }
-    Ok(link as u16)
-}
+impl From<Refusal> for DumpRefusal {
+    ghost use Rattle.std.specs.Prelude.{◌≡◌, None};
 
-impl DumpRefusal {
-    /// A dump that wasn't read, but not because of its length.
-    fn of(refusal: Refusal) -> DumpRefusal
-        ensures refusal { result.refusal ≡ refusal }
-        ensures link { result.link ≡ None }
-    {
+    ghost from_gives = { λ refusal unread. (unread.refusal ≡ refusal) × (unread.link ≡ None) };
+
+    fn from(refusal: Refusal) -> DumpRefusal {
         DumpRefusal {
             refusal,
             link: None,
@@ -184,7 +247,7 @@ fn unread_for(fault: ReadFault, link: u16) -> DumpRefusal
     ensures { IsDumpRefusalFor fault link result.refusal result.link }
 {
     match fault {
-        ReadFault::Failed => DumpRefusal::of(Refusal::ReadFault),
+        ReadFault::Failed => DumpRefusal::from(Refusal::ReadFault),
         ReadFault::TooLong => DumpRefusal {
             refusal: Refusal::Limit {
                 which: Which::DumpOctets,
@@ -192,7 +255,7 @@ fn unread_for(fault: ReadFault, link: u16) -> DumpRefusal
             },
             link: Some(link),
         },
-        ReadFault::OutOfMemory | ReadFault::Missing => DumpRefusal::of(Refusal::OutOfMemory),
+        ReadFault::OutOfMemory | ReadFault::Missing => DumpRefusal::from(Refusal::OutOfMemory),
     }
 }
 
@@ -205,23 +268,25 @@ fn nothing_loaded<D: Disk>(store: &Store<D>, unread: DumpRefusal) -> Report
     report
 }
 
-/// Ingests the packets of a dump that was received at a moment, in milliseconds since 1970, and prints what became of them.
+/// Ingests the packets of a dump that was received at a moment, in milliseconds since 1970, and prints the answers to its asks and what became of the
+/// packets.
 fn load_dump<D: Disk, K: Sink>(
     alloc: Global,
     store: &mut Store<D>,
-    received: &LinkedDump,
+    received: &LoadInput,
     moment: i64,
     line_buffer: LineBuffer,
     sink: &mut K,
 ) -> Report
     requires short { length received.now.dump ≤ dump_limit }
     requires link { (1 ≤ received.now.link) × (received.now.link ≤ 255) }
+    requires answerable { asks_refusal store.old.head received.now.asks ≡ None }
     requires moment { IsClockTime moment }
     requires empty { line_buffer ≡ [] }
     requires no_fault { store.old.fills ≡ [] }
     requires few_records { IsTrue D.device.is_transparent → store.old.records ≤ 1 + length store.old.history }
-    ensures session { IsLoadRun D.device store.old store.new received.now.dump received.now.link moment
-        (K.state sink.old).written (K.state sink.new).written result }
+    ensures session { IsLoadRun D.device store.old store.new received.now.asks received.now.dump received.now.link
+        moment (K.state sink.old).written (K.state sink.new).written result }
     ensures writes_counted { WritesCounted result.refusal (K.state sink.old).faults (K.state sink.new).faults }
     ensures writes_later { (K.state sink.old).faults ≤ (K.state sink.new).faults }
     ensures disk_writes { OneOrTwo result.refusal (D.device.failed_writes store.old.disk)
@@ -230,7 +295,15 @@ fn load_dump<D: Disk, K: Sink>(
     let before = store.front();
     match run_session(alloc, store, &received.dump, received.link, moment) {
         Ok(whole) => match refusal_of_rest(&whole) {
-            None => print(store, before, whole, line_buffer, sink),
+            None => print(
+                alloc,
+                store,
+                before,
+                whole,
+                received.asks.as_slice(),
+                line_buffer,
+                sink,
+            ),
             Some(refusal) => stopped(store, before, Some(received.link), refusal),
         },
         Err(refusal) => stopped(store, before, None, refusal),
@@ -257,23 +330,28 @@ fn stopped<D: Disk>(store: &Store<D>, before: u64, link: Option<u16>, refusal: R
     Report::loaded(Some(refusal), link, before, store.front(), counts)
 }
 
-/// Prints what became of the packets of a whole dump.
+/// Prints the answers to asks, of which none is refused, and what became of the packets of a whole dump.
 fn print<D: Disk, K: Sink>(
-    store: &Store<D>,
+    alloc: Global,
+    store: &mut Store<D>,
     before: u64,
     whole: DumpSummary,
+    asks: &[Ask],
     line_buffer: LineBuffer,
     sink: &mut K,
 ) -> Report
+    requires answerable { asks_refusal store.old.head asks.now ≡ None }
     requires empty { line_buffer ≡ [] }
-    requires grown { before ≤ length store.now.history }
-    requires counts { whole.idle + length store.now.history ≤ whole.packets + before }
-    ensures finished { IsFinished result.refusal (K.state sink.old).written (K.state sink.new).written
-        (load_line whole.packets (length store.now.history - before)
-        (whole.packets - whole.idle - (length store.now.history - before)) whole.idle (length store.now.history)) }
-    ensures report { result ≡ printed_report result.refusal before (length store.now.history) whole.packets whole.idle }
+    requires grown { before ≤ length store.old.history }
+    requires counts { whole.idle + length store.old.history ≤ whole.packets + before }
+    ensures printed { ArePrinted asks.now result.refusal (K.state sink.old).written (K.state sink.new).written
+        (asks_text store.old.head store.old.history 1 asks.now ++ load_line whole.packets
+        (length store.old.history - before) (whole.packets - whole.idle - (length store.old.history - before)) whole.idle
+        (length store.old.history)) }
+    ensures report { result ≡ printed_report result.refusal before (length store.old.history) whole.packets whole.idle }
     ensures writes_counted { WritesCounted result.refusal (K.state sink.old).faults (K.state sink.new).faults }
     ensures writes_later { (K.state sink.old).faults ≤ (K.state sink.new).faults }
+    ensures same { store.new ≡ store.old }
 {
     let mut line_buffer = line_buffer;
     let after = store.front();
@@ -282,17 +360,22 @@ fn print<D: Disk, K: Sink>(
         duplicates: whole.packets - whole.idle - (after - before),
         idle: whole.idle,
     };
-    put_line(&mut line_buffer, counts, after - before, after);
-    match line_buffer.finish(sink) {
-        None => Report::loaded(None, None, before, after, counts),
-        Some(refusal) => stopped(store, before, None, refusal),
+    match print_asks(alloc, asks, store, &mut line_buffer, sink) {
+        Ok(()) => {
+            put_line(&mut line_buffer, counts, after - before, after);
+            match line_buffer.finish(sink) {
+                None => Report::loaded(None, None, before, after, counts),
+                Some(refusal) => stopped(store, before, None, refusal),
+            }
+        }
+        Err(fault) => stopped(store, before, None, print_refusal(fault)),
     }
 }
 
 /// Adds the last line.
 fn put_line(line_buffer: &mut LineBuffer, counts: LoadCounts, new: u64, rows: u64)
-    requires { line_buffer.old ≡ [] }
-    ensures { line_buffer.new ≡ load_line counts.packets new counts.duplicates counts.idle rows }
+    requires { length line_buffer.old < 65536 }
+    ensures { line_buffer.new ≡ line_buffer.old ++ load_line counts.packets new counts.duplicates counts.idle rows }
 {
     line_buffer.put_number(b"load packets ", counts.packets);
     line_buffer.put_number(b" new ", new);

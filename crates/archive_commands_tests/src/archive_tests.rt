@@ -318,6 +318,64 @@ fn replays(rt: HostRuntime) -> Result<(), Fail> {
 }
 
 #[test]
+fn loads_with_asks(rt: HostRuntime) -> Result<(), Fail> {
+    let usage = (1, "", "usage", None);
+    let answered =
+        "ask 1 front 2\ncell 1500 140886016 7 7\nend 1\nload packets 3 new 2 duplicates 1 idle 0 rows 2\n";
+    let replayed =
+        "ask 1 front 2\npacket tm 1500 140820480 7 HDR 13\npacket tm 1500 140886016 7 HDR 13\nend 2\nload packets 3 new 0 duplicates 3 idle 0 rows 2\n";
+    let mut disk = MemDisk::new(rt.alloc());
+    for (line, want) in [
+        ("load --ask bad twice", (1, "", "no archive", None)),
+        (CREATE, (0, CREATED, "", Some((0, 0)))),
+        ("load --ask x y", (1, "", "no input x", None)),
+        ("load --ask bad y", (1, "", "no input y", None)),
+        (
+            "load --ask bad --link 256 twice",
+            (2, "", "limit Links 255", Some((0, 0))),
+        ),
+        (
+            "load --ask bad twice",
+            (2, "", "bad sheet asks row 1 rule 1", Some((0, 0))),
+        ),
+        (
+            "load twice --ask unknown",
+            (1, "", "unknown parameter", Some((0, 0))),
+        ),
+        (
+            "load --ask=backwards broken",
+            (1, "", "bad range 2000 0", Some((0, 0))),
+        ),
+        (
+            "load --ask asks --link 7 twice",
+            (0, answered, "", Some((0, 2))),
+        ),
+        (
+            "load --link 9 --ask replayed twice",
+            (0, replayed, "", Some((2, 2))),
+        ),
+        (
+            "load --ask asks broken",
+            (2, "", "bad packet at 20: version", Some((2, 2))),
+        ),
+        (
+            "load --ask twice twice",
+            (2, "", "bad sheet asks row 1 rule 1", Some((2, 2))),
+        ),
+        (
+            "load --ask asks asks",
+            (2, "", "bad packet at 0: version", Some((2, 2))),
+        ),
+        ("load --ask= twice", usage),
+        ("load --ask asks --ask asks twice", usage),
+        ("load twice --ask", usage),
+    ] {
+        disk = expect(&rt, line, disk, want)?;
+    }
+    Ok(())
+}
+
+#[test]
 fn words_of_a_load(rt: HostRuntime) -> Result<(), Fail> {
     let usage = (1, "", "usage", None);
     let first = "load packets 3 new 2 duplicates 1 idle 0 rows 2\n";
@@ -364,6 +422,7 @@ fn writes_that_fail(rt: HostRuntime) -> Result<(), Fail> {
         ("load twice", (0, 2)),
         ("query --ask asks", (2, 2)),
         ("query --ask replayed", (2, 2)),
+        ("load --ask asks twice", (2, 2)),
         ("recover", (2, 2)),
     ] {
         disk = expect_unwritten(&rt, line, disk, lengths)?;
@@ -395,6 +454,8 @@ fn reads_that_fail(rt: HostRuntime) -> Result<(), Fail> {
         ("load twice", 0, unread),
         ("load twice", 1, (1, "", "no archive", None)),
         ("query --ask asks", 1, unread),
+        ("load --ask asks twice", 0, unread),
+        ("load --ask asks twice", 1, unread),
         (CREATE, 9, (0, CREATED, "", Some((0, 0)))),
         ("load twice", 0, unread),
         ("load twice", 1, (3, "", "read fault", Some((0, 0)))),

@@ -6,6 +6,8 @@ use Rattle.arch_types.specs.declared.refusal.Refusal.TheVariants.{Usage, OutOfMe
 use Rattle.clap.specs.Walk.{Row, first_of}
 use Rattle.clap.specs.Simple.{App}
 use Rattle.text_forms.specs.Digits.{digits_at_most}
+use Rattle.command_words.specs.declared.job.CommandName.{CommandName}
+use Rattle.command_words.specs.declared.job.CommandName.TheVariants as name
 use Rattle.command_words.specs.Words.{rows_of_words}
 use Rattle.command_words.specs.Arguments.{command_app, option_rule, word_rule}
 
@@ -23,10 +25,11 @@ pub record SheetWords : Type 0 where
   pub calibrations : List ℕ
   pub containers : List ℕ
 
--- the name of a dump, and the number of the link that it came by
+-- the name of a dump, the number of the link that it came by, and the name of a sheet of asks, where one is given
 pub record LoadWords : Type 0 where
   pub dump : List ℕ
   pub link : ℕ
+  pub asks : Option (List ℕ)
 
 -- a job of the archive's program, with the words that it was given
 pub data Job : Type 0 where
@@ -38,19 +41,7 @@ pub data Job : Type 0 where
   Query : List ℕ → Job
   Recover : Job
 
--- the words of `scan`
-abbrev pub scan_app : App
-scan_app = command_app (codes "scan") (word_rule (codes "dump") ∷ [])
-
--- the job of `scan DUMP`, by the words that clap found
-abbrev pub scan_job : List Row → Option Job
-scan_job rows = option_map Scan (first_of (codes "dump") rows)
-
--- the words of `values`
-abbrev pub values_app : App
-values_app =
-    command_app (codes "values")
-    (word_rule (codes "parameters") ∷ word_rule (codes "calibrations") ∷ word_rule (codes "containers") ∷ word_rule (codes "dump") ∷ word_rule (codes "name") ∷ [])
+-- ---- what each command's words ask
 
 -- the job of `values`, where each of its words is there
 abbrev pub values_words : Option (List ℕ) → Option (List ℕ) → Option (List ℕ) → Option (List ℕ) → Option (List ℕ) → Option Job
@@ -58,27 +49,10 @@ values_words (Some parameters) (Some calibrations) (Some containers) (Some dump)
     Some (Values (record { parameters = parameters; calibrations = calibrations; containers = containers; dump = dump; name = name }))
 values_words parameters calibrations containers dump name = None
 
--- the job of `values PARAMETERS CALIBRATIONS CONTAINERS DUMP NAME`, by the words that clap found
-abbrev pub values_job : List Row → Option Job
-values_job rows =
-    values_words (first_of (codes "parameters") rows) (first_of (codes "calibrations") rows) (first_of (codes "containers") rows) (first_of (codes "dump") rows) (first_of (codes "name") rows)
-
--- the words of `create`
-abbrev pub create_app : App
-create_app = command_app (codes "create") (word_rule (codes "parameters") ∷ word_rule (codes "calibrations") ∷ word_rule (codes "containers") ∷ [])
-
 -- the job of `create`, where each of its words is there
 abbrev pub sheet_words : Option (List ℕ) → Option (List ℕ) → Option (List ℕ) → Option Job
 sheet_words (Some parameters) (Some calibrations) (Some containers) = Some (Create (record { parameters = parameters; calibrations = calibrations; containers = containers }))
 sheet_words parameters calibrations containers = None
-
--- the job of `create PARAMETERS CALIBRATIONS CONTAINERS`, by the words that clap found
-abbrev pub create_job : List Row → Option Job
-create_job rows = sheet_words (first_of (codes "parameters") rows) (first_of (codes "calibrations") rows) (first_of (codes "containers") rows)
-
--- the words of `load`: a dump, and an option for the number of its link
-abbrev pub load_app : App
-load_app = command_app (codes "load") (word_rule (codes "dump") ∷ option_rule (codes "link") false ∷ [])
 
 -- the numbers from 1 on
 abbrev pub from_one : ℕ → Option ℕ
@@ -89,42 +63,54 @@ abbrev pub link_of : Option (List ℕ) → Option ℕ
 link_of None = Some 1
 link_of (Some word) = option_and_then from_one (digits_at_most 19 word)
 
--- the job of `load`, where there are a dump and a link
-abbrev pub load_words : Option (List ℕ) → Option ℕ → Option Job
-load_words (Some dump) (Some link) = Some (Load (record { dump = dump; link = link }))
-load_words dump link = None
+-- the job of `load`, where there are a dump and a link; there may be a sheet of asks
+abbrev pub load_words : Option (List ℕ) → Option ℕ → Option (List ℕ) → Option Job
+load_words (Some dump) (Some link) asks = Some (Load (record { dump = dump; link = link; asks = asks }))
+load_words dump link asks = None
 
--- the job of `load [--link N] DUMP`, by the words that clap found
-abbrev pub load_job : List Row → Option Job
-load_job rows = load_words (first_of (codes "dump") rows) (link_of (first_of (codes "link") rows))
+-- ---- the commands
 
--- the words of `query`: an option for a sheet of asks, which has to come
-abbrev pub query_app : App
-query_app = command_app (codes "query") (option_rule (codes "ask") true ∷ [])
+-- the command that a word asks for
+abbrev pub command_named : List ℕ → Option CommandName
+command_named word =
+    if bytes_eq word (codes "scan") then Some name.Scan
+    else if bytes_eq word (codes "values") then Some name.Values
+    else if bytes_eq word (codes "create") then Some name.Create
+    else if bytes_eq word (codes "load") then Some name.Load
+    else if bytes_eq word (codes "query") then Some name.Query
+    else if bytes_eq word (codes "recover") then Some name.Recover
+    else None
 
--- the job of `query --ask FILE`, by the words that clap found
-abbrev pub query_job : List Row → Option Job
-query_job rows = option_map Query (first_of (codes "ask") rows)
+-- the words that a command takes: `scan DUMP`, `values PARAMETERS CALIBRATIONS CONTAINERS DUMP NAME`, `create PARAMETERS CALIBRATIONS CONTAINERS`,
+-- `load [--ask FILE] [--link N] DUMP`, `query --ask FILE`, `recover`
+abbrev pub app_of_command : CommandName → App
+app_of_command name.Scan = command_app (codes "scan") (word_rule (codes "dump") ∷ [])
+app_of_command name.Values =
+    command_app (codes "values")
+    (word_rule (codes "parameters") ∷ word_rule (codes "calibrations") ∷ word_rule (codes "containers") ∷ word_rule (codes "dump") ∷ word_rule (codes "name") ∷ [])
+app_of_command name.Create = command_app (codes "create") (word_rule (codes "parameters") ∷ word_rule (codes "calibrations") ∷ word_rule (codes "containers") ∷ [])
+app_of_command name.Load = command_app (codes "load") (word_rule (codes "dump") ∷ option_rule (codes "link") false ∷ option_rule (codes "ask") false ∷ [])
+app_of_command name.Query = command_app (codes "query") (option_rule (codes "ask") true ∷ [])
+app_of_command name.Recover = command_app (codes "recover") []
 
--- `recover` has no words
-abbrev pub recover_app : App
-recover_app = command_app (codes "recover") []
+-- the job of a command, by the words that clap found
+abbrev pub job_in : CommandName → List Row → Option Job
+job_in name.Scan rows = option_map Scan (first_of (codes "dump") rows)
+job_in name.Values rows =
+    values_words (first_of (codes "parameters") rows) (first_of (codes "calibrations") rows) (first_of (codes "containers") rows) (first_of (codes "dump") rows) (first_of (codes "name") rows)
+job_in name.Create rows = sheet_words (first_of (codes "parameters") rows) (first_of (codes "calibrations") rows) (first_of (codes "containers") rows)
+job_in name.Load rows = load_words (first_of (codes "dump") rows) (link_of (first_of (codes "link") rows)) (first_of (codes "ask") rows)
+job_in name.Query rows = option_map Query (first_of (codes "ask") rows)
+job_in name.Recover rows = Some Recover
 
--- the job of `recover`, which has no words
-abbrev pub recover_job : List Row → Option Job
-recover_job rows = Some Recover
+-- the job of the words behind a command, where they are one
+abbrev pub command_job : CommandName → List (List ℕ) → Option Job
+command_job command words = option_and_then (job_in command) (rows_of_words (app_of_command command) words)
 
 -- the job of the words, where they are one: the command, and behind it what it wants
 abbrev pub job_of : List (List ℕ) → Option Job
 job_of [] = None
-job_of (command ∷ words) =
-    if bytes_eq command (codes "scan") then option_and_then scan_job (rows_of_words scan_app words)
-    else if bytes_eq command (codes "values") then option_and_then values_job (rows_of_words values_app words)
-    else if bytes_eq command (codes "create") then option_and_then create_job (rows_of_words create_app words)
-    else if bytes_eq command (codes "load") then option_and_then load_job (rows_of_words load_app words)
-    else if bytes_eq command (codes "query") then option_and_then query_job (rows_of_words query_app words)
-    else if bytes_eq command (codes "recover") then option_and_then recover_job (rows_of_words recover_app words)
-    else None
+job_of (word ∷ words) = option_and_then (λ command. command_job command words) (command_named word)
 
 -- where packets are loaded, their link has a number from 1 on
 abbrev pub HasLink : Job → Type 0

@@ -1,4 +1,5 @@
 -- The job that the program reads from its words.
+use Rattle.std.specs.Prelude.{option_map}
 use Rattle.command_words.specs.Job as spec
 use Rattle.command_words.specs.declared.job.Job.{Job}
 use Rattle.command_words.specs.declared.job.Job.TheVariants.{Scan, Values, Create, Load, Query, Recover}
@@ -22,7 +23,7 @@ sheet_words_of words = record { parameters = words.parameters.now; calibrations 
 
 -- the words of `load`
 abbrev pub load_words_of : LoadWords → spec.LoadWords
-load_words_of words = record { dump = words.dump.now; link = words.link }
+load_words_of words = record { dump = words.dump.now; link = words.link; asks = option_map (λ name. name.now) words.asks }
 
 -- the job, with the words that it was given
 abbrev pub job_view : Job → spec.Job

@@ -1,13 +1,14 @@
 //! The job that the words of a command line ask.
 
-ghost use Rattle.std.specs.Prelude.{◌≡◌, map, string_bytes, Some, IfOk, IfErr, option_and_then, option_map};
-ghost use Rattle.command_words.specs.Job as spec;
-ghost use Rattle.command_words.specs.Job.{job_of, scan_app, scan_job, values_app, values_job, create_app, create_job, load_app, load_job, link_of, query_app, query_job, recover_app, recover_job, IsNoJob};
+ghost use Rattle.std.specs.Prelude.{◌≡◌, map, string_bytes, Some, IfOk, IfErr, option_map};
+ghost use Rattle.clap.specs.Words.{rows_of, found_of};
+ghost use Rattle.command_words.specs.Job.{job_of, command_named, command_job, app_of_command, job_in, link_of, IsNoJob};
 ghost use Rattle.command_words.specs.JobView.{job_view};
-ghost use Rattle.command_words.specs.Words.{rows_of_words};
+ghost use Rattle.command_words.specs.Words.{rows_of_words, IsNotFound};
 
-use crate::words::{Argument, given_word, read_arguments, word_of};
+use crate::words::{Argument, given_word, read_arguments};
 use arch_types::refusal::Refusal;
+use clap::ArgMatches;
 use std::alloc::Global;
 use text_forms::number_of;
 
@@ -29,11 +30,12 @@ pub struct SheetWords<'a> {
     pub containers: &'a str,
 }
 
-/// The name of a dump, and the number of the link that it came by.
+/// The name of a dump, the number of the link that it came by, and the name of a sheet of asks, where one is given.
 #[derive(Clone, Copy, Debug)]
 pub struct LoadWords<'a> {
     pub dump: &'a str,
     pub link: u64,
+    pub asks: Option<&'a str>,
 }
 
 /// A job, with the words that it was given.
@@ -53,70 +55,158 @@ pub enum Job<'a> {
     Recover,
 }
 
+/// The command that is asked for.
+#[derive(Clone, Copy, Debug, PartialEq, Eq)]
+pub enum CommandName {
+    Scan,
+    Values,
+    Create,
+    Load,
+    Query,
+    Recover,
+}
+
 /// The job of the words behind the program's name, or Usage where they are none.
 pub fn job_of<'a>(alloc: Global, words: &'a [String]) -> Result<Job<'a>, Refusal>
     ensures job { IfOk result (λ job. job_of (map (λ w. string_bytes w) words.entry.now) ≡ Some (job_view job)) }
     ensures none { IfErr result (IsNoJob (job_of (map (λ w. string_bytes w) words.entry.now))) }
 {
-    let Some((command, rest)) = words.split_first() else {
+    let Some((word, rest)) = words.split_first() else {
         return Err(Refusal::Usage);
     };
-    if command.as_str() == "scan" {
-        return scan_job(alloc, rest);
+    match command_named(word.as_str()) {
+        Some(command) => command_job(alloc, command, rest),
+        None => Err(Refusal::Usage),
     }
-    if command.as_str() == "values" {
-        return values_job(alloc, rest);
-    }
-    if command.as_str() == "create" {
-        return create_job(alloc, rest);
-    }
-    if command.as_str() == "load" {
-        return load_job(alloc, rest);
-    }
-    if command.as_str() == "query" {
-        return query_job(alloc, rest);
-    }
-    if command.as_str() == "recover" {
-        return recover_job(alloc, rest);
-    }
-    Err(Refusal::Usage)
 }
 
-/// The job of the words behind `scan`.
-fn scan_job<'a>(alloc: Global, words: &'a [String]) -> Result<Job<'a>, Refusal>
-    ensures job { IfOk result (λ job.
-        option_and_then scan_job (rows_of_words scan_app (map (λ w. string_bytes w) words.entry.now)) ≡ Some
-        (job_view job)) }
-    ensures none { IfErr result
-        (IsNoJob (option_and_then scan_job (rows_of_words scan_app (map (λ w. string_bytes w) words.entry.now)))) }
+/// The command that a word asks for.
+fn command_named(word: &str) -> Option<CommandName>
+    ensures { result ≡ command_named word.now }
 {
-    let found = read_arguments(alloc, "scan", &[Argument::Word("dump")], words)?;
-    let dump = word_of(&found, "dump")?;
-    Ok(Job::Scan { dump })
+    if word == "scan" {
+        return Some(CommandName::Scan);
+    }
+    if word == "values" {
+        return Some(CommandName::Values);
+    }
+    if word == "create" {
+        return Some(CommandName::Create);
+    }
+    if word == "load" {
+        return Some(CommandName::Load);
+    }
+    if word == "query" {
+        return Some(CommandName::Query);
+    }
+    if word == "recover" {
+        return Some(CommandName::Recover);
+    }
+    None
 }
 
-/// The job of the words behind `values`.
-fn values_job<'a>(alloc: Global, words: &'a [String]) -> Result<Job<'a>, Refusal>
-    ensures job { IfOk result (λ job.
-        option_and_then values_job (rows_of_words values_app (map (λ w. string_bytes w) words.entry.now)) ≡ Some
+/// The job of the words behind a command.
+fn command_job<'a>(
+    alloc: Global,
+    command: CommandName,
+    words: &'a [String],
+) -> Result<Job<'a>, Refusal>
+    ensures job { IfOk result (λ job. command_job command (map (λ w. string_bytes w) words.entry.now) ≡ Some
         (job_view job)) }
-    ensures none { IfErr result
-        (IsNoJob (option_and_then values_job (rows_of_words values_app (map (λ w. string_bytes w) words.entry.now)))) }
+    ensures none { IfErr result (IsNoJob (command_job command (map (λ w. string_bytes w) words.entry.now))) }
 {
-    let arguments = [
-        Argument::Word("parameters"),
-        Argument::Word("calibrations"),
-        Argument::Word("containers"),
-        Argument::Word("dump"),
-        Argument::Word("name"),
-    ];
-    let found = read_arguments(alloc, "values", &arguments, words)?;
-    let parameters = word_of(&found, "parameters")?;
-    let calibrations = word_of(&found, "calibrations")?;
-    let containers = word_of(&found, "containers")?;
-    let dump = word_of(&found, "dump")?;
-    let name = word_of(&found, "name")?;
-    Ok(Job::Values(ValuesWords {
+    let found = found_words(alloc, command, words)?;
+    match job_in(command, &found) {
+        Some(job) => Ok(job),
+        None => Err(Refusal::Usage),
+    }
+}
+
+/// What clap finds in the words behind a command.
+fn found_words<'a>(
+    alloc: Global,
+    command: CommandName,
+    words: &'a [String],
+) -> Result<ArgMatches<'a>, Refusal>
+    ensures found { IfOk result (λ found. rows_of_words (app_of_command command)
+        (map (λ w. string_bytes w) words.entry.now) ≡ Some (rows_of (found_of found))) }
+    ensures none { IfErr result
+        (IsNotFound (rows_of_words (app_of_command command) (map (λ w. string_bytes w) words.entry.now))) }
+{
+    match command {
+        CommandName::Scan => read_arguments(alloc, "scan", &[Argument::Word("dump")], words),
+        CommandName::Values => {
+            let arguments = [
+                Argument::Word("parameters"),
+                Argument::Word("calibrations"),
+                Argument::Word("containers"),
+                Argument::Word("dump"),
+                Argument::Word("name"),
+            ];
+            read_arguments(alloc, "values", &arguments, words)
+        }
+        CommandName::Create => {
+            let arguments = [
+                Argument::Word("parameters"),
+                Argument::Word("calibrations"),
+                Argument::Word("containers"),
+            ];
+            read_arguments(alloc, "create", &arguments, words)
+        }
+        CommandName::Load => {
+            let link = Argument::Option {
+                id: "link",
+                required: false,
+            };
+            let asks = Argument::Option {
+                id: "ask",
+                required: false,
+            };
+            read_arguments(alloc, "load", &[Argument::Word("dump"), link, asks], words)
+        }
+        CommandName::Query => {
+            let asks = Argument::Option {
+                id: "ask",
+                required: true,
+            };
+            read_arguments(alloc, "query", &[asks], words)
+        }
+        CommandName::Recover => read_arguments(alloc, "recover", &[], words),
+    }
+}
+
+/// The job of a command, by the words that clap found.
+fn job_in<'a>(command: CommandName, found: &ArgMatches<'a>) -> Option<Job<'a>>
+    ensures { option_map (λ job. job_view job) result ≡ job_in command (rows_of (found_of found.now)) }
+{
+    match command {
+        CommandName::Scan => scan_in(found),
+        CommandName::Values => values_in(found),
+        CommandName::Create => create_in(found),
+        CommandName::Load => load_in(found),
+        CommandName::Query => query_in(found),
+        CommandName::Recover => Some(Job::Recover),
+    }
+}
+
+/// The job of `scan`.
+fn scan_in<'a>(found: &ArgMatches<'a>) -> Option<Job<'a>>
+    ensures { option_map (λ job. job_view job) result ≡ job_in CommandName.Scan (rows_of (found_of found.now)) }
+{
+    let dump = given_word(found, "dump")?;
+    Some(Job::Scan { dump })
+}
+
+/// The job of `values`.
+fn values_in<'a>(found: &ArgMatches<'a>) -> Option<Job<'a>>
+    ensures { option_map (λ job. job_view job) result ≡ job_in CommandName.Values (rows_of (found_of found.now)) }
+{
+    let parameters = given_word(found, "parameters")?;
+    let calibrations = given_word(found, "calibrations")?;
+    let containers = given_word(found, "containers")?;
+    let dump = given_word(found, "dump")?;
+    let name = given_word(found, "name")?;
+    Some(Job::Values(ValuesWords {
         parameters,
         calibrations,
         containers,
@@ -125,81 +215,36 @@ fn values_job<'a>(alloc: Global, words: &'a [String]) -> Result<Job<'a>, Refusal
     }))
 }
 
-/// The job of the words behind `create`.
-fn create_job<'a>(alloc: Global, words: &'a [String]) -> Result<Job<'a>, Refusal>
-    ensures job { IfOk result (λ job.
-        option_and_then create_job (rows_of_words create_app (map (λ w. string_bytes w) words.entry.now)) ≡ Some
-        (job_view job)) }
-    ensures none { IfErr result
-        (IsNoJob (option_and_then create_job (rows_of_words create_app (map (λ w. string_bytes w) words.entry.now)))) }
+/// The job of `create`.
+fn create_in<'a>(found: &ArgMatches<'a>) -> Option<Job<'a>>
+    ensures { option_map (λ job. job_view job) result ≡ job_in CommandName.Create (rows_of (found_of found.now)) }
 {
-    let arguments = [
-        Argument::Word("parameters"),
-        Argument::Word("calibrations"),
-        Argument::Word("containers"),
-    ];
-    let found = read_arguments(alloc, "create", &arguments, words)?;
-    let parameters = word_of(&found, "parameters")?;
-    let calibrations = word_of(&found, "calibrations")?;
-    let containers = word_of(&found, "containers")?;
-    Ok(Job::Create(SheetWords {
+    let parameters = given_word(found, "parameters")?;
+    let calibrations = given_word(found, "calibrations")?;
+    let containers = given_word(found, "containers")?;
+    Some(Job::Create(SheetWords {
         parameters,
         calibrations,
         containers,
     }))
 }
 
-/// The job of the words behind `load`.
-fn load_job<'a>(alloc: Global, words: &'a [String]) -> Result<Job<'a>, Refusal>
-    ensures job { IfOk result (λ job.
-        option_and_then load_job (rows_of_words load_app (map (λ w. string_bytes w) words.entry.now)) ≡ Some
-        (job_view job)) }
-    ensures none { IfErr result
-        (IsNoJob (option_and_then load_job (rows_of_words load_app (map (λ w. string_bytes w) words.entry.now)))) }
+/// The job of `load`.
+fn load_in<'a>(found: &ArgMatches<'a>) -> Option<Job<'a>>
+    ensures { option_map (λ job. job_view job) result ≡ job_in CommandName.Load (rows_of (found_of found.now)) }
 {
-    let arguments = [
-        Argument::Word("dump"),
-        Argument::Option {
-            id: "link",
-            required: false,
-        },
-    ];
-    let found = read_arguments(alloc, "load", &arguments, words)?;
-    let dump = word_of(&found, "dump")?;
-    let Some(link) = link_of(given_word(&found, "link")) else {
-        return Err(Refusal::Usage);
-    };
-    Ok(Job::Load(LoadWords { dump, link }))
+    let dump = given_word(found, "dump")?;
+    let link = link_of(given_word(found, "link"))?;
+    let asks = given_word(found, "ask");
+    Some(Job::Load(LoadWords { dump, link, asks }))
 }
 
-/// The job of the words behind `query`.
-fn query_job<'a>(alloc: Global, words: &'a [String]) -> Result<Job<'a>, Refusal>
-    ensures job { IfOk result (λ job.
-        option_and_then query_job (rows_of_words query_app (map (λ w. string_bytes w) words.entry.now)) ≡ Some
-        (job_view job)) }
-    ensures none { IfErr result
-        (IsNoJob (option_and_then query_job (rows_of_words query_app (map (λ w. string_bytes w) words.entry.now)))) }
+/// The job of `query`.
+fn query_in<'a>(found: &ArgMatches<'a>) -> Option<Job<'a>>
+    ensures { option_map (λ job. job_view job) result ≡ job_in CommandName.Query (rows_of (found_of found.now)) }
 {
-    let arguments = [Argument::Option {
-        id: "ask",
-        required: true,
-    }];
-    let found = read_arguments(alloc, "query", &arguments, words)?;
-    let asks = word_of(&found, "ask")?;
-    Ok(Job::Query { asks })
-}
-
-/// The job of no words behind `recover`.
-fn recover_job<'a>(alloc: Global, words: &'a [String]) -> Result<Job<'a>, Refusal>
-    ensures job { IfOk result (λ job.
-        option_and_then recover_job (rows_of_words recover_app (map (λ w. string_bytes w) words.entry.now)) ≡ Some
-        (job_view job)) }
-    ensures none { IfErr result
-        (IsNoJob (option_and_then recover_job
-        (rows_of_words recover_app (map (λ w. string_bytes w) words.entry.now)))) }
-{
-    let _found = read_arguments(alloc, "recover", &[], words)?;
-    Ok(Job::Recover)
+    let asks = given_word(found, "ask")?;
+    Some(Job::Query { asks })
 }
 
 /// The number of a link: the one that a word spells, or 1 where there is none.

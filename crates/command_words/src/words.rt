@@ -86,18 +86,6 @@ fn arg_of<'a>(alloc: Global, argument: Argument<'a>) -> Arg<'a>
     }
 }
 
-/// The word that was found for an id.
-pub fn word_of<'a>(found: &ArgMatches<'a>, id: &str) -> Result<&'a str, Refusal>
-    ensures word { IfOk result (λ word. first_of id.now (rows_of (found_of found.now)) ≡ Some word.now) }
-    ensures none { IfErr result (λ refusal. (refusal ≡ Refusal.Usage) ×
-        (first_of id.now (rows_of (found_of found.now)) ≡ None)) }
-{
-    match found.get_str(id) {
-        Some(word) => Ok(word),
-        None => Err(Refusal::Usage),
-    }
-}
-
 /// The word that was given for an id, where one was.
 pub fn given_word<'a>(found: &ArgMatches<'a>, id: &str) -> Option<&'a str>
     ensures { option_map (λ word. word.now) result ≡ first_of id.now (rows_of (found_of found.now)) }

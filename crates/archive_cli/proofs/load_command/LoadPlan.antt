@@ -1,12 +1,12 @@
 -- How the plan of `load` goes.
-use Rattle.std.proofs.Common.{◌≡◌, ◌≤◌, ◌<◌, ◌∙◌, inl, inr, ℕ, ℤ, Bool, true, false, List, length, Option, Some, None, refl, sym, ap, subst, arith}
-use Rattle.std.specs.Prelude.{Err, IfSome, IsSome, IsSomeAnd, IsTrue}
+use Rattle.std.proofs.Common.{◌≡◌, ◌≤◌, ◌<◌, ◌∙◌, inl, inr, ℕ, ℤ, Bool, true, false, List, [], ◌∷◌, length, Option, Some, None, refl, sym, ap, subst, arith}
+use Rattle.std.specs.Prelude.{Err, IfSome, IsSome, IsSomeAnd, IsTrue, Result}
 use Rattle.std.specs.FinMap.{get}
 use Rattle.arch_disk.specs.Disk.{Device, LeavesOnly}
+use Rattle.arch_types.specs.declared.ask.Ask.{Ask}
 use Rattle.arch_types.specs.declared.refusal.Refusal.{Refusal}
 use Rattle.arch_types.specs.declared.refusal.Refusal.TheVariants as refused
-use Rattle.arch_types.specs.declared.refusal.Which.TheVariants.{DumpOctets, Links}
-use Rattle.arch_types.specs.Limits.{limit_of}
+use Rattle.arch_types.specs.declared.refusal.Which.TheVariants.{DumpOctets}
 use Rattle.archive_store.specs.Calls.{IsStoreOpenRefusal}
 use Rattle.archive_store.specs.Entries.{Archive}
 use Rattle.archive_store.specs.Stands.{StandsFor}
@@ -15,36 +15,29 @@ use Rattle.outer_traits.specs.declared.fault.OpenFault.{OpenFault}
 use Rattle.outer_traits.specs.declared.fault.OpenFault.TheVariants.{Missing, Failed, OutOfMemory}
 use Rattle.outer_traits.specs.Outside.{Files, IsLeftAtFirst, OpeningCounted}
 use Rattle.outer_traits.specs.Whole.{IsInput, IsThere}
-use Rattle.command_plans.specs.Plan.{OfMemory, OfInputs, CommandPlan, Way, Stopped, Interrupted, Allows, EachEnd, IsDetermined}
-use Rattle.command_plans.proofs.Plans.{determined, end_of, gave}
+use Rattle.command_plans.specs.Plan.{FailedCalls, OfMemory, OfInputs, OfOutput, OfDisk, no_failed_calls, with_failed_call, CommandPlan, Way, Stopped, Interrupted, Allows, EachEnd, IsDetermined, interruption_refusal}
+use Rattle.command_plans.proofs.Plans.{cut, determined, end_of, ended, gave}
 use Rattle.command_words.specs.Job.{LoadWords}
-use Rattle.input_plans.specs.Inputs.{InputRead, IsThereAs, OverLimit, WithinLimit}
+use Rattle.input_plans.specs.Inputs.{InputRead, IsThereAs, OverLimit, WithinLimit, reading_fault}
 use Rattle.input_plans.proofs.Inputs.{reads_determined}
 use Rattle.mdb_sheets.specs.Sheets.{ReadsCounted}
 use Rattle.outer_traits.specs.States.{InputsState, GaveOne, ClosedOne}
 use Rattle.outer_ledgers.specs.Ledger.{Counted, UsedInputs}
 use Rattle.outer_ledgers.proofs.Ledgers.{risen_counted}
+use Rattle.archive_cli.specs.Asks.{asks_check_plan}
 use Rattle.archive_cli.specs.Moment.{IsMomentOf}
-use Rattle.archive_cli.specs.Command.{Progress, HasDiskOutcome, Opened, Effects, ArchiveFound, Ran, RanOver, archive_opened, nothing_done, opening_plan}
+use Rattle.archive_cli.specs.Command.{Progress, EndedAt, HasDiskOutcome, Opened, Effects, ArchiveFound, Ran, RanOver, archive_opened, nothing_done, opening_plan}
 use Rattle.archive_cli.specs.DumpRest.{ending_of_rest}
-use Rattle.archive_cli.specs.load_command.Load.{after_dump, after_dump_found, after_link, after_packets, after_session, dump_too_long, link_refusal, load_plan, loading_plan, session_plan}
-use Rattle.archive_cli.specs.load_command.Loading.{IsDumpRefusal, IsOpeningFault}
+use Rattle.archive_cli.specs.load_command.Load.{after_dump, after_dump_found, after_link, after_packets, after_session, archive_load_plan, dump_too_long, load_plan, loading_plan, reading_plan, session_plan}
+use Rattle.archive_cli.specs.load_command.Loading.{IsDumpRefusal, IsNotReceived, IsOpeningFault, IsReady, IsUnready}
 use Rattle.archive_cli.specs.ReadDump.{dump_limit}
 use Rattle.archive_cli.specs.Report.{read_only, unopened}
 use Rattle.load_session.specs.Session.{SessionResult}
+use Rattle.archive_cli.proofs.AskSheets.{asked_determined, check_determined, check_refused, checked}
 use Rattle.archive_cli.proofs.Commands.{no_text, ran_unopened, unopened_after}
 use Rattle.archive_cli.proofs.load_command.NotLoaded.{OnlyMissing, gives_long, gone, still_there}
 use Rattle.archive_cli.proofs.OverInputs.{HasRead}
 use Rattle.archive_cli.proofs.Openings.{opens_determined}
-use Rattle.archive_cli.proofs.values_command.LimitTests.{longer, not-longer}
-
--- ---- the number of a link
-
-pub link_near : (link : ℕ) → link ≤ limit_of Links → None ≡ link_refusal link
-link_near link near = rw (not-longer (limit_of Links) link near) refl
-
-pub link_far : (link : ℕ) → limit_of Links < link → Some (refused.Limit Links (limit_of Links)) ≡ link_refusal link
-link_far link far = rw (longer (limit_of Links) link far) refl
 
 -- ---- the inputs
 
@@ -62,21 +55,22 @@ closed_again a m b first next gave closed reliable failed counted = record {
 -- ---- the ends of a session
 
 -- one source was given, and no call of the inputs failed
-pub session_after : (known : Type 0) (archive : Archive) (dump : List ℕ) (link : ℕ) (moment : ℤ) → EachEnd (HasRead 1) (session_plan known archive dump link moment)
-session_after known archive dump link moment = λ s h. each s s.refusal
+pub session_after : (known : Type 0) (archive : Archive) (asks : List Ask) (dump : List ℕ) (link : ℕ) (moment : ℤ) → EachEnd (HasRead 1) (session_plan known archive asks dump link moment)
+session_after known archive asks dump link moment = λ s h. each s s.refusal
   where
-    whole : (s : SessionResult) (rest : Option Refusal) → EachEnd (HasRead 1) (after_packets archive link s rest)
-    whole s None = ((refl, refl), (refl, refl))
-    whole s (Some refusal) = (refl, refl)
+    whole : (asks : List Ask) (s : SessionResult) (rest : Option Refusal) → EachEnd (HasRead 1) (after_packets archive asks link s rest)
+    whole [] s None = ((refl, refl), (refl, refl))
+    whole (ask ∷ asks) s None = ((refl, refl), ((refl, refl), (refl, refl)))
+    whole asks s (Some refusal) = (refl, refl)
 
-    each : (s : SessionResult) (refusal : Option Refusal) → EachEnd (HasRead 1) (after_session archive dump link moment s refusal)
-    each s None = whole s (ending_of_rest dump s.rest)
+    each : (s : SessionResult) (refusal : Option Refusal) → EachEnd (HasRead 1) (after_session archive asks dump link moment s refusal)
+    each s None = whole asks s (ending_of_rest dump s.rest)
     each s (Some refused.DiskFault) = (refl, refl)
     each s (Some other) = (refl, refl)
 
-module _ {D : Type 0} (device : Device D) (e : Effects D) (files : Option Files) (next : Option ℤ) (words : LoadWords) (a b : InputsState) where
+module _ {D : Type 0} (device : Device D) (e : Effects D) (files : Option Files) (next : Option ℤ) (words : LoadWords) (sheet : Result (List Ask) Refusal) (a b : InputsState) where
   abbrev plan : CommandPlan Progress ⊥
-  plan = load_plan device e.disk files next words
+  plan = archive_load_plan device e.disk files next words sheet
 
   -- ---- before the dump was opened
 
@@ -134,96 +128,100 @@ module _ {D : Type 0} (device : Device D) (e : Effects D) (files : Option Files)
     pub load_unarchived : (refusal : Refusal) → IsStoreOpenRefusal device e.disk e.disk' refusal → device.reads e.disk' ≡ device.reads e.disk → LeavesOnly device e.disk e.disk' (device.images e.disk)
         → CountsNeverFall device e.disk e.disk' → e.report ≡ unopened (Some refusal) → e.output' ≡ e.output → UsedInputs a b 1 false → RanOver device plan e a b
     load_unarchived refusal cause reads images counts report silent used =
-        let f = loading_plan known files next words in
+        let f = loading_plan known files next words sheet in
         let went = ran_unopened device e f 1 refusal cause reads images counts report silent in
         let each = unopened_after device e f 1 refusal cause reads images counts report silent in
         record { ran = record { way = went.way; allows = inr (true, there, inr went.allows); did = went.did }; inputs = rw (each.0, each.1) used }
 
     module _ (archive : Archive) (stands : known → StandsFor (device.reads e.disk) archive) where
       -- an archive was
-      goes_on : (way : Way Progress ⊥) → Allows (loading_plan known files next words archive) way → Allows plan way
-      goes_on way goes = inr (true, there, inr (gave (opening_plan 1 device e.disk) (loading_plan known files next words) archive way (inr (inr (ArchiveFound archive, stands, refl))) goes))
+      goes_on : (way : Way Progress ⊥) → Allows (loading_plan known files next words sheet archive) way → Allows plan way
+      goes_on way goes = inr (true, there, inr (gave (opening_plan 1 device e.disk) (loading_plan known files next words sheet) archive way (inr (inr (ArchiveFound archive, stands, refl))) goes))
 
-      -- and left as it was, since the dump wasn't read
-      pub load_unread : (left : Option (List ℕ)) (refusal : Refusal) (link : Option ℕ) → IsLeftAtFirst files words.dump left → IsDumpRefusal left words.link refusal link
-          → ((failed : Bool) → Counted failed a.faults b.faults → UsedInputs a b 1 failed) → a.faults ≤ b.faults → ReadsCounted (Some refusal) a.faults b.faults
-          → e.report ≡ record (read_only (Some refusal) (length archive.history)) { link = link } → e.output' ≡ e.output → HasDiskOutcome device e.disk e.disk' false (Opened archive)
-          → RanOver device plan e a b
-      load_unread left (refused.Limit DumpOctets most) link gives u used later counted report silent disk =
-          let is : refused.Limit DumpOctets most ≡ refused.Limit DumpOctets dump_limit = ap (λ (n : ℕ). refused.Limit DumpOctets n) u.1 in
-          let way : Way Progress ⊥ = Stopped (dump_too_long words.link archive) (Some (refused.Limit DumpOctets dump_limit)) in
-          let long = subst (λ (n : ℕ). IfSome files (λ all. IsSomeAnd (get all words.dump) (λ octets. n < length octets))) u.1 (gives_long files words.dump left most gives u.3) in
-          record {
-            ran = record {
-              way = way;
-              allows = goes_on way (None, link_near words.link u.0, inr (inr (OverLimit, long, refl)));
-              did = record {
-                report = report ∙ ap (λ (r : Refusal). record (read_only (Some r) (length archive.history)) { link = link }) is
-                    ∙ ap (λ (l : Option ℕ). record (read_only (Some (refused.Limit DumpOctets dump_limit)) (length archive.history)) { link = l }) u.2;
-                printed = rw silent (no_text e.output.written);
-                output = record { counted = rw silent refl };
-                disk = disk;
-              };
-            };
-            inputs = used false counted;
-          }
-      load_unread left (refused.Limit Links most) link gives u used later counted report silent disk =
-          let way : Way Progress ⊥ = Stopped (archive_opened 1 archive) (Some (refused.Limit Links (limit_of Links))) in
-          record {
-            ran = record {
-              way = way;
-              allows = goes_on way (Some (refused.Limit Links (limit_of Links)), link_far words.link u.1, refl);
-              did = record {
-                report = report ∙ ap (λ (n : ℕ). record (read_only (Some (refused.Limit Links n)) (length archive.history)) { link = link }) u.0
-                    ∙ ap (λ (l : Option ℕ). record (read_only (Some (refused.Limit Links (limit_of Links))) (length archive.history)) { link = l }) u.2;
-                printed = rw silent (no_text e.output.written);
-                output = record { counted = rw silent refl };
-                disk = disk;
-              };
-            };
-            inputs = used false counted;
-          }
-      load_unread left refused.ReadFault link gives u used later counted report silent disk =
-          let way : Way Progress ⊥ = Interrupted (archive_opened 1 archive) OfInputs in
-          record {
-            ran = record {
-              way = way;
-              allows = goes_on way (None, link_near words.link u.0, inr (inl refl));
-              did = record {
-                report = report ∙ ap (λ (l : Option ℕ). record (read_only (Some refused.ReadFault) (length archive.history)) { link = l }) u.1;
-                printed = rw silent (no_text e.output.written);
-                output = record { counted = rw silent refl };
-                disk = disk;
-              };
-            };
-            inputs = used true (risen_counted a.faults b.faults later counted);
-          }
-      load_unread left refused.OutOfMemory link gives u used later counted report silent disk =
-          let way : Way Progress ⊥ = Interrupted (archive_opened 1 archive) OfMemory in
-          record {
-            ran = record {
-              way = way;
-              allows = goes_on way (None, link_near words.link u.0, inl refl);
-              did = record {
-                report = report ∙ ap (λ (l : Option ℕ). record (read_only (Some refused.OutOfMemory) (length archive.history)) { link = l }) u.1;
-                printed = rw silent (no_text e.output.written);
-                output = record { counted = rw silent refl };
-                disk = disk;
-              };
-            };
-            inputs = used false counted;
-          }
-      load_unread left other link gives u used later counted report silent disk = absurd u
+      -- the asks of a sheet that the archive can answer are checked, and the dump is read
+      reads_on : (asks : List Ask) → IsReady archive.head sheet words.link asks → (way : Way Progress ⊥) → Allows (reading_plan known files next words archive asks) way
+          → Allows (loading_plan known files next words sheet archive) way
+      reads_on asks ready way goes =
+          let s = archive_opened 1 archive in
+          (None, sym ready.0, gave (asks_check_plan s archive.head sheet) (reading_plan known files next words archive) asks way (checked s archive.head sheet asks ready.1) goes)
 
-      -- and the packets of the dump were ingested, so far
-      pub load_received : (dump : List ℕ) (moment : ℤ) → words.link ≤ limit_of Links → IsInput files words.dump dump → length dump ≤ dump_limit → IsMomentOf next moment → UsedInputs a b 1 false
-          → Ran device (session_plan known archive dump words.link moment) e → RanOver device plan e a b
-      load_received dump moment near input short clock used went =
-          let each = end_of (HasRead 1) (session_plan known archive dump words.link moment) went.way (session_after known archive dump words.link moment) went.allows in
+      abbrev reports : Refusal → Option ℕ → Type 0
+      reports refusal link = e.report ≡ record (read_only (Some refusal) (length archive.history)) { link = link }
+
+      named : (refusal : Refusal) (link other : Option ℕ) → link ≡ other → reports refusal link → reports refusal other
+      named refusal link other is report = report ∙ ap (λ (l : Option ℕ). record (read_only (Some refusal) (length archive.history)) { link = l }) is
+
+      -- it was left as it was, and the report may name the link
+      module _ (silent : e.output' ≡ e.output) (disk : HasDiskOutcome device e.disk e.disk' false (Opened archive)) (used : (failed : Bool) → Counted failed a.faults b.faults → UsedInputs a b 1 failed)
+          (later : a.faults ≤ b.faults) where
+        abbrev unloaded : Option ℕ → Progress
+        unloaded link = record (archive_opened 1 archive) { report = record (read_only None (length archive.history)) { link = link } }
+
+        left : (link : Option ℕ) (refusal : Refusal) (failed : FailedCalls) → failed OfOutput ≡ false → failed OfDisk ≡ false → reports refusal link
+            → EndedAt device e (unloaded link) (Some refusal) failed
+        left link refusal failed no_output no_disk report =
+            record { report = report; printed = rw silent (no_text e.output.written); output = record { counted = rw (silent, no_output) refl }; disk = rw no_disk disk }
+
+        stopped : (link : Option ℕ) (refusal : Refusal) → reports refusal link → Counted false a.faults b.faults
+            → Allows (loading_plan known files next words sheet archive) (Stopped (unloaded link) (Some refusal)) → RanOver device plan e a b
+        stopped link refusal report counted goes =
+            let way : Way Progress ⊥ = Stopped (unloaded link) (Some refusal) in
+            record { ran = record { way = way; allows = goes_on way goes; did = left link refusal no_failed_calls refl refl report }; inputs = used false counted }
+
+        cut_short : (failed : Bool) → reports (interruption_refusal (reading_fault failed)) None → Counted failed a.faults b.faults
+            → Allows (loading_plan known files next words sheet archive) (Interrupted (archive_opened 1 archive) (reading_fault failed)) → RanOver device plan e a b
+        cut_short true report counted goes =
+            let way : Way Progress ⊥ = Interrupted (archive_opened 1 archive) OfInputs in
+            record { ran = record { way = way; allows = goes_on way goes; did = left None refused.ReadFault (with_failed_call OfInputs no_failed_calls) refl refl report }; inputs = used true counted }
+        cut_short false report counted goes =
+            let way : Way Progress ⊥ = Interrupted (archive_opened 1 archive) OfMemory in
+            record { ran = record { way = way; allows = goes_on way goes; did = left None refused.OutOfMemory (with_failed_call OfMemory no_failed_calls) refl refl report }; inputs = used false counted }
+
+        -- the link was refused, or the sheet of asks
+        load_unready : (refusal : Refusal) → IsUnready archive.head sheet words.link refusal → reports refusal None → Counted false a.faults b.faults → RanOver device plan e a b
+        load_unready refusal (inl far) report counted = stopped None refusal report counted (Some refusal, sym far, refl)
+        load_unready refusal (inr near) report counted =
+            let s = archive_opened 1 archive in
+            let f = reading_plan known files next words archive in
+            elim (check_refused s archive.head sheet refusal near.1) [
+              | inl ending ↦ stopped None refusal report counted (None, sym near.0, ended (asks_check_plan s archive.head sheet) f s (Some refusal) ending)
+              | inr memory ↦ cut_short false (subst (λ (r : Refusal). reports r None) memory.0 report) counted (None, sym near.0, cut (asks_check_plan s archive.head sheet) f s OfMemory memory.1)
+            ]
+
+        -- the dump wasn't read
+        load_unread : (left : Option (List ℕ)) (refusal : Refusal) (link : Option ℕ) (asks : List Ask) → IsLeftAtFirst files words.dump left → IsReady archive.head sheet words.link asks
+            → IsDumpRefusal left words.link refusal link → ReadsCounted (Some refusal) a.faults b.faults → reports refusal link → RanOver device plan e a b
+        load_unread left (refused.Limit DumpOctets most) link asks gives ready u counted report =
+            let limit = refused.Limit DumpOctets dump_limit in
+            let is : refused.Limit DumpOctets most ≡ limit = ap (λ (n : ℕ). refused.Limit DumpOctets n) u.0 in
+            let long = subst (λ (n : ℕ). IfSome files (λ all. IsSomeAnd (get all words.dump) (λ octets. n < length octets))) u.0 (gives_long files words.dump left most gives u.2) in
+            stopped (Some words.link) limit (named limit link (Some words.link) u.1 (subst (λ (r : Refusal). reports r link) is report)) counted
+            (reads_on asks ready (Stopped (dump_too_long words.link archive) (Some limit)) (inr (inr (OverLimit, long, refl))))
+        load_unread left refused.ReadFault link asks gives ready u counted report =
+            cut_short true (named refused.ReadFault link None u report) (risen_counted a.faults b.faults later counted)
+            (reads_on asks ready (Interrupted (archive_opened 1 archive) OfInputs) (inr (inl refl)))
+        load_unread left refused.OutOfMemory link asks gives ready u counted report =
+            cut_short false (named refused.OutOfMemory link None u report) counted (reads_on asks ready (Interrupted (archive_opened 1 archive) OfMemory) (inl refl))
+        load_unread left other link asks gives ready u counted report = absurd u
+
+        -- nothing was ingested
+        pub load_not_received : (left : Option (List ℕ)) (faults faults' : ℕ) (refusal : Refusal) (link : Option ℕ) → IsLeftAtFirst files words.dump left
+            → IsNotReceived archive.head sheet words.link left faults faults' refusal link → ((ending : Option Refusal) → ReadsCounted ending faults faults' → ReadsCounted ending a.faults b.faults)
+            → reports refusal link → RanOver device plan e a b
+        load_not_received left faults faults' refusal link gives (inl unready) counts report =
+            load_unready refusal unready.0 (named refusal link None unready.1 report) (counts None unready.2)
+        load_not_received left faults faults' refusal link gives (inr unread) counts report =
+            load_unread left refusal link unread.0 gives unread.1 unread.2 (counts (Some refusal) unread.3) report
+
+      -- the packets of the dump were ingested, so far
+      pub load_received : (dump : List ℕ) (moment : ℤ) (asks : List Ask) → IsReady archive.head sheet words.link asks → IsInput files words.dump dump → length dump ≤ dump_limit → IsMomentOf next moment
+          → UsedInputs a b 1 false → Ran device (session_plan known archive asks dump words.link moment) e → RanOver device plan e a b
+      load_received dump moment asks ready input short clock used went =
+          let each = end_of (HasRead 1) (session_plan known archive asks dump words.link moment) went.way (session_after known archive asks dump words.link moment) went.allows in
           record {
             ran = record {
               way = went.way;
-              allows = goes_on went.way (None, link_near words.link near, inr (inr (WithinLimit dump, (dump, input, short, refl), (moment, clock, went.allows))));
+              allows = goes_on went.way (reads_on asks ready went.way (inr (inr (WithinLimit dump, (dump, input, short, refl), (moment, clock, went.allows)))));
               did = went.did;
             };
             inputs = rw (each.0, each.1) used;
@@ -231,36 +229,40 @@ module _ {D : Type 0} (device : Device D) (e : Effects D) (files : Option Files)
 
 -- ---- which answer is due
 
-session_determined : (is : Type 0) (archive : Archive) (dump : List ℕ) (link : ℕ) (moment : ℤ) → IsDetermined (session_plan is archive dump link moment)
-session_determined is archive dump link moment = λ s h. each s s.refusal
+session_determined : (is : Type 0) (archive : Archive) (asks : List Ask) (dump : List ℕ) (link : ℕ) (moment : ℤ) → IsDetermined (session_plan is archive asks dump link moment)
+session_determined is archive asks dump link moment = λ s h. each s s.refusal
   where
-    whole : (s : SessionResult) (rest : Option Refusal) → IsDetermined (after_packets archive link s rest)
-    whole s None = tt
-    whole s (Some refusal) = tt
+    whole : (asks : List Ask) (s : SessionResult) (rest : Option Refusal) → IsDetermined (after_packets archive asks link s rest)
+    whole [] s None = tt
+    whole (ask ∷ asks) s None = tt
+    whole asks s (Some refusal) = tt
 
-    each : (s : SessionResult) (refusal : Option Refusal) → IsDetermined (after_session archive dump link moment s refusal)
-    each s None = whole s (ending_of_rest dump s.rest)
+    each : (s : SessionResult) (refusal : Option Refusal) → IsDetermined (after_session archive asks dump link moment s refusal)
+    each s None = whole asks s (ending_of_rest dump s.rest)
     each s (Some refused.DiskFault) = tt
     each s (Some other) = tt
 
 module _ (known : Type 0) (all : Files) (next : Option ℤ) (words : LoadWords) where
-  dump_determined : (archive : Archive) (read : InputRead (List ℕ)) → IsDetermined (after_dump known next words.link archive read)
-  dump_determined archive OverLimit = tt
-  dump_determined archive (WithinLimit dump) = λ moment h. session_determined known archive dump words.link moment
+  dump_determined : (archive : Archive) (asks : List Ask) (read : InputRead (List ℕ)) → IsDetermined (after_dump known next words.link archive asks read)
+  dump_determined archive asks OverLimit = tt
+  dump_determined archive asks (WithinLimit dump) = λ moment h. session_determined known archive asks dump words.link moment
 
-  loading_determined : IsThere (Some all) words.dump → (archive : Archive) → IsDetermined (loading_plan known (Some all) next words archive)
-  loading_determined there archive = (λ a b h k. h ∙ sym k, λ found h. each found)
+  loading_determined : IsThere (Some all) words.dump → (sheet : Result (List Ask) Refusal) (archive : Archive) → IsDetermined (loading_plan known (Some all) next words sheet archive)
+  loading_determined there sheet archive = (λ a b h k. h ∙ sym k, λ found h. each found)
     where
-      each : (found : Option Refusal) → IsDetermined (after_link known (Some all) next words archive found)
-      each None = (((reads_determined DumpOctets (λ octets. octets) all words.dump 0).1 true there).0, λ read h. dump_determined archive read)
+      each : (found : Option Refusal) → IsDetermined (after_link known (Some all) next words sheet archive found)
+      each None =
+          determined (asks_check_plan (archive_opened 1 archive) archive.head sheet) (reading_plan known (Some all) next words archive) (check_determined (archive_opened 1 archive) archive.head sheet)
+          (λ asks. (((reads_determined DumpOctets (λ octets. octets) all words.dump 0).1 true there).0, λ read h. dump_determined archive asks read))
       each (Some refusal) = tt
 
 pub load_determined : {D : Type 0} (device : Device D) (disk : D) (files : Option Files) (next : Option ℤ) (words : LoadWords) → IsTrue device.is_transparent → IsSome files
     → IsDetermined (load_plan device disk files next words)
 load_determined device disk None next words known some = absurd (cc (some))
-load_determined device disk (Some all) next words known some = ((reads_determined DumpOctets (λ octets. octets) all words.dump 0).0, λ there h. each there h)
+load_determined device disk (Some all) next words known some =
+    asked_determined all words.asks (archive_load_plan device disk (Some all) next words) (λ sheet. ((reads_determined DumpOctets (λ octets. octets) all words.dump 0).0, λ there h. each sheet there h))
   where
-    each : (there : Bool) → IsThereAs (Some all) words.dump there → IsDetermined (after_dump_found device disk (Some all) next words there)
-    each true h = determined (opening_plan 1 device disk) (loading_plan (IsTrue device.is_transparent) (Some all) next words) (opens_determined 1 device disk known)
-        (loading_determined (IsTrue device.is_transparent) all next words h)
-    each false h = tt
+    each : (sheet : Result (List Ask) Refusal) (there : Bool) → IsThereAs (Some all) words.dump there → IsDetermined (after_dump_found device disk (Some all) next words sheet there)
+    each sheet true h = determined (opening_plan 1 device disk) (loading_plan (IsTrue device.is_transparent) (Some all) next words sheet) (opens_determined 1 device disk known)
+        (loading_determined (IsTrue device.is_transparent) all next words h sheet)
+    each sheet false h = tt

@@ -1,39 +1,33 @@
 -- What is printed and reported of a session.
-use Rattle.std.proofs.Common.{◌≡◌, ◌∙◌, ℕ, ℤ, ◌+◌, ◌-◌, ◌≤◌, List, [], ◌++◌, length, Option, Some, None, append_assoc, refl, sym, ap, subst, arith}
+use Rattle.std.proofs.Common.{◌≡◌, ◌∙◌, inl, inr, ℕ, ℤ, ◌+◌, ◌-◌, ◌≤◌, List, [], ◌++◌, length, Option, Some, None, append_assoc, refl, sym, ap, subst, arith}
+use Rattle.arch_types.specs.declared.ask.Ask.{Ask}
 use Rattle.arch_types.specs.declared.refusal.Refusal.{Refusal}
-use Rattle.arch_types.specs.declared.refusal.Refusal.TheVariants.{WriteFault, BadPacket}
+use Rattle.arch_types.specs.declared.refusal.Refusal.TheVariants.{OutOfMemory, WriteFault, BadPacket}
 use Rattle.arch_types.specs.declared.refusal.BadKind.{BadKind}
 use Rattle.arch_types.specs.declared.refusal.BadKind.TheVariants as bad
 use Rattle.space_packet.specs.declared.dump.Why.{Why}
 use Rattle.space_packet.specs.declared.dump.Why.TheVariants as why
+use Rattle.archive_store.specs.declared.head.Head.{Head}
 use Rattle.archive_store.specs.Entries.{Archive}
 use Rattle.load_session.specs.declared.batches.DumpSummary.{DumpSummary}
 use Rattle.load_session.specs.Batches.{arrived}
 use Rattle.load_session.specs.Session.{IsSession, IsSessionEnd, IsSummary, SessionResult}
 use Rattle.load_session.proofs.Sessions.{session_added}
 use Rattle.archive_cli.specs.declared.report.Report.{Report}
-use Rattle.archive_cli.specs.load_command.LoadLine.{load_line, line_of_load}
+use Rattle.archive_cli.specs.load_command.LoadLine.{load_line, load_text}
 use Rattle.archive_cli.specs.load_command.Loading.{printed_report, IsLoadOutcome}
-use Rattle.dump_lines.specs.Output.{IsFinished}
+use Rattle.retrieval.specs.AskText.{asks_text}
+use Rattle.archive_cli.specs.Asks.{ArePrinted}
 use Rattle.archive_cli.specs.ReadDump.{ending_of}
 use Rattle.archive_cli.specs.Report.{loaded}
 use Rattle.archive_cli.proofs.scan_command.Scanned.{bad_rest, end_is, rest_is_none, why_bad}
 
 -- the six pieces of a line, put one behind the other
-pub six_put : (old first second third fourth fifth last a b c d e f g h i j k : List ℕ) → old ≡ [] → first ≡ old ++ a ++ b → second ≡ first ++ c ++ d → third ≡ second ++ e ++ f
-    → fourth ≡ third ++ g ++ h → fifth ≡ fourth ++ i ++ j → last ≡ fifth ++ k → last ≡ (a ++ b ++ c ++ d) ++ (e ++ f ++ g ++ h) ++ (i ++ j ++ k)
-six_put old first second third fourth fifth last a b c d e f g h i j k none one two three four five six = rw (six, five, four, three, two, one, none) (simp append_assoc refl)
+pub six_put : (old first second third fourth fifth last a b c d e f g h i j k : List ℕ) → first ≡ old ++ a ++ b → second ≡ first ++ c ++ d → third ≡ second ++ e ++ f
+    → fourth ≡ third ++ g ++ h → fifth ≡ fourth ++ i ++ j → last ≡ fifth ++ k → last ≡ old ++ ((a ++ b ++ c ++ d) ++ (e ++ f ++ g ++ h) ++ (i ++ j ++ k))
+six_put old first second third fourth fifth last a b c d e f g h i j k one two three four five six = rw (six, five, four, three, two, one) (simp append_assoc refl)
 
 -- ---- the report
-
--- a line was printed, or not to its end
-pub finished_line : (refusal known : Option Refusal) (old new : Option (List ℕ)) (text line : List ℕ) → known ≡ refusal → text ≡ line → IsFinished refusal old new text → IsFinished known old new line
-finished_line refusal known old new text line same is finished = subst (λ (o : Option Refusal). IsFinished o old new line) (sym same) (subst (IsFinished refusal old new) is finished)
-
--- the line of a load by the length of its history
-pub line_by : (packets before after rows idle : ℕ) → after ≡ rows
-    → load_line packets (after - before) (packets - idle - (after - before)) idle after ≡ load_line packets (rows - before) (packets - idle - (rows - before)) idle rows
-line_by packets before after rows idle is = ap (λ (n : ℕ). load_line packets (n - before) (packets - idle - (n - before)) idle n) is
 
 pub printed : (report : Report) (before after rows packets idle : ℕ) → after ≡ rows → report ≡ loaded None None before after packets (packets - idle - (after - before)) idle
     → report ≡ printed_report report.refusal before rows packets idle
@@ -48,12 +42,13 @@ not_printed report refusal before rows packets idle is =
 -- ---- the session
 
 -- the same of a report
-reported : (before : ℕ) (dump : List ℕ) (link : ℕ) (s : SessionResult) (written written' : Option (List ℕ)) (o : Option Refusal) (report : Report) (link_is : Option ℕ) (from to : ℕ)
-    → report ≡ loaded o link_is from to 0 0 0 → IsLoadOutcome before dump link s written written' o report → IsLoadOutcome before dump link s written written' report.refusal report
-reported before dump link s written written' o report link_is from to is went =
-    subst (λ (x : Option Refusal). IsLoadOutcome before dump link s written written' x report) (sym (ap (λ (r : Report). r.refusal) is)) went
+reported : (head : Head) (asks : List Ask) (before : ℕ) (dump : List ℕ) (link : ℕ) (s : SessionResult) (written written' : Option (List ℕ)) (o : Option Refusal) (report : Report) (link_is : Option ℕ) (from to : ℕ)
+    → report ≡ loaded o link_is from to 0 0 0 → IsLoadOutcome head asks before dump link s written written' o report
+    → IsLoadOutcome head asks before dump link s written written' report.refusal report
+reported head asks before dump link s written written' o report link_is from to is went =
+    subst (λ (x : Option Refusal). IsLoadOutcome head asks before dump link s written written' x report) (sym (ap (λ (r : Report). r.refusal) is)) went
 
-module _ (before : ℕ) (dump : List ℕ) (link : ℕ) (s : SessionResult) (whole : DumpSummary) (i : IsSummary dump s whole) (all : s.refusal ≡ None) where
+module _ (head : Head) (asks : List Ask) (before : ℕ) (dump : List ℕ) (link : ℕ) (s : SessionResult) (whole : DumpSummary) (i : IsSummary dump s whole) (all : s.refusal ≡ None) where
   -- the counts of a dump that was ingested
   counts_are : (whole.packets - whole.idle ≡ arrived s.packets) × (whole.idle ≡ length s.packets - arrived s.packets)
   counts_are =
@@ -92,55 +87,58 @@ module _ (before : ℕ) (dump : List ℕ) (link : ℕ) (s : SessionResult) (whol
       omega (arith, most, of_packets, of_idle, first)
 
   module _ (written written' : Option (List ℕ)) where
-    -- the line was printed, or not to its end
-    went_printed : (o : Option Refusal) (report : Report) → s.rest ≡ [] → IsFinished o written written' (line_of_load before (length s.reached) s.packets)
-        → report ≡ printed_report o before (length s.reached) whole.packets whole.idle → IsLoadOutcome before dump link s written written' o report
-    went_printed None report rest finished is = (all, rest, finished, is ∙ report_same (length s.reached) (length s.reached - before))
-    went_printed (Some WriteFault) report rest finished is = (all, rest, finished, is)
-    went_printed (Some other) report rest finished is = absurd finished
+    -- all was printed, or not to its end
+    went_printed : (o : Option Refusal) (report : Report) → s.rest ≡ [] → ArePrinted asks o written written' (load_text head asks before s.reached s.packets)
+        → report ≡ printed_report o before (length s.reached) whole.packets whole.idle → IsLoadOutcome head asks before dump link s written written' o report
+    went_printed None report rest wrote is = (all, rest, wrote, is ∙ report_same (length s.reached) (length s.reached - before))
+    went_printed (Some WriteFault) report rest wrote is = (all, rest, wrote, is)
+    went_printed (Some OutOfMemory) report rest wrote is = (inr (wrote.0, all, rest, wrote.1), is)
+    went_printed (Some other) report rest wrote is = absurd wrote
 
     pub session_printed : (report : Report) → ending_of whole.why whole.at ≡ None
-        → IsFinished report.refusal written written' (load_line whole.packets (length s.reached - before) (whole.packets - whole.idle - (length s.reached - before)) whole.idle (length s.reached))
-        → report ≡ printed_report report.refusal before (length s.reached) whole.packets whole.idle → IsLoadOutcome before dump link s written written' report.refusal report
-    session_printed report none finished is =
+        → ArePrinted asks report.refusal written written' (asks_text head s.reached 1 asks
+        ++ load_line whole.packets (length s.reached - before) (whole.packets - whole.idle - (length s.reached - before)) whole.idle (length s.reached))
+        → report ≡ printed_report report.refusal before (length s.reached) whole.packets whole.idle → IsLoadOutcome head asks before dump link s written written' report.refusal report
+    session_printed report none wrote is =
         went_printed report.refusal report (nothing_left whole.why refl none)
-        (subst (IsFinished report.refusal written written') (line_same (length s.reached - before) (length s.reached)) finished) is
+        (subst (λ (line : List ℕ). ArePrinted asks report.refusal written written' (asks_text head s.reached 1 asks ++ line)) (line_same (length s.reached - before) (length s.reached)) wrote) is
 
     -- a rest is left
     went_bad : (kind : BadKind) → whole.why ≡ why_bad kind → written' ≡ written → (report : Report) → report ≡ loaded (Some (BadPacket whole.at kind)) (Some link) before (length s.reached) 0 0 0
-        → IsLoadOutcome before dump link s written written' (Some (BadPacket whole.at kind)) report
+        → IsLoadOutcome head asks before dump link s written written' (Some (BadPacket whole.at kind)) report
     went_bad kind reason silent report is =
         let end = end_is dump whole.at i.within in
         let len = ap length i.rest in
         (all, bad_rest dump s.rest whole.at kind (omega (arith, end, len)) (sym reason ∙ i.why), silent, is)
 
     bad_cases : (reason : Why) → whole.why ≡ reason → (o : Option Refusal) → ending_of reason whole.at ≡ o → (refusal : Refusal) → o ≡ Some refusal → written' ≡ written → (report : Report)
-        → report ≡ loaded o (Some link) before (length s.reached) 0 0 0 → IsLoadOutcome before dump link s written written' o report
+        → report ≡ loaded o (Some link) before (length s.reached) 0 0 0 → IsLoadOutcome head asks before dump link s written written' o report
     bad_cases why.End reason o ending refusal some silent report is = absurd (let none = ending ∙ some in cc)
     bad_cases why.Version reason o ending refusal some silent report is =
-        subst (λ (x : Option Refusal). report ≡ loaded x (Some link) before (length s.reached) 0 0 0 → IsLoadOutcome before dump link s written written' x report) ending
+        subst (λ (x : Option Refusal). report ≡ loaded x (Some link) before (length s.reached) 0 0 0 → IsLoadOutcome head asks before dump link s written written' x report) ending
         (went_bad bad.Version reason silent report) is
     bad_cases why.Truncated reason o ending refusal some silent report is =
-        subst (λ (x : Option Refusal). report ≡ loaded x (Some link) before (length s.reached) 0 0 0 → IsLoadOutcome before dump link s written written' x report) ending
+        subst (λ (x : Option Refusal). report ≡ loaded x (Some link) before (length s.reached) 0 0 0 → IsLoadOutcome head asks before dump link s written written' x report) ending
         (went_bad bad.Truncated reason silent report) is
 
     pub session_bad : (refusal : Refusal) (report : Report) → ending_of whole.why whole.at ≡ Some refusal → written' ≡ written → report ≡ loaded (Some refusal) (Some link) before (length s.reached) 0 0 0
-        → IsLoadOutcome before dump link s written written' report.refusal report
+        → IsLoadOutcome head asks before dump link s written written' report.refusal report
     session_bad refusal report ending silent is =
-        reported before dump link s written written' (Some refusal) report (Some link) before (length s.reached) is
+        reported head asks before dump link s written written' (Some refusal) report (Some link) before (length s.reached) is
         (bad_cases whole.why refl (Some refusal) ending refusal refl silent report is)
 
 -- a batch was refused
-went_stopped : (known : Type 0) (archive : Archive) (moment : ℤ) (before : ℕ) (dump : List ℕ) (link : ℕ) (s : SessionResult) (written written' : Option (List ℕ)) (refusal : Refusal) (report : Report)
+went_stopped : (head : Head) (asks : List Ask) (known : Type 0) (archive : Archive) (moment : ℤ) (before : ℕ) (dump : List ℕ) (link : ℕ) (s : SessionResult) (written written' : Option (List ℕ)) (refusal : Refusal) (report : Report)
     → IsSessionEnd known archive link moment s (Some refusal) → s.refusal ≡ Some refusal → written' ≡ written → report ≡ loaded (Some refusal) None before (length s.reached) 0 0 0
-    → IsLoadOutcome before dump link s written written' (Some refusal) report
-went_stopped known archive moment before dump link s written written' WriteFault report cause is silent report_is = absurd cause
-went_stopped known archive moment before dump link s written written' (BadPacket at kind) report cause is silent report_is = absurd cause
-went_stopped known archive moment before dump link s written written' other report cause is silent report_is = (is, silent, report_is)
+    → IsLoadOutcome head asks before dump link s written written' (Some refusal) report
+went_stopped head asks known archive moment before dump link s written written' WriteFault report cause is silent report_is = absurd cause
+went_stopped head asks known archive moment before dump link s written written' (BadPacket at kind) report cause is silent report_is = absurd cause
+went_stopped head asks known archive moment before dump link s written written' OutOfMemory report cause is silent report_is = (inl (is, silent), report_is)
+went_stopped head asks known archive moment before dump link s written written' other report cause is silent report_is = (is, silent, report_is)
 
-pub session_stopped : (known : Type 0) (archive : Archive) (moment : ℤ) (before : ℕ) (dump : List ℕ) (link : ℕ) (s : SessionResult) → IsSession known archive dump link moment s
+pub session_stopped : (head : Head) (asks : List Ask) (known : Type 0) (archive : Archive) (moment : ℤ) (before : ℕ) (dump : List ℕ) (link : ℕ) (s : SessionResult) → IsSession known archive dump link moment s
     → (written written' : Option (List ℕ)) (refusal : Refusal) (report : Report) → s.refusal ≡ Some refusal → written' ≡ written
-    → report ≡ loaded (Some refusal) None before (length s.reached) 0 0 0 → IsLoadOutcome before dump link s written written' report.refusal report
-session_stopped known archive moment before dump link s session written written' refusal report is silent report_is =
-    reported before dump link s written written' (Some refusal) report None before (length s.reached) report_is
-    (went_stopped known archive moment before dump link s written written' refusal report (subst (IsSessionEnd known archive link moment s) is session.cause) is silent report_is)
+    → report ≡ loaded (Some refusal) None before (length s.reached) 0 0 0 → IsLoadOutcome head asks before dump link s written written' report.refusal report
+session_stopped head asks known archive moment before dump link s session written written' refusal report is silent report_is =
+    reported head asks before dump link s written written' (Some refusal) report None before (length s.reached) report_is
+    (went_stopped head asks known archive moment before dump link s written written' refusal report (subst (IsSessionEnd known archive link moment s) is session.cause) is silent report_is)

@@ -1,7 +1,8 @@
 -- How the session of a load went, and what it leaves of the disk.
-use Rattle.std.proofs.Common.{◌≡◌, ◌⊎◌, inl, inr, ℕ, ℤ, ◌≤◌, Bool, true, false, List, [], ◌∷◌, ◌++◌, length, Some, None, Option, refl, sym, ap, subst, arith}
+use Rattle.std.proofs.Common.{◌≡◌, ◌⊎◌, inl, inr, ℕ, ℤ, ◌<◌, ◌≤◌, Bool, true, false, List, [], ◌∷◌, ◌++◌, length, Some, None, Option, refl, sym, ap, subst, arith}
 use Rattle.std.specs.Prelude.{IsTrue}
 use Rattle.arch_disk.specs.Disk.{Device, raised}
+use Rattle.arch_types.specs.declared.ask.Ask.{Ask}
 use Rattle.arch_types.specs.declared.refusal.Refusal.{Refusal}
 use Rattle.arch_types.specs.declared.refusal.Refusal.TheVariants.{WriteFault, BadPacket, DiskFault, Limit, OutOfMemory}
 use Rattle.arch_types.specs.declared.row.Row.{Row}
@@ -13,7 +14,7 @@ use Rattle.archive_store.specs.declared.head.Head.{Head}
 use Rattle.archive_store.specs.Entries.{archive}
 use Rattle.archive_store.specs.StoreView.{StoreView, archive_of, FaultInvariant, CrashInvariant}
 use Rattle.archive_store.specs.Stands.{StandsFor}
-use Rattle.command_plans.specs.Plan.{OfOutput, Way, Stopped, Interrupted, Allows}
+use Rattle.command_plans.specs.Plan.{OfMemory, OfOutput, CommandPlan, Stop, May, Way, Stopped, Interrupted, Allows}
 use Rattle.dump_lines.specs.Output.{WritesCounted}
 use Rattle.load_session.specs.Session.{HasReached, HoldsFailedWrite, IsSession, IsSessionEnd, OneOrTwo, SessionResult, next_fresh_rows}
 use Rattle.load_session.proofs.Sessions.{more_faults}
@@ -24,8 +25,8 @@ use Rattle.archive_cli.specs.declared.report.Report.{Report}
 use Rattle.archive_cli.specs.Command.{Progress, Effects, Extended, ExtensionFailed, HasDiskOutcome, Ran, effects_of}
 use Rattle.archive_cli.specs.Durable.{FailedAtMostOnce, IsDurableAs}
 use Rattle.archive_cli.specs.load_command.Extension.{IsExtended, IsExtensionFailed, batch_left}
-use Rattle.archive_cli.specs.load_command.Load.{after_packets, after_session, extension_failed, history_extended, session_plan}
-use Rattle.archive_cli.specs.load_command.LoadLine.{line_of_load, whole_report}
+use Rattle.archive_cli.specs.load_command.Load.{after_packets, after_session, answering_asks_plan, extension_failed, history_extended, session_plan}
+use Rattle.archive_cli.specs.load_command.LoadLine.{load_text, whole_report}
 use Rattle.archive_cli.specs.load_command.Loading.{IsLoadRun, IsLoadOutcome}
 use Rattle.archive_cli.specs.DumpRest.{ending_of_rest}
 use Rattle.archive_cli.specs.Report.{loaded}
@@ -35,6 +36,16 @@ use Rattle.archive_cli.proofs.DumpRest.{bad_ending}
 
 no_rest : (dump rest : List ℕ) → rest ≡ [] → ending_of_rest dump rest ≡ None
 no_rest dump rest is = subst (λ (l : List ℕ). ending_of_rest dump l ≡ None) (sym is) refl
+
+-- where there are asks or not, what may follow their answers
+behind_answers : (asks : List Ask) (s : Progress) (plan : CommandPlan Progress ⊥) (way : Way Progress ⊥) → Allows plan way → Allows (answering_asks_plan asks s plan) way
+behind_answers [] s plan way allows = allows
+behind_answers (ask ∷ asks) s plan way allows = inr allows
+
+-- where there are, memory may be wanting
+wanting_memory : (asks : List Ask) (s : Progress) (plan : CommandPlan Progress ⊥) → 0 < length asks → Allows (answering_asks_plan asks s plan) (Interrupted s OfMemory)
+wanting_memory [] s plan some = absurd (omega (arith, some))
+wanting_memory (ask ∷ asks) s plan some = inl refl
 
 module _ {D : Type 0} (device : Device D) (disk : D) (old new : StoreView D) (link : ℕ) (moment : ℤ) (s : SessionResult) (reached : HasReached device old new link moment s)
     (opened : IsTrue device.is_transparent → IsOpened device disk old) (first : device.fault_count disk ≤ device.fault_count old.opened)
@@ -98,7 +109,7 @@ module _ {D : Type 0} (device : Device D) (disk : D) (old new : StoreView D) (li
 
   -- ---- the way of the plan
 
-  module _ (dump : List ℕ) (session : IsSession (IsTrue device.is_transparent) (archive_of old) dump link moment s) (output output' : OutputState) (report : Report) where
+  module _ (asks : List Ask) (dump : List ℕ) (session : IsSession (IsTrue device.is_transparent) (archive_of old) dump link moment s) (output output' : OutputState) (report : Report) where
     abbrev known : Type 0
     known = IsTrue device.is_transparent
 
@@ -106,23 +117,23 @@ module _ {D : Type 0} (device : Device D) (disk : D) (old new : StoreView D) (li
     went = effects_of disk new.disk output output' report
 
     -- the way goes on by why the session ended
-    goes_on : (refusal : Option Refusal) (way : Way Progress ⊥) → s.refusal ≡ refusal → Allows (after_session (archive_of old) dump link moment s refusal) way
-        → Allows (session_plan known (archive_of old) dump link moment) way
-    goes_on refusal way is allows = (s, session, subst (λ (o : Option Refusal). Allows (after_session (archive_of old) dump link moment s o) way) (sym is) allows)
+    goes_on : (refusal : Option Refusal) (way : Way Progress ⊥) → s.refusal ≡ refusal → Allows (after_session (archive_of old) asks dump link moment s refusal) way
+        → Allows (session_plan known (archive_of old) asks dump link moment) way
+    goes_on refusal way is allows = (s, session, subst (λ (o : Option Refusal). Allows (after_session (archive_of old) asks dump link moment s o) way) (sym is) allows)
 
     -- and by the rest of the dump
-    goes_on_whole : (rest : Option Refusal) (way : Way Progress ⊥) → s.refusal ≡ None → ending_of_rest dump s.rest ≡ rest → Allows (after_packets (archive_of old) link s rest) way
-        → Allows (session_plan known (archive_of old) dump link moment) way
-    goes_on_whole rest way is left allows = goes_on None way is (subst (λ (o : Option Refusal). Allows (after_packets (archive_of old) link s o) way) (sym left) allows)
+    goes_on_whole : (rest : Option Refusal) (way : Way Progress ⊥) → s.refusal ≡ None → ending_of_rest dump s.rest ≡ rest → Allows (after_packets (archive_of old) asks link s rest) way
+        → Allows (session_plan known (archive_of old) asks dump link moment) way
+    goes_on_whole rest way is left allows = goes_on None way is (subst (λ (o : Option Refusal). Allows (after_packets (archive_of old) asks link s o) way) (sym left) allows)
 
     -- no failed write is held
     holds : (refusal : Option Refusal) → s.refusal ≡ refusal → HoldsFailedWrite device new rows refusal
     holds refusal is = subst (HoldsFailedWrite device new rows) is reached.failed_write
 
     -- a batch was refused, and no call of the disk failed
-    refused_by : (refusal : Refusal) → Allows (after_session (archive_of old) dump link moment s (Some refusal)) (Stopped (history_extended (archive_of old) None s) (Some refusal))
+    refused_by : (refusal : Refusal) → Allows (after_session (archive_of old) asks dump link moment s (Some refusal)) (Stopped (history_extended (archive_of old) None s) (Some refusal))
         → new.fills ≡ [] → s.refusal ≡ Some refusal → output'.written ≡ output.written → report ≡ loaded (Some refusal) None (length old.history) (length s.reached) 0 0 0
-        → output'.faults ≡ output.faults → device.failed_writes new.disk ≡ device.failed_writes disk → Ran device (session_plan known (archive_of old) dump link moment) went
+        → output'.faults ≡ output.faults → device.failed_writes new.disk ≡ device.failed_writes disk → Ran device (session_plan known (archive_of old) asks dump link moment) went
     refused_by refusal allows none is silent report_is counted writes =
         let way : Way Progress ⊥ = Stopped (history_extended (archive_of old) None s) (Some refusal) in
         record {
@@ -131,31 +142,45 @@ module _ {D : Type 0} (device : Device D) (disk : D) (old new : StoreView D) (li
           did = record { report = report_is; printed = rw silent (no_text output.written); output = record { counted = counted }; disk = still none writes };
         }
 
+    -- all packets were ingested, and the answers and the line were being printed
+    abbrev printing : Progress
+    printing = record (history_extended (archive_of old) None s) { text = load_text old.head asks (length old.history) s.reached s.packets; is_whole = false }
+
+    abbrev printed : Progress
+    printed = record (history_extended (archive_of old) None s) {
+      text = load_text old.head asks (length old.history) s.reached s.packets;
+      report = whole_report (length old.history) (length s.reached) s.packets;
+    }
+
+    ends_whole : (way : Way Progress ⊥) → s.refusal ≡ None → s.rest ≡ [] → Allows (answering_asks_plan asks printing (May OfOutput printing (Stop printed None))) way
+        → Allows (session_plan known (archive_of old) asks dump link moment) way
+    ends_whole way is rest allows = goes_on_whole None way is (no_rest dump s.rest rest) allows
+
     -- by the refusal
-    pub by_refusal : (refusal : Option Refusal) → IsLoadOutcome (length old.history) dump link s output.written output'.written refusal report
+    pub by_refusal : (refusal : Option Refusal) → IsLoadOutcome old.head asks (length old.history) dump link s output.written output'.written refusal report
         → OneOrTwo refusal (device.failed_writes disk) (device.failed_writes new.disk) → WritesCounted refusal output.faults output'.faults → output.faults ≤ output'.faults
-        → Ran device (session_plan known (archive_of old) dump link moment) went
-    by_refusal None w writes counted later =
-        let line = line_of_load (length old.history) (length s.reached) s.packets in
-        let way : Way Progress ⊥ = Stopped (record (history_extended (archive_of old) None s) { text = line; report = whole_report (length old.history) (length s.reached) s.packets }) None in
-        record {
-          way = way;
-          allows = goes_on_whole None way w.0 (no_rest dump s.rest w.1) (inr refl);
-          did = record { report = w.3; printed = w.2; output = record { counted = counted }; disk = still (holds None w.0) writes };
-        }
-    by_refusal (Some WriteFault) w writes counted later =
-        let line = line_of_load (length old.history) (length s.reached) s.packets in
-        let way : Way Progress ⊥ = Interrupted (record (history_extended (archive_of old) None s) { text = line; is_whole = false }) OfOutput in
-        record {
-          way = way;
-          allows = goes_on_whole None way w.0 (no_rest dump s.rest w.1) (inl refl);
-          did = record {
-            report = w.3;
-            printed = w.2;
-            output = record { counted = risen_counted output.faults output'.faults later counted };
-            disk = still (holds None w.0) writes;
-          };
-        }
+        → Ran device (session_plan known (archive_of old) asks dump link moment) went
+    by_refusal None w writes counted later = record {
+      way = Stopped printed None;
+      allows = ends_whole (Stopped printed None) w.0 w.1 (behind_answers asks printing (May OfOutput printing (Stop printed None)) (Stopped printed None) (inr refl));
+      did = record { report = w.3; printed = w.2; output = record { counted = counted }; disk = still (holds None w.0) writes };
+    }
+    by_refusal (Some WriteFault) w writes counted later = record {
+      way = Interrupted printing OfOutput;
+      allows = ends_whole (Interrupted printing OfOutput) w.0 w.1 (behind_answers asks printing (May OfOutput printing (Stop printed None)) (Interrupted printing OfOutput) (inl refl));
+      did = record {
+        report = w.3;
+        printed = w.2;
+        output = record { counted = risen_counted output.faults output'.faults later counted };
+        disk = still (holds None w.0) writes;
+      };
+    }
+    by_refusal (Some OutOfMemory) (inl w, report_is) writes counted later = refused_by OutOfMemory refl (holds (Some OutOfMemory) w.0) w.0 w.1 report_is counted writes
+    by_refusal (Some OutOfMemory) (inr w, report_is) writes counted later = record {
+      way = Interrupted printing OfMemory;
+      allows = ends_whole (Interrupted printing OfMemory) w.1 w.2 (wanting_memory asks printing (May OfOutput printing (Stop printed None)) w.0);
+      did = record { report = report_is; printed = w.3; output = record { counted = counted }; disk = still (holds None w.1) writes };
+    }
     by_refusal (Some (BadPacket at kind)) w writes counted later =
         let way : Way Progress ⊥ = Stopped (history_extended (archive_of old) (Some link) s) (Some (BadPacket at kind)) in
         record {
@@ -180,16 +205,15 @@ module _ {D : Type 0} (device : Device D) (disk : D) (old new : StoreView D) (li
             disk = fails (holds (Some DiskFault) w.0) writes;
           };
         }
-    by_refusal (Some OutOfMemory) w writes counted later = refused_by OutOfMemory refl (holds (Some OutOfMemory) w.0) w.0 w.1 w.2 counted writes
     by_refusal (Some (Limit which number)) w writes counted later =
         refused_by (Limit which number) refl (holds (Some (Limit which number)) w.0) w.0 w.1 w.2 counted writes
     by_refusal (Some other) w writes counted later = absurd (subst (IsSessionEnd known (archive_of old) link moment s) w.0 session.cause)
 
 -- a session ran over a store that was opened
-pub ran_session : {D : Type 0} (device : Device D) (disk : D) (old new : StoreView D) (dump : List ℕ) (link : ℕ) (moment : ℤ) (output output' : OutputState) (report : Report)
+pub ran_session : {D : Type 0} (device : Device D) (disk : D) (old new : StoreView D) (asks : List Ask) (dump : List ℕ) (link : ℕ) (moment : ℤ) (output output' : OutputState) (report : Report)
     → (IsTrue device.is_transparent → IsOpened device disk old) → device.fault_count disk ≤ device.fault_count old.opened → (IsTrue device.is_transparent → CrashInvariant device new)
-    → FaultInvariant device new → IsLoadRun device old new dump link moment output.written output'.written report
+    → FaultInvariant device new → IsLoadRun device old new asks dump link moment output.written output'.written report
     → OneOrTwo report.refusal (device.failed_writes disk) (device.failed_writes new.disk) → WritesCounted report.refusal output.faults output'.faults → output.faults ≤ output'.faults
-    → Ran device (session_plan (IsTrue device.is_transparent) (archive_of old) dump link moment) (effects_of disk new.disk output output' report)
-ran_session device disk old new dump link moment output output' report opened first keeps faults run writes counted later =
-    by_refusal device disk old new link moment run.came_to run.reached opened first keeps faults dump run.session output output' report report.refusal run.outcome writes counted later
+    → Ran device (session_plan (IsTrue device.is_transparent) (archive_of old) asks dump link moment) (effects_of disk new.disk output output' report)
+ran_session device disk old new asks dump link moment output output' report opened first keeps faults run writes counted later =
+    by_refusal device disk old new link moment run.came_to run.reached opened first keeps faults asks dump run.session output output' report report.refusal run.outcome writes counted later

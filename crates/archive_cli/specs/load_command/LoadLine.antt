@@ -1,5 +1,9 @@
 -- What `load` prints and reports.
 use Rattle.std.specs.Prelude.{◌-◌, ℕ, List, ◌++◌, length, codes, decimal, None}
+use Rattle.arch_types.specs.declared.ask.Ask.{Ask}
+use Rattle.archive_core.specs.Items.{Item}
+use Rattle.archive_store.specs.declared.head.Head.{Head}
+use Rattle.retrieval.specs.AskText.{asks_text}
 use Rattle.archive_cli.specs.declared.report.Report.{Report}
 use Rattle.load_session.specs.Batches.{arrived}
 use Rattle.archive_cli.specs.Report.{loaded}
@@ -14,6 +18,10 @@ load_line packets new duplicates idle rows =
 abbrev pub line_of_load : ℕ → ℕ → List (List ℕ) → List ℕ
 line_of_load before reached packets =
     load_line (length packets) (reached - before) (arrived packets - (reached - before)) (length packets - arrived packets) reached
+
+-- all that such a load prints: the answers to its asks over the history that it reached, and its line
+abbrev pub load_text : Head → List Ask → ℕ → List Item → List (List ℕ) → List ℕ
+load_text head asks before reached packets = asks_text head reached 1 asks ++ line_of_load before (length reached) packets
 
 -- the report of a load that ingested all packets of its dump, and printed so
 abbrev pub whole_report : ℕ → ℕ → List (List ℕ) → Report

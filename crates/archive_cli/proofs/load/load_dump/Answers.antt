@@ -9,6 +9,11 @@ use Rattle.archive_cli.proofs.DiskWrites.{bad_writes, printed_writes, stopped_wr
 use Rattle.archive_cli.proofs.load_command.LoadReports.{counts_whole, session_bad, session_printed, session_stopped}
 use Rattle.archive_cli.proofs.load.load_dump.Goals as goal
 
+pub print-requires-clause-answerable : goal.print-requires-clause-answerable
+print-requires-clause-answerable g c =
+    let run = rw c.in-Ok.is at c.run_session.ensures.session in
+    rw (run.reached.head, c.as_slice.ensures) c.requires.answerable
+
 pub print-requires-clause-grown : goal.print-requires-clause-grown
 print-requires-clause-grown g c =
     let moment = to_z-of_z w64 c.args.moment c.ranges.moment in
@@ -22,7 +27,7 @@ print-requires-clause-counts g c =
     let moment = to_z-of_z w64 c.args.moment c.ranges.moment in
     let front = c.front-before.ensures.front in
     let run = rw (moment, c.in-Ok.is) at c.run_session.ensures.session in
-    let counts = counts_whole (length c.args.store.now.history) c.args.received.now.dump c.args.received.now.link run.came_to c.in-Ok.whole run.summary run.answer_is
+    let counts = counts_whole c.args.store.now.head c.args.received.now.asks (length c.args.store.now.history) c.args.received.now.dump c.args.received.now.link run.came_to c.in-Ok.whole run.summary run.answer_is
     (IsKnown g.D.Disk.device c.args.store.now) (archive_of c.args.store.now) c.args.moment run.session refl in
     omega (arith, front, counts, ap length run.reached.history)
 
@@ -47,17 +52,17 @@ returns-in-None-clause-session g c =
     let moment = to_z-of_z w64 c.args.moment c.ranges.moment in
     let front = c.front-before.ensures.front in
     let run = rw (moment, c.in-Ok.is) at c.run_session.ensures.session in
-    let rows = ap length run.reached.history in record {
+    rw c.print.ensures.same (record {
       came_to = run.came_to;
       session =
           known_session (IsTrue g.D.Disk.device.is_transparent) (c.args.store.now.records ≤ 1 + length c.args.store.now.history) (archive_of c.args.store.now) c.args.received.now.dump
           c.args.received.now.link c.args.moment run.came_to c.requires.few_records run.session;
       reached = run.reached;
       outcome =
-          session_printed (length c.args.store.now.history) c.args.received.now.dump c.args.received.now.link run.came_to c.in-Ok.whole run.summary run.answer_is
-          (g.K.Sink.state c.args.sink.now).written (g.K.Sink.state c.print.new.sink).written c.print.result (sym c.refusal_of_rest.ensures ∙ c.in-None.is) (rw (front, rows) at c.print.ensures.finished)
-          (rw (front, rows) at c.print.ensures.report);
-    }
+          session_printed c.args.store.now.head c.args.received.now.asks (length c.args.store.now.history) c.args.received.now.dump c.args.received.now.link run.came_to c.in-Ok.whole run.summary
+          run.answer_is (g.K.Sink.state c.args.sink.now).written (g.K.Sink.state c.print.new.sink).written c.print.result (sym c.refusal_of_rest.ensures ∙ c.in-None.is)
+          (rw (front, run.reached.history, run.reached.head, c.as_slice.ensures) at c.print.ensures.printed) (rw (front, run.reached.history) at c.print.ensures.report);
+    })
 
 pub returns-in-Some-clause-session : goal.returns-in-Some-clause-session
 returns-in-Some-clause-session g c =
@@ -72,7 +77,7 @@ returns-in-Some-clause-session g c =
           c.args.received.now.link c.args.moment run.came_to c.requires.few_records run.session;
       reached = run.reached;
       outcome =
-          session_bad (length c.args.store.now.history) c.args.received.now.dump c.args.received.now.link run.came_to c.in-Ok.whole run.summary run.answer_is written written c.in-Some.refusal
+          session_bad c.args.store.now.head c.args.received.now.asks (length c.args.store.now.history) c.args.received.now.dump c.args.received.now.link run.came_to c.in-Ok.whole run.summary run.answer_is written written c.in-Some.refusal
           c.stopped.result (sym c.refusal_of_rest.ensures ∙ c.in-Some.is) refl (rw (front, rows) at c.stopped.ensures);
     }
 
@@ -89,14 +94,15 @@ returns-in-Err-clause-session g c =
           c.args.received.now.link c.args.moment run.came_to c.requires.few_records run.session;
       reached = run.reached;
       outcome =
-          session_stopped (IsKnown g.D.Disk.device c.args.store.now) (archive_of c.args.store.now) c.args.moment (length c.args.store.now.history) c.args.received.now.dump c.args.received.now.link
+          session_stopped c.args.store.now.head c.args.received.now.asks (IsKnown g.D.Disk.device c.args.store.now) (archive_of c.args.store.now) c.args.moment (length c.args.store.now.history) c.args.received.now.dump c.args.received.now.link
           run.came_to run.session written written c.in-Err.refusal c.stopped-in-Err.result run.answer_is refl (rw (front, rows) at c.stopped-in-Err.ensures);
     }
 
 -- how many writes of the disk failed
 
 pub returns-in-None-clause-disk_writes : goal.returns-in-None-clause-disk_writes
-returns-in-None-clause-disk_writes g c = printed_writes c.print.result.refusal _ _ _ _ _ c.print.ensures.finished (rw c.in-Ok.is at c.run_session.ensures.disk_writes)
+returns-in-None-clause-disk_writes g c =
+    rw c.print.ensures.same (printed_writes c.args.received.now.asks c.print.result.refusal _ _ _ _ _ (rw c.as_slice.ensures at c.print.ensures.printed) (rw c.in-Ok.is at c.run_session.ensures.disk_writes))
 
 pub returns-in-Some-clause-disk_writes : goal.returns-in-Some-clause-disk_writes
 returns-in-Some-clause-disk_writes g c =

@@ -1,26 +1,40 @@
-use Rattle.std.proofs.Common.{◌∙◌, length, sym, ap}
+use Rattle.std.proofs.Common.{◌∙◌, rules, sym, ap}
+use Rattle.dump_lines.proofs.LineBuffers.{wrote_front}
+use Rattle.retrieval.specs.AskText.{asks_text}
 use Rattle.archive_cli.specs.declared.report.Report.{Report}
-use Rattle.archive_cli.proofs.load_command.LoadReports.{finished_line, line_by, not_printed, printed}
+use Rattle.archive_cli.proofs.AskSheets.{finished_count, finished_line, unfinished_count, unfinished_text}
+use Rattle.archive_cli.proofs.load_command.LoadReports.{not_printed, printed}
 use Rattle.archive_cli.proofs.load.print.Goals as goal
 
-pub returns-in-None-clause-finished : goal.returns-in-None-clause-finished
-returns-in-None-clause-finished g c =
-    let whole = c.args.whole in
-    let is = ap (λ (r : Report). r.refusal) (c.loaded.ensures) ∙ sym c.in-None.is in
-    let line = c.put_line.ensures ∙ line_by whole.packets c.args.before c.front-after.result (length c.args.store.now.history) whole.idle c.front-after.ensures.front in
-    finished_line c.finish.result c.loaded.result.refusal (g.K.Sink.state c.args.sink.now).written (g.K.Sink.state c.finish.new.sink).written c.put_line.new.line_buffer _ is line c.finish.ensures.finished
+pub returns-in-None : goal.returns-in-None
+returns-in-None g c =
+    let is = ap (λ (r : Report). r.refusal) c.loaded.ensures ∙ sym c.in-None.is in
+    let line = rw c.front-after.ensures.front at c.put_line.ensures in record {
+      printed = finished_line c.args.asks.now c.finish.result c.loaded.result.refusal _ _ _ _ _ _ c.put_line.new.line_buffer is line c.in-Ok.ensures.buffered c.finish.ensures.finished;
+      report = printed c.loaded.result c.args.before c.front-after.result _ c.args.whole.packets c.args.whole.idle c.front-after.ensures.front c.loaded.ensures;
+      writes_counted = finished_count c.finish.result c.loaded.result.refusal _ _ _ is c.in-Ok.ensures.counted c.finish.ensures.counted;
+      writes_later = search rules;
+      same = c.print_asks.ensures.same;
+    }
 
-pub returns-in-Some-clause-finished : goal.returns-in-Some-clause-finished
-returns-in-Some-clause-finished g c =
-    let whole = c.args.whole in
+pub returns-in-Some : goal.returns-in-Some
+returns-in-Some g c =
     let is = ap (λ (r : Report). r.refusal) c.stopped.ensures ∙ sym c.in-Some.is in
-    let line = c.put_line.ensures ∙ line_by whole.packets c.args.before c.front-after.result (length c.args.store.now.history) whole.idle c.front-after.ensures.front in
-    finished_line c.finish.result c.stopped.result.refusal (g.K.Sink.state c.args.sink.now).written (g.K.Sink.state c.finish.new.sink).written c.put_line.new.line_buffer _ is line c.finish.ensures.finished
+    let line = rw c.front-after.ensures.front at c.put_line.ensures in record {
+      printed = finished_line c.args.asks.now c.finish.result c.stopped.result.refusal _ _ _ _ _ _ c.put_line.new.line_buffer is line c.in-Ok.ensures.buffered c.finish.ensures.finished;
+      report = not_printed c.stopped.result c.in-Some.refusal c.args.before _ c.args.whole.packets c.args.whole.idle (rw c.print_asks.ensures.same at c.stopped.ensures);
+      writes_counted = finished_count c.finish.result c.stopped.result.refusal _ _ _ is c.in-Ok.ensures.counted c.finish.ensures.counted;
+      writes_later = search rules;
+      same = c.print_asks.ensures.same;
+    }
 
-pub returns-in-None-clause-report : goal.returns-in-None-clause-report
-returns-in-None-clause-report g c =
-    printed c.loaded.result c.args.before c.front-after.result (length c.args.store.now.history) c.args.whole.packets c.args.whole.idle c.front-after.ensures.front (c.loaded.ensures)
-
-pub returns-in-Some-clause-report : goal.returns-in-Some-clause-report
-returns-in-Some-clause-report g c =
-    not_printed c.stopped.result c.in-Some.refusal c.args.before (length c.args.store.now.history) c.args.whole.packets c.args.whole.idle c.stopped.ensures
+pub returns-in-Err : goal.returns-in-Err
+returns-in-Err g c =
+    let is = ap (λ (r : Report). r.refusal) c.stopped-in-Err.ensures in
+    let answers = asks_text c.args.store.now.head c.args.store.now.history 1 c.args.asks.now in record {
+      printed = rw (is, c.print_refusal.ensures) (unfinished_text c.args.asks.now c.in-Err.fault _ _ _ c.in-Err.ensures.asked (wrote_front _ _ answers _ c.in-Err.ensures.some));
+      report = not_printed c.stopped-in-Err.result c.print_refusal.result c.args.before _ c.args.whole.packets c.args.whole.idle (rw c.print_asks.ensures.same at c.stopped-in-Err.ensures);
+      writes_counted = rw (is, c.print_refusal.ensures) (unfinished_count c.in-Err.fault _ _ c.in-Err.ensures.counted);
+      writes_later = c.print_asks.ensures.later;
+      same = c.print_asks.ensures.same;
+    }

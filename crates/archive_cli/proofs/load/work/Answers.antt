@@ -1,135 +1,22 @@
-use Rattle.std.proofs.Common.{◌≤◌, ◌∙◌, false, refl, arith, rules, w64, SFits, Some}
-use Rattle.std.proofs.lemmas.Int.{to_z-of_z}
-use Rattle.archive_store.specs.StoreView.{archive_of}
-use Rattle.command_words.specs.JobView.{load_words_of}
-use Rattle.arch_types.specs.declared.refusal.Refusal.TheVariants.{OutOfMemory}
-use Rattle.archive_cli.specs.Command.{effects_of}
-use Rattle.archive_cli.specs.load_command.Loading.{IsLoadRun}
-use Rattle.archive_cli.specs.Report.{unopened}
-use Rattle.archive_cli.proofs.SourceCounts.{reads_closed}
-use Rattle.archive_cli.proofs.load_command.During.{opened_store}
-use Rattle.archive_cli.proofs.load_command.LoadPlan.{closed_again, load_received, load_unarchived, load_unread, no_room, ran_unfound}
-use Rattle.archive_cli.proofs.load_command.NotLoaded.{gives_input, gives_there}
-use Rattle.archive_cli.proofs.ReadOnly.{opened_outcome}
-use Rattle.archive_cli.proofs.scan_command.Scanned.{moment_of}
-use Rattle.archive_cli.proofs.load_command.Sessions.{ran_session}
-use Rattle.outer_ledgers.proofs.Ledgers.{clock_unused, inputs_unused}
+use Rattle.std.proofs.Common.{Bor, List, ℕ, Option, ap, refl}
+use Rattle.std.specs.Prelude.{option_map}
+use Rattle.outer_ledgers.proofs.Ledgers.{clock_unused}
+use Rattle.archive_cli.proofs.AskSheets.{ran_asked, ran_unasked, ran_unread_sheet}
 use Rattle.archive_cli.proofs.load.work.Goals as goal
-use Rattle.archive_cli.proofs.load.work.Goals.{in-Ok-received, in-Err-received}
 
--- each record of an opened journal but the head's has a row
+abbrev named : Option (Bor (List ℕ)) → Option (List ℕ)
+named = option_map (λ (name : Bor (List ℕ)). name.now)
 
-pub load_dump-report-requires-clause-few_records : goal.load_dump-report-requires-clause-few_records
-load_dump-report-requires-clause-few_records g c = λ known.
-    let e = c.in-Ok-open-2.ensures in
-    let records = e.opened.records known in
-    let opened = opened_store g.D.Disk.device c.args.disk c.in-Ok-open-2.store (e.opened.stands known) e.reads e.opened.opening e.crash records.0 records.1 records.2 in
-    opened.few
+pub returns-in-None-clause-ran : goal.returns-in-None-clause-ran
+returns-in-None-clause-ran g c = ran_unasked g.D.Disk.device _ _ _ _ _ _ (ap named c.in-None.is) (rw c.new.ensures at c.load_archive.ensures.ran)
 
--- the way that its plan went
-
-pub returns-in_default-clause-ran : goal.returns-in_default-clause-ran
-returns-in_default-clause-ran g c =
-    let device = g.D.Disk.device in
-    let state = g.I.Inputs.state in
-    let output = g.K.Sink.state c.args.sink.now in
-    no_room device (effects_of c.args.disk c.args.disk output output (unopened (Some OutOfMemory))) (g.I.Inputs.state c.args.inputs.now).files (g.C.Clock.state c.args.clock.now).next
-    (load_words_of c.args.words) (state c.args.inputs.now) (state c.args.inputs.now) (inputs_unused (state c.args.inputs.now)) refl refl refl
+pub returns-in-Ok-clause-ran : goal.returns-in-Ok-clause-ran
+returns-in-Ok-clause-ran g c =
+    let read = c.in-Ok.ensures.read in
+    ran_asked g.D.Disk.device _ _ _ _ (g.I.Inputs.state c.read_asks.new.inputs) _ _ _ (ap named c.in-Some.is) c.in-Ok.sheet read (rw read.used.files at c.load_archive-in-Ok.ensures.ran)
 
 pub returns-in-Err-clause-ran : goal.returns-in-Err-clause-ran
-returns-in-Err-clause-ran g c =
-    let device = g.D.Disk.device in
-    let state = g.I.Inputs.state in
-    let output = g.K.Sink.state c.args.sink.now in
-    let e = c.in-Err.ensures in
-    ran_unfound device (effects_of c.args.disk c.args.disk output output (unopened (Some c.refusal_of_opening.result))) (g.I.Inputs.state c.args.inputs.now).files (g.C.Clock.state c.args.clock.now).next
-    (load_words_of c.args.words) (state c.args.inputs.now) (state c.open.new.self) _ c.in-Err.fault c.refusal_of_opening.result c.refusal_of_opening.ensures e.missing
-    (λ failed counted. record { files = e.same; closed = λ few. e.gave_none.0; gave = e.gave_none.1; counted = counted; reliable = λ sure. e.reliable sure })
-    e.later e.counted refl refl refl
-
-pub returns-in-Err-open-clause-ran : goal.returns-in-Err-open-clause-ran
-returns-in-Err-open-clause-ran g c =
-    let device = g.D.Disk.device in
-    let files = (g.I.Inputs.state c.args.inputs.now).files in
-    let next = (g.C.Clock.state c.args.clock.now).next in
-    let words = load_words_of c.args.words in
-    let state = g.I.Inputs.state in
-    let output = g.K.Sink.state c.args.sink.now in
-    let source = c.in-Ok-open.ensures in
-    let e = c.in-Err-open.ensures in
-    let refused = c.in-Err-open.refused in
-    let back = c.close.ensures in
-    let used = closed_again (state c.args.inputs.now) (state c.open.new.self) (state c.close.new.self) source.same back.same source.gave back.closed
-    (λ sure. let one = source.reliable sure in let two = back.reliable one.0 source.fresh in (two.0, two.1 ∙ one.1)) false (back.kept source.fresh ∙ source.counted) in
-    load_unarchived device (effects_of c.args.disk refused.0 output output (unopened (Some refused.1))) files next words (state c.args.inputs.now) (state c.close.new.self)
-    (gives_there files c.args.words.dump.now _ source.found) refused.1 e.refused e.reads e.crash e.counts refl refl used
-
-pub returns-clause-ran : goal.returns-clause-ran
-returns-clause-ran g c =
-    let device = g.D.Disk.device in
-    let files = (g.I.Inputs.state c.args.inputs.now).files in
-    let next = (g.C.Clock.state c.args.clock.now).next in
-    let words = load_words_of c.args.words in
-    let state = g.I.Inputs.state in
-    let output = g.K.Sink.state c.args.sink.now in
-    let source = c.in-Ok-open.ensures in
-    let s = c.in-Ok-open-2.store in
-    let e = c.in-Ok-open-2.ensures in
-    let back = c.close-2.ensures in
-    elim c.match-received.branch [
-      | in-Ok-received w ↦
-          let output' = g.K.Sink.state w.load_dump-report.new.sink in
-          let last = w.load_dump-report.new.store in
-          let received = w.in-Ok-received.received in
-          let link = w.in-Ok-received.ensures.link in
-          let report = w.load_dump-report.result in
-          let moment = w.now-moment.result in
-          let fits : SFits w64 moment = search rules in
-          let still = rw source.fresh at w.in-Ok-received.ensures.counted in
-          let used = closed_again (state c.args.inputs.now) (state c.open.new.self) (state c.close-2.new.self) source.same back.same source.gave back.closed
-          (λ sure. let one = source.reliable sure in let two = back.reliable one.0 still in (two.0, two.1 ∙ one.1)) false (back.kept still ∙ source.counted) in
-          let session : IsLoadRun device s last received.dump words.link moment (g.K.Sink.state c.args.sink.now).written (g.K.Sink.state w.load_dump-report.new.sink).written report =
-          rw (to_z-of_z w64 moment fits, link.0) at w.load_dump-report.ensures.session in
-          let went = effects_of c.args.disk last.disk output output' report in
-          let ran = ran_session device c.args.disk s last received.dump words.link moment output output' report
-          (λ known. let records = e.opened.records known in opened_store device c.args.disk s (e.opened.stands known) e.reads e.opened.opening e.crash records.0 records.1 records.2)
-          e.counts.faults (rw w.store-is at c.into_disk.ensures.images) (rw w.store-is at c.into_disk.ensures.faults) session (rw e.opened.no_failed_write at w.load_dump-report.ensures.disk_writes)
-          w.load_dump-report.ensures.writes_counted w.load_dump-report.ensures.writes_later in
-          let over = load_received device went files next words (state c.args.inputs.now) (state c.close-2.new.self) (gives_there files c.args.words.dump.now _ source.found) (archive_of s)
-          (λ known. e.opened.stands known) received.dump moment (omega (arith, link.0, link.1)) (gives_input files c.args.words.dump.now _ received.dump source.found w.in-Ok-received.ensures.whole)
-          w.in-Ok-received.ensures.short (moment_of next moment w.now-moment.ensures.known w.now-moment.ensures.range) used ran in
-          rw (c.into_disk.ensures.disk, w.sink-is, w.report-is, w.store-is) over
-      | in-Err-received w ↦
-          let unread = w.in-Err-received.unread in
-          let report = w.nothing_loaded-report.result in
-          let used = closed_again (state c.args.inputs.now) (state c.open.new.self) (state c.close-2.new.self) source.same back.same source.gave back.closed
-          (λ sure. let one = source.reliable sure in
-          let two = back.reliable one.0 (c.read_dump-received.ensures.reliable (source.reliable_source sure) ∙ source.fresh) in (two.0, two.1 ∙ one.1)) in
-          let counted = reads_closed (Some unread.refusal) (g.I.Inputs.state c.args.inputs.now).faults (g.I.Inputs.state c.open.new.self).faults _ (g.I.Inputs.state c.close-2.new.self).faults source.counted
-          (rw source.fresh at w.in-Err-received.ensures.counted) back.kept back.risen in
-          let one : (g.I.Inputs.state c.args.inputs.now).faults ≤ (g.I.Inputs.state c.open.new.self).faults = source.later in
-          let two : (g.I.Inputs.state c.open.new.self).faults ≤ (g.I.Inputs.state c.close-2.new.self).faults = back.later in
-          let disk = opened_outcome device c.args.disk s e.opened e.reads e.crash e.counts (rw w.store-is at c.into_disk.ensures.images) (rw w.store-is at c.into_disk.ensures.faults) in
-          let over = load_unread device (effects_of c.args.disk s.disk output output report) files next words (state c.args.inputs.now) (state c.close-2.new.self)
-          (gives_there files c.args.words.dump.now _ source.found) (archive_of s) (λ known. e.opened.stands known) _ unread.refusal unread.link source.found w.in-Err-received.ensures.unread used
-          (omega (arith, one, two)) counted w.nothing_loaded-report.ensures refl disk in
-          rw (c.into_disk.ensures.disk, w.sink-is, w.report-is, w.store-is) over
-    ]
-
--- the clock
-
-pub returns-in_default-clause-clock : goal.returns-in_default-clause-clock
-returns-in_default-clause-clock g c = clock_unused (g.C.Clock.state c.args.clock.now)
+returns-in-Err-clause-ran g c = ran_unread_sheet g.D.Disk.device _ _ _ _ _ _ _ (ap named c.in-Some.is) c.in-Err.refusal c.in-Err.ensures.read refl refl refl
 
 pub returns-in-Err-clause-clock : goal.returns-in-Err-clause-clock
 returns-in-Err-clause-clock g c = clock_unused (g.C.Clock.state c.args.clock.now)
-
-pub returns-in-Err-open-clause-clock : goal.returns-in-Err-open-clause-clock
-returns-in-Err-open-clause-clock g c = clock_unused (g.C.Clock.state c.args.clock.now)
-
-pub returns-clause-clock : goal.returns-clause-clock
-returns-clause-clock g c =
-    elim c.match-received.branch [
-      | in-Ok-received w ↦ rw w.clock-is (record { known = w.now-moment.ensures.same; stands = w.now-moment.ensures.reliable })
-      | in-Err-received w ↦ rw w.clock-is (clock_unused (g.C.Clock.state c.args.clock.now))
-    ]

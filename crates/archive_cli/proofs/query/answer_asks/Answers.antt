@@ -1,10 +1,22 @@
-use Rattle.archive_cli.proofs.query_command.Replies.{finished_reply}
+use Rattle.std.proofs.Common.{refl}
+use Rattle.retrieval.specs.AskText.{asks_text}
+use Rattle.archive_cli.proofs.AskSheets.{finished_count, finished_text, unfinished_count, unfinished_text}
 use Rattle.archive_cli.proofs.query.answer_asks.Goals as goal
 
-pub returns-in-Ok-clause-reply : goal.returns-in-Ok-clause-reply
-returns-in-Ok-clause-reply g c =
-    let head = c.args.store.now.head in
-    let history = c.args.store.now.history in
-    finished_reply head history c.args.asks.now c.finish.result (g.K.Sink.state c.args.sink.now).written (g.K.Sink.state c.print_asks.new.sink).written (g.K.Sink.state c.finish.new.sink).written
-    c.print_asks.new.line_buffer (g.K.Sink.state c.args.sink.now).faults (g.K.Sink.state c.print_asks.new.sink).faults (g.K.Sink.state c.finish.new.sink).faults
-    c.requires.known c.in-Ok.ensures.buffered c.finish.ensures.finished c.in-Ok.ensures.counted c.finish.ensures.counted
+pub returns-in-Ok-clause-printed : goal.returns-in-Ok-clause-printed
+returns-in-Ok-clause-printed g c =
+    finished_text c.args.asks.now c.finish.result (g.K.Sink.state c.args.sink.now).written (g.K.Sink.state c.print_asks.new.sink).written (g.K.Sink.state c.finish.new.sink).written
+    (asks_text c.args.store.now.head c.args.store.now.history 1 c.args.asks.now) c.print_asks.new.line_buffer c.in-Ok.ensures.buffered c.finish.ensures.finished
+
+pub returns-in-Ok-clause-writes_counted : goal.returns-in-Ok-clause-writes_counted
+returns-in-Ok-clause-writes_counted g c = finished_count c.finish.result c.finish.result _ _ _ refl c.in-Ok.ensures.counted c.finish.ensures.counted
+
+pub returns-in-Err-clause-printed : goal.returns-in-Err-clause-printed
+returns-in-Err-clause-printed g c =
+    rw c.print_refusal.ensures
+    (unfinished_text c.args.asks.now c.in-Err.fault (g.K.Sink.state c.args.sink.now).written (g.K.Sink.state c.print_asks.new.sink).written
+    (asks_text c.args.store.now.head c.args.store.now.history 1 c.args.asks.now) c.in-Err.ensures.asked c.in-Err.ensures.some)
+
+pub returns-in-Err-clause-writes_counted : goal.returns-in-Err-clause-writes_counted
+returns-in-Err-clause-writes_counted g c =
+    rw c.print_refusal.ensures (unfinished_count c.in-Err.fault (g.K.Sink.state c.args.sink.now).faults (g.K.Sink.state c.print_asks.new.sink).faults c.in-Err.ensures.counted)

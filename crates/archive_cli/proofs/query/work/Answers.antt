@@ -1,20 +1,19 @@
-use Rattle.std.proofs.Common.{refl, Some}
+use Rattle.std.proofs.Common.{refl}
 use Rattle.archive_cli.specs.Command.{effects_of}
-use Rattle.archive_cli.specs.Report.{disk_of_work, report_of_work, unopened}
-use Rattle.archive_cli.proofs.query_command.QueryPlan.{ran_asked, ran_unasked}
+use Rattle.archive_cli.specs.query_command.Query.{archive_asks_plan}
+use Rattle.archive_cli.specs.Report.{disk_of_work, report_of_work}
+use Rattle.archive_cli.proofs.AskSheets.{ran_asked, ran_unread_sheet}
+use Rattle.archive_cli.proofs.OverInputs.{over_any_inputs}
+use Rattle.archive_cli.proofs.query_command.QueryPlan.{asks_read}
 use Rattle.archive_cli.proofs.query.work.Goals as goal
 
 pub returns-in-Ok : goal.returns-in-Ok
 returns-in-Ok g c =
-    let state = g.I.Inputs.state in
-    let output = g.K.Sink.state c.args.sink.now in
-    let output' = g.K.Sink.state c.ask_archive.new.sink in
-    ran_asked g.D.Disk.device (effects_of c.args.disk (disk_of_work c.ask_archive.result) output output' (report_of_work c.ask_archive.result)) (g.I.Inputs.state c.args.inputs.now).files c.args.name.now
-    (state c.args.inputs.now) (state c.read_asks.new.inputs) c.in-Ok.asks c.in-Ok.ensures.read c.ask_archive.ensures
+    let device = g.D.Disk.device in
+    let read = g.I.Inputs.state c.read_asks.new.inputs in
+    let went = effects_of c.args.disk (disk_of_work c.ask_archive.result) (g.K.Sink.state c.args.sink.now) (g.K.Sink.state c.ask_archive.new.sink) (report_of_work c.ask_archive.result) in
+    ran_asked device went _ (archive_asks_plan device c.args.disk) _ read read _ _ refl c.in-Ok.asks c.in-Ok.ensures.read
+    (over_any_inputs device went (archive_asks_plan device c.args.disk c.in-Ok.asks) (asks_read device c.args.disk c.in-Ok.asks) c.ask_archive.ensures read)
 
 pub returns-in-Err : goal.returns-in-Err
-returns-in-Err g c =
-    let state = g.I.Inputs.state in
-    let output = g.K.Sink.state c.args.sink.now in
-    ran_unasked g.D.Disk.device (effects_of c.args.disk c.args.disk output output (unopened (Some c.in-Err.refusal))) (g.I.Inputs.state c.args.inputs.now).files c.args.name.now
-    (state c.args.inputs.now) (state c.read_asks.new.inputs) c.in-Err.refusal c.in-Err.ensures.read refl refl refl
+returns-in-Err g c = ran_unread_sheet g.D.Disk.device _ _ (archive_asks_plan g.D.Disk.device c.args.disk) _ _ _ _ refl c.in-Err.refusal c.in-Err.ensures.read refl refl refl

@@ -1,41 +1,24 @@
 use Rattle.std.proofs.lemmas.Result.{err_from_is_err_and}
-use Rattle.std.proofs.Common.{Some, ◌≡◌, ◌∙◌, length, refl, sym, ap, subst, inl}
+use Rattle.std.proofs.Common.{◌≡◌, ◌∙◌, length, refl, sym, ap, subst}
 use Rattle.archive_store.specs.StoreView.{archive_of}
 use Rattle.dump_lines.specs.Output.{IsFinished}
-use Rattle.command_plans.specs.Plan.{OfMemory, Interrupted, and_then}
+use Rattle.command_plans.specs.Plan.{OfMemory, and_then}
 use Rattle.archive_cli.specs.Command.{Ran, effects_of, nothing_done, archive_opened, opening_plan}
 use Rattle.archive_cli.specs.recover_command.Recover.{recover_plan, line_plan}
 use Rattle.archive_cli.specs.recover_command.RecoverLine.{recover_line}
-use Rattle.archive_cli.specs.Report.{read_only, unopened}
-use Rattle.archive_cli.proofs.Commands.{no_text, ran_later, ran_opened, ran_printed, ran_unopened}
+use Rattle.archive_cli.specs.Report.{read_only}
+use Rattle.archive_cli.proofs.Commands.{ran_later, ran_opened, ran_printed, ran_refused_opening, ran_without_memory}
 use Rattle.archive_cli.proofs.ReadOnly.{opened_outcome}
 use Rattle.archive_cli.proofs.recover.work.Goals as goal
 
--- the way that its plan went
-
 pub returns-in_default : goal.returns-in_default
-returns-in_default g c = record {
-  way = Interrupted (nothing_done 0) OfMemory;
-  allows = inl refl;
-  did = record {
-    report = refl;
-    printed = no_text (g.K.Sink.state c.args.sink.now).written;
-    output = record { counted = refl };
-    disk = refl;
-  };
-}
+returns-in_default g c = ran_without_memory g.D.Disk.device c.args.disk (g.K.Sink.state c.args.sink.now) 0 (and_then (opening_plan 0 g.D.Disk.device c.args.disk) line_plan)
 
 pub returns-in_err-store : goal.returns-in_err-store
 returns-in_err-store g c =
-    let device = g.D.Disk.device in
-    let output = g.K.Sink.state c.args.sink.now in
     let e = c.in_err-store.ensures in
-    let refused = c.in_err-store.field-0.0 in
-    let went = effects_of c.args.disk refused.0 output output (unopened (Some refused.1)) in
     let p = err_from_is_err_and c.from_residual.result c.from_residual.ensures.1 in
-    rw (p.1, p.2)
-    (ran_later device went OfMemory (nothing_done 0) (and_then (opening_plan 0 device c.args.disk) line_plan)
-    (ran_unopened device went line_plan 0 refused.1 e.refused e.reads e.crash e.counts refl refl))
+    rw (p.1, p.2) (ran_refused_opening g.D.Disk.device c.args.disk (g.K.Sink.state c.args.sink.now) 0 line_plan c.in_err-store.field-0.0 e.refused e.reads e.crash e.counts)
 
 pub returns : goal.returns
 returns g c =

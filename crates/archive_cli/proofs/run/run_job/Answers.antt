@@ -1,6 +1,8 @@
 use Rattle.archive_cli.specs.Command.{effects_of}
 use Rattle.outer_ledgers.proofs.Ledgers.{clock_unused}
-use Rattle.archive_cli.proofs.recover_command.RecoverPlan.{recover_over}
+use Rattle.archive_cli.specs.recover_command.Recover.{recover_plan}
+use Rattle.archive_cli.proofs.OverInputs.{over_any_inputs}
+use Rattle.archive_cli.proofs.recover_command.RecoverPlan.{recover_reads}
 use Rattle.archive_cli.proofs.RunPlan.{job_due, job_ran}
 use Rattle.archive_cli.proofs.run.run_job.Goals as goal
 
@@ -64,7 +66,7 @@ returns-in-Recover-clause-ran g c =
     let state = g.I.Inputs.state in
     let went = effects_of c.args.disk c.recover.result.disk (g.K.Sink.state c.args.sink.now)
     (g.K.Sink.state c.recover.new.sink) c.recover.result.report in
-    job_ran g.D.Disk.device went (g.I.Inputs.state c.args.inputs.now).files (g.C.Clock.state c.args.clock.now).next (state c.args.inputs.now) (state c.args.inputs.now) c.args.job _ c.in-Recover.is (recover_over g.D.Disk.device went c.recover.ensures.ran (state c.args.inputs.now))
+    job_ran g.D.Disk.device went (g.I.Inputs.state c.args.inputs.now).files (g.C.Clock.state c.args.clock.now).next (state c.args.inputs.now) (state c.args.inputs.now) c.args.job _ c.in-Recover.is (over_any_inputs g.D.Disk.device went (recover_plan g.D.Disk.device c.args.disk) (recover_reads g.D.Disk.device c.args.disk) c.recover.ensures.ran (state c.args.inputs.now))
 
 pub returns-in-Recover-clause-due : goal.returns-in-Recover-clause-due
 returns-in-Recover-clause-due g c = λ transparent known.

@@ -2,7 +2,7 @@ use Rattle.std.proofs.Common.{◌≡◌, ◌+◌, ◌++◌, ◌<◌, None, lengt
 use Rattle.outer_traits.specs.Outside.{Stays}
 use Rattle.retrieval.specs.AskText.{asks_refusal, asks_text}
 use Rattle.dump_lines.specs.Output.{IsBuffered}
-use Rattle.archive_cli.proofs.query.print_asks.Given as goal
+use Rattle.archive_cli.proofs.asks.print_asks.Given as goal
 
 abbrev pub invariant-loop-i : goal.invariant-loop-i
 invariant-loop-i g l = record {

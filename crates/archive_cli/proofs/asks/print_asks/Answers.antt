@@ -7,8 +7,8 @@ use Rattle.outer_traits.specs.Outside.{WritesSome}
 use Rattle.retrieval.specs.AskText.{ask_text, asks_text}
 use Rattle.dump_lines.specs.Output.{IsBuffered}
 use Rattle.dump_lines.proofs.LineBuffers.{buffered_more, buffered_some}
-use Rattle.archive_cli.proofs.query_command.Replies.{first_known, next_text}
-use Rattle.archive_cli.proofs.query.print_asks.Goals as goal
+use Rattle.archive_cli.proofs.AskSheets.{first_known, next_text}
+use Rattle.archive_cli.proofs.asks.print_asks.Goals as goal
 
 pub loop-i-preserved : goal.loop-i-preserved
 loop-i-preserved g c =
@@ -57,3 +57,9 @@ returns-in_err-print_ask-clause-some g c =
     subst (λ (x : StoreView g.row.D.Denot). WritesSome now new (held ++ ask_text x.head x.history (i + 1) ask)) c.loop-i.invariant.same c.in_err-print_ask.ensures.some in
     let p = err_from_is_err_and c.from_residual.result c.from_residual.ensures.1 in
     rw p.1 (buffered_some first now new all (held ++ ask_text head history (i + 1) ask) (asks_text head history (i + 1 + 1) rest) before some)
+
+pub returns-in_err-print_ask-clause-asked : goal.returns-in_err-print_ask-clause-asked
+returns-in_err-print_ask-clause-asked g c =
+    let lt : c.loop-i.i < length c.args.asks.now = omega arith in
+    let p = err_from_is_err_and c.from_residual.result c.from_residual.ensures.1 in
+    rw p.1 (omega (arith, lt))
