@@ -1,0 +1,10 @@
+pub mod Cells
+pub mod Runs
+pub mod KeyOrder
+pub mod Found
+pub mod Ingested
+pub mod Lasts
+pub mod Least
+pub mod Bases
+pub mod Asked
+pub mod Results

@@ -1,0 +1,80 @@
+-- Flights that ended.
+use Rattle.std.proofs.Common.{◌≡◌, ℕ, List, [], ◌∷◌, ◌++◌, Bool, true, false, true≢false, Option, Some, None, sym, refl, ◌∙◌, subst}
+use Rattle.std.specs.Prelude.{if◌then◌else◌, fold, ◌||◌}
+use Rattle.std.specs.List.{list_any}
+use Rattle.std.specs.Option.{is_some}
+use Rattle.std.proofs.lemmas.Bool.Decides.{Decides-int_eq}
+use Rattle.arch_types.specs.declared.interval.Interval.{Interval}
+use Rattle.archive_core.specs.declared.fills.Fill.{Fill}
+use Rattle.archive_core.specs.declared.fills.Fill.TheVariants.{Done, Freed}
+use Rattle.archive_core.specs.Fills.{is_same, base_in, in_flight}
+use Rattle.archive_core.specs.FillList.{flights_of}
+use Rattle.archive_core.specs.Late.{IsLate}
+use Rattle.archive_core.proofs.FillLists.{base_after_item, flight_after_item}
+use Rattle.archive_core.proofs.Flights.{flights_are_in_flight}
+use Rattle.interval_fills.specs.Intervals.{NoRowSince}
+use Rattle.interval_fills.specs.Steps.{MachineState, freed, all_freed, filled}
+use Rattle.interval_fills.proofs.Growing.{punctual}
+use Rattle.interval_fills.proofs.Steps.{same_interval}
+
+pub is_itself : (i : Interval) → is_same i i ≡ true
+is_itself i = (Decides-int_eq i.0 i.0).1 refl
+
+none_is : (o : Option ℕ) → is_some o ≡ false → o ≡ None
+none_is None e = refl
+none_is (Some x) e = absurd (true≢false e)
+
+-- ---- one flight
+
+pub freed_free : (i : Interval) (fills : List Fill) → in_flight i (freed i fills) ≡ None
+freed_free i fills = go (is_some (in_flight i fills)) refl
+  where
+    go : (b : Bool) → is_some (in_flight i fills) ≡ b → in_flight i (if b then fills ++ Freed i ∷ [] else fills) ≡ None
+    go true is = flight_after_item i fills (Freed i) ∙ (let e = is_itself i in rw e refl)
+    go false is = none_is (in_flight i fills) is
+
+-- a flight of another interval stays none
+freed_keeps : (i j : Interval) (fills : List Fill) → in_flight i fills ≡ None → in_flight i (freed j fills) ≡ None
+freed_keeps i j fills none = go (is_some (in_flight j fills))
+  where
+    ended : (t : Bool) (o : Option ℕ) → o ≡ None → (if t then None else o) ≡ None
+    ended true o e = refl
+    ended false o e = e
+
+    go : (b : Bool) → in_flight i (if b then fills ++ Freed j ∷ [] else fills) ≡ None
+    go true = flight_after_item i fills (Freed j) ∙ ended (is_same i j) (in_flight i fills) none
+    go false = none
+
+-- ---- all flights
+
+-- an interval that is in no flight stays in none
+fold_keeps : (i : Interval) (flights : List Interval) (fills : List Fill) → in_flight i fills ≡ None → in_flight i (fold (λ ended interval. freed interval ended) fills flights) ≡ None
+fold_keeps i [] fills none = none
+fold_keeps i (j ∷ flights) fills none = fold_keeps i flights (freed j fills) (freed_keeps i j fills none)
+
+-- one that is among those that end is in none once they have ended
+fold_free : (i : Interval) (flights : List Interval) (fills : List Fill) → list_any (is_same i) flights ≡ true → in_flight i (fold (λ ended interval. freed interval ended) fills flights) ≡ None
+fold_free i [] fills e = absurd (true≢false (sym e))
+fold_free i (j ∷ flights) fills e = go (is_same i j) refl e (fold_free i flights (freed j fills))
+  where
+    go : (b : Bool) → is_same i j ≡ b → (b || list_any (is_same i) flights) ≡ true
+        → (list_any (is_same i) flights ≡ true → in_flight i (fold (λ ended interval. freed interval ended) (freed j fills) flights) ≡ None)
+        → in_flight i (fold (λ ended interval. freed interval ended) (freed j fills) flights) ≡ None
+    go true is any deep = fold_keeps i flights (freed j fills) (subst (λ (k : Interval). in_flight i (freed k fills) ≡ None) (same_interval i j is) (freed_free i fills))
+    go false is any deep = deep any
+
+pub all_free : (i : Interval) (fills : List Fill) → in_flight i (all_freed fills) ≡ None
+all_free i fills = go (list_any (is_same i) (flights_of fills)) refl
+  where
+    go : (b : Bool) → list_any (is_same i) (flights_of fills) ≡ b → in_flight i (all_freed fills) ≡ None
+    go true is = fold_free i (flights_of fills) fills is
+    go false is = fold_keeps i (flights_of fills) fills (none_is (in_flight i fills) (sym (flights_are_in_flight i fills) ∙ is))
+
+-- ---- a fill that was installed
+
+pub installed : (e : ℕ) (i : Interval) (base : ℕ) (s : MachineState) → NoRowSince e i base s.history
+    → (IsLate e i s.history (filled i base s).fills → ⊥) × (in_flight i (filled i base s).fills ≡ None)
+installed e i base s none =
+    let same = is_itself i in
+    let based : base_in i (s.fills ++ Done i base ∷ []) ≡ Some base = base_after_item i s.fills (Done i base) ∙ (rw same refl) in
+    (punctual e i base s.history (s.fills ++ Done i base ∷ []) based none, flight_after_item i s.fills (Done i base) ∙ (rw same refl))

@@ -1,0 +1,58 @@
+-- A history that grows, and an interval that isn't late.
+use Rattle.std.proofs.Common.{◌≡◌, ℕ, zero, suc, ◌<◌, ◌≤◌, List, [], ◌∷◌, ◌++◌, length, Bool, true, false, leb, Option, Some, sym, subst, refl, arith, length-append}
+use Rattle.std.specs.Prelude.{slice_get, MatchOption, ⊤}
+use Rattle.std.proofs.lemmas.Bool.{leb-true, leb-false}
+use Rattle.std.proofs.lemmas.Option.{slice_get_within}
+use Rattle.arch_types.specs.declared.interval.Interval.{Interval}
+use Rattle.archive_core.specs.declared.fills.Fill.{Fill}
+use Rattle.archive_core.specs.Items.{Item, prefix}
+use Rattle.archive_core.specs.Fills.{base_in}
+use Rattle.archive_core.specs.Late.{StandsIn, IsLate}
+use Rattle.interval_fills.specs.Intervals.{rows_of_interval, NoRowSince}
+use Rattle.interval_fills.specs.Steps.{MachineState, IsFillBase}
+use Rattle.interval_fills.proofs.Intervals.{rows_below}
+
+-- ---- a history that grows
+
+get_grows : (xs ys : List Item) (p : ℕ) (x : Item) → slice_get xs p ≡ Some x → slice_get (xs ++ ys) p ≡ Some x
+get_grows [] ys p x e = absurd cc
+get_grows (y ∷ xs) ys zero x e = e
+get_grows (y ∷ xs) ys (suc p) x e = get_grows xs ys p x e
+
+pub stands_grows : (e : ℕ) (i : Interval) (p : ℕ) (history more : List Item) → StandsIn e i p history → StandsIn e i p (history ++ more)
+stands_grows e i p history more s = record { row = s.row; there = get_grows history more p s.row s.there; table = s.table; time = s.time }
+
+pub base_grows : (e : ℕ) (i : Interval) (base : ℕ) (history more : List Item) → IsFillBase e i base history → IsFillBase e i base (history ++ more)
+base_grows e i base history more b = record {
+  within = omega (arith, b.within, length-append history more);
+  row = record { position = b.row.position; stands = stands_grows e i b.row.position history more b.row.stands; below = b.row.below };
+}
+
+-- an interval that is late has a row
+pub late_base : (e : ℕ) (i : Interval) (history : List Item) (fills : List Fill) → IsLate e i history fills → IsFillBase e i (length history) history
+late_base e i history fills late = record {
+  within = omega arith;
+  row = record { position = late.position; stands = late.stands; below = slice_get_within history late.position late.stands.row late.stands.there };
+}
+
+-- ---- an interval that isn't late
+
+below_from : (b p : ℕ) → (b ≤ p → ⊥) → p < b
+below_from b p never = go (leb b p) refl
+  where
+    go : (t : Bool) → leb b p ≡ t → p < b
+    go true is = absurd (never (leb-true b p is))
+    go false is = leb-false b p is
+
+pub none_since : (e : ℕ) (i : Interval) (base : ℕ) (history : List Item) (fills : List Fill) → base_in i fills ≡ Some base → (IsLate e i history fills → ⊥) → NoRowSince e i base history
+none_since e i base history fills is punctual p s =
+    below_from base p (λ le. punctual (record { position = p; stands = s; unseen = subst (λ (o : Option ℕ). MatchOption o ⊤ (λ b. b ≤ p)) (sym is) le }))
+
+-- and back: an interval without rows since the base of its last fill isn't late
+pub punctual : (e : ℕ) (i : Interval) (base : ℕ) (history : List Item) (fills : List Fill) → base_in i fills ≡ Some base → NoRowSince e i base history → IsLate e i history fills → ⊥
+punctual e i base history fills is none late =
+    let since : base ≤ late.position = subst (λ (o : Option ℕ). MatchOption o ⊤ (λ b. b ≤ late.position)) is late.unseen in
+    omega (arith, since, none late.position late.stands)
+
+pub filled_stay : (e : ℕ) (i : Interval) (base : ℕ) (s : MachineState) → base_in i s.fills ≡ Some base → (IsLate e i s.history s.fills → ⊥) → rows_of_interval e i s.history ≡ rows_of_interval e i (prefix base s.history)
+filled_stay e i base s is never = rows_below e i base s.history (none_since e i base s.history s.fills is never)

@@ -1,0 +1,31 @@
+-- The rows of an interval.
+use Rattle.std.specs.Prelude.{ℕ, ◌<◌, ◌^◌, ℤ, pos, ◌+ℤ◌, ◌*ℤ◌, List}
+use Rattle.arch_types.specs.declared.interval.Interval.{Interval}
+use Rattle.arch_types.specs.declared.row.Row.{Row}
+use Rattle.arch_types.specs.Table.{range_of}
+use Rattle.archive_core.specs.Items.{Item, rows_in}
+use Rattle.archive_core.specs.Late.{StandsIn}
+
+-- the first time of an interval, in milliseconds, of which an interval has 2^exponent
+abbrev pub interval_start : ℕ → Interval → ℤ
+interval_start exponent interval = interval.0 *ℤ pos (2 ^ exponent)
+
+-- the first time after it
+abbrev pub interval_end : ℕ → Interval → ℤ
+interval_end exponent interval = (interval.0 +ℤ pos 1) *ℤ pos (2 ^ exponent)
+
+-- the rows of table `tm`, the first table, with their time in an interval, in the order of their keys
+abbrev pub rows_of_interval : ℕ → Interval → List Item → List Row
+rows_of_interval exponent interval history =
+    range_of 0 (interval_start exponent interval) (interval_end exponent interval) (rows_in history)
+
+-- a row of `tm` with its time in the interval stands below this front
+pub record HasRowBelow (exponent : ℕ) (interval : Interval) (front : ℕ) (history : List Item) : Type 0 where
+  pub position : ℕ
+  pub stands : StandsIn exponent interval position history
+  pub below : position < front
+
+-- no row of `tm` with its time in the interval stands at or after this front
+abbrev pub NoRowSince : ℕ → Interval → ℕ → List Item → Type 0
+NoRowSince exponent interval front history =
+    (position : ℕ) → StandsIn exponent interval position history → position < front

@@ -1,0 +1,70 @@
+-- What holds of intervals and of fills.
+use Rattle.std.specs.Prelude.{◌≡◌, ℕ, List, filter, Some, None}
+use Rattle.std.specs.Ordering.{int_eq}
+use Rattle.arch_types.specs.declared.interval.Interval.{Interval}
+use Rattle.arch_types.specs.declared.inserted.Inserted.{Inserted}
+use Rattle.arch_types.specs.declared.inserted.Installed.{Installed}
+use Rattle.arch_types.specs.declared.row.Row.{Row}
+use Rattle.arch_types.specs.Interval.{interval_of}
+use Rattle.arch_types.specs.Table.{table_of}
+use Rattle.archive_core.specs.declared.fills.Fill.{Fill}
+use Rattle.archive_core.specs.Items.{Item, prefix, rows_in}
+use Rattle.archive_core.specs.Fills.{base_in, in_flight}
+use Rattle.archive_core.specs.Late.{IsLate}
+use Rattle.interval_fills.specs.Intervals.{rows_of_interval, NoRowSince}
+use Rattle.interval_fills.specs.Steps.{MachineState, Ingests, BeginsFill, InstallsFill, IsFillBase, filled, given_up, freed, all_freed, state_of}
+use Rattle.interval_fills.specs.Invariant.{MachineInvariant, first_state}
+
+-- ---- intervals
+
+-- the rows in an interval's range of times are those whose time is in the interval
+abbrev pub RangeIsInterval : Type 0
+RangeIsInterval = (exponent : ℕ) (interval : Interval) (history : List Item) →
+    rows_of_interval exponent interval history
+    ≡ filter (λ row. int_eq (interval_of exponent row.key.time) interval.0) (table_of 0 (rows_in history))
+
+-- where no row of an interval stands at or after a front, its rows are those below the front
+abbrev pub RowsAreThoseBelow : Type 0
+RowsAreThoseBelow = (exponent : ℕ) (interval : Interval) (front : ℕ) (history : List Item) →
+    NoRowSince exponent interval front history →
+    rows_of_interval exponent interval history ≡ rows_of_interval exponent interval (prefix front history)
+
+-- an interval that was filled and isn't late has the rows that its last fill had
+abbrev pub FilledRowsStay : Type 0
+FilledRowsStay = (exponent : ℕ) (interval : Interval) (base : ℕ) (s : MachineState) →
+    base_in interval s.fills ≡ Some base →
+    (IsLate exponent interval s.history s.fills → ⊥) →
+    rows_of_interval exponent interval s.history ≡ rows_of_interval exponent interval (prefix base s.history)
+
+-- ---- fills
+
+-- the first state keeps the invariant, and so does each step, where the base of an installed fill is one that a fill may
+-- have
+pub record StepsKeepInvariant : Type 0 where
+  pub first : (exponent : ℕ) → MachineInvariant exponent first_state
+  pub ingests : (exponent : ℕ) (old new : MachineState) (rows : List Row) (outcomes : List Inserted) →
+      MachineInvariant exponent old → Ingests old rows outcomes new → MachineInvariant exponent new
+  pub begins : (exponent : ℕ) (old new : MachineState) (interval : Interval) (base : ℕ) (rows : List Row) →
+      MachineInvariant exponent old → BeginsFill exponent old interval base rows new → MachineInvariant exponent new
+  pub installs : (exponent : ℕ) (old new : MachineState) (interval : Interval) (base : ℕ) (installed : Installed) →
+      MachineInvariant exponent old → IsFillBase exponent interval base old.history →
+      InstallsFill exponent old interval base installed new → MachineInvariant exponent new
+  pub gives_up : (exponent : ℕ) (old : MachineState) (interval : Interval) →
+      MachineInvariant exponent old → MachineInvariant exponent (given_up interval old)
+  pub settles : (exponent : ℕ) (old : MachineState) →
+      MachineInvariant exponent old → MachineInvariant exponent (state_of old.history (all_freed old.fills))
+
+-- an interval whose fill was installed is neither late nor in flight
+abbrev pub InstalledIsNotLate : Type 0
+InstalledIsNotLate = (exponent : ℕ) (interval : Interval) (base : ℕ) (s : MachineState) →
+    NoRowSince exponent interval base s.history →
+    (IsLate exponent interval s.history (filled interval base s).fills → ⊥)
+    × (in_flight interval (filled interval base s).fills ≡ None)
+
+-- a flight that ended is none
+abbrev pub FreedIsFree : Type 0
+FreedIsFree = (interval : Interval) (fills : List Fill) → in_flight interval (freed interval fills) ≡ None
+
+-- once each flight ended no interval is in flight
+abbrev pub NoneIsInFlight : Type 0
+NoneIsInFlight = (interval : Interval) (fills : List Fill) → in_flight interval (all_freed fills) ≡ None

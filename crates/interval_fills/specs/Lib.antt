@@ -1,0 +1,4 @@
+pub mod Intervals
+pub mod Steps
+pub mod Invariant
+pub mod Laws

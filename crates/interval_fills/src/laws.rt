@@ -1,0 +1,38 @@
+//! Laws of the definitions, carried by functions that do nothing.
+
+ghost use Rattle.interval_fills.specs.Laws.{RangeIsInterval, RowsAreThoseBelow, FilledRowsStay, StepsKeepInvariant, InstalledIsNotLate, FreedIsFree, NoneIsInFlight};
+
+/// The rows in an interval's range of times are those whose time is in the interval.
+pub fn range_is_interval()
+    ensures { RangeIsInterval }
+{}
+
+/// Where no row of an interval stands at or after a front, its rows are those below the front.
+pub fn rows_are_those_below()
+    ensures { RowsAreThoseBelow }
+{}
+
+/// An interval that was filled and isn't late has the rows that its last fill had.
+pub fn filled_rows_stay()
+    ensures { FilledRowsStay }
+{}
+
+/// Each step keeps what holds of every state.
+pub fn steps_keep_invariant()
+    ensures { StepsKeepInvariant }
+{}
+
+/// An interval whose fill was installed is neither late nor in flight.
+pub fn installed_is_not_late()
+    ensures { InstalledIsNotLate }
+{}
+
+/// A flight that ended is none.
+pub fn freed_is_free()
+    ensures { FreedIsFree }
+{}
+
+/// Once each flight ended no interval is in flight.
+pub fn none_is_in_flight()
+    ensures { NoneIsInFlight }
+{}
