@@ -2,7 +2,7 @@
 use Rattle.std.specs.Prelude.{◌+◌, ◌^◌, ◌<◌, ◌≤◌, List}
 use Rattle.arch_disk.specs.Image.{Image}
 use Rattle.arch_disk.specs.Disk.{Device}
-use Rattle.archive_core.specs.Items.{Item}
+use Rattle.history_items.specs.Items.{Item}
 use Rattle.archive_store.specs.declared.head.Head.{Head}
 use Rattle.archive_store.specs.Entries.{archive}
 use Rattle.archive_store.specs.Stands.{StandsFor}

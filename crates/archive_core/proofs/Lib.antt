@@ -1,6 +1,10 @@
-pub mod Places
-pub mod Outcomes
-pub mod Late
-pub mod FillLists
-pub mod LastSaid
-pub mod Flights
+pub mod Cells
+pub mod Runs
+pub mod KeyOrder
+pub mod Found
+pub mod Ingested
+pub mod Lasts
+pub mod Least
+pub mod Bases
+pub mod Asked
+pub mod Results

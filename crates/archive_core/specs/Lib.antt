@@ -1,7 +1,7 @@
-pub mod Places
-pub mod Items
-pub mod Outcomes
-pub mod Fills
-pub mod FillList
-pub mod Late
+pub mod Cells
+pub mod Asks
+pub mod Replies
+pub mod Machine
+pub mod Core
+pub mod RowTests
 pub mod Laws

@@ -1,84 +1,38 @@
 //! Laws of the definitions, carried by functions that do nothing.
 
-ghost use Rattle.archive_core.specs.Laws.{OneOutcomePerRow, OutcomesSay, FreshRowsAreAdded, IngestAddsRowsInOrder, FreshRowsAreNew, NewInTurn, LastIsGreatest, LastAfterItem, LateByLast, BaseIsOfLastDone, FlightIsBegunLast, FlightsAreInFlight, BasesAfterItem, FaultsAfterItems, CountsGoOn, ReopenSettles};
+ghost use Rattle.archive_core.specs.Laws.{CellsAreOfRows, CellsAreThoseBelow, FilledCellsStay, StepsKeepMachine, StepsOnlyAdd, RunsKeepInvariant, RunsInTurn};
 
-/// A batch has one outcome per row.
-pub fn one_outcome_per_row()
-    ensures { OneOutcomePerRow }
+/// An interval's cells are those of its rows.
+pub fn cells_are_of_rows()
+    ensures { CellsAreOfRows }
 {}
 
-/// New is answered exactly where the row is appended at that position, and Duplicate exactly where the row at that position has its
-/// table and key.
-pub fn outcomes_say()
-    ensures { OutcomesSay }
+/// Where no row of an interval stands at or after a front, its cells are those of the rows below the front.
+pub fn cells_are_those_below()
+    ensures { CellsAreThoseBelow }
 {}
 
-/// An ingest puts the rows that are new behind the history.
-pub fn fresh_rows_are_added()
-    ensures { FreshRowsAreAdded }
+/// An interval that was filled and isn't late has the cells that its last fill had.
+pub fn filled_cells_stay()
+    ensures { FilledCellsStay }
 {}
 
-/// What an ingest puts behind the history are rows of the batch, in its order.
-pub fn ingest_adds_rows_in_order()
-    ensures { IngestAddsRowsInOrder }
+/// A step keeps what holds of every state.
+pub fn steps_keep_machine()
+    ensures { StepsKeepMachine }
 {}
 
-/// The rows that are new are a batch of which each is new.
-pub fn fresh_rows_are_new()
-    ensures { FreshRowsAreNew }
+/// A step only adds to the history and to the fill list.
+pub fn steps_only_add()
+    ensures { StepsOnlyAdd }
 {}
 
-/// Rows are all new exactly where each is, in turn.
-pub fn new_in_turn()
-    ensures { NewInTurn }
+/// Each state that a run from the first state leads to keeps the invariant.
+pub fn runs_keep_invariant()
+    ensures { RunsKeepInvariant }
 {}
 
-/// The last row of an interval has the greatest position.
-pub fn last_is_greatest()
-    ensures { LastIsGreatest }
-{}
-
-/// The last row of an interval after one more item.
-pub fn last_after_item()
-    ensures { LastAfterItem }
-{}
-
-/// The last row of an interval decides whether it is late.
-pub fn late_by_last()
-    ensures { LateByLast }
-{}
-
-/// The base of an interval is that of its last Done.
-pub fn base_is_of_last_done()
-    ensures { BaseIsOfLastDone }
-{}
-
-/// An interval is in flight exactly where a Begun of it is the last that is said of its flight.
-pub fn flight_is_begun_last()
-    ensures { FlightIsBegunLast }
-{}
-
-/// The list of flights has the intervals that are in flight.
-pub fn flights_are_in_flight()
-    ensures { FlightsAreInFlight }
-{}
-
-/// Bases and flights after one more item.
-pub fn bases_after_item()
-    ensures { BasesAfterItem }
-{}
-
-/// What is held and what stands after more items.
-pub fn faults_after_items()
-    ensures { FaultsAfterItems }
-{}
-
-/// Counts of faults go on rising.
-pub fn counts_go_on()
-    ensures { CountsGoOn }
-{}
-
-/// A reopen takes away the pending fault, and nothing else.
-pub fn reopen_clears()
-    ensures { ReopenSettles }
+/// A run over events and more events is one over each in turn.
+pub fn runs_in_turn()
+    ensures { RunsInTurn }
 {}

@@ -1,20 +1,28 @@
-// The archive without its storage: what an ingest answers, which intervals are late, and what is kept of fills and faults.
+// The archive as a plain machine: a history in memory and a fill list, without a disk, segments or threads.
 //
-// Nothing here knows of a disk, a segment or a thread. A state is a history of items and a fill list. `archive_store` keeps such a state on a
-// disk, and proves that its calls answer as is said here.
+// An event is what a caller does, a reply what the archive gives back. `MachineStep` (specs/Machine.antt) says which
+// reply an event has in a state, and which state comes next: rows that come in, fills that begin, are installed or
+// given up, as interval_fills has these steps; and what is asked, whose answers are extracted from all packets of the
+// history each time (specs/Asks.antt). `MachineRun` puts steps in a row. `laws` carries what holds of every run, and
+// that an interval without rows at or after a front has, for each parameter, the cells of the rows below it. `Core`
+// runs the machine. It goes over its lists at each event and keeps nothing beside them: it is made to be believed, and
+// what the store does over its tables, marks and segments is measured by it.
 //
-// An item of a history is a row today. Definitions and lemmas name `Item` (specs/Items.antt) where they speak of a history, and rows only where
-// they speak of rows, so that a second kind of item changes that file and what speaks of rows.
-//
-// A fill list holds what happened to fills and each fault of the disk, in the order in which it happened. `FillList` keeps a place in it for the
-// end of each flight, so that neither such an end nor a fault wants memory after the disk was written. Which intervals have a fill, and
-// which are in flight, is read from it (specs/Fills.antt), by the last item that says so (`IsLastDone`, `IsBegunLast`). Whether an interval is
-// late is said of every position (`IsLate` of specs/Late.antt), and decided by the last row alone (`is_late_in`), as `late_marks` decides it of a
-// mark. What holds of the definitions is in specs/Laws.antt, and `laws` carries the proofs.
+// It is apart from history_items, since that stands below the history in memory and the store, and what is asked needs
+// extraction. To be changed together: an event or a reply, `MachineStep`, and `Core::step`.
 #![tactic(auto)]
 
-mod fill_list;
-pub mod fills;
+mod answers;
+mod event;
+mod fill_events;
+mod ingests;
+mod lateness;
 pub mod laws;
+mod machine;
+mod ordered;
+mod replays;
+mod reply;
 
-pub use fill_list::FillList;
+pub use event::Event;
+pub use machine::Core;
+pub use reply::{Replies, Reply};

@@ -1,5 +1,7 @@
-// Tests of archive_core: worked rows and vectors, printed texts, each call once with ample memory, and what no clause says.
+// Tests of archive_core: every kind of event in one run, with its reply as text, step by step and at once.
 #![tactic(auto)]
 
 #[cfg(test)]
-mod tests;
+mod runs;
+#[cfg(test)]
+mod texts;

@@ -9,8 +9,8 @@ use Rattle.arch_types.specs.declared.row.Row.{Row}
 use Rattle.arch_types.specs.History.{with_row, ingested, IsHistory}
 use Rattle.arch_types.specs.Interval.{interval_of}
 use Rattle.arch_types.proofs.Histories.{keeps_history}
-use Rattle.archive_core.specs.Items.{Item, is_row_of_interval}
-use Rattle.archive_core.proofs.Outcomes.{new_in_turn, ingested-append}
+use Rattle.history_items.specs.Items.{Item, is_row_of_interval}
+use Rattle.history_items.proofs.Outcomes.{new_in_turn, ingested-append}
 use Rattle.archive_history.specs.History.{HistoryInvariant}
 use Rattle.archive_history.specs.Limits.{octets_of, interval_rows, IsWithin}
 use Rattle.archive_history.specs.TableSet.{HistoryView}

@@ -11,7 +11,7 @@ use Rattle.arch_types.specs.declared.refusal.Which.TheVariants as limits
 use Rattle.arch_types.specs.declared.row.Row.{Row}
 use Rattle.arch_types.specs.Interval.{interval_of}
 use Rattle.arch_types.specs.Limits.{limit_of}
-use Rattle.archive_core.specs.Items.{Item, is_row_of_interval}
+use Rattle.history_items.specs.Items.{Item, is_row_of_interval}
 use Rattle.archive_history.specs.Limits.{octets_of, interval_rows, IsWithin}
 use Rattle.archive_history.proofs.Sums.{octets-append, interval_rows-append, interval_rows-one}
 

@@ -3,7 +3,7 @@ use Rattle.std.proofs.Common.{◌≡◌, ◌+◌, List, [], ◌∷◌, ◌++◌,
 use Rattle.std.specs.Prelude.{filter, if◌then◌else◌}
 use Rattle.arch_types.specs.declared.interval.Interval.{Interval}
 use Rattle.arch_types.specs.declared.row.Row.{Row}
-use Rattle.archive_core.specs.Items.{Item, is_row_of_interval}
+use Rattle.history_items.specs.Items.{Item, is_row_of_interval}
 use Rattle.archive_history.specs.Limits.{octets_of, interval_rows, IsWithin}
 
 pub octets-append : (a b : List Row) → octets_of (a ++ b) ≡ octets_of a + octets_of b

@@ -12,7 +12,7 @@ use Rattle.arch_types.specs.declared.inserted.Inserted.TheVariants.{New, Duplica
 use Rattle.arch_types.specs.declared.key.Key.{Key}
 use Rattle.arch_types.specs.declared.row.Row.{Row}
 use Rattle.arch_types.specs.History.{is_in_table, is_duplicate_of, with_row}
-use Rattle.archive_core.specs.Items.{Item}
+use Rattle.history_items.specs.Items.{Item}
 use Rattle.yarch_table.specs.declared.table.Stored.{Stored}
 use Rattle.yarch_table.specs.Stored.{TableView, IsInserted, IsKeptAt, rows_of}
 use Rattle.yarch_table.specs.Placed.{placed}

@@ -2,7 +2,7 @@
 use Rattle.std.specs.Prelude.{◌≡◌, ◌≤◌}
 use Rattle.arch_types.specs.declared.interval.Interval.{Interval}
 use Rattle.arch_types.specs.History.{IsHistory}
-use Rattle.archive_core.specs.Items.{rows_in}
+use Rattle.history_items.specs.Items.{rows_in}
 use Rattle.archive_history.specs.Limits.{octets_of, interval_rows, IsWithin}
 use Rattle.archive_history.specs.LimitCounts.{LimitCountsView, interval_row_count}
 use Rattle.archive_history.specs.TableSet.{HistoryView}

@@ -5,8 +5,8 @@ use Rattle.arch_types.specs.declared.refusal.Which.{Which}
 use Rattle.arch_types.specs.declared.refusal.Which.TheVariants.{Rows, HistoryOctets, IntervalRows, Records}
 use Rattle.arch_types.specs.declared.interval.Interval.{Interval}
 use Rattle.arch_types.specs.Limits.{limit_of}
-use Rattle.archive_core.specs.Items.{Item, after_rows, rows_in, is_row_of_interval}
-use Rattle.archive_core.specs.Outcomes.{fresh_of}
+use Rattle.history_items.specs.Items.{Item, after_rows, rows_in, is_row_of_interval}
+use Rattle.history_items.specs.Outcomes.{fresh_of}
 
 -- the octets of the packets of rows
 abbrev pub octets_of : List Row → ℕ

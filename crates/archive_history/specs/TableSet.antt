@@ -7,7 +7,7 @@ use Rattle.arch_types.specs.declared.key.Key.{Key}
 use Rattle.arch_types.specs.declared.row.Row.{Row}
 use Rattle.arch_types.specs.History.{is_in_table}
 use Rattle.arch_types.specs.Order.{key_cmp}
-use Rattle.archive_core.specs.Items.{Item, row_item, rows_in}
+use Rattle.history_items.specs.Items.{Item, row_item, rows_in}
 use Rattle.yarch_table.specs.Stored.{TableView}
 use Rattle.yarch_table.specs.Placed.{placed}
 

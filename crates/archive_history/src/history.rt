@@ -6,7 +6,7 @@ ghost use Rattle.arch_types.specs.declared.interval.Interval.{Interval as AnInte
 ghost use Rattle.arch_types.specs.History.{IsHistory};
 ghost use Rattle.arch_types.specs.Interval.{interval_of};
 ghost use Rattle.arch_types.specs.Table.{range_of};
-ghost use Rattle.archive_core.specs.Items.{Item, after_row, after_rows, items_of, row_item, rows_in};
+ghost use Rattle.history_items.specs.Items.{Item, after_row, after_rows, items_of, row_item, rows_in};
 ghost use Rattle.archive_history.specs.PartitionedTable.{named_times_of};
 ghost use Rattle.archive_history.specs.TableSet.{is_at_key, rows_in_table};
 ghost use Rattle.histogram.specs.Times.{spans_of_times, times_of};

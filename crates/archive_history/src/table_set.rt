@@ -3,7 +3,7 @@
 ghost use Rattle.std.specs.Prelude.{◌≡◌, ◌+◌, ◌<◌, ◌≤◌, ◌^◌, [], false, true, length, IfOk, IfSome, IfNone, OnOk, OnErr, max, slice_get, Some, replicate, ℕ, ◌++◌, ◌∷◌, ◌↔◌, Contains};
 ghost use Rattle.std.specs.List.{list_any};
 ghost use Rattle.arch_types.specs.Table.{range_of};
-ghost use Rattle.archive_core.specs.Items.{Item, after_row, row_item, rows_in};
+ghost use Rattle.history_items.specs.Items.{Item, after_row, row_item, rows_in};
 ghost use Rattle.archive_history.specs.PartitionedTable.{named_times_of};
 ghost use Rattle.archive_history.specs.TableSet.{is_at_key, no_table, rows_in_table, table_in};
 ghost use Rattle.histogram.specs.Times.{spans_of_times, times_of};

@@ -5,7 +5,7 @@ use Rattle.arch_types.specs.declared.refusal.Which.{Which}
 use Rattle.arch_types.specs.declared.refusal.Which.TheVariants as limits
 use Rattle.arch_types.specs.declared.row.Row.{Row}
 use Rattle.arch_types.specs.History.{ingested}
-use Rattle.archive_core.specs.Items.{Item, items_of}
+use Rattle.history_items.specs.Items.{Item, items_of}
 use Rattle.field_codec.specs.declared.entry.Entry.{Entry}
 use Rattle.field_codec.specs.declared.entry.Entry.TheVariants as entries
 use Rattle.field_codec.specs.Entries.{IsArchiveEntry}

@@ -6,7 +6,7 @@ use Rattle.arch_types.specs.declared.row.Row.{Row}
 use Rattle.arch_types.specs.History.{is_in_table}
 use Rattle.arch_types.specs.Order.{is_before, order_by, place_by}
 use Rattle.arch_types.specs.Table.{is_in_time_range, range_of}
-use Rattle.archive_core.specs.Items.{Item}
+use Rattle.history_items.specs.Items.{Item}
 use Rattle.field_codec.specs.Entries.{IsStored}
 use Rattle.field_codec.specs.declared.entry.Entry.{Entry}
 use Rattle.field_codec.specs.declared.entry.Entry.TheVariants as entries

@@ -6,9 +6,9 @@ use Rattle.arch_types.specs.declared.inserted.Inserted.{Inserted}
 use Rattle.arch_types.specs.declared.inserted.Inserted.TheVariants.{New, Duplicate}
 use Rattle.arch_types.specs.declared.row.Row.{Row}
 use Rattle.arch_types.specs.Packet.{IsPacket}
-use Rattle.archive_core.specs.Items.{Item, items_of}
-use Rattle.archive_core.specs.Outcomes.{answered_new, outcomes_of, fresh_of}
-use Rattle.archive_core.proofs.Outcomes.{fresh_new, length-fresh}
+use Rattle.history_items.specs.Items.{Item, items_of}
+use Rattle.history_items.specs.Outcomes.{answered_new, outcomes_of, fresh_of}
+use Rattle.history_items.proofs.Outcomes.{fresh_new, length-fresh}
 use Rattle.field_codec.specs.declared.entry.Entry.TheVariants as entries
 use Rattle.field_codec.specs.Entries.{IsStored, IsArchiveEntry}
 use Rattle.text_forms.specs.ClockTime.{IsClockTime}

@@ -9,9 +9,9 @@ use Rattle.arch_types.specs.declared.refusal.Which.{Which}
 use Rattle.arch_types.specs.declared.row.Row.{Row}
 use Rattle.arch_types.specs.History.{ingested}
 use Rattle.arch_types.specs.Limits.{limit_of}
-use Rattle.archive_core.specs.declared.fills.Addition.TheVariants.{Rows}
-use Rattle.archive_core.specs.Fills.{pending_fault_of}
-use Rattle.archive_core.specs.Outcomes.{fresh_of}
+use Rattle.history_items.specs.declared.fills.Addition.TheVariants.{Rows}
+use Rattle.history_items.specs.Fills.{pending_fault_of}
+use Rattle.history_items.specs.Outcomes.{fresh_of}
 use Rattle.archive_history.specs.Limits.{IsLimit, IsBelowLimits}
 use Rattle.disk_journal.specs.Calls.{IsJournalCreateFailed, CountsNeverFall}
 use Rattle.archive_store.specs.Calls.{IsFailure, IsIngestRefusal, IsRowsRefusal, IsStoreReopened, IsStoreReopenRefusal, IsStoreOpenRefusal, IsStoreCreateRefusal, IsDecidedByImage}

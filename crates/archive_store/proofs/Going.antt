@@ -1,8 +1,8 @@
 -- Both lists of a store only grow.
 use Rattle.std.proofs.Common.{◌≡◌, List, [], ◌∷◌, ◌++◌, sym, subst}
 use mathlib.Core.List.{IsPrefix}
-use Rattle.archive_core.specs.declared.fills.Fill.{Fill}
-use Rattle.archive_core.specs.Items.{Item}
+use Rattle.history_items.specs.declared.fills.Fill.{Fill}
+use Rattle.history_items.specs.Items.{Item}
 use Rattle.archive_store.specs.StoreView.{StoreView, OnlyAppends}
 use Rattle.archive_store.proofs.PendingFaults.{prefix_self}
 

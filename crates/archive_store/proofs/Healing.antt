@@ -3,10 +3,10 @@ use Rattle.std.proofs.Common.{◌≡◌, ℕ, ◌≤◌, List, Option, Some, Non
 use Rattle.std.specs.Prelude.{IsTrue}
 use Rattle.arch_disk.specs.Disk.{Device, LeavesOnly}
 use Rattle.arch_disk.proofs.Moments.{weakens}
-use Rattle.archive_core.specs.declared.fills.Fill.{Fill}
-use Rattle.archive_core.specs.Items.{Item}
-use Rattle.archive_core.specs.Fills.{rows_of_faults, pending_fault_of, reopened, above, unacknowledged_rows}
-use Rattle.archive_core.proofs.FillLists.{pending_fault_of-reopened, rows_of_faults-reopened, Rising-reopened, Rising-later}
+use Rattle.history_items.specs.declared.fills.Fill.{Fill}
+use Rattle.history_items.specs.Items.{Item}
+use Rattle.history_items.specs.Fills.{rows_of_faults, pending_fault_of, reopened, above, unacknowledged_rows}
+use Rattle.history_items.proofs.FillLists.{pending_fault_of-reopened, rows_of_faults-reopened, Rising-reopened, Rising-later}
 use Rattle.disk_journal.specs.Format.{IsBeforeOrAfter}
 use Rattle.disk_journal.specs.State.{HasOnDisk as JournalHasOnDisk}
 use Rattle.disk_journal.specs.State.{unhealed_fault, file_of, IsOldBut}

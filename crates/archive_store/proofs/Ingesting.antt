@@ -5,9 +5,9 @@ use Rattle.arch_types.specs.declared.refusal.Which.TheVariants as limits
 use Rattle.arch_types.specs.declared.row.Row.{Row}
 use Rattle.arch_types.specs.History.{ingested}
 use Rattle.arch_types.specs.Limits.{limit_of}
-use Rattle.archive_core.specs.Items.{Item, items_of}
-use Rattle.archive_core.specs.Outcomes.{fresh_of}
-use Rattle.archive_core.proofs.Outcomes.{fresh_added}
+use Rattle.history_items.specs.Items.{Item, items_of}
+use Rattle.history_items.specs.Outcomes.{fresh_of}
+use Rattle.history_items.proofs.Outcomes.{fresh_added}
 use Rattle.archive_history.specs.Limits.{IsWithin, IsBelowLimits}
 
 -- the history with the new rows is the ingested one

@@ -8,12 +8,12 @@ use Rattle.arch_disk.specs.Image.{Image}
 use Rattle.arch_disk.specs.Disk.{Device, LeavesOnly, raised}
 use Rattle.arch_disk.proofs.Moments.{started}
 use Rattle.arch_types.specs.declared.row.Row.{Row}
-use Rattle.archive_core.specs.declared.fills.Addition.TheVariants.{Nothing, Rows}
-use Rattle.archive_core.specs.declared.fills.Fill.{Fill}
-use Rattle.archive_core.specs.declared.fills.Fill.TheVariants.{Begun, Done, Freed, Fault}
-use Rattle.archive_core.specs.Items.{Item, items_of}
-use Rattle.archive_core.specs.Fills.{rows_of_faults, pending_fault_of, unacknowledged_rows, reopened, above}
-use Rattle.archive_core.proofs.FillLists.{rows_of_faults-append, pending_fault_of-reopened, pending_fault_of-append, Rising-later, Rising-append}
+use Rattle.history_items.specs.declared.fills.Addition.TheVariants.{Nothing, Rows}
+use Rattle.history_items.specs.declared.fills.Fill.{Fill}
+use Rattle.history_items.specs.declared.fills.Fill.TheVariants.{Begun, Done, Freed, Fault}
+use Rattle.history_items.specs.Items.{Item, items_of}
+use Rattle.history_items.specs.Fills.{rows_of_faults, pending_fault_of, unacknowledged_rows, reopened, above}
+use Rattle.history_items.proofs.FillLists.{rows_of_faults-append, pending_fault_of-reopened, pending_fault_of-append, Rising-later, Rising-append}
 use Rattle.disk_journal.specs.Format.{IsBeforeOrAfter}
 use Rattle.disk_journal.specs.State.{HasOnDisk as JournalHasOnDisk}
 use Rattle.disk_journal.specs.State.{unhealed_fault, file_of, faults_of, IsSame, IsOldBut}

@@ -4,7 +4,7 @@ use Rattle.std.specs.Prelude.{IsTrue}
 use Rattle.arch_disk.specs.Image.{Image}
 use Rattle.arch_disk.specs.Disk.{Device, IsDurable, OnlyReads}
 use Rattle.arch_disk.proofs.Moments.{weakens, started}
-use Rattle.archive_core.specs.Items.{Item}
+use Rattle.history_items.specs.Items.{Item}
 use Rattle.disk_journal.specs.Format.{HasRecords, HoldsNone}
 use Rattle.disk_journal.specs.State.{HasOnDisk as JournalHasOnDisk}
 use Rattle.disk_journal.specs.State.{StateIs, faults_of, unhealed_fault, file_of}

@@ -5,7 +5,7 @@ use mathlib.Core.List.{IsPrefix}
 use Rattle.arch_disk.specs.Image.{Image}
 use Rattle.arch_disk.specs.Disk.{Device, IsDurable}
 use Rattle.arch_types.specs.declared.row.Row.{Row}
-use Rattle.archive_core.specs.Items.{Item, items_of}
+use Rattle.history_items.specs.Items.{Item, items_of}
 use Rattle.disk_journal.specs.Format.{HasRecords, IsBeforeOrAfter}
 use Rattle.disk_journal.specs.State.{HasOnDisk, StateIs, faults_of, unhealed_fault, file_of}
 use Rattle.disk_journal.specs.declared.journal.Journal.{Journal}

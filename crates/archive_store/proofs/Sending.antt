@@ -4,8 +4,8 @@ use denote.Param.Send.{IsSend, IsSync, sendable}
 use Rattle.std.proofs.Crossing.{crosses}
 use Rattle.arch_disk.specs.declared.disk.Disk as disk
 use Rattle.arch_types.specs.contracts.row.Row as Row
-use Rattle.archive_core.specs.contracts.fill_list.FillList as FillList
-use Rattle.archive_core.specs.contracts.fills.Fill as Fill
+use Rattle.history_items.specs.contracts.fill_list.FillList as FillList
+use Rattle.history_items.specs.contracts.fills.Fill as Fill
 use Rattle.archive_history.specs.contracts.history.History as History
 use Rattle.archive_history.specs.contracts.limit_counts.LimitCounts as LimitCounts
 use Rattle.archive_history.proofs.Sending.{table_set_send}

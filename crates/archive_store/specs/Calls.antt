@@ -8,10 +8,10 @@ use Rattle.arch_types.specs.declared.refusal.Refusal.TheVariants.{NoArchive, Exi
 use Rattle.arch_types.specs.declared.refusal.Which.{Which}
 use Rattle.arch_types.specs.declared.row.Row.{Row}
 use Rattle.arch_types.specs.Limits.{limit_of}
-use Rattle.archive_core.specs.declared.fills.Addition.TheVariants.{Rows}
-use Rattle.archive_core.specs.Fills.{pending_fault_of, reopened, unacknowledged_rows}
-use Rattle.archive_core.specs.Items.{after_rows, items_of}
-use Rattle.archive_core.specs.Outcomes.{outcomes_of, fresh_of}
+use Rattle.history_items.specs.declared.fills.Addition.TheVariants.{Rows}
+use Rattle.history_items.specs.Fills.{pending_fault_of, reopened, unacknowledged_rows}
+use Rattle.history_items.specs.Items.{after_rows, items_of}
+use Rattle.history_items.specs.Outcomes.{outcomes_of, fresh_of}
 use Rattle.archive_history.specs.Limits.{IsLimit, IsBelowLimits}
 use Rattle.disk_journal.specs.Calls.{BeginsOpen, IsJournalCreateFailed, IsJournalOpenFailed}
 use Rattle.disk_journal.specs.Format.{HasRecords, HoldsNone}

@@ -5,8 +5,8 @@ use Rattle.std.specs.Ordering.{nat_cmp, ordering_then, is_gt}
 use Rattle.std.specs.declared.cmp.Ordering.{Ordering}
 use Rattle.arch_types.specs.Order.{key_cmp}
 use Rattle.arch_types.specs.declared.row.Row.{Row}
-use Rattle.archive_core.specs.Items.{Item, items_of, row_item}
-use Rattle.archive_core.specs.Outcomes.{outcomes_of, fresh_of}
+use Rattle.history_items.specs.Items.{Item, items_of, row_item}
+use Rattle.history_items.specs.Outcomes.{outcomes_of, fresh_of}
 use Rattle.archive_history.specs.TableSet.{is_at_key}
 use Rattle.archive_store.specs.declared.classifying.ClassifiedBatch.{ClassifiedBatch}
 use Rattle.archive_store.specs.declared.classifying.TableKey.{TableKey}

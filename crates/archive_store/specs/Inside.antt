@@ -3,9 +3,9 @@ use Rattle.std.specs.Prelude.{◌≡◌, ℕ, IsTrue, List, Option, Some}
 use Rattle.std.specs.List.{AllByRecursion}
 use mathlib.Core.List.{IsPrefix}
 use Rattle.arch_disk.specs.Disk.{Device}
-use Rattle.archive_core.specs.declared.fills.Fill.{Fill}
-use Rattle.archive_core.specs.Items.{Item, rows_in}
-use Rattle.archive_core.specs.Fills.{pending_fault_of}
+use Rattle.history_items.specs.declared.fills.Fill.{Fill}
+use Rattle.history_items.specs.Items.{Item, rows_in}
+use Rattle.history_items.specs.Fills.{pending_fault_of}
 use Rattle.disk_journal.specs.State.{unhealed_fault, count_of}
 use Rattle.disk_journal.specs.declared.journal.Journal.{Journal}
 use Rattle.field_codec.specs.declared.entry.Entry.TheVariants as kinds

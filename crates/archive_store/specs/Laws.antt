@@ -2,7 +2,7 @@
 use Rattle.std.specs.Prelude.{◌≡◌, ◌≤◌, ℕ, List, length}
 use mathlib.Core.List.{IsPrefix}
 use Rattle.arch_disk.specs.Image.{Image}
-use Rattle.archive_core.specs.Items.{Item, rows_in}
+use Rattle.history_items.specs.Items.{Item, rows_in}
 use Rattle.disk_journal.specs.Format.{HoldsNone}
 use Rattle.replay_merge.specs.Cursor.{CursorView, rest_of}
 use Rattle.archive_store.specs.Entries.{Archive}

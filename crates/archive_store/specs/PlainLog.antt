@@ -3,8 +3,8 @@
 use Rattle.std.specs.Prelude.{◌≡◌, ◌⊎◌, List, ◌++◌, Contains, Option, Some, None}
 use mathlib.Core.List.{IsPrefix}
 use Rattle.arch_disk.specs.Disk.{Device}
-use Rattle.archive_core.specs.Fills.{rows_of_faults, unacknowledged_rows}
-use Rattle.archive_core.specs.Items.{Item}
+use Rattle.history_items.specs.Fills.{rows_of_faults, unacknowledged_rows}
+use Rattle.history_items.specs.Items.{Item}
 use Rattle.disk_journal.specs.declared.journal.Journal.{Journal}
 use Rattle.field_codec.specs.Spelling.{entry_octets}
 use Rattle.archive_store.specs.declared.head.Head.{Head}

@@ -8,7 +8,7 @@ use Rattle.arch_types.specs.declared.refusal.Refusal.TheVariants.{UnknownParamet
 use Rattle.arch_types.specs.declared.row.Row.{Row}
 use Rattle.arch_types.specs.Interval.{interval_of}
 use Rattle.arch_types.specs.Table.{range_of}
-use Rattle.archive_core.specs.Items.{Item, rows_in}
+use Rattle.history_items.specs.Items.{Item, rows_in}
 use Rattle.mdb_items.specs.Texts.{place_of}
 use Rattle.archive_store.specs.declared.head.Head.{Head}
 use Rattle.archive_store.specs.declared.plan.Part.{Part}

@@ -7,7 +7,7 @@ use Rattle.arch_types.specs.declared.ask.ReplayRequest.{ReplayRequest}
 use Rattle.arch_types.specs.declared.refusal.Refusal.{Refusal}
 use Rattle.arch_types.specs.declared.refusal.Refusal.TheVariants.{UnknownTable, BadRange, OutOfMemory}
 use Rattle.arch_types.specs.declared.row.Row.{Row}
-use Rattle.archive_core.specs.Items.{Item, rows_in}
+use Rattle.history_items.specs.Items.{Item, rows_in}
 use Rattle.partitions.specs.Rows.{partitions_of}
 use Rattle.archive_history.specs.TableSet.{HistoryView, rows_in_table}
 use Rattle.mdb_items.specs.Texts.{place_of}

@@ -1,7 +1,7 @@
 //! The rows of a store as a source of replays.
 
 ghost use Rattle.std.specs.Prelude.{◌≡◌};
-ghost use Rattle.archive_core.specs.Items.{rows_in};
+ghost use Rattle.history_items.specs.Items.{rows_in};
 
 use crate::head::Head;
 use crate::store::Store;
@@ -24,7 +24,7 @@ pub(crate) struct HistorySource<'a> {
 impl<'a> Model for HistorySource<'a> {
     ghost use Rattle.std.specs.Prelude.{List};
     ghost use Rattle.arch_types.specs.declared.row.Row.{Row};
-    ghost use Rattle.archive_core.specs.Items.{rows_in};
+    ghost use Rattle.history_items.specs.Items.{rows_in};
     ghost use Rattle.archive_store.specs.Replays.{IsStoredHistory};
 
     ghost Value = { List Row };

@@ -1,7 +1,7 @@
 //! Batches, and what is done after a write that failed.
 
 ghost use Rattle.std.specs.Prelude.{◌≡◌, ◌<◌, ◌≤◌, ◌++◌, None, length, OnOk, IfOk, IfErr, IfSome, IfNone};
-ghost use Rattle.archive_core.specs.Fills.{pending_fault_of};
+ghost use Rattle.history_items.specs.Fills.{pending_fault_of};
 ghost use Rattle.disk_journal.specs.State.{HasRoom, IsSame};
 ghost use Rattle.field_codec.specs.declared.entry.Entry.TheVariants as entries;
 ghost use Rattle.field_codec.specs.Entries.{IsArchiveEntry};
@@ -10,7 +10,7 @@ ghost use Rattle.archive_store.specs.Batches.{batch_rows, IsBatch};
 ghost use Rattle.archive_store.specs.Entries.{archive, AreAdmitted};
 ghost use Rattle.arch_types.specs.Limits.{limit_of};
 ghost use Rattle.arch_types.specs.declared.refusal.Which.TheVariants as limits;
-ghost use Rattle.archive_core.specs.Items.{items_of};
+ghost use Rattle.history_items.specs.Items.{items_of};
 ghost use Rattle.archive_history.specs.Limits.{IsLimit, IsWithin};
 
 use crate::batch::{Batch, Ingested};
@@ -19,11 +19,11 @@ use crate::store::Store;
 use arch_disk::Disk;
 use arch_types::refusal::{Refusal, Which};
 use arch_types::row::{Row, Rows};
-use archive_core::FillList;
-use archive_core::fills::Addition;
 use archive_history::history::History;
 use disk_journal::{Frame, Journal};
 use field_codec::{put_rows, rows_entry_len};
+use history_items::FillList;
+use history_items::fills::Addition;
 use std::alloc::{AllocError, Global};
 
 /// A record with these rows.

@@ -4,7 +4,7 @@ ghost use Rattle.std.specs.Prelude.{◌≡◌, ◌<◌, ◌≤◌, ◌++◌, Lis
 ghost use Rattle.std.specs.List.{AllByRecursion, filter_map};
 ghost use mathlib.Core.List.{IsPrefix};
 ghost use Rattle.arch_types.specs.declared.refusal.Refusal.TheVariants.{OutOfMemory};
-ghost use Rattle.archive_core.specs.Items.{Item, rows_in};
+ghost use Rattle.history_items.specs.Items.{Item, rows_in};
 ghost use Rattle.archive_history.specs.PartitionedTable.{named_times_of};
 ghost use Rattle.archive_history.specs.TableSet.{rows_in_table};
 ghost use Rattle.archive_store.specs.Replays.{packet_number, packet_numbers, replay_asked};

@@ -7,7 +7,7 @@ ghost use Rattle.std.specs.Option.{is_some};
 ghost use Rattle.std.specs.List.{AllByRecursion};
 ghost use Rattle.arch_types.specs.Interval.{interval_of};
 ghost use Rattle.arch_types.specs.Table.{range_of};
-ghost use Rattle.archive_core.specs.Items.{rows_in};
+ghost use Rattle.history_items.specs.Items.{rows_in};
 ghost use Rattle.archive_store.specs.Plans.{rows_of_parts, IsPlanPart, AreRisingIntervals};
 ghost use Rattle.std.specs.Arc.{arc_value};
 

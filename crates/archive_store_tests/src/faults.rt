@@ -2,7 +2,7 @@
 ghost use Rattle.std.specs.Prelude.{◌≡◌, ◌<◌, None, IsTrue};
 ghost use Rattle.arch_disk.specs.Image.{Image};
 ghost use Rattle.arch_disk.specs.Disk.{raised};
-ghost use Rattle.archive_core.specs.Fills.{pending_fault_of};
+ghost use Rattle.history_items.specs.Fills.{pending_fault_of};
 ghost use Rattle.archive_store.specs.Batches.{IsBatch};
 ghost use Rattle.archive_store.specs.StoreView.{archive_of};
 ghost use Rattle.archive_store.specs.Stands.{StandsFor};

@@ -5,13 +5,13 @@ use Rattle.std.specs.List.{list_any}
 use Rattle.std.specs.Option.{is_some}
 use Rattle.std.proofs.lemmas.Bool.Decides.{Decides-int_eq}
 use Rattle.arch_types.specs.declared.interval.Interval.{Interval}
-use Rattle.archive_core.specs.declared.fills.Fill.{Fill}
-use Rattle.archive_core.specs.declared.fills.Fill.TheVariants.{Done, Freed}
-use Rattle.archive_core.specs.Fills.{is_same, base_in, in_flight}
-use Rattle.archive_core.specs.FillList.{flights_of}
-use Rattle.archive_core.specs.Late.{IsLate}
-use Rattle.archive_core.proofs.FillLists.{base_after_item, flight_after_item}
-use Rattle.archive_core.proofs.Flights.{flights_are_in_flight}
+use Rattle.history_items.specs.declared.fills.Fill.{Fill}
+use Rattle.history_items.specs.declared.fills.Fill.TheVariants.{Done, Freed}
+use Rattle.history_items.specs.Fills.{is_same, base_in, in_flight}
+use Rattle.history_items.specs.FillList.{flights_of}
+use Rattle.history_items.specs.Late.{IsLate}
+use Rattle.history_items.proofs.FillLists.{base_after_item, flight_after_item}
+use Rattle.history_items.proofs.Flights.{flights_are_in_flight}
 use Rattle.interval_fills.specs.Intervals.{NoRowSince}
 use Rattle.interval_fills.specs.Steps.{MachineState, freed, all_freed, filled}
 use Rattle.interval_fills.proofs.Growing.{punctual}

@@ -4,10 +4,10 @@ use Rattle.std.specs.Prelude.{slice_get, MatchOption, ⊤}
 use Rattle.std.proofs.lemmas.Bool.{leb-true, leb-false}
 use Rattle.std.proofs.lemmas.Option.{slice_get_within}
 use Rattle.arch_types.specs.declared.interval.Interval.{Interval}
-use Rattle.archive_core.specs.declared.fills.Fill.{Fill}
-use Rattle.archive_core.specs.Items.{Item, prefix}
-use Rattle.archive_core.specs.Fills.{base_in}
-use Rattle.archive_core.specs.Late.{StandsIn, IsLate}
+use Rattle.history_items.specs.declared.fills.Fill.{Fill}
+use Rattle.history_items.specs.Items.{Item, prefix}
+use Rattle.history_items.specs.Fills.{base_in}
+use Rattle.history_items.specs.Late.{StandsIn, IsLate}
 use Rattle.interval_fills.specs.Intervals.{rows_of_interval, NoRowSince}
 use Rattle.interval_fills.specs.Steps.{MachineState, IsFillBase}
 use Rattle.interval_fills.proofs.Intervals.{rows_below}

@@ -17,8 +17,8 @@ use Rattle.arch_types.specs.History.{is_in_table}
 use Rattle.arch_types.specs.Table.{range_of, is_in_time_range, table_of}
 use Rattle.arch_types.proofs.Ordered.{filter-order}
 use Rattle.arch_types.proofs.Ranks.{rows_rank}
-use Rattle.archive_core.specs.Items.{Item, prefix}
-use Rattle.archive_core.specs.Late.{StandsIn}
+use Rattle.history_items.specs.Items.{Item, prefix}
+use Rattle.history_items.specs.Late.{StandsIn}
 use Rattle.interval_fills.specs.Intervals.{rows_of_interval, interval_start, interval_end, NoRowSince}
 use Rattle.interval_fills.proofs.Times.{in_interval, around}
 

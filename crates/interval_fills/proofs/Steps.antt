@@ -10,12 +10,12 @@ use Rattle.arch_types.specs.declared.inserted.Installed.{Installed}
 use Rattle.arch_types.specs.declared.inserted.Installed.TheVariants as became
 use Rattle.arch_types.specs.declared.row.Row.{Row}
 use Rattle.arch_types.specs.History.{IsHistory}
-use Rattle.archive_core.specs.declared.fills.Fill.{Fill}
-use Rattle.archive_core.specs.declared.fills.Fill.TheVariants.{Begun, Done, Freed, Fault}
-use Rattle.archive_core.specs.Items.{Item}
-use Rattle.archive_core.specs.Fills.{is_same, base_in, base_after, in_flight, flight_after}
-use Rattle.archive_core.specs.FillList.{flights_of}
-use Rattle.archive_core.proofs.FillLists.{base_after_item, flight_after_item}
+use Rattle.history_items.specs.declared.fills.Fill.{Fill}
+use Rattle.history_items.specs.declared.fills.Fill.TheVariants.{Begun, Done, Freed, Fault}
+use Rattle.history_items.specs.Items.{Item}
+use Rattle.history_items.specs.Fills.{is_same, base_in, base_after, in_flight, flight_after}
+use Rattle.history_items.specs.FillList.{flights_of}
+use Rattle.history_items.proofs.FillLists.{base_after_item, flight_after_item}
 use Rattle.interval_fills.specs.Steps.{MachineState, state_of, Ingests, BeginsFill, InstallsFill, IsFillBase, freed, all_freed, given_up}
 use Rattle.interval_fills.specs.Invariant.{MachineInvariant, first_state}
 use Rattle.interval_fills.proofs.Growing.{base_grows, late_base}

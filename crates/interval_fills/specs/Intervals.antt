@@ -3,8 +3,8 @@ use Rattle.std.specs.Prelude.{ℕ, ◌<◌, ◌^◌, ℤ, pos, ◌+ℤ◌, ◌*�
 use Rattle.arch_types.specs.declared.interval.Interval.{Interval}
 use Rattle.arch_types.specs.declared.row.Row.{Row}
 use Rattle.arch_types.specs.Table.{range_of}
-use Rattle.archive_core.specs.Items.{Item, rows_in}
-use Rattle.archive_core.specs.Late.{StandsIn}
+use Rattle.history_items.specs.Items.{Item, rows_in}
+use Rattle.history_items.specs.Late.{StandsIn}
 
 -- the first time of an interval, in milliseconds, of which an interval has 2^exponent
 abbrev pub interval_start : ℕ → Interval → ℤ

@@ -2,8 +2,8 @@
 use Rattle.std.specs.Prelude.{◌≡◌, ℕ, [], Some}
 use Rattle.arch_types.specs.declared.interval.Interval.{Interval}
 use Rattle.arch_types.specs.History.{IsHistory}
-use Rattle.archive_core.specs.Items.{rows_in}
-use Rattle.archive_core.specs.Fills.{base_in, in_flight}
+use Rattle.history_items.specs.Items.{rows_in}
+use Rattle.history_items.specs.Fills.{base_in, in_flight}
 use Rattle.interval_fills.specs.Steps.{MachineState, IsFillBase, state_of}
 
 -- the rows are a history, and each base of a fill or of a flight is one that a fill of its interval may have

@@ -7,10 +7,10 @@ use Rattle.arch_types.specs.declared.inserted.Installed.{Installed}
 use Rattle.arch_types.specs.declared.row.Row.{Row}
 use Rattle.arch_types.specs.Interval.{interval_of}
 use Rattle.arch_types.specs.Table.{table_of}
-use Rattle.archive_core.specs.declared.fills.Fill.{Fill}
-use Rattle.archive_core.specs.Items.{Item, prefix, rows_in}
-use Rattle.archive_core.specs.Fills.{base_in, in_flight}
-use Rattle.archive_core.specs.Late.{IsLate}
+use Rattle.history_items.specs.declared.fills.Fill.{Fill}
+use Rattle.history_items.specs.Items.{Item, prefix, rows_in}
+use Rattle.history_items.specs.Fills.{base_in, in_flight}
+use Rattle.history_items.specs.Late.{IsLate}
 use Rattle.interval_fills.specs.Intervals.{rows_of_interval, NoRowSince}
 use Rattle.interval_fills.specs.Steps.{MachineState, Ingests, BeginsFill, InstallsFill, IsFillBase, filled, given_up, freed, all_freed, state_of}
 use Rattle.interval_fills.specs.Invariant.{MachineInvariant, first_state}

@@ -6,13 +6,13 @@ use Rattle.arch_types.specs.declared.inserted.Inserted.{Inserted}
 use Rattle.arch_types.specs.declared.inserted.Installed.{Installed}
 use Rattle.arch_types.specs.declared.inserted.Installed.TheVariants as became
 use Rattle.arch_types.specs.declared.row.Row.{Row}
-use Rattle.archive_core.specs.declared.fills.Fill.{Fill}
-use Rattle.archive_core.specs.declared.fills.Fill.TheVariants.{Begun, Done, Freed}
-use Rattle.archive_core.specs.Items.{Item, after_rows}
-use Rattle.archive_core.specs.Outcomes.{outcomes_of}
-use Rattle.archive_core.specs.Fills.{in_flight}
-use Rattle.archive_core.specs.FillList.{flights_of}
-use Rattle.archive_core.specs.Late.{IsLate, last_in}
+use Rattle.history_items.specs.declared.fills.Fill.{Fill}
+use Rattle.history_items.specs.declared.fills.Fill.TheVariants.{Begun, Done, Freed}
+use Rattle.history_items.specs.Items.{Item, after_rows}
+use Rattle.history_items.specs.Outcomes.{outcomes_of}
+use Rattle.history_items.specs.Fills.{in_flight}
+use Rattle.history_items.specs.FillList.{flights_of}
+use Rattle.history_items.specs.Late.{IsLate, last_in}
 use Rattle.interval_fills.specs.Intervals.{rows_of_interval, HasRowBelow, NoRowSince}
 
 -- the history, and what happened to fills

@@ -1,8 +1,8 @@
 // Fills of intervals: the rows of an interval, how a fill of it begins and ends, and what that leaves of lateness.
 //
 // A state is a history and a fill list (`MachineState`). Which base an interval's last fill has, and which intervals
-// are in flight, is what the fill list tells (archive_core). What an event does to a state is a relation between two
-// states (specs/Steps.antt): rows that come in, a fill that begins, one that is installed or given up. archive_machine
+// are in flight, is what the fill list tells (history_items). What an event does to a state is a relation between two
+// states (specs/Steps.antt): rows that come in, a fill that begins, one that is installed or given up. archive_core
 // puts the steps in a row; the store is to say of its calls which they are. That a fill's base is one that it may have
 // (`IsFillBase`) is asked beside `InstallsFill`, by who installs.
 //

@@ -13,13 +13,13 @@ use Rattle.arch_types.specs.Dump.{IsDump, BeginsWithNoPacket}
 use Rattle.arch_types.specs.History.{ingested}
 use Rattle.arch_types.specs.Limits.{limit_of}
 use Rattle.arch_types.specs.Packet.{IsPacket}
-use Rattle.archive_core.specs.declared.fills.Addition.TheVariants.{Rows}
-use Rattle.archive_core.specs.declared.fills.Fill.{Fill}
-use Rattle.archive_core.specs.declared.fills.Fill.TheVariants.{Fault}
-use Rattle.archive_core.specs.Fills.{pending_fault_of}
-use Rattle.archive_core.specs.Items.{Item}
-use Rattle.archive_core.specs.Outcomes.{fresh_of}
-use Rattle.archive_core.proofs.Outcomes.{fresh_added, ingested-append}
+use Rattle.history_items.specs.declared.fills.Addition.TheVariants.{Rows}
+use Rattle.history_items.specs.declared.fills.Fill.{Fill}
+use Rattle.history_items.specs.declared.fills.Fill.TheVariants.{Fault}
+use Rattle.history_items.specs.Fills.{pending_fault_of}
+use Rattle.history_items.specs.Items.{Item}
+use Rattle.history_items.specs.Outcomes.{fresh_of}
+use Rattle.history_items.proofs.Outcomes.{fresh_added, ingested-append}
 use Rattle.text_forms.specs.ClockTime.{IsClockTime}
 use Rattle.mdb_items.specs.Database.{IsDatabase}
 use Rattle.space_packet.specs.declared.dump.Why.{Why}

@@ -7,12 +7,12 @@ use Rattle.arch_types.specs.declared.refusal.Refusal.{Refusal}
 use Rattle.arch_types.specs.declared.refusal.Refusal.TheVariants.{DiskFault, Limit, OutOfMemory}
 use Rattle.arch_types.specs.declared.row.Row.{Row}
 use Rattle.arch_types.specs.History.{ingested}
-use Rattle.archive_core.specs.declared.fills.Addition.TheVariants.{Rows}
-use Rattle.archive_core.specs.declared.fills.Fill.{Fill}
-use Rattle.archive_core.specs.declared.fills.Fill.TheVariants.{Fault}
-use Rattle.archive_core.specs.Fills.{Rising, above, reopened}
-use Rattle.archive_core.specs.Outcomes.{fresh_of}
-use Rattle.archive_core.proofs.Outcomes.{fresh_added, length-ingested}
+use Rattle.history_items.specs.declared.fills.Addition.TheVariants.{Rows}
+use Rattle.history_items.specs.declared.fills.Fill.{Fill}
+use Rattle.history_items.specs.declared.fills.Fill.TheVariants.{Fault}
+use Rattle.history_items.specs.Fills.{Rising, above, reopened}
+use Rattle.history_items.specs.Outcomes.{fresh_of}
+use Rattle.history_items.proofs.Outcomes.{fresh_added, length-ingested}
 use Rattle.archive_store.specs.Entries.{Archive}
 use Rattle.archive_store.specs.StoreView.{StoreView, FaultInvariant, archive_of}
 use Rattle.load_session.specs.declared.batches.DumpSummary.{DumpSummary}

@@ -8,10 +8,10 @@ use Rattle.arch_types.specs.Arrivals.{arrivals, kept}
 use Rattle.arch_types.specs.Dump.{IsDump}
 use Rattle.arch_types.specs.Packet.{is_idle}
 use Rattle.arch_types.specs.Limits.{limit_of}
-use Rattle.archive_core.specs.declared.fills.Addition.TheVariants.{Rows}
-use Rattle.archive_core.specs.declared.fills.Fill.TheVariants.{Fault}
-use Rattle.archive_core.specs.Items.{after_rows}
-use Rattle.archive_core.specs.Outcomes.{fresh_of}
+use Rattle.history_items.specs.declared.fills.Addition.TheVariants.{Rows}
+use Rattle.history_items.specs.declared.fills.Fill.TheVariants.{Fault}
+use Rattle.history_items.specs.Items.{after_rows}
+use Rattle.history_items.specs.Outcomes.{fresh_of}
 use Rattle.container_extract.specs.Chain.{packet_name_of}
 use Rattle.space_packet.specs.Cut.{IsCut}
 use Rattle.space_packet.specs.Rest.{why_of}

@@ -1,7 +1,7 @@
 -- How a failed write is taken back at the end of a session.
 use Rattle.std.specs.Prelude.{◌≡◌, ◌⊎◌, ◌≤◌}
 use Rattle.arch_disk.specs.Disk.{Device, raised}
-use Rattle.archive_core.specs.Fills.{reopened}
+use Rattle.history_items.specs.Fills.{reopened}
 use Rattle.archive_store.specs.StoreView.{StoreView, FaultInvariant}
 
 -- A store whose disk failed was opened again: its failed write is as if it had never been made, or one more call of the disk failed.

@@ -7,10 +7,10 @@ use Rattle.arch_types.specs.declared.refusal.Refusal.TheVariants.{DiskFault, Lim
 use Rattle.arch_types.specs.declared.row.Row.{Row}
 use Rattle.arch_types.specs.Dump.{IsDump}
 use Rattle.arch_types.specs.Limits.{limit_of}
-use Rattle.archive_core.specs.declared.fills.Addition.TheVariants.{Rows}
-use Rattle.archive_core.specs.declared.fills.Fill.TheVariants.{Fault}
-use Rattle.archive_core.specs.Items.{Item, after_rows}
-use Rattle.archive_core.specs.Outcomes.{fresh_of}
+use Rattle.history_items.specs.declared.fills.Addition.TheVariants.{Rows}
+use Rattle.history_items.specs.declared.fills.Fill.TheVariants.{Fault}
+use Rattle.history_items.specs.Items.{Item, after_rows}
+use Rattle.history_items.specs.Outcomes.{fresh_of}
 use Rattle.archive_history.specs.Limits.{IsLimit}
 use Rattle.space_packet.specs.Rest.{why_of}
 use Rattle.archive_store.specs.Entries.{Archive}

@@ -2,7 +2,7 @@
 use Rattle.std.proofs.Common.{◌≡◌, ◌∙◌, ℕ, List, ◌++◌, length, Option, ap, subst}
 use Rattle.arch_types.specs.declared.ask.ReplayRequest.{ReplayRequest}
 use Rattle.arch_types.specs.declared.row.Row.{Row}
-use Rattle.archive_core.specs.Items.{Item, rows_in}
+use Rattle.history_items.specs.Items.{Item, rows_in}
 use Rattle.archive_store.specs.declared.head.Head.{Head}
 use Rattle.archive_store.specs.Replays.{IsReplayOpened}
 use Rattle.dump_lines.specs.Output.{IsBuffered}

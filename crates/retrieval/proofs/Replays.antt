@@ -9,7 +9,7 @@ use Rattle.arch_types.specs.declared.row.Row.{Row}
 use Rattle.arch_types.specs.History.{is_in_table}
 use Rattle.arch_types.specs.Order.{is_before, order_by, place_by}
 use Rattle.arch_types.specs.Table.{is_in_time_range}
-use Rattle.archive_core.specs.Items.{Item, rows_in}
+use Rattle.history_items.specs.Items.{Item, rows_in}
 use Rattle.archive_store.specs.declared.head.Head.{Head}
 use Rattle.archive_store.specs.Replays.{IsReplayOpened, packet_numbers, replay_asked, table_asked}
 use Rattle.mdb_items.specs.Database.{Database}

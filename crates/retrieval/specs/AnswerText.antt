@@ -6,7 +6,7 @@ use Rattle.arch_types.specs.declared.cell.Cell.{Cell}
 use Rattle.arch_types.specs.declared.row.Row.{Row}
 use Rattle.arch_types.specs.declared.refusal.Refusal.{Refusal}
 use Rattle.arch_types.specs.declared.refusal.Refusal.TheVariants.{UnknownParameter, BadRange}
-use Rattle.archive_core.specs.Items.{Item, rows_in}
+use Rattle.history_items.specs.Items.{Item, rows_in}
 use Rattle.mdb_items.specs.Database.{Database}
 use Rattle.container_extract.specs.Extraction.{values_of}
 use Rattle.replay_merge.specs.Replay.{truncated}

@@ -3,7 +3,7 @@ use Rattle.std.specs.Prelude.{ℕ, suc, List, [], ◌∷◌, ◌++◌, Option, N
 use Rattle.arch_types.specs.declared.ask.Ask.{Ask}
 use Rattle.arch_types.specs.declared.ask.Ask.TheVariants.{Values, Replay}
 use Rattle.arch_types.specs.declared.refusal.Refusal.{Refusal}
-use Rattle.archive_core.specs.Items.{Item}
+use Rattle.history_items.specs.Items.{Item}
 use Rattle.archive_store.specs.declared.head.Head.{Head}
 use Rattle.mdb_items.specs.Checks.{or_else}
 use Rattle.retrieval.specs.AnswerText.{request_refusal, answer_text}

@@ -6,7 +6,7 @@ use Rattle.arch_types.specs.declared.key.Key.{Key}
 use Rattle.arch_types.specs.declared.refusal.Refusal.{Refusal}
 use Rattle.arch_types.specs.declared.refusal.Refusal.TheVariants.{UnknownTable}
 use Rattle.arch_types.specs.declared.row.Row.{Row}
-use Rattle.archive_core.specs.Items.{Item, rows_in}
+use Rattle.history_items.specs.Items.{Item, rows_in}
 use Rattle.archive_store.specs.declared.head.Head.{Head}
 use Rattle.archive_store.specs.Replays.{replay_asked, table_asked}
 use Rattle.mdb_items.specs.declared.container.Container.{Container}

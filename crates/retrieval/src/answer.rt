@@ -3,7 +3,7 @@
 ghost use Rattle.std.specs.Prelude.{◌≡◌, ◌+◌, ◌≤◌, ◌++◌, IfOk, OnOk, None, length, reverse, true};
 ghost use Rattle.std.specs.List.{filter_map};
 ghost use Rattle.arch_types.specs.Table.{range_of};
-ghost use Rattle.archive_core.specs.Items.{rows_in};
+ghost use Rattle.history_items.specs.Items.{rows_in};
 ghost use Rattle.archive_store.specs.Plans.{rows_of_parts};
 ghost use Rattle.container_extract.specs.Extraction.{cell_of};
 ghost use Rattle.replay_merge.specs.Replay.{truncated};

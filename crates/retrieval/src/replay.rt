@@ -3,7 +3,7 @@
 ghost use Rattle.std.specs.Prelude.{◌≡◌, ◌<◌, ◌≤◌, ◌^◌, ◌++◌, [], OnOk, OnErr, IfOk, IsErr, None, length};
 ghost use Rattle.std.specs.Result.{result_err};
 ghost use Rattle.outer_traits.specs.Outside.{HasRisen, Stays, WritesSome};
-ghost use Rattle.archive_core.specs.Items.{rows_in};
+ghost use Rattle.history_items.specs.Items.{rows_in};
 ghost use Rattle.archive_store.specs.Replays.{IsReplayOpened};
 ghost use Rattle.dump_lines.specs.Output.{IsBuffered, PrintCounted};
 ghost use Rattle.replay_merge.specs.Cursor.{steps_at_most, rest_of};

@@ -6,9 +6,9 @@ use Rattle.arch_disk.specs.Image.{Image}
 use Rattle.arch_disk.specs.Disk.{Device, LeavesOnly, raised}
 use Rattle.arch_types.specs.declared.refusal.Refusal.{Refusal}
 use Rattle.arch_types.specs.declared.refusal.Refusal.TheVariants.{OutOfMemory}
-use Rattle.archive_core.specs.Fills.{unacknowledged_rows}
-use Rattle.archive_core.specs.declared.fills.Fill.{Fill}
-use Rattle.archive_core.specs.Items.{Item}
+use Rattle.history_items.specs.Fills.{unacknowledged_rows}
+use Rattle.history_items.specs.declared.fills.Fill.{Fill}
+use Rattle.history_items.specs.Items.{Item}
 use Rattle.disk_journal.specs.Format.{HoldsNone}
 use Rattle.disk_journal.specs.State.{IsUntouched as JournalLeft}
 use Rattle.mdb_items.specs.declared.fault.MdbFault.{MdbFault}

@@ -7,11 +7,11 @@ use Rattle.arch_disk.specs.Image.{Image}
 use Rattle.arch_disk.specs.Disk.{Device, LeavesOnly}
 use Rattle.arch_disk.proofs.Moments.{weakens}
 use Rattle.arch_types.specs.declared.row.Row.{Row}
-use Rattle.archive_core.specs.declared.fills.Addition.TheVariants.{Rows}
-use Rattle.archive_core.specs.declared.fills.Fill.{Fill}
-use Rattle.archive_core.specs.declared.fills.Fill.TheVariants.{Fault}
-use Rattle.archive_core.specs.Fills.{rows_of_faults, unacknowledged_rows}
-use Rattle.archive_core.specs.Items.{Item, items_of}
+use Rattle.history_items.specs.declared.fills.Addition.TheVariants.{Rows}
+use Rattle.history_items.specs.declared.fills.Fill.{Fill}
+use Rattle.history_items.specs.declared.fills.Fill.TheVariants.{Fault}
+use Rattle.history_items.specs.Fills.{rows_of_faults, unacknowledged_rows}
+use Rattle.history_items.specs.Items.{Item, items_of}
 use Rattle.archive_store.specs.declared.head.Head.{Head}
 use Rattle.disk_journal.specs.Format.{HasRecords}
 use Rattle.disk_journal.proofs.Once.{records_once}

@@ -1,7 +1,7 @@
 -- What `load` prints and reports.
 use Rattle.std.specs.Prelude.{◌-◌, ℕ, List, ◌++◌, length, codes, decimal, None}
 use Rattle.arch_types.specs.declared.ask.Ask.{Ask}
-use Rattle.archive_core.specs.Items.{Item}
+use Rattle.history_items.specs.Items.{Item}
 use Rattle.archive_store.specs.declared.head.Head.{Head}
 use Rattle.retrieval.specs.AskText.{asks_text}
 use Rattle.archive_cli.specs.declared.report.Report.{Report}

@@ -2,7 +2,7 @@
 use Rattle.std.specs.Prelude.{◌≡◌, ◌⊎◌, ℕ, List, Result, Option, IsSomeAnd}
 use Rattle.arch_types.specs.declared.ask.Ask.{Ask}
 use Rattle.arch_types.specs.declared.refusal.Refusal.{Refusal}
-use Rattle.archive_core.specs.Items.{Item}
+use Rattle.history_items.specs.Items.{Item}
 use Rattle.archive_store.specs.declared.head.Head.{Head}
 use Rattle.outer_traits.specs.Outside.{Stays}
 use Rattle.retrieval.specs.AskText.{asks_text}

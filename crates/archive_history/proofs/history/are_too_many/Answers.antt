@@ -1,5 +1,5 @@
 use Rattle.std.proofs.Common.{rules, ◌+◌, ◌<◌, ◌^◌, arith}
-use Rattle.archive_core.specs.Items.{is_row_of_interval}
+use Rattle.history_items.specs.Items.{is_row_of_interval}
 use Rattle.archive_history.proofs.Steps.{few_filter}
 use Rattle.archive_history.proofs.history.are_too_many.Goals as goal
 

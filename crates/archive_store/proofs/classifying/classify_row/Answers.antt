@@ -4,7 +4,7 @@ use Rattle.arch_types.specs.declared.inserted.Inserted.{Inserted}
 use Rattle.arch_types.specs.declared.inserted.Inserted.TheVariants.{New, Duplicate}
 use Rattle.arch_types.specs.declared.key.Key.{Key}
 use Rattle.arch_types.specs.declared.row.Row.{Row}
-use Rattle.archive_core.specs.Outcomes.{Says, fresh_of}
+use Rattle.history_items.specs.Outcomes.{Says, fresh_of}
 use Rattle.archive_store.specs.Batches.{arrival_row}
 use Rattle.archive_store.specs.Classifying.{IsClassified, NoneAbove}
 use Rattle.archive_store.specs.declared.classifying.TableKey.{TableKey}

@@ -1,7 +1,7 @@
 use Rattle.std.proofs.Common.{rules, ◌≡◌, ◌+◌, ◌<◌, ◌^◌, ◌++◌, ℕ, length, ap, subst, arith}
 use Rattle.std.proofs.lemmas.Option.{slice_get_within}
 use Rattle.arch_types.specs.declared.inserted.Inserted.TheVariants.{Duplicate}
-use Rattle.archive_core.specs.Outcomes.{Says}
+use Rattle.history_items.specs.Outcomes.{Says}
 use Rattle.archive_store.proofs.Outcomes.{says_known, says_fresh, says_new}
 use Rattle.archive_store.proofs.classifying.outcome.Goals as goal
 

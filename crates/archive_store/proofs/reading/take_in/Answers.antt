@@ -1,7 +1,7 @@
 use Rattle.std.proofs.Common.{◌≡◌, ◌++◌, [], List, ℕ, Option, None, Some, true, false, true≢false, refl, sym, ◌∙◌, ap, subst}
 use Rattle.std.specs.Option.{is_some}
 use Rattle.arch_types.specs.declared.row.Row.{Row}
-use Rattle.archive_core.specs.Items.{Item}
+use Rattle.history_items.specs.Items.{Item}
 use Rattle.field_codec.specs.declared.entry.Entry.{Entry}
 use Rattle.field_codec.specs.declared.entry.Entry.TheVariants as kinds
 use Rattle.field_codec.specs.Entries.{IsArchiveEntry}

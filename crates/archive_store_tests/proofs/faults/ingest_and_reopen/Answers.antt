@@ -4,8 +4,8 @@ use Rattle.arch_disk.specs.Image.{Image}
 use Rattle.arch_disk.specs.Disk.{Device, raised}
 use Rattle.arch_types.specs.declared.refusal.Refusal.{Refusal}
 use Rattle.arch_types.specs.declared.row.Row.{Row}
-use Rattle.archive_core.specs.Fills.{pending_fault_of}
-use Rattle.archive_core.specs.Items.{Item}
+use Rattle.history_items.specs.Fills.{pending_fault_of}
+use Rattle.history_items.specs.Items.{Item}
 use Rattle.archive_store.specs.Batches.{batch_rows}
 use Rattle.archive_store.specs.Calls.{IsIngestRefusal, IsStoreReopened, IsStoreReopenRefusal}
 use Rattle.archive_store.specs.Stands.{StandsFor}

@@ -2,7 +2,7 @@ use Rattle.std.proofs.Common.{rules, ◌≡◌, ◌∙◌, ◌+◌, ◌++◌, �
 use Rattle.std.specs.List.{filter_map}
 use Rattle.std.proofs.lemmas.Int.{to_z-of_z}
 use Rattle.arch_types.specs.Table.{range_of}
-use Rattle.archive_core.specs.Items.{rows_in}
+use Rattle.history_items.specs.Items.{rows_in}
 use Rattle.container_extract.specs.Extraction.{cell_of}
 use Rattle.replay_merge.specs.Replay.{truncated}
 use Rattle.retrieval.specs.AnswerText.{cell_list, is_full}

@@ -1,7 +1,7 @@
 use Rattle.std.proofs.Common.{◌≡◌, ◌+◌, ◌≤◌, ◌++◌, length}
 use Rattle.std.specs.List.{filter_map}
 use Rattle.arch_types.specs.Table.{range_of}
-use Rattle.archive_core.specs.Items.{rows_in}
+use Rattle.history_items.specs.Items.{rows_in}
 use Rattle.container_extract.specs.Extraction.{cell_of}
 use Rattle.replay_merge.specs.Replay.{truncated}
 use Rattle.retrieval.proofs.answer.first_cells.Given as goal

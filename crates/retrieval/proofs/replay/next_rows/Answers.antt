@@ -1,5 +1,5 @@
 use Rattle.std.proofs.Common.{arith}
-use Rattle.archive_core.specs.Items.{rows_in}
+use Rattle.history_items.specs.Items.{rows_in}
 use Rattle.retrieval.proofs.replay.next_rows.Goals as goal
 
 pub returns-in-Ok-clause-end : goal.returns-in-Ok-clause-end

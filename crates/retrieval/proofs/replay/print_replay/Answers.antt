@@ -1,7 +1,7 @@
 use Rattle.std.proofs.Common.{◌≡◌, ◌++◌, ◌<◌, arith, length, subst, sym}
 use Rattle.std.proofs.lemmas.Result.{err_from_is_err_and}
 use Rattle.outer_traits.specs.Outside.{WritesSome}
-use Rattle.archive_core.specs.Items.{rows_in}
+use Rattle.history_items.specs.Items.{rows_in}
 use Rattle.archive_store.specs.StoreView.{StoreView}
 use Rattle.dump_lines.specs.Output.{IsBuffered}
 use Rattle.dump_lines.proofs.LineBuffers.{buffered_front, buffered_none}

@@ -2,7 +2,7 @@ use Rattle.std.proofs.Common.{◌≡◌, ◌∙◌, ◌++◌, List, [], ap, arit
 use Rattle.std.proofs.lemmas.Result.{err_from_is_err_and}
 use Rattle.arch_types.specs.declared.row.Row.{Row}
 use Rattle.outer_traits.specs.Outside.{WritesSome}
-use Rattle.archive_core.specs.Items.{rows_in}
+use Rattle.history_items.specs.Items.{rows_in}
 use Rattle.archive_store.specs.declared.head.Head.{Head}
 use Rattle.archive_store.specs.StoreView.{StoreView}
 use Rattle.dump_lines.specs.Output.{IsBuffered}

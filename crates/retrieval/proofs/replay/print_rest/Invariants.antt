@@ -1,6 +1,6 @@
 use Rattle.std.proofs.Common.{◌≡◌, ◌+◌, ◌++◌, ◌<◌, length}
 use Rattle.outer_traits.specs.Outside.{Stays}
-use Rattle.archive_core.specs.Items.{rows_in}
+use Rattle.history_items.specs.Items.{rows_in}
 use Rattle.dump_lines.specs.Output.{IsBuffered}
 use Rattle.replay_merge.specs.Cursor.{steps_at_most, rest_of}
 use Rattle.retrieval.specs.ReplayText.{packet_lines}

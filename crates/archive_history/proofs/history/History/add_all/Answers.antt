@@ -1,7 +1,7 @@
 use Rattle.std.proofs.Common.{◌≡◌, ◌++◌, [], ◌∷◌, List, length, refl, sym, ◌∙◌, ap, subst, arith, append_assoc}
 use Rattle.arch_types.specs.declared.row.Row.{Row}
 use Rattle.arch_types.specs.History.{ingested, with_row}
-use Rattle.archive_core.specs.Items.{Item}
+use Rattle.history_items.specs.Items.{Item}
 use Rattle.archive_history.specs.Limits.{IsWithin}
 use Rattle.archive_history.proofs.Growing.{first_within, table_next, not_all, fresh_next}
 use Rattle.std.proofs.lemmas.List.{append-nil}

@@ -6,7 +6,7 @@ use Rattle.archive_history.specs.Limits.{interval_rows, IsWithin}
 use Rattle.archive_history.specs.TableSet.{HistoryView}
 use Rattle.archive_history.proofs.Counting.{together}
 use Rattle.archive_history.proofs.Intervals.{IsCounted, intervals_within}
-use Rattle.archive_core.specs.Items.{is_row_of_interval}
+use Rattle.history_items.specs.Items.{is_row_of_interval}
 use Rattle.archive_history.proofs.Steps.{all_take_more, few_filter}
 use Rattle.archive_history.proofs.Sums.{interval_rows-append}
 use Rattle.archive_history.proofs.history.History.passes_interval.Goals as goal

@@ -1,6 +1,6 @@
 use Rattle.std.proofs.Common.{◌≡◌, ◌<◌, length, sym, ◌∙◌, ap, arith}
 use Rattle.arch_types.specs.Table.{table_at_front}
-use Rattle.archive_core.specs.Items.{rows_in}
+use Rattle.history_items.specs.Items.{rows_in}
 use Rattle.yarch_table.specs.Stored.{TableView, seen_at}
 use Rattle.yarch_table.proofs.Histories.{seen_at-placed}
 use Rattle.archive_history.specs.TableSet.{HistoryView, table_in, no_table, items_in}

@@ -2,7 +2,7 @@ use Rattle.std.proofs.Common.{◌≡◌, ◌<◌, length, true, false, sym, ◌�
 use Rattle.std.specs.Prelude.{IfSome, IfNone, slice_get, Some}
 use Rattle.std.specs.List.{list_any}
 use Rattle.arch_types.specs.History.{has_key}
-use Rattle.archive_core.specs.Items.{Item}
+use Rattle.history_items.specs.Items.{Item}
 use Rattle.yarch_table.specs.Stored.{TableView, IsKeptAt, rows_of}
 use Rattle.yarch_table.specs.Placed.{placed}
 use Rattle.archive_history.specs.TableSet.{HistoryView, table_in, no_table, items_in, is_at_key}

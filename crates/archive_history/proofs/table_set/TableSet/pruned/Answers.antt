@@ -1,5 +1,5 @@
 use Rattle.std.proofs.Common.{◌≡◌, ◌<◌, length, sym, ◌∙◌, ap, arith}
-use Rattle.archive_core.specs.Items.{rows_in}
+use Rattle.history_items.specs.Items.{rows_in}
 use Rattle.yarch_table.specs.Stored.{TableView, rows_of}
 use Rattle.archive_history.specs.TableSet.{HistoryView, table_in, no_table, items_in, rows_in_table}
 use Rattle.archive_history.proofs.Partitioned.{rows_of-placed}

@@ -1,7 +1,7 @@
 use Rattle.std.proofs.Common.{◌≡◌, ◌<◌, length, take, w64, sym, ◌∙◌, ap, arith}
 use Rattle.std.proofs.lemmas.Int.{to_z-of_z}
 use Rattle.arch_types.specs.Table.{range_of}
-use Rattle.archive_core.specs.Items.{rows_in}
+use Rattle.history_items.specs.Items.{rows_in}
 use Rattle.yarch_table.specs.Stored.{TableView, seen_between}
 use Rattle.yarch_table.proofs.Histories.{seen_between-placed}
 use Rattle.archive_history.specs.TableSet.{HistoryView, table_in, no_table, items_in}

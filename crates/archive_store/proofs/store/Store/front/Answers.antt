@@ -1,6 +1,6 @@
 use Rattle.std.proofs.Common.{subst}
 use Rattle.std.specs.List.{AllByRecursion}
-use Rattle.archive_core.specs.Items.{rows_in}
+use Rattle.history_items.specs.Items.{rows_in}
 use Rattle.archive_store.specs.Entries.{IsArchivedRow}
 use Rattle.archive_store.specs.StoreView.{StoreView, CrashInvariant}
 use Rattle.archive_store.proofs.PlainLog.{crash_of}

@@ -1,9 +1,9 @@
 use Rattle.std.proofs.Common.{◌≡◌, ◌≢◌, ◌⊎◌, inl, ◌≤◌, ◌++◌, List, [], length, None, refl, sym, ◌∙◌, ap, subst, arith}
 use Rattle.arch_disk.specs.Disk.{LeavesOnly}
 use Rattle.arch_types.specs.declared.row.Row.{Row}
-use Rattle.archive_core.specs.Fills.{pending_fault_of}
-use Rattle.archive_core.specs.Items.{Item}
-use Rattle.archive_core.specs.Outcomes.{outcomes_of, fresh_of}
+use Rattle.history_items.specs.Fills.{pending_fault_of}
+use Rattle.history_items.specs.Items.{Item}
+use Rattle.history_items.specs.Outcomes.{outcomes_of, fresh_of}
 use Rattle.archive_store.specs.Batches.{batch_rows, IsBatch}
 use Rattle.archive_store.specs.Calls.{AreIngested, IsIngestRefusal}
 use Rattle.archive_store.specs.Entries.{archive, AreAdmitted}

@@ -1,6 +1,6 @@
 use Rattle.std.proofs.Common.{List, None, sym, subst, ap, ◌∙◌, length, map}
 use Rattle.arch_disk.specs.Image.{Image}
-use Rattle.archive_core.specs.declared.fills.Fill.{Fill}
+use Rattle.history_items.specs.declared.fills.Fill.{Fill}
 use Rattle.disk_journal.specs.Format.{HasRecords}
 use Rattle.disk_journal.proofs.Bodies.{length-extents}
 use Rattle.field_codec.specs.Spelling.{entry_octets}

@@ -1,10 +1,10 @@
 use Rattle.std.proofs.Common.{◌≡◌, ◌≤◌, ℕ, List, Option, None, sym, ◌∙◌, ap, subst}
 use Rattle.std.specs.Prelude.{IsTrue}
 use Rattle.arch_disk.specs.Disk.{LeavesOnly, raised}
-use Rattle.archive_core.specs.declared.fills.Fill.{Fill}
-use Rattle.archive_core.specs.Fills.{pending_fault_of, reopened, unacknowledged_rows}
-use Rattle.archive_core.specs.Items.{Item}
-use Rattle.archive_core.proofs.FillLists.{pending_fault_of-reopened}
+use Rattle.history_items.specs.declared.fills.Fill.{Fill}
+use Rattle.history_items.specs.Fills.{pending_fault_of, reopened, unacknowledged_rows}
+use Rattle.history_items.specs.Items.{Item}
+use Rattle.history_items.proofs.FillLists.{pending_fault_of-reopened}
 use Rattle.disk_journal.specs.State.{HasOnDisk as JournalHasOnDisk}
 use Rattle.disk_journal.specs.State.{unhealed_fault, count_of}
 use Rattle.disk_journal.proofs.Calls.{healed_on, heal_failed_on, heal_crash_on, heal_refusal_failed}

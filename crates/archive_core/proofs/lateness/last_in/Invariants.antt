@@ -1,0 +1,6 @@
+use Rattle.std.proofs.Common.{◌≡◌, take}
+use Rattle.history_items.specs.Late.{last_in}
+use Rattle.archive_core.proofs.lateness.last_in.Given as goal
+
+abbrev pub invariant-loop-i : goal.invariant-loop-i
+invariant-loop-i l = l.last ≡ last_in 22 l.interval (take l.i l.rows)

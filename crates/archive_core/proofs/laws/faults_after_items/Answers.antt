@@ -1,5 +1,0 @@
-use Rattle.archive_core.proofs.FillLists.{rows_of_faults-append, pending_fault_of-append}
-use Rattle.archive_core.proofs.laws.faults_after_items.Goals as goal
-
-pub returns : goal.returns
-returns c = λ fills more. (rows_of_faults-append fills more, pending_fault_of-append fills more)

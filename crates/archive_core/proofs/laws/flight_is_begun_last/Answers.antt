@@ -1,5 +1,0 @@
-use Rattle.archive_core.proofs.LastSaid.{flight_is_begun_last}
-use Rattle.archive_core.proofs.laws.flight_is_begun_last.Goals as goal
-
-pub returns : goal.returns
-returns c = flight_is_begun_last

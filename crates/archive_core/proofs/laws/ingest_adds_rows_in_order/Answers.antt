@@ -1,6 +1,0 @@
-use Rattle.archive_core.proofs.Outcomes.{fresh_added, fresh_sublist}
-use Rattle.archive_core.specs.Outcomes.{fresh_of}
-use Rattle.archive_core.proofs.laws.ingest_adds_rows_in_order.Goals as goal
-
-pub returns : goal.returns
-returns c = λ history rows. (fresh_of history rows, fresh_added history rows, fresh_sublist history rows)

@@ -1,0 +1,144 @@
+//! Fills that begin and end.
+
+ghost use Rattle.std.specs.Prelude.{◌≡◌, ◌≤◌, ◌↔◌, ◌++◌, ◌∷◌, [], List, length, take, true, Some, IfOk, IfSome, IfNone, OnOk, OnErr};
+ghost use Rattle.std.specs.List.{list_any};
+ghost use Rattle.history_items.specs.Items.{Item, is_row_of_interval};
+ghost use Rattle.history_items.specs.Late.{last_in};
+ghost use Rattle.archive_core.specs.Replies.{RepliesToAbandon, RepliesToBegin, RepliesToInstall};
+ghost use Rattle.interval_fills.specs.Intervals.{NoRowSince};
+ghost use Rattle.interval_fills.specs.Steps.{InstallsFill, IsFillBase, freed, state_of};
+
+use crate::lateness::{in_flight, last_in, next_to_fill};
+use crate::ordered::{is_row_of_interval, rows_of_interval};
+use crate::reply::Reply;
+use arch_types::inserted::Installed;
+use arch_types::interval::Interval;
+use arch_types::row::Row;
+use history_items::fills::Fill;
+use std::alloc::{AllocError, Global};
+
+/// Notes an item of the fill list. Refused for want of memory, the list is as it was.
+fn note(fills: &mut Vec<Fill>, item: Fill) -> Result<(), AllocError>
+    ensures ok { OnOk result (fills.new.items ≡ fills.old.items ++ item ∷ []) }
+    ensures err { OnErr result (fills.new.items ≡ fills.old.items) }
+{
+    fills.push(item)?;
+    Ok(())
+}
+
+/// Notes that an interval's flight ended without a fill, where there is one. Refused for want of memory, the list is as it was.
+fn free(fills: &mut Vec<Fill>, interval: Interval) -> Result<(), AllocError>
+    ensures ok { OnOk result (fills.new.items ≡ freed interval fills.old.items) }
+    ensures err { OnErr result (fills.new.items ≡ fills.old.items) }
+{
+    match in_flight(fills.as_slice(), interval) {
+        None => Ok(()),
+        Some(_) => note(fills, Fill::Freed { interval }),
+    }
+}
+
+/// The next task, where some late interval is free. Refused for want of memory, the list is as it was.
+pub(crate) fn begin(alloc: Global, rows: &[Row], fills: &mut Vec<Fill>) -> Result<Reply, AllocError>
+    ensures reply { IfOk result (λ reply.
+        RepliesToBegin 22 (state_of rows.now fills.old.items) reply (state_of rows.now fills.new.items)) }
+    ensures err { OnErr result (fills.new.items ≡ fills.old.items) }
+{
+    let Some(interval) = next_to_fill(rows, fills.as_slice()) else {
+        return Ok(Reply::NoTask);
+    };
+    let base = rows.len() as u64;
+    let of_interval = rows_of_interval(alloc, rows, interval)?;
+    note(fills, Fill::Begun { interval, base })?;
+    Ok(Reply::Task {
+        interval,
+        base,
+        rows: of_interval,
+    })
+}
+
+/// Whether a row of an interval is among these.
+fn has_row(rows: &[Row], interval: Interval) -> bool
+    ensures { result ≡ list_any (is_row_of_interval 22 interval) rows.now }
+{
+    rows.iter().any(|row| is_row_of_interval(row, interval))
+}
+
+/// Whether a row of an interval is among the first so many.
+fn has_row_below(rows: &[Row], interval: Interval, front: usize) -> bool
+    requires { front ≤ length rows.now }
+    ensures { result ≡ list_any (is_row_of_interval 22 interval) (take front rows.now) }
+{
+    let (first, _) = rows.split_at(front);
+    has_row(first, interval)
+}
+
+/// Whether a fill of an interval may have a base: it isn't above the history's length, and a row of the interval stands below it.
+fn is_fill_base(rows: &[Row], interval: Interval, base: u64) -> bool
+    ensures { (result ≡ true) ↔ IsFillBase 22 interval base rows.now }
+{
+    let base = base as usize;
+    base <= rows.len() && has_row_below(rows, interval, base)
+}
+
+/// The position of an interval's last row, where it stands at or after a base.
+fn last_since(rows: &[Row], interval: Interval, base: u64) -> Option<u64>
+    ensures some { IfSome result (λ last. (base ≤ last) × (last_in 22 interval rows.now ≡ Some last)) }
+    ensures none { IfNone result (NoRowSince 22 interval base rows.now) }
+{
+    match last_in(rows, interval) {
+        None => None,
+        Some(last) => { if base <= last { Some(last) } else { None } }
+    }
+}
+
+/// What becomes of a fill. Refused for want of memory, the list is as it was.
+fn install(
+    rows: &[Row],
+    fills: &mut Vec<Fill>,
+    interval: Interval,
+    base: u64,
+) -> Result<Installed, AllocError>
+    ensures became { IfOk result (λ became.
+        InstallsFill 22 (state_of rows.now fills.old.items) interval base became (state_of rows.now fills.new.items)) }
+    ensures err { OnErr result (fills.new.items ≡ fills.old.items) }
+{
+    match last_since(rows, interval, base) {
+        Some(position) => {
+            free(fills, interval)?;
+            Ok(Installed::Stale { position })
+        }
+        None => {
+            note(fills, Fill::Done { interval, base })?;
+            Ok(Installed::Done)
+        }
+    }
+}
+
+/// The reply to a fill that is there. Refused for want of memory, the list is as it was.
+pub(crate) fn installed(
+    rows: &[Row],
+    fills: &mut Vec<Fill>,
+    interval: Interval,
+    base: u64,
+) -> Result<Reply, AllocError>
+    ensures reply { IfOk result (λ reply.
+        RepliesToInstall 22 (state_of rows.now fills.old.items) interval base reply
+        (state_of rows.now fills.new.items)) }
+    ensures err { OnErr result (fills.new.items ≡ fills.old.items) }
+{
+    if !is_fill_base(rows, interval, base) {
+        return Ok(Reply::Void);
+    }
+    let became = install(rows, fills, interval, base)?;
+    Ok(Reply::Installed(became))
+}
+
+/// The reply to a task that is given up. Refused for want of memory, the list is as it was.
+pub(crate) fn abandoned(fills: &mut Vec<Fill>, interval: Interval) -> Result<Reply, AllocError>
+    ensures reply { IfOk result (λ reply. (history : List Item) →
+        RepliesToAbandon (state_of history fills.old.items) interval reply (state_of history fills.new.items)) }
+    ensures err { OnErr result (fills.new.items ≡ fills.old.items) }
+{
+    free(fills, interval)?;
+    Ok(Reply::Abandoned)
+}

@@ -1,0 +1,142 @@
+//! Rows of a table.
+
+ghost use Rattle.std.specs.Prelude.{◌≡◌, IfOk, filter, nat_eq};
+ghost use Rattle.std.specs.List.{filter_map, list_any};
+ghost use Rattle.mdb_items.specs.Texts.{place_of};
+ghost use Rattle.replay_merge.specs.Replay.{has_listed_name, is_listed_name, truncated};
+ghost use Rattle.archive_core.specs.Asks.{packet_name_numbered, names_asked, replayed_rows, table_numbered};
+ghost use Rattle.archive_core.specs.Replies.{RepliesToReplay};
+
+use crate::answers::text_of;
+use crate::ordered::range_of;
+use crate::reply::Reply;
+use arch_types::ask::ReplayRequest;
+use arch_types::name::{Name, Names};
+use arch_types::refusal::Refusal;
+use arch_types::row::{Row, Rows};
+use item_list::Items;
+use mdb_model::Mdb;
+use std::alloc::{AllocError, Global};
+
+/// The number of the table that a request names.
+fn table_numbered(tables: &Names, request: &ReplayRequest) -> Option<usize>
+    ensures { result ≡ table_numbered tables.now request.now }
+{
+    table_number(tables, &request.table)
+}
+
+/// The place of a table's name.
+fn table_number(tables: &Names, name: &Name) -> Option<usize>
+    ensures { result ≡ place_of name.now tables.now }
+{
+    for (i, table) in tables.as_slice().iter().enumerate() {
+        if name.as_slice() == table.as_slice() {
+            return Some(i);
+        }
+    }
+    None
+}
+
+/// The numbers of those packet names that the database has.
+fn numbers_of(alloc: Global, mdb: &Mdb, names: &Names) -> Result<Items<u16>, AllocError>
+    ensures { IfOk result (λ numbers. numbers ≡ filter_map (packet_name_numbered mdb.now) names.now) }
+{
+    let mut numbers = Items::new(alloc);
+    for name in names.as_slice() {
+        if let Some(number) = mdb.container_number(text_of(name)) {
+            numbers.push(number)?;
+        }
+    }
+    Ok(numbers)
+}
+
+/// The same, if names are asked for.
+fn names_asked(
+    alloc: Global,
+    mdb: &Mdb,
+    names: &Option<Names>,
+) -> Result<Option<Items<u16>>, AllocError>
+    ensures { IfOk result (λ numbers. numbers ≡ names_asked mdb.now names.now) }
+{
+    match names {
+        Some(names) => Ok(Some(numbers_of(alloc, mdb, names)?)),
+        None => Ok(None),
+    }
+}
+
+/// Whether a number is among others.
+fn is_among(number: u16, numbers: &[u16]) -> bool
+    ensures { result ≡ list_any (nat_eq number) numbers.now }
+{
+    numbers.iter().any(|other| number == *other)
+}
+
+/// Whether a packet name is among those listed, or there is no list.
+fn is_listed_name(names: &Option<Items<u16>>, pname: u16) -> bool
+    ensures { result ≡ is_listed_name names.now pname }
+{
+    match names {
+        None => true,
+        Some(names) => is_among(pname, names.as_slice()),
+    }
+}
+
+/// Leaves the rows whose packet name is among those listed.
+fn keep_listed(rows: &mut Vec<Row>, names: &Option<Items<u16>>)
+    ensures { rows.new.items ≡ filter (has_listed_name names.now) rows.old.items }
+{
+    rows.retain(|row| is_listed_name(names, row.pname));
+}
+
+/// Leaves the first so many rows, or all.
+fn keep_first(rows: &mut Vec<Row>, limit: Option<u64>)
+    ensures { rows.new.items ≡ truncated limit rows.old.items }
+{
+    match limit {
+        None => {}
+        Some(limit) => rows.truncate(limit as usize),
+    }
+}
+
+/// The rows of a table that a request asks.
+fn replayed_rows(
+    alloc: Global,
+    mdb: &Mdb,
+    table: usize,
+    rows: &[Row],
+    request: &ReplayRequest,
+) -> Result<Rows, AllocError>
+    ensures { IfOk result (λ found. found ≡ replayed_rows mdb.now request.now table rows.now) }
+{
+    let names = names_asked(alloc, mdb, &request.names)?;
+    let mut found = range_of(alloc, rows, table, request.from, request.to)?;
+    keep_listed(&mut found, &names);
+    keep_first(&mut found, request.limit);
+    Ok(Rows::from_vec(found))
+}
+
+/// The reply to a request for the rows of a table over a history. The one error is want of memory.
+pub(crate) fn replayed(
+    alloc: Global,
+    tables: &Names,
+    mdb: &Mdb,
+    rows: &[Row],
+    request: &ReplayRequest,
+) -> Result<Reply, AllocError>
+    ensures { IfOk result (RepliesToReplay tables.now mdb.now rows.now request.now) }
+{
+    let Some(table) = table_numbered(tables, request) else {
+        let name = request.table.copy()?;
+        return Ok(Reply::Refused(Refusal::UnknownTable { name }));
+    };
+    if request.from > request.to {
+        return Ok(Reply::Refused(Refusal::BadRange {
+            from: request.from,
+            to: request.to,
+        }));
+    }
+    Ok(Reply::Replayed {
+        front: rows.len() as u64,
+        rows: replayed_rows(alloc, mdb, table, rows, request)?,
+    })
+}

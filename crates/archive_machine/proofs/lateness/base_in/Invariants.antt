@@ -1,7 +1,0 @@
-use Rattle.std.proofs.Common.{◌≡◌, drop}
-use Rattle.std.specs.Prelude.{fold}
-use Rattle.archive_core.specs.Fills.{base_after, base_in}
-use Rattle.archive_machine.proofs.lateness.base_in.Given as goal
-
-abbrev pub invariant-loop-fill : goal.invariant-loop-fill
-invariant-loop-fill l = fold (base_after l.interval) l.base (drop l.fill-index l.fills) ≡ base_in l.interval l.fills

@@ -1,5 +1,0 @@
-use Rattle.archive_machine.proofs.Least.{IsLeastSoFar}
-use Rattle.archive_machine.proofs.lateness.next_to_fill.Given as goal
-
-abbrev pub invariant-loop-i : goal.invariant-loop-i
-invariant-loop-i l = IsLeastSoFar 22 l.rows l.fills l.i l.least

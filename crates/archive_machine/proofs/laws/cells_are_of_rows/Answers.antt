@@ -1,5 +1,0 @@
-use Rattle.archive_machine.proofs.Cells.{of_rows}
-use Rattle.archive_machine.proofs.laws.cells_are_of_rows.Goals as goal
-
-pub returns : goal.returns
-returns c = of_rows

@@ -1,5 +1,0 @@
-use Rattle.archive_machine.proofs.Cells.{below}
-use Rattle.archive_machine.proofs.laws.cells_are_those_below.Goals as goal
-
-pub returns : goal.returns
-returns c = below

@@ -1,7 +1,0 @@
-pub mod Cells
-pub mod Asks
-pub mod Replies
-pub mod Machine
-pub mod Core
-pub mod RowTests
-pub mod Laws

@@ -1,0 +1,36 @@
+-- The intervals in flight as a list, and a fill list with its places.
+use Rattle.std.specs.Prelude.{◌≡◌, ℕ, ◌+◌, ◌-◌, ◌≤◌, List, [], ◌∷◌, ◌++◌, fold, filter, not, vec_len, vec_capacity}
+use Rattle.std.specs.Global.{Vec}
+use Rattle.arch_types.specs.declared.interval.Interval.{Interval}
+use Rattle.history_items.specs.declared.fills.Fill.{Fill}
+use Rattle.history_items.specs.declared.fills.Fill.TheVariants.{Begun, Done, Freed, Fault}
+use Rattle.history_items.specs.Fills.{is_same}
+
+-- the flights but those of this interval
+abbrev pub flights_without : Interval → List Interval → List Interval
+flights_without interval flights = filter (λ flight. not (is_same interval flight)) flights
+
+-- the flights after one item more: a flight begins behind the others, and ends wherever it stands
+abbrev pub flights_after : List Interval → Fill → List Interval
+flights_after flights (Begun i b) = flights ++ i ∷ []
+flights_after flights (Done i b) = flights_without i flights
+flights_after flights (Freed i) = flights_without i flights
+flights_after flights (Fault count wrote unacknowledged) = flights
+
+-- the intervals in flight, in the order in which their flights began
+abbrev pub flights_of : List Fill → List Interval
+flights_of fills = fold flights_after [] fills
+
+-- the items, and how many more may be noted without memory, beside the end of each flight
+pub record FillListView : Type 0 where
+  pub items : List Fill
+  pub room : ℕ
+
+-- what contracts see of items and flights
+abbrev pub fill_list_of : Vec Fill → Vec Interval → FillListView
+fill_list_of items flights = record { items = items.items; room = vec_capacity items - vec_len items - vec_len flights }
+
+-- the flights are those of the items, and behind these is a place for the end of each flight
+pub record KeepsPlaces (items : Vec Fill) (flights : Vec Interval) : Type 0 where
+  pub flights_are : flights.items ≡ flights_of items.items
+  pub places : vec_len items + vec_len flights ≤ vec_capacity items

@@ -1,0 +1,7 @@
+pub mod Places
+pub mod Items
+pub mod Outcomes
+pub mod Fills
+pub mod FillList
+pub mod Late
+pub mod Laws
