@@ -17,3 +17,7 @@ pub mod CellOrder
 pub mod SegmentCells
 pub mod Calibrated
 pub mod Extracted
+pub mod Known
+pub mod Decoded
+pub mod Placed
+pub mod Asked

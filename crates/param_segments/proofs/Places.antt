@@ -10,7 +10,7 @@ use Rattle.std.proofs.lemmas.Map.Keys.{IsDistinct-head, IsDistinct-tail}
 use Rattle.container_extract.proofs.Positions.{position_cons}
 use Rattle.mdb_items.proofs.Places.{position-map}
 use Rattle.param_segments.specs.declared.group.Group.{Group}
-use Rattle.param_segments.specs.GroupContents.{GroupContents, closed, first_contents, group_contents, with_set_row, with_values}
+use Rattle.param_segments.specs.GroupContents.{GroupContents, segment_closed, first_contents, group_contents, with_set_row, with_values}
 use Rattle.param_segments.specs.Rows.{SetRow, row_parameters, row_raws}
 
 abbrev same_group : List ℕ → GroupContents → Bool
@@ -126,7 +126,7 @@ length-parameters (g ∷ gs) = ap suc (length-parameters gs)
 
 -- a row more of a group, or none, leaves the group's parameters
 pub same_parameters : {E : Type 0} (result : Result (Unit {0}) E) (old new : Group) (key : Key) (raws : List ℤ) → OnOk result (group_contents new ≡ with_values (group_contents old) key raws) → OnErr result (group_contents new ≡ group_contents old) → new.parameters.items ≡ old.parameters.items
-same_parameters (Ok u) old new key raws ok err = ap (λ (c : GroupContents). c.parameters) ok ∙ room_parameters (length old.keys.items == 4096) (closed (group_contents old)) (group_contents old) refl
+same_parameters (Ok u) old new key raws ok err = ap (λ (c : GroupContents). c.parameters) ok ∙ room_parameters (length old.keys.items == 4096) (segment_closed (group_contents old)) (group_contents old) refl
 same_parameters (Err e) old new key raws ok err = ap (λ (c : GroupContents). c.parameters) err
 
 -- the numbers of the groups, with a group more or as before

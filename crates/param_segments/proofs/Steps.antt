@@ -12,7 +12,7 @@ use Rattle.param_segments.proofs.Inverse.{AreOf, flat, raws_fit, pieces_joined, 
 use Rattle.param_segments.proofs.Grouped.{is_of, filter_of, groups_distinct, itself, has_group}
 use Rattle.param_segments.specs.Rows.{SetRow, row_parameters, row_raws}
 use Rattle.param_segments.specs.Groups.{is_of_group, with_group, groups_of, Pieces, with_next_row, cut_rows, with_raws, raw_columns, segment_of}
-use Rattle.param_segments.specs.GroupContents.{GroupContents, columns_by_rows, segment_by_rows, with_values, with_open_row, closed, first_contents, with_set_row, contents_of, all_contents}
+use Rattle.param_segments.specs.GroupContents.{GroupContents, columns_by_rows, segment_by_rows, with_values, with_open_row, segment_closed, first_contents, with_set_row, contents_of, all_contents}
 use Rattle.param_segments.specs.Octets.{starts_from}
 use Rattle.segment_codec.specs.Segment.{segment_octets}
 use Rattle.segment_codec.specs.declared.segment.Segment.{Segment}
@@ -66,7 +66,7 @@ starts_append at (x ∷ xs) ys =
 
 -- a row more, where it's known whether the open segment is full
 abbrev stepped : List ℕ → List Segment → List Key → List ℤ → SetRow → Bool → GroupContents
-stepped g full keys raws t b = with_open_row (if b then closed (kept g full keys raws) else kept g full keys raws) t.key (row_raws t)
+stepped g full keys raws t b = with_open_row (if b then segment_closed (kept g full keys raws) else kept g full keys raws) t.key (row_raws t)
 
 kept_push : (g : List ℕ) (full : List Segment) (s : Segment) (keys : List Key) (raws : List ℤ) →
     kept g (full ++ s ∷ []) keys raws ≡ (let c : GroupContents = record { parameters = g; octets = flat_map segment_octets full ++ segment_octets s; starts = starts_from 0 full ++ length (flat_map segment_octets full) ∷ []; keys = keys; raws = raws } in c)

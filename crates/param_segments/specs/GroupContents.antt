@@ -51,12 +51,12 @@ pub record AreContents (c : GroupContents) : Type 0 where
 -- ---- a row more
 
 -- what a group keeps once its open segment is closed
-abbrev pub closed : GroupContents → GroupContents
-closed c = record { parameters = c.parameters; octets = c.octets ++ segment_octets (open_segment c); starts = c.starts ++ length c.octets ∷ []; keys = []; raws = [] }
+abbrev pub segment_closed : GroupContents → GroupContents
+segment_closed c = record { parameters = c.parameters; octets = c.octets ++ segment_octets (open_segment c); starts = c.starts ++ length c.octets ∷ []; keys = []; raws = [] }
 
 -- an open segment of 4,096 rows is closed before the next row
 abbrev pub with_room : GroupContents → GroupContents
-with_room c = if length c.keys == 4096 then closed c else c
+with_room c = if length c.keys == 4096 then segment_closed c else c
 
 -- a row more of the open segment
 abbrev pub with_open_row : GroupContents → Key → List ℤ → GroupContents

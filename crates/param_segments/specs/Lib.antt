@@ -5,4 +5,6 @@ pub mod Octets
 pub mod Cells
 pub mod Extracted
 pub mod GroupContents
+pub mod RowPlaces
 pub mod Laws
+pub mod Plans

@@ -3,7 +3,7 @@
 ghost use Rattle.std.specs.Prelude.{◌≡◌, ◌+◌, ◌*◌, ◌<◌, ◌≤◌, ◌++◌, ◌∷◌, [], length, map, nat_eq, vec_len, vec_capacity, IfOk, OnOk, OnErr};
 ghost use lib.Pointwise.{pointwise};
 ghost use Rattle.segment_codec.specs.Segment.{IsSegment, segment_octets};
-ghost use Rattle.param_segments.specs.GroupContents.{AreContents, closed, columns_by_rows, every_nth, first_contents, group_contents, group_octets, group_starts, segment_by_rows, with_room, with_values};
+ghost use Rattle.param_segments.specs.GroupContents.{AreContents, segment_closed, columns_by_rows, every_nth, first_contents, group_contents, group_octets, group_starts, segment_by_rows, with_room, with_values};
 ghost use Rattle.param_segments.specs.Rows.{set_row};
 
 use arch_types::key::Key;
@@ -202,7 +202,7 @@ impl Group {
     /// Closes the open segment. Refused for want of memory, it leaves the group as it was.
     fn close(&mut self, alloc: Global) -> Result<(), AllocError>
         requires { AreContents (group_contents self.old) }
-        ensures closed { OnOk result (group_contents self.new ≡ closed (group_contents self.old)) }
+        ensures closed { OnOk result (group_contents self.new ≡ segment_closed (group_contents self.old)) }
         ensures kept { OnErr result (group_contents self.new ≡ group_contents self.old) }
         ensures emptied { OnOk result ((vec_len self.new.keys ≡ 0) × (vec_len self.new.raws ≡ 0)) }
         ensures room { (vec_capacity self.new.keys ≡ vec_capacity self.old.keys) ×

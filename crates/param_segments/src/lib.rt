@@ -3,9 +3,10 @@
 //! Stands for: rows, each a key and the raw values of its packet in the order of extraction (`AreSetRows` of
 //! specs/Rows.antt). Groups, pieces of 4,096 rows and segments are in the spelling alone: `set_of` of specs/Groups.antt
 //! says which segments rows have, so rows have one spelling. A `SetBuilder` takes rows one after the other and gives
-//! their set whenever it's asked; `SegSet::build` extracts the rows of an interval and builds over them; `cells` is
-//! what an extraction of these rows would give of a parameter, read from the columns. Called by whoever fills an
-//! interval, and by retrievals, whose `Plan` and its parts stand here.
+//! their set whenever it's asked; `SegSet::build` extracts the rows of an interval and builds over them; `from_bytes`
+//! reads the rows that octets hold, builds over them, and accepts the octets that this spells; `cells` is what an
+//! extraction of these rows would give of a parameter, read from the columns. Called by whoever fills an interval, and
+//! by retrievals, whose `Plan` and its parts stand here.
 //!
 //! The one idea of the proof: the rows of the segments of rows are these rows (`laws::set_has_its_rows`). So what a
 //! parameter's columns give, group by group, are its cells in some order, and by their keys in the one order
@@ -15,16 +16,21 @@
 //! A rule more of the spelling wants, together, its line in `set_of`, its step in `with_values`, and the laws anew.
 #![tactic(auto)]
 
+mod asking;
 mod build;
 mod builder;
 mod cells;
+mod decoding;
 mod group;
 mod group_numbers;
 pub mod laws;
 mod plan;
 mod raw_cell;
+mod reading;
+mod row_place;
 mod set;
 
 pub use builder::SetBuilder;
 pub use plan::{Part, Parts, Plan};
+pub use segment_codec::NotASegment;
 pub use set::SegSet;

@@ -23,6 +23,20 @@ pub enum Part {
     },
 }
 
+impl Part {
+    ghost use Rattle.std.specs.Prelude.{◌≡◌};
+    ghost use Rattle.param_segments.specs.Plans.{part_interval};
+
+    /// The interval that it is of.
+    pub fn interval(&self) -> Interval
+        ensures { result.0 ≡ part_interval self.now }
+    {
+        match self {
+            Part::Set { interval, .. } | Part::Rows { interval, .. } => *interval,
+        }
+    }
+}
+
 /// Parts in the order of their intervals.
 pub type Parts = Items<Part>;
 

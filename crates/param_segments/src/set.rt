@@ -44,6 +44,14 @@ impl SegSet {
         SegSet { octets, starts }
     }
 
+    /// The same set over other octets that spell it, in place of its own.
+    pub(crate) fn over(self, octets: Octets) -> SegSet
+        requires { octets ≡ set_octets self }
+        ensures { result ≡ self }
+    {
+        SegSet::of_spelling(octets, self.starts)
+    }
+
     /// The cells of a parameter, in the order of their keys: what an extraction of the rows' packets gives of it. The
     /// database is one of which the set's values are, as that by which it was built or read.
     pub fn cells(&self, alloc: Global, mdb: &Mdb, parameter: u16) -> Result<Cells, AllocError>

@@ -1,11 +1,13 @@
 -- Segments at places of octets.
 use Rattle.std.proofs.Common.{◌≡◌, ℕ, ◌+◌, ◌-◌, ◌≤◌, List, [], length, drop, Option, Some, None, inl, inr, refl, sym, ap, ◌∙◌, arith}
+use Rattle.std.specs.Int.{w16}
 use Rattle.std.proofs.lemmas.Bool.{cases_lt}
 use Rattle.std.proofs.lemmas.List.{drop_all, get_or-drop, length-append, length-drop}
 use Rattle.octet_fields.specs.declared.fault.DecodeError.{DecodeError}
 use Rattle.octet_fields.specs.declared.fault.DecodeError.TheVariants as fields
 use Rattle.octet_fields.specs.Answers.{Fails}
 use Rattle.octet_fields.specs.Exact.{IsOctets}
+use Rattle.octet_fields.specs.Reading.{counted_at, number_at}
 use Rattle.octet_fields.proofs.Exact.{some_is}
 use Rattle.segment_codec.specs.declared.fault.NotASegment.TheVariants.{OutOfMemory}
 use Rattle.segment_codec.specs.declared.segment.Segment.{Segment}
@@ -13,7 +15,7 @@ use Rattle.segment_codec.specs.Faults.{not_a_segment_by}
 use Rattle.segment_codec.specs.OneColumn.{column_in, column_of}
 use Rattle.segment_codec.specs.Segment.{HasSegmentAt, segment_at, segment_octets}
 use Rattle.segment_codec.proofs.Segments.{none_at_end, segment_exact}
-use Rattle.segment_codec.proofs.Skipped.{column_of_segment}
+use Rattle.segment_codec.proofs.Skipped.{column_of_segment, parameters_of_segment}
 
 -- what stands at a place is read there
 pub read_at : (octets front : List ℕ) (at : ℕ) (s : Segment) (has : HasSegmentAt octets at s) → front ≡ drop at octets → segment_at front ≡ Some (s, has.1)
@@ -54,3 +56,18 @@ is_memory octets front at s fields.Malformed has is fails =
 -- the column of a segment that stands at a place
 pub column_at : (octets front : List ℕ) (at parameter : ℕ) (s : Segment) → HasSegmentAt octets at s → front ≡ drop at octets → column_of parameter front ≡ Some (column_in parameter s)
 column_at octets front at parameter s has is = ap (column_of parameter) (is ∙ has.2) ∙ column_of_segment parameter s has.1 has.0
+
+-- the parameters of a segment that stands at a place are read there
+pub parameters_there : (octets front : List ℕ) (at : ℕ) (s : Segment) (has : HasSegmentAt octets at s) → front ≡ drop at octets → counted_at w16 (number_at w16) front ≡ Some (s.parameters, (parameters_of_segment s has.1 has.0).0)
+parameters_there octets front at s has is = ap (counted_at w16 (number_at w16)) (is ∙ has.2) ∙ (parameters_of_segment s has.1 has.0).1
+
+-- what was read are its parameters
+pub are_those : (octets front : List ℕ) (at : ℕ) (s : Segment) (read : List ℕ × List ℕ) → HasSegmentAt octets at s → front ≡ drop at octets → counted_at w16 (number_at w16) front ≡ Some read → read.0 ≡ s.parameters
+are_those octets front at s read has is given =
+    ap (λ (x : List ℕ × List ℕ). x.0) (some_is read (s.parameters, (parameters_of_segment s has.1 has.0).0) (sym given ∙ parameters_there octets front at s has is))
+
+-- where a segment stands, only memory can have been wanting for its parameters
+pub parameters_memory : (octets front : List ℕ) (at : ℕ) (s : Segment) (fault : DecodeError) → HasSegmentAt octets at s → front ≡ drop at octets → Fails fault (counted_at w16 (number_at w16) front) → not_a_segment_by fault ≡ OutOfMemory
+parameters_memory octets front at s fields.Memory has is fails = refl
+parameters_memory octets front at s fields.Malformed has is fails =
+    absurd (let bad : ◌≡◌ {A = Option (List ℕ × List ℕ)} None (Some (s.parameters, (parameters_of_segment s has.1 has.0).0)) = sym fails ∙ parameters_there octets front at s has is in cc)

@@ -113,6 +113,14 @@ column_of_segment q s rest is =
     let below : (j : ℕ) → position (λ p. p == q) ps ≡ Some j → j < length s.columns = λ j e. subst (λ (k : ℕ). j < k) (sym is.column_count) (position-Some (λ p. p == q) ps j 0 e).0 in
     rw (a0, parameters, a1, rows, a2) (place_cases s rest (position (λ p. p == q) ps) below is)
 
+-- the parameters of a segment are read alone
+pub parameters_of_segment : (s : Segment) (rest : List ℕ) → IsSegment s → (behind : List ℕ) × (counted_at w16 (number_at w16) (segment_octets s ++ rest) ≡ Some (s.parameters, behind))
+unfolding segment_octets
+parameters_of_segment s rest is =
+    let ps = s.parameters in
+    let tail = number w16 (length s.keys) ++ (key_column s.keys ++ flat_map raw_column s.columns) in
+    (tail ++ rest, ap (counted_at w16 (number_at w16)) (append_assoc (counted w16 (number w16) ps) tail rest) ∙ (exact_counted16 exact16).again ps (tail ++ rest) tt (is.few_parameters, is.parameters))
+
 -- one column more
 pub skip_more : (n rows i : ℕ) (rest after : List ℕ) (total : Option (List ℕ)) → i < n → column_end rows rest ≡ Some after → columns_end (n - i) rows rest ≡ total → columns_end (n - (i + 1)) rows after ≡ total
 skip_more n rows i rest after total lt h so_far =

@@ -37,5 +37,5 @@ abbrev pub unread_number : Pending → List ℕ → ℕ
 unread_number pending octets = pending.bits * 2 ^ (8 * length octets) + number_from_digits 8 octets
 
 -- a number was read from their front
-abbrev pub HasRead : ℕ → Pending → List ℕ → Pending → List ℕ → Type 0
-HasRead number pending octets next rest = number * 2 ^ unread_bits next rest + unread_number next rest ≡ unread_number pending octets
+abbrev pub HasUnpacked : ℕ → Pending → List ℕ → Pending → List ℕ → Type 0
+HasUnpacked number pending octets next rest = number * 2 ^ unread_bits next rest + unread_number next rest ≡ unread_number pending octets

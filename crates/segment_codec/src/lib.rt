@@ -4,8 +4,8 @@
 //! for each parameter. `IsSegment` of specs/Segment.antt says which segments the format admits by itself, and
 //! `segment_octets` what each is spelled as: `write_segment` gives just that, `read_segment` accepts these spellings
 //! and nothing else, from any octets and any place in them, and no spelling begins another (`laws`). `read_column`
-//! decodes the keys and one column alone. That times lie in an interval, and values in the width of a database's
-//! parameters, isn't asked here: a set of segments asks it.
+//! decodes the keys and one column alone, `read_parameters` the parameters alone. That times lie in an interval, and
+//! values in the width of a database's parameters, isn't asked here: a set of segments asks it.
 //!
 //! The one idea of the proof: what is read is a composition of exact readers (octet_fields); the code mirrors it. By
 //! hand are the leaves of this crate: the varint (proofs/Varints.antt), numbers of a width without gaps (Numbers and
@@ -33,6 +33,7 @@ mod writing;
 
 pub use fault::NotASegment;
 pub use one_column::{ParameterColumn, read_column};
+pub use parameters::read_parameters;
 pub use reading::read_segment;
 pub use segment::{ColumnList, KeyList, MOST_ROWS, ParameterList, RawColumn, Segment};
 pub use writing::{put_segment, write_segment};

@@ -1,12 +1,15 @@
 //! The list of a segment's parameters, both ways.
 
-ghost use Rattle.std.specs.Prelude.{◌≡◌, ◌<◌, ◌^◌, ◌++◌, length, IfOk, OnOk};
+ghost use Rattle.std.specs.Prelude.{◌≡◌, ◌<◌, ◌^◌, ◌++◌, length, IfOk, IfErr, OnOk};
 ghost use Rattle.std.specs.Int.{w16};
 ghost use Rattle.octet_fields.specs.Answers.{Gives};
 ghost use Rattle.octet_fields.specs.Reading.{counted_at, number_at};
 ghost use Rattle.octet_fields.specs.Spelling.{counted, number};
-ghost use Rattle.segment_codec.specs.Segment.{are_distinct, parameters_at};
+ghost use Rattle.segment_codec.specs.Segment.{HasSegmentAt, are_distinct, parameters_at};
+ghost use Rattle.segment_codec.specs.declared.fault.NotASegment.TheVariants.{OutOfMemory};
+ghost use Rattle.segment_codec.specs.declared.segment.Segment.{Segment};
 
+use crate::fault::NotASegment;
 use crate::segment::ParameterList;
 use octet_fields::{Decode, DecodeError, Encode, each_at, put_each, put_u16, u16_at};
 use std::alloc::{AllocError, Global};
@@ -75,6 +78,26 @@ pub(crate) fn parameters_at(
         return Err(DecodeError::Malformed);
     }
     Ok((parameters, rest))
+}
+
+/// The parameters of the segment whose spelling stands in octets from a place on. Nothing else of it is asked, and no
+/// room is made for more than they take: whoever knows which parameters there are can ask them before the columns.
+///
+/// Any octets may be given, and any place, also past their end.
+pub fn read_parameters(
+    alloc: Global,
+    octets: &[u8],
+    at: usize,
+) -> Result<ParameterList, NotASegment>
+    ensures same { (s : Segment) → HasSegmentAt octets.now at s → IfOk result (λ found. found ≡ s.parameters) }
+    ensures memory { (s : Segment) → HasSegmentAt octets.now at s → IfErr result (λ e. e ≡ OutOfMemory) }
+{
+    if octets.len() < at {
+        return Err(NotASegment::Malformed);
+    }
+    let (_, front) = octets.split_at(at);
+    let (parameters, _) = counted_parameters_at(alloc, front)?;
+    Ok(parameters)
 }
 
 /// Writes the count of the parameters, and each.

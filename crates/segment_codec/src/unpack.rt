@@ -4,7 +4,7 @@ ghost use Rattle.std.specs.Prelude.{◌≡◌, ◌+◌, ◌*◌, ◌^◌, ◌<�
 ghost use Rattle.octet_fields.specs.Answers.{Gives};
 ghost use Rattle.octet_fields.specs.Reading.{mapped_at};
 ghost use Rattle.segment_codec.specs.Bits.{number_from_digits, packed_at};
-ghost use Rattle.segment_codec.specs.Pending.{HasRead, IsPending, unread_bits, unread_number};
+ghost use Rattle.segment_codec.specs.Pending.{HasUnpacked, IsPending, unread_bits, unread_number};
 ghost use Rattle.segment_codec.specs.RawColumn.{unpacked};
 ghost use Rattle.segment_codec.specs.Segment.{most_rows};
 
@@ -63,7 +63,7 @@ fn take(rest: &[u8], pending: Pending, width: u32) -> (u64, Pending, &[u8])
     ensures pending { IsPending result.1 }
     ensures number { result.0 < 2 ^ width }
     ensures len { unread_bits result.1 result.2.now + width ≡ unread_bits pending rest.now }
-    ensures same { HasRead result.0 pending rest.now result.1 result.2.now }
+    ensures same { HasUnpacked result.0 pending rest.now result.1 result.2.now }
 {
     let (ahead, after) = refill(rest, pending, width);
     let spare = ahead.count - width;
@@ -81,7 +81,7 @@ fn take_wide(rest: &[u8], pending: Pending, width: u32) -> (u128, Pending, &[u8]
     ensures pending { IsPending result.1 }
     ensures number { result.0 < 2 ^ width }
     ensures len { unread_bits result.1 result.2.now + width ≡ unread_bits pending rest.now }
-    ensures same { HasRead result.0 pending rest.now result.1 result.2.now }
+    ensures same { HasUnpacked result.0 pending rest.now result.1 result.2.now }
 {
     if width <= 64 {
         let (number, after, behind) = take(rest, pending, width);

@@ -1,0 +1,147 @@
+//! Reads the segments of a set, and finds their rows.
+
+ghost use Rattle.std.specs.Prelude.{◌≡◌, ◌+◌, ◌<◌, ◌≤◌, ◌^◌, ◌++◌, List, drop, flat_map, length, true, IfOk, OnOk, MatchResult};
+ghost use Rattle.std.specs.Int.{w32};
+ghost use Rattle.std.specs.List.{AllByRecursion};
+ghost use Rattle.octet_fields.specs.Spelling.{counted};
+ghost use Rattle.param_segments.specs.RowPlaces.{IsKnownSegment, are_known_parameters, places_from, places_in_segment, raw_in_row, values_in_row};
+ghost use Rattle.segment_codec.specs.Segment.{HasSegmentAt, IsSegment, most_rows, segment_octets};
+ghost use Rattle.segment_codec.specs.declared.fault.NotASegment.TheVariants.{OutOfMemory};
+ghost use Rattle.segment_codec.specs.declared.segment.Segment.{Segment as ASegment};
+
+use crate::asking::are_known_parameters;
+use crate::row_place::RowPlace;
+use arch_types::key::Key;
+use container_extract::values::RawValue;
+use mdb_model::Mdb;
+use octet_fields::{room_for, u32_at};
+use segment_codec::{NotASegment, RawColumn, Segment, read_parameters, read_segment};
+use std::alloc::{AllocError, Global};
+
+/// The octets of the count of the segments, which stands before them.
+const COUNT_OCTETS: usize = 4;
+
+/// The fewest octets of a segment: two counts, a parameter, a key and a column.
+const LEAST_SEGMENT: usize = 35;
+
+/// The segment that stands in octets from a place on, and the place where it ends. Its parameters are asked before room
+/// is made for its columns: a few octets spell a column of thousands of values, and a database has few parameters.
+fn known_segment_at(
+    alloc: Global,
+    octets: &[u8],
+    at: usize,
+    mdb: &Mdb,
+) -> Result<(Segment, usize), NotASegment>
+    ensures sound { IfOk result (λ x. IsSegment x.0) }
+    ensures end { IfOk result (λ x. x.1 ≡ at + length (segment_octets x.0)) }
+    ensures each { (s : ASegment) → HasSegmentAt octets.now at s →
+        are_known_parameters mdb.now s.parameters ≡ true → MatchResult result (λ x. x.0 ≡ s) (λ e. e ≡ OutOfMemory) }
+{
+    let parameters = read_parameters(alloc, octets, at)?;
+    if !are_known_parameters(mdb, parameters.as_slice()) {
+        return Err(NotASegment::Malformed);
+    }
+    let (segment, end) = read_segment(alloc, octets, at)?;
+    Ok((segment, end))
+}
+
+/// So many segments, one after the other behind their count. What stands after them isn't asked.
+fn segments_at(
+    alloc: Global,
+    count: u32,
+    octets: &[u8],
+    mdb: &Mdb,
+) -> Result<Vec<Segment>, NotASegment>
+    ensures sound { IfOk result (λ segments. AllByRecursion IsSegment segments.items) }
+    ensures count { IfOk result (λ segments. length segments.items ≡ count) }
+    ensures each { (segments : List ASegment) → AllByRecursion (IsKnownSegment mdb.now) segments →
+        count ≡ length segments → drop 4 octets.now ≡ flat_map segment_octets segments →
+        MatchResult result (λ read. read.items ≡ segments) (λ e. e ≡ OutOfMemory) }
+{
+    let room = room_for(count as usize, octets, LEAST_SEGMENT);
+    let mut segments = Vec::with_capacity(alloc, room)?;
+    let mut at = COUNT_OCTETS;
+    for _ in 0..count {
+        let (segment, end) = known_segment_at(alloc, octets, at, mdb)?;
+        segments.reserve(1)?;
+        segments.push_reserved(segment);
+        at = end;
+    }
+    Ok(segments)
+}
+
+/// The segments that octets count and spell. What stands after them isn't asked.
+pub(crate) fn counted_segments(
+    alloc: Global,
+    octets: &[u8],
+    mdb: &Mdb,
+) -> Result<Vec<Segment>, NotASegment>
+    ensures sound { IfOk result (λ segments. AllByRecursion IsSegment segments.items) }
+    ensures few { IfOk result (λ segments. length segments.items < 2 ^ 32) }
+    ensures each { (segments : List ASegment) → AllByRecursion (IsKnownSegment mdb.now) segments →
+        length segments < 2 ^ 32 → octets.now ≡ counted w32 segment_octets segments →
+        MatchResult result (λ read. read.items ≡ segments) (λ e. e ≡ OutOfMemory) }
+{
+    match u32_at(octets) {
+        Err(_) => Err(NotASegment::Malformed),
+        Ok((count, _)) => segments_at(alloc, count, octets, mdb),
+    }
+}
+
+/// Adds the place of each row of a segment.
+fn put_places(places: &mut Vec<RowPlace>, segment: u32, keys: &[Key]) -> Result<(), AllocError>
+    requires { length keys.now ≤ most_rows }
+    ensures { OnOk result (places.new.items ≡ places.old.items ++ places_in_segment segment 0 keys.now) }
+{
+    places.reserve(keys.len())?;
+    for i in 0..keys.len() {
+        places.push(RowPlace {
+            key: keys[i],
+            segment,
+            row: i as u16,
+        })?;
+    }
+    Ok(())
+}
+
+/// The place of each row of segments.
+pub(crate) fn places_of(alloc: Global, segments: &[Segment]) -> Result<Vec<RowPlace>, AllocError>
+    requires sound { AllByRecursion IsSegment segments.now }
+    requires few { length segments.now < 2 ^ 32 }
+    ensures { IfOk result (λ places. places.items ≡ places_from 0 segments.now) }
+{
+    let mut places = Vec::new(alloc);
+    for i in 0..segments.len() {
+        put_places(&mut places, i as u32, segments[i].keys.as_slice())?;
+    }
+    Ok(places)
+}
+
+/// A column's raw number in a row.
+fn raw_in_row(row: usize, column: &RawColumn) -> i128
+    requires { row < length column.now }
+    ensures { result ≡ raw_in_row row column.now }
+{
+    column.as_slice()[row]
+}
+
+/// Writes the values of parameters in a row of their columns in place of what a buffer has.
+pub(crate) fn write_values(
+    values: &mut Vec<RawValue>,
+    parameters: &[u16],
+    columns: &[RawColumn],
+    row: usize,
+) -> Result<(), AllocError>
+    requires columns { length columns.now ≡ length parameters.now }
+    requires rows { AllByRecursion (λ column. row < length column) columns.now }
+    ensures { OnOk result (values.new.items ≡ values_in_row row parameters.now columns.now) }
+{
+    values.clear();
+    for i in 0..parameters.len() {
+        values.push(RawValue {
+            parameter: parameters[i],
+            raw: raw_in_row(row, &columns[i]),
+        })?;
+    }
+    Ok(())
+}
