@@ -1,34 +1,31 @@
 -- What a plan holds.
-use Rattle.std.specs.Prelude.{◌≡◌, ◌<◌, ◌≤ℤ◌, ◌<ℤ◌, ℕ, ℤ, List, [], ◌∷◌, length, None, map}
-use Rattle.std.specs.List.{flat_map, AllByRecursion}
+use Rattle.std.specs.Prelude.{◌≡◌, ◌<◌, ◌≤ℤ◌, ◌<ℤ◌, ℕ, ℤ, List, [], ◌∷◌, filter, length, None, map}
+use Rattle.std.specs.List.{AllByRecursion}
 use Rattle.std.specs.Arc.{arc_value}
 use Rattle.arch_types.specs.declared.ask.Request.{Request}
 use Rattle.arch_types.specs.declared.refusal.Refusal.{Refusal}
 use Rattle.arch_types.specs.declared.refusal.Refusal.TheVariants.{UnknownParameter, BadRange, OutOfMemory}
 use Rattle.arch_types.specs.declared.row.Row.{Row}
 use Rattle.arch_types.specs.Interval.{interval_of}
-use Rattle.arch_types.specs.Table.{range_of}
+use Rattle.arch_types.specs.Table.{is_in_time_range, range_of}
 use Rattle.history_items.specs.Items.{Item, rows_in}
 use Rattle.mdb_items.specs.Texts.{place_of}
+use Rattle.param_segments.specs.declared.plan.Part.{Part}
+use Rattle.param_segments.specs.declared.plan.Plan.{Plan}
+use Rattle.param_segments.specs.Plans.{ArePartsOver, HasValuesOf, part_interval, rows_of_part, rows_of_parts}
 use Rattle.archive_store.specs.declared.head.Head.{Head}
-use Rattle.archive_store.specs.declared.plan.Part.{Part}
-use Rattle.archive_store.specs.declared.plan.Plan.{Plan}
 use Rattle.archive_store.specs.Entries.{IsArchivedRow}
-
--- the rows of parts, one part after the other
-abbrev pub rows_of_parts : List Part → List Row
-rows_of_parts parts = flat_map (λ part. part.rows) parts
 
 -- a part has a row, and all of its rows are in its interval
 pub record IsPlanPart (exponent : ℕ) (part : Part) : Type 0 where
-  pub some : 0 < length part.rows
-  pub each : AllByRecursion (λ row. interval_of exponent row.key.time ≡ part.interval.0) part.rows
+  pub some : 0 < length (rows_of_part part)
+  pub each : AllByRecursion (λ row. interval_of exponent row.key.time ≡ part_interval part) (rows_of_part part)
 
 -- the intervals of parts rise
 abbrev pub AreRisingIntervals : List Part → Type 0
 AreRisingIntervals [] = Unit {0}
 AreRisingIntervals (part ∷ parts) =
-    AllByRecursion (λ later. part.interval.0 <ℤ later.interval.0) parts × AreRisingIntervals parts
+    AllByRecursion (λ later. part_interval part <ℤ part_interval later) parts × AreRisingIntervals parts
 
 -- The rows of `tm` with low <= time < high in the whole history, in the order of their keys, in one part for each
 -- interval that has any. Each of them is a row that a store gives, also over a disk that isn't transparent.
@@ -39,6 +36,14 @@ pub record IsPlan (exponent : ℕ) (head : Head) (history : List Item) (low high
   pub each : AllByRecursion (IsPlanPart exponent) plan.parts
   pub rising : AreRisingIntervals plan.parts
   pub archived : AllByRecursion (IsArchivedRow head) (rows_of_parts plan.parts)
+
+-- The sets of a plan have values of the database, and its parts are over rows of which those with low <= time < high
+-- are the rows of `tm` in that range of the whole history, in the order of their keys.
+pub record IsPlanOver (head : Head) (history : List Item) (low high : ℤ) (plan : Plan) : Type 0 where
+  pub values : AllByRecursion (HasValuesOf head.mdb) plan.parts
+  pub rows : List Row
+  pub over : ArePartsOver head.mdb plan.parts rows
+  pub in_range : filter (is_in_time_range low high) rows ≡ range_of 0 low high (rows_in history)
 
 -- the database has no parameter of the name
 abbrev pub LacksParameter : Head → Request → Type 0

@@ -13,7 +13,8 @@
 // a record more, an unacknowledged record, a record taken back (proofs/Kept.antt, proofs/Healing.antt).
 //
 // In memory the rows stand in a table with its partitions for each name of the head; their order is kept for contracts
-// alone (archive_history). A replay goes over them by a cursor of replay_merge; a step of it borrows them.
+// alone (archive_history). A plan of param_segments has copies of those that a retrieval extracts, by interval. A replay
+// goes over them by a cursor of replay_merge; a step of it borrows them.
 // To be changed together: `Applies` in specs/Entries.antt, src/reading.rt and `IsBatch`; the limits, in archive_history.
 #![tactic(auto)]
 
@@ -24,7 +25,6 @@ mod history_source;
 mod ingest;
 pub mod laws;
 mod names;
-mod plan;
 mod reading;
 mod replaying;
 mod retrieving;
@@ -32,5 +32,4 @@ mod store;
 
 pub use batch::{Arrival, Arrivals, Batch, Ingested};
 pub use head::Head;
-pub use plan::{Part, Parts, Plan};
 pub use store::Store;

@@ -8,11 +8,11 @@ ghost use Rattle.std.specs.List.{AllByRecursion};
 ghost use Rattle.arch_types.specs.Interval.{interval_of};
 ghost use Rattle.arch_types.specs.Table.{range_of};
 ghost use Rattle.history_items.specs.Items.{rows_in};
-ghost use Rattle.archive_store.specs.Plans.{rows_of_parts, IsPlanPart, AreRisingIntervals};
+ghost use Rattle.archive_store.specs.Plans.{IsPlanPart, AreRisingIntervals};
+ghost use Rattle.param_segments.specs.Plans.{part_interval, rows_of_part, rows_of_parts};
 ghost use Rattle.std.specs.Arc.{arc_value};
 
 use crate::names::text_of;
-use crate::plan::{Part, Parts, Plan};
 use crate::store::Store;
 use arch_disk::Disk;
 use arch_types::ask::Request;
@@ -22,6 +22,7 @@ use arch_types::refusal::Refusal;
 use arch_types::row::{Row, Rows};
 use archive_history::history::{History, interval_of_row};
 use mdb_model::Mdb;
+use param_segments::{Part, Parts, Plan};
 use std::alloc::{AllocError, Global};
 use std::sync::Arc;
 use yarch_table::rows::TableRows;
@@ -48,27 +49,39 @@ fn container_names(alloc: Global, mdb: &Mdb) -> Result<Names, AllocError>
     Ok(names)
 }
 
+/// Adds a row to a part that has rows.
+fn add_row(part: &mut Part, row: Row) -> Result<(), AllocError>
+    requires { 0 < length (rows_of_part part.old) }
+    ensures rows { OnOk result (rows_of_part part.new ≡ rows_of_part part.old ++ row ∷ []) }
+    ensures interval { OnOk result (part_interval part.new ≡ part_interval part.old) }
+{
+    match part {
+        Part::Set { .. } => unreachable!(),
+        Part::Rows { rows, .. } => rows.push(row),
+    }
+}
+
 /// One row more, in a part of its own where its interval has none yet.
 fn put(alloc: Global, parts: &mut Vec<Part>, row: &Row) -> Result<(), AllocError>
+    requires { AllByRecursion (IsPlanPart 22) parts.old.items }
     ensures rows { OnOk result (rows_of_parts parts.new.items ≡ rows_of_parts parts.old.items ++ row.now ∷ []) }
-    ensures each { AllByRecursion (IsPlanPart 22) parts.old.items →
-        OnOk result (AllByRecursion (IsPlanPart 22) parts.new.items) }
+    ensures each { OnOk result (AllByRecursion (IsPlanPart 22) parts.new.items) }
     ensures rising { AreRisingIntervals parts.old.items →
-        AllByRecursion (λ part. part.interval.0 ≤ℤ interval_of 22 row.now.key.time) parts.old.items →
+        AllByRecursion (λ part. part_interval part ≤ℤ interval_of 22 row.now.key.time) parts.old.items →
         OnOk result (AreRisingIntervals parts.new.items) }
-    ensures bounded { (x : ℤ) → AllByRecursion (λ part. part.interval.0 ≤ℤ x) parts.old.items →
+    ensures bounded { (x : ℤ) → AllByRecursion (λ part. part_interval part ≤ℤ x) parts.old.items →
         interval_of 22 row.now.key.time ≤ℤ x →
-        OnOk result (AllByRecursion (λ part. part.interval.0 ≤ℤ x) parts.new.items) }
+        OnOk result (AllByRecursion (λ part. part_interval part ≤ℤ x) parts.new.items) }
 {
     let interval = interval_of_row(row);
     let copy = row.copy()?;
     let count = parts.len();
-    if count > 0 && parts[count - 1].interval == interval {
-        return parts[count - 1].rows.push(copy);
+    if count > 0 && parts[count - 1].interval() == interval {
+        return add_row(&mut parts[count - 1], copy);
     }
     let mut rows = Rows::new(alloc);
     rows.push(copy)?;
-    parts.push(Part { interval, rows })?;
+    parts.push(Part::Rows { interval, rows })?;
     Ok(())
 }
 
@@ -105,11 +118,12 @@ fn planned(
 }
 
 impl<D: Disk> Store<D> {
-    ghost use Rattle.archive_store.specs.Plans.{IsPlan, IsPlanRefusal, IsPlannable};
+    ghost use Rattle.archive_store.specs.Plans.{IsPlan, IsPlanOver, IsPlanRefusal, IsPlannable};
 
     /// The rows of table `tm` that a retrieval extracts. It names a parameter of the database and a range that doesn't end before it begins.
     pub fn plan(&mut self, alloc: Global, request: &Request) -> Result<Plan, Refusal>
         ensures planned { IfOk result (IsPlan 22 self.old.head self.old.history request.now.from request.now.to) }
+        ensures over { IfOk result (IsPlanOver self.old.head self.old.history request.now.from request.now.to) }
         ensures same { self.new ≡ self.old }
 
         // UnknownParameter comes exactly where the database lacks the name, and then BadRange exactly where the range ends before it begins.

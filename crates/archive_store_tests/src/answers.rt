@@ -6,7 +6,7 @@ use arch_types::inserted::Inserted;
 use std::alloc::Global;
 use std::test::Fail;
 
-const TWICE: [Step; 3] = [
+const TWICE: &[Step] = &[
     Step::Ingest(
         (9_000, &[0, 1, 0], &[0, 1]),
         &[
@@ -28,18 +28,28 @@ const TWICE: [Step; 3] = [
         ],
     ),
     Step::Plan(0, 2_000, 4, &[(0, &[0, 1])]),
+    // a packet that comes again at once
+    Step::Ingest(
+        (9_000, &[2, 2], &[0]),
+        &[Inserted::New(4), Inserted::Duplicate(4)],
+    ),
 ];
+
+/// A function, as those of the tables below, so that they stand in no goal of its callers.
+fn twice() -> &'static [Step] {
+    TWICE
+}
 
 // A row tells the place of the one that has its key in its table.
 
 #[test]
 fn a_packet_comes_twice(rt: HostRuntime) -> Result<(), Fail> {
-    let (other, _disk) = of_new(rt.alloc(), MemDisk::new(rt.alloc()), &TWICE)?;
+    let (other, _disk) = of_new(rt.alloc(), MemDisk::new(rt.alloc()), twice())?;
     assert_eq!(rt; other, None);
     Ok(())
 }
 
-const TWO_TABLES: [Step; 4] = [
+const TWO_TABLES: &[Step] = &[
     Step::Name(b"HDR"),
     Step::Ingest(
         (9_000, &[0], &[0, 1]),
@@ -52,15 +62,19 @@ const TWO_TABLES: [Step; 4] = [
     Step::Plan(0, 2_000, 3, &[(0, &[0])]),
 ];
 
+fn calls_on_two_tables() -> &'static [Step] {
+    TWO_TABLES
+}
+
 // A key is new in each table, and only the rows of `tm` are planned.
 #[test]
 fn two_tables(rt: HostRuntime) -> Result<(), Fail> {
-    let (other, _disk) = of_new(rt.alloc(), MemDisk::new(rt.alloc()), &TWO_TABLES)?;
+    let (other, _disk) = of_new(rt.alloc(), MemDisk::new(rt.alloc()), calls_on_two_tables())?;
     assert_eq!(rt; other, None);
     Ok(())
 }
 
-const AGAIN: [Step; 3] = [
+const AGAIN: &[Step] = &[
     Step::Plan(0, 2_000, 3, &[(0, &[0])]),
     Step::Ingest(
         (9_000, &[0, 2], &[0]),
@@ -69,11 +83,15 @@ const AGAIN: [Step; 3] = [
     Step::Plan(0, 2_000, 4, &[(0, &[0, 2])]),
 ];
 
+fn again() -> &'static [Step] {
+    AGAIN
+}
+
 #[test]
 fn an_archive_is_opened_again(rt: HostRuntime) -> Result<(), Fail> {
     let alloc = rt.alloc();
-    let (_, disk) = of_new(alloc, MemDisk::new(alloc), &TWO_TABLES)?;
-    let (other, _disk) = of_opened(alloc, disk, &AGAIN)?;
+    let (_, disk) = of_new(alloc, MemDisk::new(alloc), calls_on_two_tables())?;
+    let (other, _disk) = of_opened(alloc, disk, again())?;
     assert_eq!(rt; other, None);
     Ok(())
 }
@@ -99,10 +117,10 @@ fn making<D: Disk + Drop>(alloc: Global, disk: D) -> Result<(&'static str, D), F
 #[test]
 fn an_archive_is_made_once(rt: HostRuntime) -> Result<(), Fail> {
     let alloc = rt.alloc();
-    let (_, disk) = of_new(alloc, MemDisk::new(alloc), &TWO_TABLES)?;
+    let (_, disk) = of_new(alloc, MemDisk::new(alloc), calls_on_two_tables())?;
     let (answer, disk) = making(alloc, disk)?;
     assert_eq!(rt; answer, "exists");
-    let (other, _disk) = of_opened(alloc, disk, &AGAIN)?;
+    let (other, _disk) = of_opened(alloc, disk, again())?;
     assert_eq!(rt; other, None);
     Ok(())
 }

@@ -82,7 +82,7 @@ fn of_new_healed<D: Disk + Drop>(
     }
 }
 
-const TAKEN_BACK: [Step; 2] = [
+const TAKEN_BACK: &[Step] = &[
     Step::Plan(0, 2_000, 0, &[]),
     Step::Ingest(
         (9_000, &[0], &[1, 0]),
@@ -90,11 +90,16 @@ const TAKEN_BACK: [Step; 2] = [
     ),
 ];
 
+/// A function, so that they stand in no goal of its callers.
+fn taken_back() -> &'static [Step] {
+    TAKEN_BACK
+}
+
 // The third call of the first ingest opens the gate.
 #[test]
 fn a_batch_that_failed_is_taken_back(rt: HostRuntime) -> Result<(), Fail> {
     let disk = failing_after_making(rt.alloc(), &[3])?;
-    let (other, _disk) = of_new_healed(rt.alloc(), disk, &TAKEN_BACK)?;
+    let (other, _disk) = of_new_healed(rt.alloc(), disk, taken_back())?;
     assert_eq!(rt; other, None);
     Ok(())
 }
@@ -113,7 +118,7 @@ const GATE_FAILS: &[Step] = &[
     Step::Plan(0, 2_000, 2, &[(0, &[0])]),
 ];
 
-/// A function, so that they stand in no goal of its callers.
+/// A function, as above.
 fn gate_fails() -> &'static [Step] {
     GATE_FAILS
 }

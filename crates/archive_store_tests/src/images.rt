@@ -191,21 +191,25 @@ fn reached<D: Crashing>(alloc: Global, disk: D) -> Result<(bool, Option<u64>), F
     }
 }
 
+/// A disk whose calls of these numbers fail.
+fn failing_at(alloc: Global, calls: &[u64]) -> Result<MemDisk, Fail> {
+    Ok(MemDisk::failing(alloc, Vec::from_slice(alloc, calls)?))
+}
+
+/// Whether all images open as they should and at least one row is reached where an archive is made, for a disk whose call fails, alone and with the
+/// one that follows it.
+fn are_right_at(alloc: Global, call: u64) -> Result<bool, Fail> {
+    let (alone, front) = reached(alloc, failing_at(alloc, &[call])?)?;
+    let (followed, other) = reached(alloc, failing_at(alloc, &[call, call.saturating_add(1)])?)?;
+    let are_reached = front.unwrap_or(1) >= 1 && other.unwrap_or(1) >= 1;
+    Ok(alone && followed && are_reached && front.is_none() == other.is_none())
+}
+
 // Each call of the disk fails in turn, alone and with the one that follows it: in the making of an archive, in ingests and in the reopens between.
 #[test]
 fn images_of_each_moment(rt: HostRuntime) -> Result<(), Fail> {
-    let alloc = rt.alloc();
     for call in 1..25u64 {
-        let (alone, front) = reached(alloc, MemDisk::failing(alloc, vec![in alloc; call; 1]?))?;
-        assert!(rt; alone && front.unwrap_or(1) >= 1, "call {call}");
-        let mut two = vec![in alloc; call; 1]?;
-        two.push(call + 1)?;
-        let (followed, other) = reached(alloc, MemDisk::failing(alloc, two))?;
-        assert!(rt;
-            followed && other.unwrap_or(1) >= 1,
-            "call {call} and the next"
-        );
-        assert_eq!(rt; front.is_none(), other.is_none(), "call {call}");
+        assert!(rt; are_right_at(rt.alloc(), call)?, "call {call}");
     }
     Ok(())
 }

@@ -1,6 +1,7 @@
 // The limit that a test can reach: rows of one interval. An archive that has so many is read from records of 1,024 rows.
 use crate::parts::{head_octets, holding, opening, untimed};
 use crate::steps::{Step, of_opened};
+use arch_disk::MemDisk;
 use arch_types::inserted::Inserted;
 use std::alloc::Global;
 use std::test::Fail;
@@ -41,7 +42,7 @@ fn journal_of(alloc: Global, records: &[u16]) -> Result<Vec<u8>, Fail> {
 }
 
 /// One row more is refused, and so is one behind a duplicate and rows of the other table.
-const FULL: [Step; 2] = [
+const FULL: &[Step] = &[
     Step::Refused((9_000, &[262_152], &[0]), "limit IntervalRows 262144"),
     Step::Refused(
         (9_000, &[262_151, 262_152], &[1, 0]),
@@ -49,8 +50,13 @@ const FULL: [Step; 2] = [
     ),
 ];
 
+/// A function, so that they stand in no goal of its callers.
+fn full() -> &'static [Step] {
+    FULL
+}
+
 /// Duplicates, a row of another table and one of another interval aren't.
-const NOT_FULL: [Step; 3] = [
+const NOT_FULL: &[Step] = &[
     Step::Ingest(
         (9_000, &[8, 262_151], &[0]),
         &[Inserted::Duplicate(0), Inserted::Duplicate(262_143)],
@@ -59,31 +65,49 @@ const NOT_FULL: [Step; 3] = [
     Step::Ingest((4_200_000, &[262_152], &[0]), &[Inserted::New(262_145)]),
 ];
 
+/// A function, as above.
+fn not_full() -> &'static [Step] {
+    NOT_FULL
+}
+
+/// The octets of an archive with a full interval, and so many rows behind it.
+fn full_journal(alloc: Global, behind: u16) -> Result<Vec<u8>, Fail> {
+    let mut records = vec![in alloc; 1024; 256]?;
+    if behind > 0 {
+        records.push(behind)?;
+    }
+    journal_of(alloc, records.as_slice())
+}
+
+/// The place of the first of these calls of the archive on a disk that is answered otherwise, how many calls they made with its opening, and the disk.
+fn calls_made(
+    alloc: Global,
+    disk: MemDisk,
+    steps: &[Step],
+) -> Result<(Option<usize>, u64, MemDisk), Fail> {
+    let before = disk.made();
+    let (other, disk) = of_opened(alloc, disk, steps)?;
+    let made = disk.made().saturating_sub(before);
+    Ok((other, made, disk))
+}
+
 // A refusal makes no call of the disk: the second opening makes as many calls as the first, and two appends four each.
 #[test]
 fn an_interval_is_full(rt: HostRuntime) -> Result<(), Fail> {
     let alloc = rt.alloc();
-    let disk = holding(alloc, journal_of(alloc, &[1024; 256])?.as_slice())?;
-    let written = disk.made();
-    let (other, disk) = of_opened(alloc, disk, &FULL)?;
+    let disk = holding(alloc, full_journal(alloc, 0)?.as_slice())?;
+    let (other, calls, disk) = calls_made(alloc, disk, full())?;
     assert_eq!(rt; other, None);
-    let opened = disk.made();
-    let (other, disk) = of_opened(alloc, disk, &NOT_FULL)?;
+    let (other, again, _disk) = calls_made(alloc, disk, not_full())?;
     assert_eq!(rt; other, None);
-    let calls = opened.saturating_sub(written);
-    assert_eq!(rt; disk.made().saturating_sub(opened), calls.saturating_add(8));
+    assert_eq!(rt; again, calls.saturating_add(8));
     Ok(())
 }
 
 #[test]
 fn a_record_passes_the_limit(rt: HostRuntime) -> Result<(), Fail> {
     let alloc = rt.alloc();
-    let mut records = vec![in alloc; 1024; 256]?;
-    records.push(1)?;
-    let journal = journal_of(alloc, records.as_slice())?;
-    assert_eq!(rt;
-        opening(alloc, holding(alloc, journal.as_slice())?),
-        "damaged 0 4982842"
-    );
+    let disk = holding(alloc, full_journal(alloc, 1)?.as_slice())?;
+    assert_eq!(rt; opening(alloc, disk), "damaged 0 4982842");
     Ok(())
 }

@@ -44,17 +44,39 @@ fn replay_request(alloc: Global, asked: &Asked) -> Result<ReplayRequest, Fail> {
     })
 }
 
+/// The cursor of a replay, or why there is none.
+fn opened_replay<D: Disk>(
+    alloc: Global,
+    store: &mut Store<D>,
+    asked: &Asked,
+) -> Result<Result<Cursor, &'static str>, Fail> {
+    let request = replay_request(alloc, asked)?;
+    match store.replay_open(alloc, &request) {
+        Ok(cursor) => Ok(Ok(cursor)),
+        Err(refusal) => Ok(Err(text_of(&refusal))),
+    }
+}
+
 /// What the opening of a replay answers.
 pub(crate) fn replay_answer<D: Disk>(
     alloc: Global,
     store: &mut Store<D>,
     asked: &Asked,
 ) -> Result<&'static str, Fail> {
-    let request = replay_request(alloc, asked)?;
-    match store.replay_open(alloc, &request) {
+    match opened_replay(alloc, store, asked)? {
         Ok(_cursor) => Ok("a replay"),
-        Err(refusal) => Ok(text_of(&refusal)),
+        Err(why) => Ok(why),
     }
+}
+
+/// The rows of a step of at most so many.
+fn step_rows<D: Disk>(
+    alloc: Global,
+    store: &mut Store<D>,
+    cursor: &mut Cursor,
+    limit: u64,
+) -> Result<Rows, Fail> {
+    Ok(store.replay_step(alloc, cursor, limit)?)
 }
 
 /// Rows behind others.
@@ -74,13 +96,36 @@ fn rest<D: Disk>(
 ) -> Result<Rows, Fail> {
     let mut all = Rows::new(alloc);
     for _ in 0..20 {
-        let rows = store.replay_step(alloc, cursor, limit)?;
+        let rows = step_rows(alloc, store, cursor, limit)?;
         if rows.len() == 0 {
             break;
         }
         put_all(&mut all, rows)?;
     }
     Ok(all)
+}
+
+/// Whether the rest of a replay is these packets.
+fn gives_rest<D: Disk>(
+    alloc: Global,
+    store: &mut Store<D>,
+    cursor: &mut Cursor,
+    limit: u64,
+    packets: &[u64],
+) -> Result<bool, Fail> {
+    let rows = rest(alloc, store, cursor, limit)?;
+    are_packets(alloc, rows.as_slice(), packets)
+}
+
+/// Whether a step of at most two rows gives these packets.
+fn gives_step<D: Disk>(
+    alloc: Global,
+    store: &mut Store<D>,
+    cursor: &mut Cursor,
+    packets: &[u64],
+) -> Result<bool, Fail> {
+    let rows = step_rows(alloc, store, cursor, 2)?;
+    are_packets(alloc, rows.as_slice(), packets)
 }
 
 /// Whether a replay gives these packets.
@@ -91,10 +136,8 @@ pub(crate) fn gives<D: Disk>(
     limit: u64,
     packets: &[u64],
 ) -> Result<bool, Fail> {
-    let request = replay_request(alloc, asked)?;
-    let mut cursor = store.replay_open(alloc, &request)?;
-    let rows = rest(alloc, store, &mut cursor, limit)?;
-    are_packets(alloc, rows.as_slice(), packets)
+    let mut cursor = opened_replay(alloc, store, asked)??;
+    gives_rest(alloc, store, &mut cursor, limit, packets)
 }
 
 /// Whether a replay gives some packets, and others after packets came.
@@ -106,19 +149,31 @@ pub(crate) fn gives_across<D: Disk>(
     incoming: &Incoming,
     others: &[u64],
 ) -> Result<bool, Fail> {
-    let request = replay_request(alloc, asked)?;
-    let mut cursor = store.replay_open(alloc, &request)?;
-    let rows = store.replay_step(alloc, &mut cursor, 2)?;
-    if ingest_answer(alloc, store, incoming)? != "an ingest" {
-        return Ok(false);
+    let mut cursor = opened_replay(alloc, store, asked)??;
+    let are_first = gives_step(alloc, store, &mut cursor, first)?;
+    let is_taken = ingest_answer(alloc, store, incoming)? == "an ingest";
+    let are_others = gives_rest(alloc, store, &mut cursor, 2, others)?;
+    Ok(are_first && is_taken && are_others)
+}
+
+/// How many partitions in a range a table has, where there is such a table.
+fn part_count<D: Disk>(store: &Store<D>, table: u8, bounds: &Bounds) -> Result<usize, Fail> {
+    if table as usize >= store.head().tables.as_slice().len() {
+        return Err(Fail::from("a table"));
     }
-    let later = rest(alloc, store, &mut cursor, 2)?;
-    Ok(are_packets(alloc, rows.as_slice(), first)? && are_packets(alloc, later.as_slice(), others)?)
+    Ok(store.parts(table, bounds)?.len())
+}
+
+/// How many spans of time the packet name has in a table.
+fn span_count<D: Disk>(store: &Store<D>, table: u8) -> Result<usize, Fail> {
+    if table as usize >= store.head().tables.as_slice().len() {
+        return Err(Fail::from("a table"));
+    }
+    Ok(store.histogram(table, 0)?.len())
 }
 
 /// Whether a table has so many partitions in a range, and the packet name so many spans of time in the table.
 pub(crate) fn has_parts<D: Disk>(
-    alloc: Global,
     store: &Store<D>,
     table: u8,
     from: i64,
@@ -126,15 +181,12 @@ pub(crate) fn has_parts<D: Disk>(
     parts: usize,
     spans: usize,
 ) -> Result<bool, Fail> {
-    if table as usize >= store.head().tables.as_slice().len() {
-        return Ok(false);
-    }
     let bounds = Bounds {
         from,
         to,
         names: None,
     };
-    Ok(store.parts(table, &bounds)?.len() == parts && store.histogram(table, 0)?.len() == spans)
+    Ok(part_count(store, table, &bounds)? == parts && span_count(store, table)? == spans)
 }
 
 const DAY: i64 = 86_400_000;
@@ -189,6 +241,8 @@ const REPLAYS: &[Step] = &[
     // packets that come in the middle of a replay are none of its, wherever their keys stand
     Step::ReplayAcross(ALL, &[0, 1], (86_399_000, &[2, 9], &[0]), &[7, 6, 8]),
     Step::Replay(ALL, 3, &[0, 1, 2, 9, 7, 6, 8]),
+    // nor do those of a day that isn't reached yet
+    Step::ReplayAcross(ALL, &[0, 1], (86_400_002, &[10], &[0]), &[2, 9, 7, 6, 8]),
     Step::NoReplay((b"TM", 5, 4, None, None), "unknown table"),
     Step::NoReplay((b"tm", 5, 4, None, None), "bad range 5 4"),
     Step::NoReplay((b"tm", 4, 4, None, None), "a replay"),

@@ -7,7 +7,8 @@ use arch_disk::Disk;
 use arch_types::inserted::Inserted;
 use arch_types::name::Names;
 use arch_types::row::Row;
-use archive_store::{Head, Part, Store};
+use archive_store::{Head, Ingested, Store};
+use param_segments::{Part, Plan};
 use std::alloc::Global;
 use std::test::Fail;
 
@@ -40,6 +41,19 @@ pub enum Step {
     Parts(u8, i64, i64, usize, usize),
 }
 
+/// What an ingest gives, or why it is refused. Each call of a store is made in one function, since its clauses stand in the goals of each that makes it.
+fn ingested<D: Disk>(
+    alloc: Global,
+    store: &mut Store<D>,
+    incoming: &Incoming,
+) -> Result<Result<Ingested, &'static str>, Fail> {
+    let batch = batch(alloc, store.head(), incoming)?;
+    match store.ingest(alloc, &batch) {
+        Ok(ingested) => Ok(Ok(ingested)),
+        Err(refusal) => Ok(Err(text_of(&refusal))),
+    }
+}
+
 /// Whether packets become this.
 fn becomes<D: Disk>(
     alloc: Global,
@@ -47,8 +61,7 @@ fn becomes<D: Disk>(
     incoming: &Incoming,
     outcomes: &[Inserted],
 ) -> Result<bool, Fail> {
-    let batch = batch(alloc, store.head(), incoming)?;
-    match store.ingest(alloc, &batch) {
+    match ingested(alloc, store, incoming)? {
         Ok(ingested) => Ok(ingested.outcomes.as_slice() == outcomes),
         Err(_) => Ok(false),
     }
@@ -60,10 +73,24 @@ pub(crate) fn ingest_answer<D: Disk>(
     store: &mut Store<D>,
     incoming: &Incoming,
 ) -> Result<&'static str, Fail> {
-    let batch = batch(alloc, store.head(), incoming)?;
-    match store.ingest(alloc, &batch) {
+    match ingested(alloc, store, incoming)? {
         Ok(_ingested) => Ok("an ingest"),
-        Err(refusal) => Ok(text_of(&refusal)),
+        Err(why) => Ok(why),
+    }
+}
+
+/// The plan of a parameter over a range, or why there is none.
+fn planned<D: Disk>(
+    alloc: Global,
+    store: &mut Store<D>,
+    name: &[u8],
+    from: i64,
+    to: i64,
+) -> Result<Result<Plan, &'static str>, Fail> {
+    let request = request(alloc, name, from, to)?;
+    match store.plan(alloc, &request) {
+        Ok(plan) => Ok(Ok(plan)),
+        Err(refusal) => Ok(Err(text_of(&refusal))),
     }
 }
 
@@ -75,10 +102,9 @@ fn plan_answer<D: Disk>(
     from: i64,
     to: i64,
 ) -> Result<&'static str, Fail> {
-    let request = request(alloc, name, from, to)?;
-    match store.plan(alloc, &request) {
+    match planned(alloc, store, name, from, to)? {
         Ok(_plan) => Ok("a plan"),
-        Err(refusal) => Ok(text_of(&refusal)),
+        Err(why) => Ok(why),
     }
 }
 
@@ -126,10 +152,20 @@ pub(crate) fn are_packets(alloc: Global, rows: &[Row], numbers: &[u64]) -> Resul
     Ok(rows.len() == numbers.len())
 }
 
+/// Whether a part has the packets of an interval as rows.
+fn is_part(alloc: Global, part: &Part, interval: i64, numbers: &[u64]) -> Result<bool, Fail> {
+    match part {
+        Part::Set { .. } => Ok(false),
+        Part::Rows { interval: of, rows } => {
+            Ok(of.0 == interval && are_packets(alloc, rows.as_slice(), numbers)?)
+        }
+    }
+}
+
 /// Whether parts are those of these intervals.
 fn are_parts(alloc: Global, parts: &[Part], expected: &[IntervalPackets]) -> Result<bool, Fail> {
     for (part, (interval, numbers)) in parts.iter().zip(expected) {
-        if part.interval.0 != *interval || !are_packets(alloc, part.rows.as_slice(), numbers)? {
+        if !is_part(alloc, part, *interval, numbers)? {
             return Ok(false);
         }
     }
@@ -148,8 +184,7 @@ pub(crate) fn shows<D: Disk>(
     if !is_head(alloc, store.head())? {
         return Ok(false);
     }
-    let request = request(alloc, b"v", from, to)?;
-    match store.plan(alloc, &request) {
+    match planned(alloc, store, b"v", from, to)? {
         Ok(plan) => Ok(plan.front == front && are_parts(alloc, plan.parts.as_slice(), parts)?),
         Err(_) => Ok(false),
     }
@@ -173,7 +208,7 @@ fn is_answered<D: Disk>(alloc: Global, store: &mut Store<D>, step: &Step) -> Res
             gives_across(alloc, store, asked, first, incoming, rest)
         }
         Step::Parts(table, from, to, parts, spans) => {
-            has_parts(alloc, store, *table, *from, *to, *parts, *spans)
+            has_parts(store, *table, *from, *to, *parts, *spans)
         }
     }
 }

@@ -165,6 +165,17 @@ impl LineBuffer {
         Ok(())
     }
 
+    /// Moves the text to the end of another. Refused for want of memory, it leaves both as they were.
+    pub fn append_to(&mut self, text: &mut Vec<u8>) -> Result<(), AllocError>
+        ensures all { OnOk result (text.new.items ≡ text.old.items ++ self.old) }
+        ensures empty { OnOk result (self.new ≡ []) }
+        ensures kept { OnErr result ((text.new.items ≡ text.old.items) × (self.new ≡ self.old)) }
+    {
+        text.extend_from_slice(self.octets.as_slice())?;
+        self.octets.clear();
+        Ok(())
+    }
+
     /// Writes all of the text, and says how a command ends that prints nothing more.
     pub fn finish<K: Sink>(mut self, sink: &mut K) -> Option<Refusal>
         ensures finished { IsFinished result (K.state sink.old).written (K.state sink.new).written self }

@@ -7,3 +7,5 @@ pub mod PacketNames
 pub mod Replays
 pub mod ReplayRefusals
 pub mod ReplayTexts
+pub mod Timely
+pub mod OverRows

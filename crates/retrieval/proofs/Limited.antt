@@ -1,13 +1,12 @@
 -- Cells up to a limit.
-use Rattle.std.proofs.Common.{◌≡◌, ◌∙◌, ◌<◌, ◌≤◌, ℕ, suc, zero, List, [], ◌∷◌, ◌++◌, length, reverse, take, true, false, Option, Some, None, ap, sym, refl, arith, append-nil, append_assoc, length-append}
-use Rattle.std.proofs.lemmas.Grind.{flat_map-append}
+use Rattle.std.proofs.Common.{◌≡◌, ◌∙◌, ◌<◌, ◌≤◌, ◌+◌, ℕ, suc, zero, List, [], ◌∷◌, ◌++◌, length, get_or, drop, reverse, take, true, false, Option, Some, None, ap, sym, refl, arith, append-nil, append_assoc, length-append}
+use Rattle.std.specs.Prelude.{flat_map}
 use Rattle.std.specs.List.{cons_option, filter_map}
 use Rattle.std.proofs.lemmas.Bool.Decides.{nat_tests}
-use Rattle.std.proofs.lemmas.List.{reverse-append, take-append-le}
+use Rattle.std.proofs.lemmas.Grind.{flat_map-append}
+use Rattle.std.proofs.lemmas.List.{drop_more, reverse-append, take-append-le}
+use Rattle.std.proofs.lemmas.List.Elements.{filter_map-append}
 use Rattle.arch_types.specs.declared.cell.Cell.{Cell}
-use Rattle.arch_types.specs.declared.row.Row.{Row}
-use Rattle.archive_store.specs.declared.plan.Part.{Part}
-use Rattle.archive_store.specs.Plans.{rows_of_parts}
 use Rattle.replay_merge.specs.Replay.{truncated}
 use Rattle.retrieval.specs.AnswerText.{cell_list, is_full}
 
@@ -56,90 +55,99 @@ pub room : (limit : Option ℕ) (xs : List Cell) (o : Option Cell) → is_full l
 room None xs o h = refl
 room (Some n) xs o h = take_all n (xs ++ cell_list o) (omega (arith, room_is n xs h, length-append xs (cell_list o), length_list o))
 
+-- all are there, where none is left
+pub done : (limit : Option ℕ) (cells all : List Cell) → truncated limit cells ≡ cells → truncated limit (cells ++ []) ≡ all → cells ≡ all
+done limit cells all within h = sym within ∙ ap (truncated limit) (sym (append-nil cells)) ∙ h
+
 list_option : (o : Option Cell) (ys : List Cell) → cell_list o ++ ys ≡ cons_option o ys
 list_option None ys = refl
 list_option (Some cell) ys = refl
-
--- the cell of the first row, beside those that there are
-pub next_cell : (f : Row → Option Cell) (xs : List Cell) (row : Row) (rows : List Row) → (xs ++ cell_list (f row)) ++ filter_map f rows ≡ xs ++ filter_map f (row ∷ rows)
-next_cell f xs row rows = append_assoc xs (cell_list (f row)) (filter_map f rows) ∙ ap (λ (l : List Cell). xs ++ l) (list_option (f row) (filter_map f rows))
-
--- the same, where there's room for it
-pub next_first : (f : Row → Option Cell) (limit : Option ℕ) (cells new : List Cell) (rest left : List Row) (row : Row) (all : List Cell) → is_full limit cells ≡ false →
-    new ≡ cells ++ cell_list (f row) → rest ≡ row ∷ left → truncated limit (cells ++ filter_map f rest) ≡ all →
-    (truncated limit (new ++ filter_map f left) ≡ all) × (truncated limit new ≡ new)
-next_first f limit cells new rest left row all space added step h = (
-  ap (λ (l : List Cell). truncated limit (l ++ filter_map f left)) added
-      ∙ ap (truncated limit) (next_cell f cells row left ∙ ap (λ (rows : List Row). cells ++ filter_map f rows) (sym step))
-      ∙ h,
-  ap (truncated limit) added ∙ room limit cells (f row) space ∙ sym added,
-)
-
-join_option : (o : Option Cell) (xs ys : List Cell) → cons_option o xs ++ ys ≡ cons_option o (xs ++ ys)
-join_option None xs ys = refl
-join_option (Some cell) xs ys = refl
-
--- the cells of rows and of more rows
-pub join_cells : (f : Row → Option Cell) (rows more : List Row) → filter_map f (rows ++ more) ≡ filter_map f rows ++ filter_map f more
-join_cells f [] more = refl
-join_cells f (row ∷ rows) more = ap (cons_option (f row)) (join_cells f rows more) ∙ sym (join_option (f row) (filter_map f rows) (filter_map f more))
-
--- the cells of the rows of one part, and then of the rest
-pub next_part : (f : Row → Option Cell) (limit : Option ℕ) (cells new : List Cell) (rows rest : List Row) (all : List Cell) → new ≡ truncated limit (cells ++ filter_map f rows) →
-    truncated limit (cells ++ filter_map f (rows ++ rest)) ≡ all → (truncated limit (new ++ filter_map f rest) ≡ all) × (truncated limit new ≡ new)
-next_part f limit cells new rows rest all e h = (
-  ap (λ (l : List Cell). truncated limit (l ++ filter_map f rest)) e
-      ∙ at_most_front limit (cells ++ filter_map f rows) (filter_map f rest)
-      ∙ ap (truncated limit) (append_assoc cells (filter_map f rows) (filter_map f rest) ∙ ap (λ (l : List Cell). cells ++ l) (sym (join_cells f rows rest)))
-      ∙ h,
-  ap (truncated limit) e ∙ at_most_twice limit (cells ++ filter_map f rows) ∙ sym e,
-)
-
--- ---- in the opposite order
 
 last_option : (o : Option Cell) (xs : List Cell) → reverse xs ++ cons_option o [] ≡ reverse (cons_option o xs)
 last_option None xs = append-nil (reverse xs)
 last_option (Some cell) xs = sym (reverse-append (cell ∷ []) xs)
 
--- the cells of rows in the opposite order are their cells in the opposite order
-pub last_cells : (f : Row → Option Cell) (rows : List Row) → filter_map f (reverse rows) ≡ reverse (filter_map f rows)
-last_cells f [] = refl
-last_cells f (row ∷ rows) =
-    ap (filter_map f) (reverse-append (row ∷ []) rows)
-    ∙ join_cells f (reverse rows) (row ∷ [])
-    ∙ ap (λ (l : List Cell). l ++ filter_map f (row ∷ [])) (last_cells f rows)
-    ∙ last_option (f row) (filter_map f rows)
-
 last_first : {A : Type 0} (rest left : List A) (x : A) → rest ≡ left ++ x ∷ [] → reverse rest ≡ x ∷ reverse left
 last_first rest left x step = ap reverse step ∙ reverse-append left (x ∷ [])
 
--- the cell of the last row, where there's room for it
-pub next_last : (f : Row → Option Cell) (limit : Option ℕ) (cells new : List Cell) (rest left : List Row) (row : Row) (all : List Cell) → is_full limit cells ≡ false →
-    new ≡ cells ++ cell_list (f row) → rest ≡ left ++ row ∷ [] → truncated limit (cells ++ filter_map f (reverse rest)) ≡ all →
-    (truncated limit (new ++ filter_map f (reverse left)) ≡ all) × (truncated limit new ≡ new)
-next_last f limit cells new rest left row all space added step h =
-    next_first f limit cells new (reverse rest) (reverse left) row all space added (last_first rest left row step) h
+-- ---- cells of items, one after the other: `f` gives an item's cell
 
--- the cells of the rows of the last part, the last first, and then of those before it
-pub next_last_part : (f : Row → Option Cell) (limit : Option ℕ) (cells new : List Cell) (rest left : List Part) (part : Part) (all : List Cell) →
-    new ≡ truncated limit (cells ++ filter_map f (reverse part.rows)) → rest ≡ left ++ part ∷ [] → truncated limit (cells ++ filter_map f (reverse (rows_of_parts rest))) ≡ all →
-    (truncated limit (new ++ filter_map f (reverse (rows_of_parts left))) ≡ all) × (truncated limit new ≡ new)
-next_last_part f limit cells new rest left part all added step h =
-    let rows : reverse (rows_of_parts rest) ≡ reverse part.rows ++ reverse (rows_of_parts left) =
-    ap (λ (ps : List Part). reverse (rows_of_parts ps)) step
-    ∙ ap reverse (flat_map-append (λ (p : Part). p.rows) left (part ∷ []) ∙ ap (λ (l : List Row). rows_of_parts left ++ l) (append-nil part.rows))
-    ∙ reverse-append (rows_of_parts left) part.rows in
-    next_part f limit cells new (reverse part.rows) (reverse (rows_of_parts left)) all added (ap (λ (rs : List Row). truncated limit (cells ++ filter_map f rs)) (sym rows) ∙ h)
+module _ {X : Type 0} (f : X → Option Cell) where
+  -- the cell of the first item, beside those that there are
+  pub next_cell : (xs : List Cell) (item : X) (items : List X) → (xs ++ cell_list (f item)) ++ filter_map f items ≡ xs ++ filter_map f (item ∷ items)
+  next_cell xs item items = append_assoc xs (cell_list (f item)) (filter_map f items) ∙ ap (λ (l : List Cell). xs ++ l) (list_option (f item) (filter_map f items))
 
--- all parts were gone through
-pub last_done : (f : Row → Option Cell) (limit : Option ℕ) (cells : List Cell) (rest : List Part) (rows : List Row) → length rest ≡ 0 → truncated limit cells ≡ cells →
-    truncated limit (cells ++ filter_map f (reverse (rows_of_parts rest))) ≡ truncated limit (filter_map f (reverse rows)) → cells ≡ truncated limit (reverse (filter_map f rows))
-last_done f limit cells [] rows none within h =
-    sym within ∙ ap (truncated limit) (sym (append-nil cells)) ∙ h ∙ ap (truncated limit) (last_cells f rows)
-last_done f limit cells (part ∷ rest) rows none within h = absurd (omega (arith, none))
+  -- the same, where there's room for it
+  pub next_first : (limit : Option ℕ) (cells new : List Cell) (rest left : List X) (item : X) (all : List Cell) → is_full limit cells ≡ false →
+      new ≡ cells ++ cell_list (f item) → rest ≡ item ∷ left → truncated limit (cells ++ filter_map f rest) ≡ all →
+      (truncated limit (new ++ filter_map f left) ≡ all) × (truncated limit new ≡ new)
+  next_first limit cells new rest left item all space added step h = (
+    ap (λ (l : List Cell). truncated limit (l ++ filter_map f left)) added
+        ∙ ap (truncated limit) (next_cell cells item left ∙ ap (λ (items : List X). cells ++ filter_map f items) (sym step))
+        ∙ h,
+    ap (truncated limit) added ∙ room limit cells (f item) space ∙ sym added,
+  )
 
--- all rows were
-pub rows_done : (f : Row → Option Cell) (limit : Option ℕ) (cells : List Cell) (rest : List Row) (all : List Cell) → length rest ≡ 0 → truncated limit cells ≡ cells →
-    truncated limit (cells ++ filter_map f (reverse rest)) ≡ all → cells ≡ all
-rows_done f limit cells [] all none within h = sym within ∙ ap (truncated limit) (sym (append-nil cells)) ∙ h
-rows_done f limit cells (row ∷ rest) all none within h = absurd (omega (arith, none))
+  -- the same, for the item at a place
+  pub next_indexed : (limit : Option ℕ) (cells new : List Cell) (items : List X) (i : ℕ) (d : X) (all : List Cell) → i < length items → is_full limit cells ≡ false →
+      new ≡ cells ++ cell_list (f (get_or items i d)) → truncated limit (cells ++ filter_map f (drop i items)) ≡ all →
+      (truncated limit (new ++ filter_map f (drop (i + 1) items)) ≡ all) × (truncated limit new ≡ new)
+  next_indexed limit cells new items i d all within space added h =
+      next_first limit cells new (drop i items) (drop (i + 1) items) (get_or items i d) all space added (drop_more items i d within) h
+
+  -- the cells of items in the opposite order are their cells in the opposite order
+  pub reversed_cells : (items : List X) → filter_map f (reverse items) ≡ reverse (filter_map f items)
+  reversed_cells [] = refl
+  reversed_cells (item ∷ items) =
+      ap (filter_map f) (reverse-append (item ∷ []) items)
+      ∙ filter_map-append f (reverse items) (item ∷ [])
+      ∙ ap (λ (l : List Cell). l ++ filter_map f (item ∷ [])) (reversed_cells items)
+      ∙ last_option (f item) (filter_map f items)
+
+  -- the cell of the last item, where there's room for it
+  pub next_last : (limit : Option ℕ) (cells new : List Cell) (rest left : List X) (item : X) (all : List Cell) → is_full limit cells ≡ false →
+      new ≡ cells ++ cell_list (f item) → rest ≡ left ++ item ∷ [] → truncated limit (cells ++ filter_map f (reverse rest)) ≡ all →
+      (truncated limit (new ++ filter_map f (reverse left)) ≡ all) × (truncated limit new ≡ new)
+  next_last limit cells new rest left item all space added step h =
+      next_first limit cells new (reverse rest) (reverse left) item all space added (last_first rest left item step) h
+
+  -- all items were gone through
+  pub items_done : (limit : Option ℕ) (cells : List Cell) (rest : List X) (all : List Cell) → length rest ≡ 0 → truncated limit cells ≡ cells →
+      truncated limit (cells ++ filter_map f (reverse rest)) ≡ all → cells ≡ all
+  items_done limit cells [] all none within h = done limit cells all within h
+  items_done limit cells (item ∷ rest) all none within h = absurd (omega (arith, none))
+
+-- ---- cells of parts, one after the other: `f` gives a part's cells
+
+-- the cells of a part, and then of the rest
+pub next_cells : (limit : Option ℕ) (cells new here behind all : List Cell) → new ≡ truncated limit (cells ++ here) →
+    truncated limit (cells ++ (here ++ behind)) ≡ all → (truncated limit (new ++ behind) ≡ all) × (truncated limit new ≡ new)
+next_cells limit cells new here behind all added h = (
+  ap (λ (l : List Cell). truncated limit (l ++ behind)) added ∙ at_most_front limit (cells ++ here) behind ∙ ap (truncated limit) (append_assoc cells here behind) ∙ h,
+  ap (truncated limit) added ∙ at_most_twice limit (cells ++ here) ∙ sym added,
+)
+
+module _ {X : Type 0} (f : X → List Cell) where
+  -- those of the first part
+  pub next_part : (limit : Option ℕ) (cells new : List Cell) (rest left : List X) (part : X) (all : List Cell) →
+      new ≡ truncated limit (cells ++ f part) → rest ≡ part ∷ left → truncated limit (cells ++ flat_map f rest) ≡ all →
+      (truncated limit (new ++ flat_map f left) ≡ all) × (truncated limit new ≡ new)
+  next_part limit cells new rest left part all added step h =
+      next_cells limit cells new (f part) (flat_map f left) all added (ap (λ (parts : List X). truncated limit (cells ++ flat_map f parts)) (sym step) ∙ h)
+
+  -- those of the last part, the last first
+  pub next_last_part : (limit : Option ℕ) (cells new : List Cell) (rest left : List X) (part : X) (all : List Cell) →
+      new ≡ truncated limit (cells ++ reverse (f part)) → rest ≡ left ++ part ∷ [] → truncated limit (cells ++ reverse (flat_map f rest)) ≡ all →
+      (truncated limit (new ++ reverse (flat_map f left)) ≡ all) × (truncated limit new ≡ new)
+  next_last_part limit cells new rest left part all added step h =
+      let turned : reverse (flat_map f rest) ≡ reverse (f part) ++ reverse (flat_map f left) =
+      ap (λ (parts : List X). reverse (flat_map f parts)) step
+      ∙ ap reverse (flat_map-append f left (part ∷ []) ∙ ap (λ (l : List Cell). flat_map f left ++ l) (append-nil (f part)))
+      ∙ reverse-append (flat_map f left) (f part) in
+      next_cells limit cells new (reverse (f part)) (reverse (flat_map f left)) all added (ap (λ (l : List Cell). truncated limit (cells ++ l)) (sym turned) ∙ h)
+
+  -- all parts were gone through
+  pub parts_done : (limit : Option ℕ) (cells : List Cell) (rest : List X) (all : List Cell) → length rest ≡ 0 → truncated limit cells ≡ cells →
+      truncated limit (cells ++ reverse (flat_map f rest)) ≡ all → cells ≡ all
+  parts_done limit cells [] all none within h = done limit cells all within h
+  parts_done limit cells (part ∷ rest) all none within h = absurd (omega (arith, none))

@@ -29,10 +29,13 @@ abbrev pub cell_list : Option Cell → List Cell
 cell_list None = []
 cell_list (Some cell) = cell ∷ []
 
--- the cells that a request asks of a history: those of its parameter in its range in key order, the last first where it is descending, and of
--- these the first `limit`
+-- cells as a request asks for them: the last first where it is descending, and of these the first `limit`
+abbrev pub as_asked : Request → List Cell → List Cell
+as_asked request cells = truncated request.limit (in_asked_order request.descending cells)
+
+-- the cells that a request asks of a history: those of its parameter in its range in key order, as it asks for them
 abbrev pub answered : Database → ℕ → Request → List Row → List Cell
-answered db number request rows = truncated request.limit (in_asked_order request.descending (values_of rows db number request.from request.to))
+answered db number request rows = as_asked request (values_of rows db number request.from request.to)
 
 -- the answer to a request over a database and a history
 pub record IsParameterAnswer (db : Database) (history : List Item) (request : Request) (found : ParameterAnswer) : Type 0 where
@@ -54,8 +57,8 @@ abbrev pub answer_lines : ℕ → ℕ → Database → ℕ → List Cell → Lis
 answer_lines k front db number cells = front_line k front ++ cell_lines db number cells ++ end_line (length cells)
 
 -- the text of the answer to a request, the ask with a number
-abbrev pub answer_text : Database → List Item → ℕ → Request → List ℕ
-answer_text db history k request =
+abbrev pub request_text : Database → List Item → ℕ → Request → List ℕ
+request_text db history k request =
     let number = unwrap_or (number_named db request.parameter) 0 in
     answer_lines k (length history) db number (answered db number request (rows_in history))
 

@@ -6,13 +6,13 @@ use Rattle.arch_types.specs.declared.refusal.Refusal.{Refusal}
 use Rattle.history_items.specs.Items.{Item}
 use Rattle.archive_store.specs.declared.head.Head.{Head}
 use Rattle.mdb_items.specs.Checks.{or_else}
-use Rattle.retrieval.specs.AnswerText.{request_refusal, answer_text}
+use Rattle.retrieval.specs.AnswerText.{request_refusal, request_text}
 use Rattle.retrieval.specs.Parameter.{number_named}
 use Rattle.retrieval.specs.ReplayText.{replay_refusal, replay_text}
 
 -- the text of the ask with a number
 abbrev pub ask_text : Head → List Item → ℕ → Ask → List ℕ
-ask_text head history k (Values request) = answer_text head.mdb history k request
+ask_text head history k (Values request) = request_text head.mdb history k request
 ask_text head history k (Replay request) = replay_text head history k request
 
 -- the texts of asks, numbered from k on

@@ -4,3 +4,4 @@ pub mod ValuesText
 pub mod AnswerText
 pub mod ReplayText
 pub mod AskText
+pub mod PartCells

@@ -1,26 +1,29 @@
-//! The answer of an archive to a request.
+//! The answer to a request, over the parts of a plan, and over a store.
 
-ghost use Rattle.std.specs.Prelude.{◌≡◌, ◌+◌, ◌≤◌, ◌++◌, IfOk, OnOk, None, length, reverse, true};
-ghost use Rattle.std.specs.List.{filter_map};
+ghost use Rattle.std.specs.Prelude.{◌≡◌, ◌+◌, ◌≤◌, IfOk, IsSome, List, None, Some, length};
+ghost use Rattle.std.specs.List.{AllByRecursion, filter_map};
+ghost use Rattle.arch_types.specs.declared.row.Row.{Row};
 ghost use Rattle.arch_types.specs.Table.{range_of};
 ghost use Rattle.history_items.specs.Items.{rows_in};
-ghost use Rattle.archive_store.specs.Plans.{rows_of_parts};
 ghost use Rattle.container_extract.specs.Extraction.{cell_of};
+ghost use Rattle.param_segments.specs.Plans.{ArePartsOver, HasValuesOf, rows_of_parts};
 ghost use Rattle.replay_merge.specs.Replay.{truncated};
-ghost use Rattle.retrieval.specs.AnswerText.{IsParameterAnswer, cell_list, is_full, request_refusal, in_asked_order};
+ghost use Rattle.retrieval.specs.AnswerText.{IsParameterAnswer, answered, request_refusal};
 ghost use Rattle.retrieval.specs.Parameter.{number_named};
+ghost use Rattle.retrieval.specs.PartCells.{answer_over_parts, answer_over_rows};
 
-use crate::cells::cell_of;
+use crate::cells::{add_cell, is_full};
+use crate::part_cells::cells_over_parts;
 use arch_disk::Disk;
 use arch_types::ask::{Answer, Request};
 use arch_types::cell::{Cell, Cells};
 use arch_types::name::Name;
 use arch_types::refusal::Refusal;
-use arch_types::row::Row;
 use arch_types::steps::Steps;
-use archive_store::{Part, Store};
+use archive_store::Store;
 use container_extract::Extractor;
 use mdb_model::Mdb;
+use param_segments::Plan;
 use std::alloc::{AllocError, Global};
 use std::sync::Arc;
 use std::sync::ledger::Ledger;
@@ -34,7 +37,37 @@ pub struct ParameterAnswer {
     pub answer: Answer,
 }
 
-/// The answer to a request over the whole history of a store, whose database has the parameter, in a step for each row of the range at most.
+/// The answer to a request over the parts of a plan. The database has the parameter, and the sets' values are of it. A
+/// set's cells are read from its columns and take no step; neither a set nor a row behind the limit is read.
+pub fn answer<L: Ledger>(
+    alloc: Global,
+    plan: Plan,
+    mdb: &Mdb,
+    request: &Request,
+    steps: &mut Steps<L>,
+) -> Result<Answer, AllocError>
+    requires known { IsSome (number_named mdb.now request.now.parameter) }
+    requires values { AllByRecursion (HasValuesOf mdb.now) plan.parts }
+    ensures front { IfOk result (λ answer. answer.front ≡ plan.front) }
+    ensures cells { IfOk result (λ answer. answer.cells ≡ answer_over_parts mdb.now request.now plan.parts) }
+
+    // So it is the answer over any rows that the parts are over.
+    ensures over { (rows : List Row) → ArePartsOver mdb.now plan.parts rows →
+        IfOk result (λ answer. answer.cells ≡ answer_over_rows mdb.now request.now rows) }
+    ensures steps { steps.new ≤ steps.old + length (rows_of_parts plan.parts) }
+{
+    let Some(number) = number_of(mdb, &request.parameter) else {
+        unreachable!();
+    };
+    let cells = cells_over_parts(alloc, mdb, number, request, plan.parts.as_slice(), steps)?;
+    Ok(Answer {
+        front: plan.front,
+        cells: Cells::from_vec(cells),
+    })
+}
+
+/// The answer to a request over the whole history of a store, whose database has the parameter, in a step for each row
+/// of the range at most.
 pub fn answer_request<D: Disk, L: Ledger>(
     alloc: Global,
     store: &mut Store<D>,
@@ -50,18 +83,11 @@ pub fn answer_request<D: Disk, L: Ledger>(
     let Some(number) = number_of(&store.head().mdb, &request.parameter) else {
         unreachable!();
     };
-    let cells = if request.descending {
-        descending_cells(alloc, store, number, request, steps)?
-    } else {
-        first_cells(alloc, store, number, request, steps)?
-    };
+    let answer = store_answer(alloc, store, number, request, steps)?;
     Ok(ParameterAnswer {
         mdb: store.shared_mdb()?,
         number,
-        answer: Answer {
-            front: store.front(),
-            cells: Cells::from_vec(cells),
-        },
+        answer,
     })
 }
 
@@ -71,6 +97,58 @@ pub fn number_of(mdb: &Mdb, name: &Name) -> Option<u16>
 {
     match str::from_utf8(name.as_slice()) {
         Ok(text) => mdb.parameter_number(text),
+        Err(_) => unreachable!(),
+    }
+}
+
+/// The answer of a store to a request for the parameter with this number. In key order the rows are borrowed; from the
+/// last on they come by a plan.
+fn store_answer<D: Disk, L: Ledger>(
+    alloc: Global,
+    store: &mut Store<D>,
+    number: u16,
+    request: &Request,
+    steps: &mut Steps<L>,
+) -> Result<Answer, AllocError>
+    requires number { number_named store.old.head.mdb request.now.parameter ≡ Some number }
+    requires admitted { request_refusal (number_named store.old.head.mdb request.now.parameter) request.now ≡ None }
+    ensures front { IfOk result (λ answer. answer.front ≡ length store.old.history) }
+    ensures cells { IfOk result (λ answer. answer.cells ≡
+        answered store.old.head.mdb number request.now (rows_in store.old.history)) }
+    ensures same { store.new ≡ store.old }
+    ensures steps { steps.new ≤ steps.old + length (range_of 0 request.now.from request.now.to
+        (rows_in store.old.history)) }
+{
+    if request.descending {
+        return planned_answer(alloc, store, number, request, steps);
+    }
+    let cells = first_cells(alloc, store, number, request, steps)?;
+    Ok(Answer {
+        front: store.front(),
+        cells: Cells::from_vec(cells),
+    })
+}
+
+/// The same over a plan.
+fn planned_answer<D: Disk, L: Ledger>(
+    alloc: Global,
+    store: &mut Store<D>,
+    number: u16,
+    request: &Request,
+    steps: &mut Steps<L>,
+) -> Result<Answer, AllocError>
+    requires number { number_named store.old.head.mdb request.now.parameter ≡ Some number }
+    requires admitted { request_refusal (number_named store.old.head.mdb request.now.parameter) request.now ≡ None }
+    ensures front { IfOk result (λ answer. answer.front ≡ length store.old.history) }
+    ensures cells { IfOk result (λ answer. answer.cells ≡
+        answered store.old.head.mdb number request.now (rows_in store.old.history)) }
+    ensures same { store.new ≡ store.old }
+    ensures steps { steps.new ≤ steps.old + length (range_of 0 request.now.from request.now.to
+        (rows_in store.old.history)) }
+{
+    match store.plan(alloc, request) {
+        Ok(plan) => answer(alloc, plan, &store.head().mdb, request, steps),
+        Err(Refusal::OutOfMemory) => Err(AllocError),
         Err(_) => unreachable!(),
     }
 }
@@ -99,114 +177,4 @@ fn first_cells<D: Disk, L: Ledger>(
         add_cell(&mut extractor, mdb, number, row, &mut cells, steps)?;
     }
     Ok(cells)
-}
-
-/// The first cells in the opposite order, of the rows of a plan.
-fn descending_cells<D: Disk, L: Ledger>(
-    alloc: Global,
-    store: &mut Store<D>,
-    number: u16,
-    request: &Request,
-    steps: &mut Steps<L>,
-) -> Result<Vec<Cell>, AllocError>
-    requires { request_refusal (number_named store.old.head.mdb request.now.parameter) request.now ≡ None }
-    ensures cells { IfOk result (λ cells. cells.items ≡ truncated request.now.limit (in_asked_order true
-        (filter_map (cell_of store.old.head.mdb number) (range_of 0 request.now.from request.now.to
-        (rows_in store.old.history))))) }
-    ensures same { store.new ≡ store.old }
-    ensures steps { steps.new ≤ steps.old + length (range_of 0 request.now.from request.now.to
-        (rows_in store.old.history)) }
-{
-    let plan = match store.plan(alloc, request) {
-        Ok(plan) => plan,
-        Err(Refusal::OutOfMemory) => return Err(AllocError),
-        Err(_) => unreachable!(),
-    };
-    let parts = plan.parts.as_slice();
-    last_cells(alloc, &plan.mdb, number, parts, request.limit, steps)
-}
-
-/// The first cells in the opposite order. The last rows are extracted first, and none beyond the limit.
-fn last_cells<L: Ledger>(
-    alloc: Global,
-    mdb: &Mdb,
-    number: u16,
-    parts: &[Part],
-    limit: Option<u64>,
-    steps: &mut Steps<L>,
-) -> Result<Vec<Cell>, AllocError>
-    ensures cells { IfOk result (λ cells.
-        cells.items ≡ truncated limit
-        (in_asked_order true (filter_map (cell_of mdb.now number) (rows_of_parts parts.now)))) }
-    ensures steps { steps.new ≤ steps.old + length (rows_of_parts parts.now) }
-{
-    let mut extractor = Extractor::new(alloc)?;
-    let mut cells = Vec::new(alloc);
-    for part in parts.iter().rev() {
-        add_last_cells(
-            &mut extractor,
-            mdb,
-            number,
-            part.rows.as_slice(),
-            limit,
-            &mut cells,
-            steps,
-        )?;
-    }
-    Ok(cells)
-}
-
-/// Adds the cells of rows, those of the last row first, up to a limit of all.
-fn add_last_cells<L: Ledger>(
-    extractor: &mut Extractor,
-    mdb: &Mdb,
-    number: u16,
-    rows: &[Row],
-    limit: Option<u64>,
-    cells: &mut Vec<Cell>,
-    steps: &mut Steps<L>,
-) -> Result<(), AllocError>
-    requires { truncated limit cells.old.items ≡ cells.old.items }
-    ensures cells { OnOk result (cells.new.items ≡ truncated limit (cells.old.items ++ filter_map
-        (cell_of mdb.now number) (reverse rows.now))) }
-    ensures steps { steps.new ≤ steps.old + length rows.now }
-{
-    for row in rows.iter().rev() {
-        if is_full(cells.as_slice(), limit) {
-            return Ok(());
-        }
-        add_cell(extractor, mdb, number, row, cells, steps)?;
-    }
-    Ok(())
-}
-
-/// Adds the cell of a row, where there is one.
-fn add_cell<L: Ledger>(
-    extractor: &mut Extractor,
-    mdb: &Mdb,
-    number: u16,
-    row: &Row,
-    cells: &mut Vec<Cell>,
-    steps: &mut Steps<L>,
-) -> Result<(), AllocError>
-    ensures cell { OnOk result (cells.new.items ≡ cells.old.items ++ cell_list (cell_of mdb.now number row.now)) }
-    ensures step { steps.new ≡ steps.old + 1 }
-{
-    match cell_of(extractor, mdb, number, row, steps) {
-        None => Ok(()),
-        Some(cell) => {
-            cells.push(cell)?;
-            Ok(())
-        }
-    }
-}
-
-/// Whether there are as many cells as the limit says.
-fn is_full(cells: &[Cell], limit: Option<u64>) -> bool
-    ensures { result ≡ is_full limit cells.now }
-{
-    match limit {
-        None => false,
-        Some(limit) => cells.len() as u64 >= limit,
-    }
 }

@@ -1,20 +1,58 @@
 //! The lines of an answer.
 
-ghost use Rattle.std.specs.Prelude.{◌≡◌, ◌+◌, ◌<◌, ◌≤◌, ◌++◌, OnOk, OnErr, IsErr, flat_map, length, option_copied};
+ghost use Rattle.std.specs.Prelude.{◌≡◌, ◌+◌, ◌<◌, ◌≤◌, ◌++◌, IfOk, OnOk, OnErr, IsErr, flat_map, length, option_copied};
 ghost use Rattle.std.specs.Arc.{arc_value};
 ghost use Rattle.outer_traits.specs.Outside.{HasRisen, Stays, WritesSome};
 ghost use Rattle.retrieval.specs.AnswerText.{answer_lines, end_line, front_line};
 ghost use Rattle.retrieval.specs.CellText.{HasShortLabels, cell_line};
+ghost use Rattle.retrieval.specs.ValuesText.{cell_lines};
 ghost use Rattle.dump_lines.specs.Output.{IsBuffered};
 
 use crate::answer::ParameterAnswer;
 use crate::cell_text::put_cell;
 use crate::cells::calibration_of;
+use arch_types::ask::Answer;
 use arch_types::cell::Cell;
+use arch_types::octets::Octets;
 use dump_lines::line_buffer::LineBuffer;
-use mdb_model::Calibration;
+use mdb_model::{Calibration, Mdb};
 use outer_traits::fault::Failed;
 use outer_traits::sink::Sink;
+use std::alloc::{AllocError, Global};
+
+/// The lines of the cells of an answer over a parameter of the database. A label that the parameter's calibration
+/// doesn't have is `UNDEF`.
+pub fn answer_text(
+    alloc: Global,
+    answer: &Answer,
+    mdb: &Mdb,
+    parameter: u16,
+) -> Result<Octets, AllocError>
+    requires { parameter < length mdb.now.parameters }
+    ensures { IfOk result (λ text. text ≡ cell_lines mdb.now parameter answer.now.cells) }
+{
+    let calibration = calibration_of(mdb, parameter);
+    let text = cells_text(alloc, answer.cells.as_slice(), calibration)?;
+    Octets::from_vec(alloc, text)
+}
+
+/// The lines of cells of a parameter with this calibration.
+fn cells_text(
+    alloc: Global,
+    cells: &[Cell],
+    calibration: Option<&Calibration>,
+) -> Result<Vec<u8>, AllocError>
+    requires { HasShortLabels (option_copied calibration) }
+    ensures { IfOk result (λ text. text.items ≡ flat_map (cell_line (option_copied calibration.entry)) cells.now) }
+{
+    let mut line_buffer = LineBuffer::new(alloc)?;
+    let mut text = Vec::new(alloc);
+    for cell in cells {
+        put_cell(&mut line_buffer, *cell, calibration);
+        line_buffer.append_to(&mut text)?;
+    }
+    Ok(text)
+}
 
 /// Prints an answer, of which the end may still be buffered.
 pub fn print_found<K: Sink>(

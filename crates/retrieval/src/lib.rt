@@ -1,11 +1,14 @@
 //! The answers to asks: the values of a parameter in the rows of a range, and the rows of a replay, and their text.
 //!
-//! Stands for: the cells that extraction of each row's packet gives, in the order that was asked, up to the limit
-//! (`specs/AnswerText.antt`), and how a value is written (`specs/CellText.antt`); the rows of a replay, each with the name of its packet
-//! (`specs/ReplayText.antt`); and what is printed of the asks of a sheet (`specs/AskText.antt`). Called by the commands that print them.
+//! Stands for: the cells that the parts of a plan have of a parameter, those of a set or those that extraction of each
+//! row's packet gives, in the order that was asked, up to the limit (`specs/PartCells.antt`), and how a value is
+//! written (`specs/CellText.antt`); the rows of a replay, each with the name of its packet (`specs/ReplayText.antt`);
+//! and what is printed of the asks of a sheet (`specs/AskText.antt`). Called by the commands that print them.
 //!
-//! The two ideas: a descending ask goes from the last row and stops at its limit, and gives what the ascending cells, turned, begin with. What was
-//! printed of a replay, and the lines of what its cursor has still to give, are the lines of all of it.
+//! The two ideas: a descending ask goes from the last part and its last row and stops at its limit, and gives what the
+//! ascending cells, turned, begin with (`proofs/Limited.antt`); over which rows the parts are matters nowhere but in
+//! one lemma (`proofs/OverRows.antt`). What was printed of a replay, and the lines of what its cursor has still to
+//! give, are the lines of all of it.
 #![tactic(auto)]
 
 pub mod answer;
@@ -14,5 +17,6 @@ pub mod cell_text;
 pub mod cells;
 mod packet_text;
 pub mod parameter;
+mod part_cells;
 pub mod refusals;
 pub mod replay;

@@ -6,7 +6,7 @@ use Rattle.arch_types.specs.declared.row.Row.{Row}
 use Rattle.arch_types.specs.Interval.{interval_of}
 use Rattle.arch_types.specs.Order.{is_before}
 use Rattle.arch_types.specs.Table.{range_of}
-use Rattle.archive_store.specs.Plans.{rows_of_parts}
+use Rattle.param_segments.specs.Plans.{rows_of_parts}
 use Rattle.archive_store.proofs.Planning.{bounded, range_classified, classified_tail, first_rises, earlier_next}
 use Rattle.archive_store.proofs.retrieving.parts_of.Goals as goal
 
@@ -35,7 +35,7 @@ loop-row-preserved c =
     let put = c.in_ok-put.ensures in
     record {
       rows = ap (λ (l : List Row). l ++ rest) put.rows ∙ append_assoc (rows_of_parts parts) (row ∷ []) rest ∙ ap (λ (l : List Row). rows_of_parts parts ++ l) (sym step) ∙ inv.rows;
-      each = put.each inv.each;
+      each = put.each;
       rising = put.rising inv.rising (earlier 0 row (omega arith));
       classified = classified_tail row rest classified;
       earlier = λ k d within. put.bounded (interval_of 22 (get_or rest k d).key.time) (earlier_next parts row rest d k earlier within) (first_rises row rest d k classified within);

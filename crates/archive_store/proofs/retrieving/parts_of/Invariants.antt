@@ -5,7 +5,8 @@ use Rattle.arch_types.specs.declared.row.Row.{Row}
 use Rattle.arch_types.specs.Interval.{interval_of}
 use Rattle.arch_types.specs.Order.{is_before}
 use Rattle.arch_types.specs.Table.{range_of}
-use Rattle.archive_store.specs.Plans.{rows_of_parts, IsPlanPart, AreRisingIntervals}
+use Rattle.param_segments.specs.Plans.{rows_of_parts}
+use Rattle.archive_store.specs.Plans.{IsPlanPart, AreRisingIntervals}
 use Rattle.archive_store.proofs.Planning.{bounded}
 use Rattle.archive_store.proofs.retrieving.parts_of.Given as goal
 

@@ -37,7 +37,7 @@ loop-row-preserved g c =
     record {
       all = next.0;
       within = next.1;
-      steps = first_row rest left row c.loop-row.steps c.add_cell.new.steps (c.args.steps.now + length rows) step c.loop-row.invariant.steps c.add_cell.ensures.step;
+      steps = first_row rest left row c.loop-row.steps c.add_cell.new.steps (c.args.steps.now + length rows) step c.loop-row.invariant.steps (omega (arith, c.add_cell.ensures.step));
     }
 
 pub returns-then-is_full-clause-cells : goal.returns-then-is_full-clause-cells

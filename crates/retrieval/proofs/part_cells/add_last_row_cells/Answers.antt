@@ -1,0 +1,48 @@
+use Rattle.std.proofs.Common.{◌≡◌, ◌∙◌, ◌+◌, ◌++◌, arith, length, reverse, true, false, sym}
+use Rattle.std.specs.Iterator.Adapters.{rev_source}
+use Rattle.std.specs.List.{filter_map}
+use Rattle.std.specs.Slice.Iter.{iter_rest}
+use Rattle.replay_merge.specs.Replay.{truncated}
+use Rattle.retrieval.specs.AnswerText.{is_full}
+use Rattle.retrieval.specs.PartCells.{cell_in_range}
+use Rattle.retrieval.proofs.Counted.{last_row}
+use Rattle.retrieval.proofs.Limited.{full, items_done, next_last}
+use Rattle.retrieval.proofs.part_cells.add_last_row_cells.Goals as goal
+
+pub loop-row-preserved : goal.loop-row-preserved
+loop-row-preserved g c =
+    let request = c.args.request.now in
+    let f = cell_in_range c.args.mdb.now c.args.number request.from request.to in
+    let cells = c.loop-row.cells.items in
+    let rest = iter_rest (rev_source c.loop-row.row-iterator) in
+    let left = iter_rest (rev_source c.next.new.self) in
+    let space : is_full request.limit cells ≡ false = rw c.as_slice.ensures.value at (sym c.is_full.ensures ∙ c.if-is_full.false) in
+    let next = next_last f request.limit cells c.add_row_cell.new.cells.items rest left c.in-Some.row.now (truncated request.limit (c.args.cells.now.items ++ filter_map f (reverse c.args.rows.now))) space
+    c.in_ok-add_row_cell.ensures.cell c.in-Some.ensures.steps c.loop-row.invariant.all in
+    record {
+      all = next.0;
+      within = next.1;
+      steps = last_row rest left c.in-Some.row.now c.loop-row.steps c.add_row_cell.new.steps (c.args.steps.now + length c.args.rows.now) c.in-Some.ensures.steps c.loop-row.invariant.steps c.add_row_cell.ensures.steps;
+    }
+
+pub returns-in_err-add_row_cell-clause-steps : goal.returns-in_err-add_row_cell-clause-steps
+returns-in_err-add_row_cell-clause-steps g c =
+    let rest = iter_rest (rev_source c.loop-row.row-iterator) in
+    let left = iter_rest (rev_source c.next.new.self) in
+    omega (arith, last_row rest left c.in-Some.row.now c.loop-row.steps c.add_row_cell.new.steps (c.args.steps.now + length c.args.rows.now) c.in-Some.ensures.steps c.loop-row.invariant.steps c.add_row_cell.ensures.steps)
+
+pub returns-then-is_full-clause-cells : goal.returns-then-is_full-clause-cells
+returns-then-is_full-clause-cells g c =
+    let request = c.args.request.now in
+    let f = cell_in_range c.args.mdb.now c.args.number request.from request.to in
+    let cells = c.loop-row.cells.items in
+    let rest = iter_rest (rev_source c.loop-row.row-iterator) in
+    let most : is_full request.limit cells ≡ true = rw c.as_slice.ensures.value at (sym c.is_full.ensures ∙ c.if-is_full.true) in
+    sym (full request.limit cells (filter_map f (reverse rest)) most c.loop-row.invariant.within) ∙ c.loop-row.invariant.all
+
+pub returns-clause-cells : goal.returns-clause-cells
+returns-clause-cells g c =
+    let request = c.args.request.now in
+    let f = cell_in_range c.args.mdb.now c.args.number request.from request.to in
+    let rest = iter_rest (rev_source c.loop-row.row-iterator) in
+    items_done f request.limit c.loop-row.cells.items rest (truncated request.limit (c.args.cells.now.items ++ filter_map f (reverse c.args.rows.now))) c.in-None.ensures.steps.0 c.loop-row.invariant.within c.loop-row.invariant.all

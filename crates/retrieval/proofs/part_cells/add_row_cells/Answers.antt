@@ -1,0 +1,31 @@
+use Rattle.std.proofs.Common.{◌≡◌, ◌∙◌, ◌+◌, ◌++◌, ◌∷◌, drop, true, false, sym, ap, arith}
+use Rattle.std.specs.List.{filter_map}
+use Rattle.std.proofs.lemmas.List.{drop_more}
+use Rattle.arch_types.specs.declared.row.Row.{Row}
+use Rattle.replay_merge.specs.Replay.{truncated}
+use Rattle.retrieval.specs.AnswerText.{is_full}
+use Rattle.retrieval.specs.PartCells.{cell_in_range}
+use Rattle.retrieval.proofs.Limited.{full, next_first}
+use Rattle.retrieval.proofs.part_cells.add_row_cells.Goals as goal
+
+pub loop-row-preserved : goal.loop-row-preserved
+loop-row-preserved g c =
+    let request = c.args.request.now in
+    let rows = c.args.rows.now in
+    let f = cell_in_range c.args.mdb.now c.args.number request.from request.to in
+    let i = c.loop-row.row-index in
+    let row = c.row-item.result in
+    let left = drop (i + 1) rows in
+    let cells = c.loop-row.cells.items in
+    let step : drop i rows ≡ row ∷ left = drop_more rows i row c.loop-row-test.true ∙ ap (λ (r : Row). r ∷ left) (sym c.row-item.is) in
+    let space : is_full request.limit cells ≡ false = rw c.as_slice.ensures.value at (sym c.is_full.ensures ∙ c.if-is_full.false) in
+    let next = next_first f request.limit cells c.add_row_cell.new.cells.items (drop i rows) left row (truncated request.limit (c.args.cells.now.items ++ filter_map f rows)) space c.in_ok-add_row_cell.ensures.cell step c.loop-row.invariant.all in
+    record { all = next.0; within = next.1; steps = omega (arith, c.add_row_cell.ensures.steps, c.loop-row.invariant.steps) }
+
+pub returns-then-is_full-clause-cells : goal.returns-then-is_full-clause-cells
+returns-then-is_full-clause-cells g c =
+    let request = c.args.request.now in
+    let f = cell_in_range c.args.mdb.now c.args.number request.from request.to in
+    let cells = c.loop-row.cells.items in
+    let most : is_full request.limit cells ≡ true = rw c.as_slice.ensures.value at (sym c.is_full.ensures ∙ c.if-is_full.true) in
+    sym (full request.limit cells (filter_map f (drop c.loop-row.row-index c.args.rows.now)) most c.loop-row.invariant.within) ∙ c.loop-row.invariant.all

@@ -1,0 +1,16 @@
+use Rattle.std.proofs.Common.{◌≡◌, ◌+◌, ◌≤◌, ◌++◌, drop, length}
+use Rattle.std.specs.Prelude.{flat_map}
+use Rattle.std.specs.List.{AllByRecursion}
+use Rattle.param_segments.specs.Plans.{HasValuesOf, rows_of_parts}
+use Rattle.replay_merge.specs.Replay.{truncated}
+use Rattle.retrieval.specs.PartCells.{cells_of_part}
+use Rattle.retrieval.proofs.part_cells.first_part_cells.Given as goal
+
+abbrev pub invariant-loop-part : goal.invariant-loop-part
+invariant-loop-part g l = record {
+  all : truncated l.request.limit (l.cells.items ++ flat_map (cells_of_part l.mdb l.number l.request.from l.request.to) (drop l.part-index l.parts))
+      ≡ truncated l.request.limit (flat_map (cells_of_part l.mdb l.number l.request.from l.request.to) l.parts);
+  within : truncated l.request.limit l.cells.items ≡ l.cells.items;
+  values : AllByRecursion (HasValuesOf l.mdb) (drop l.part-index l.parts);
+  steps : l.steps + length (rows_of_parts (drop l.part-index l.parts)) ≤ l.initial.steps + length (rows_of_parts l.parts);
+}

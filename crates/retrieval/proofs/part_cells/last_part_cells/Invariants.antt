@@ -1,0 +1,18 @@
+use Rattle.std.proofs.Common.{◌≡◌, ◌+◌, ◌≤◌, ◌++◌, length, reverse}
+use Rattle.std.specs.Prelude.{flat_map}
+use Rattle.std.specs.Iterator.Adapters.{rev_source}
+use Rattle.std.specs.List.{AllByRecursion}
+use Rattle.std.specs.Slice.Iter.{iter_rest}
+use Rattle.param_segments.specs.Plans.{HasValuesOf, rows_of_parts}
+use Rattle.replay_merge.specs.Replay.{truncated}
+use Rattle.retrieval.specs.PartCells.{cells_of_part}
+use Rattle.retrieval.proofs.part_cells.last_part_cells.Given as goal
+
+abbrev pub invariant-loop-part : goal.invariant-loop-part
+invariant-loop-part g l = record {
+  all : truncated l.request.limit (l.cells.items ++ reverse (flat_map (cells_of_part l.mdb l.number l.request.from l.request.to) (iter_rest (rev_source l.part-iterator))))
+      ≡ truncated l.request.limit (reverse (flat_map (cells_of_part l.mdb l.number l.request.from l.request.to) l.parts));
+  within : truncated l.request.limit l.cells.items ≡ l.cells.items;
+  values : AllByRecursion (HasValuesOf l.mdb) (iter_rest (rev_source l.part-iterator));
+  steps : l.steps + length (rows_of_parts (iter_rest (rev_source l.part-iterator))) ≤ l.initial.steps + length (rows_of_parts l.parts);
+}

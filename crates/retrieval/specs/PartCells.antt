@@ -1,0 +1,50 @@
+-- The cells that the parts of a plan have of a parameter, and the answer over them.
+use Rattle.std.specs.Prelude.{ℕ, ℤ, Bool, not, ◌&&◌, List, filter, flat_map, unwrap_or, int_lt, Option, Some, None, if◌then◌else◌}
+use Rattle.std.specs.List.{filter_map}
+use Rattle.std.specs.Arc.{arc_value}
+use Rattle.arch_types.specs.declared.ask.Request.{Request}
+use Rattle.arch_types.specs.declared.cell.Cell.{Cell}
+use Rattle.arch_types.specs.declared.row.Row.{Row}
+use Rattle.arch_types.specs.Table.{is_in_time_range}
+use Rattle.mdb_items.specs.Database.{Database}
+use Rattle.container_extract.specs.Extraction.{cell_of}
+use Rattle.param_segments.specs.declared.plan.Part.{Part}
+use Rattle.param_segments.specs.declared.plan.Part.TheVariants.{Set, Rows}
+use Rattle.param_segments.specs.Cells.{set_cells}
+use Rattle.retrieval.specs.AnswerText.{as_asked}
+use Rattle.retrieval.specs.Parameter.{number_named}
+
+-- whether a cell's time lies in a half-open range
+abbrev pub is_cell_in_range : ℤ → ℤ → Cell → Bool
+is_cell_in_range low high cell = not (int_lt cell.key.time low) && int_lt cell.key.time high
+
+-- a cell, where its time lies in a range
+abbrev pub timely_cell : ℤ → ℤ → Cell → Option Cell
+timely_cell low high cell = if is_cell_in_range low high cell then Some cell else None
+
+-- the cell of a parameter in a row, where the row has one and its time lies in a range
+abbrev pub cell_in_range : Database → ℕ → ℤ → ℤ → Row → Option Cell
+cell_in_range db q low high row = if is_in_time_range low high row then cell_of db q row else None
+
+-- the cells of a parameter that rows give in a range
+abbrev pub cells_of_rows : Database → ℕ → ℤ → ℤ → List Row → List Cell
+cells_of_rows db q low high rows = filter_map (cell_of db q) (filter (is_in_time_range low high) rows)
+
+-- the cells of a parameter that a part has in a range: those of its set, or those that its rows give
+abbrev pub cells_of_part : Database → ℕ → ℤ → ℤ → Part → List Cell
+cells_of_part db q low high (Set interval set) = filter (is_cell_in_range low high) (set_cells db q (arc_value set))
+cells_of_part db q low high (Rows interval rows) = cells_of_rows db q low high rows
+
+-- the number of the parameter that a request asks for
+abbrev pub number_asked : Database → Request → ℕ
+number_asked db request = unwrap_or (number_named db request.parameter) 0
+
+-- the cells that a request asks of parts
+abbrev pub answer_over_parts : Database → Request → List Part → List Cell
+answer_over_parts db request parts =
+    as_asked request (flat_map (cells_of_part db (number_asked db request) request.from request.to) parts)
+
+-- the cells that a request asks of rows
+abbrev pub answer_over_rows : Database → Request → List Row → List Cell
+answer_over_rows db request rows =
+    as_asked request (cells_of_rows db (number_asked db request) request.from request.to rows)

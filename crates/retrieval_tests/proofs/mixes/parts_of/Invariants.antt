@@ -1,0 +1,6 @@
+use Rattle.std.specs.List.{AllByRecursion}
+use Rattle.param_segments.specs.Plans.{HasValuesOf}
+use Rattle.retrieval_tests.proofs.mixes.parts_of.Given as goal
+
+abbrev pub invariant-loop-interval : goal.invariant-loop-interval
+invariant-loop-interval l = AllByRecursion (HasValuesOf l.mdb) l.parts

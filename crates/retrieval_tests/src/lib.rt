@@ -1,0 +1,10 @@
+// Tests of retrieval: answers over every mix of sets and rows, in both orders, with limits and ranges at the borders of
+// parts; a worked row; texts.
+#![tactic(auto)]
+
+#[cfg(test)]
+mod mixes;
+#[cfg(test)]
+mod parts;
+#[cfg(test)]
+mod texts;
