@@ -1,0 +1,4 @@
+pub mod Meanings
+pub mod Negations
+pub mod InBounds
+pub mod ClockRanges

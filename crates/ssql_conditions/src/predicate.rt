@@ -1,0 +1,50 @@
+//! What predicates ask of a row.
+
+use item_list::Items;
+use ssql_tokens::ComparisonOperator;
+
+/// A column whose values are numbers.
+#[derive(Clone, Copy, Debug, PartialEq, Eq)]
+pub enum NumberColumn {
+    /// The generation time, in milliseconds since 1970.
+    Gentime,
+    /// The second part of the key.
+    SeqNum,
+    /// The reception time, in milliseconds since 1970.
+    Rectime,
+    /// The number of the link.
+    Link,
+    /// The APID of the packet.
+    Apid,
+    /// Octets of the packet.
+    Length,
+}
+
+/// How a number is tested.
+#[derive(Debug, Drop)]
+pub enum NumberTest {
+    /// Compared with a number.
+    Compare(ComparisonOperator, i64),
+    /// One of these numbers.
+    In(Items<i64>),
+}
+
+/// How a packet name is tested, by its number. `None` is a name that no packet has.
+#[derive(Debug, Drop)]
+pub enum NameTest {
+    /// That name.
+    Is(Option<u16>),
+    /// Another name.
+    IsNot(Option<u16>),
+    /// One of these names.
+    In(Items<Option<u16>>),
+}
+
+/// A test of one column of a row.
+#[derive(Debug, Drop)]
+pub enum TypedPredicate {
+    /// A column of numbers.
+    Number(NumberColumn, NumberTest),
+    /// The name of the packet.
+    Pname(NameTest),
+}

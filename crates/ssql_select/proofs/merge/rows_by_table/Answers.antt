@@ -1,0 +1,38 @@
+use Rattle.std.proofs.Common.{◌≡◌, List, Option, get_or, w64, SFits, ◌∙◌, sym, subst, arith, rules}
+use Rattle.std.proofs.lemmas.Int.{to_z-of_z}
+use Rattle.std.specs.Prelude.{IfSome}
+use Rattle.std.specs.List.{AllByRecursion}
+use Rattle.arch_types.specs.declared.row.Row.{Row}
+use Rattle.partitions.proofs.Parted.{default_free}
+use Rattle.partitions.specs.Rows.{parts_between}
+use Rattle.replay_merge.specs.Source.{IsKeyedRow}
+use Rattle.replay_merge.proofs.Reading.{all_both}
+use Rattle.ssql_select.proofs.Merged.{one_table_more, keyed_between}
+use Rattle.ssql_select.proofs.merge.rows_by_table.Goals as goal
+
+pub loop-table-preserved : goal.loop-table-preserved
+loop-table-preserved g c =
+    let told = (g.R.RowSource.state c.args.source.now).history in
+    let loop = c.loop-table in
+    let tables = c.args.tables.now in
+    let parts = c.args.parts.now in
+    let bounds = c.args.bounds.now in
+    let i = loop.table-index in
+    let table = get_or tables i 0 in
+    let is : table ≡ get_or tables i table = default_free tables i 0 table c.loop-table-test.true in
+    let more = c.in_ok-more.more in
+    let got = c.in_ok-more.ensures in
+    let from_fits : SFits w64 bounds.from = search rules in
+    let to_fits : SFits w64 bounds.to = search rules in
+    let low = to_z-of_z w64 bounds.from from_fits in
+    let high = to_z-of_z w64 bounds.to to_fits in
+    let given = rw (low, high) at got.told in
+    let each_given = rw (low, high) at got.each in
+    let all = c.in_ok-rows.rows.items in
+    let used = loop.invariant.used in
+    record {
+      used = record { told = got.source.told ∙ used.told; later = omega (arith, used.later, got.source.later) };
+      rows = one_table_more parts bounds.from bounds.to c.args.front told tables i table loop.rows.items more all c.loop-table-test.true is loop.invariant.rows
+          (subst (λ (o : Option (List Row)). IfSome o (λ history. more ≡ parts_between c.args.front table parts bounds.from bounds.to history)) used.told given) c.in_ok-rows.ensures;
+      each = subst (AllByRecursion IsKeyedRow) (sym c.in_ok-rows.ensures) (all_both IsKeyedRow loop.rows.items more loop.invariant.each (keyed_between table parts bounds.from bounds.to more each_given));
+    }

@@ -1,0 +1,26 @@
+use Rattle.std.proofs.Common.{◌≡◌, ◌+◌, ◌≤◌, ◌++◌, length, take}
+use Rattle.std.specs.Prelude.{filter, IfSome}
+use Rattle.std.specs.List.{AllByRecursion}
+use Rattle.partitions.specs.Partitions.{AreRising}
+use Rattle.partitions.specs.Rows.{is_of_parts}
+use Rattle.replay_merge.specs.Replay.{truncated}
+use Rattle.replay_merge.specs.Source.{IsKeyedRow, UsedRowSource}
+use Rattle.ssql_select.specs.Selection.{merged_between, selected_between}
+use Rattle.ssql_select.proofs.select.select_days.Given as goal
+
+abbrev pub invariant-days : goal.invariant-days
+invariant-days g l =
+    let told = (g.R.RowSource.state l.fn.source).history in
+    record {
+      used : UsedRowSource (g.R.RowSource.state l.fn.source) (g.R.RowSource.state l.source);
+      rising : AreRising l.left;
+      within : truncated l.statement.limit l.selected.items ≡ l.selected.items;
+      found : AllByRecursion IsKeyedRow l.selected.items;
+      rows : IfSome told (λ history. truncated l.statement.limit (l.selected.items ++ selected_between l.statement l.left l.bounds.from l.bounds.to (take l.front history))
+          ≡ truncated l.statement.limit (selected_between l.statement l.parts l.bounds.from l.bounds.to (take l.front history)));
+      steps : IfSome told (λ history. l.steps + length (filter (is_of_parts l.left) (merged_between l.statement.sources l.bounds.from l.bounds.to (take l.front history)))
+          ≤ l.initial.steps + length (filter (is_of_parts l.parts) (merged_between l.statement.sources l.bounds.from l.bounds.to (take l.front history))));
+    }
+
+abbrev pub decreases-days : goal.decreases-days
+decreases-days g l = length l.left

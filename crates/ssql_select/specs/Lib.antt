@@ -1,0 +1,4 @@
+pub mod Selection
+pub mod SelectionText
+pub mod Printed
+pub mod Laws

@@ -1,0 +1,30 @@
+-- What a call that prints a text leaves.
+use Rattle.std.specs.Prelude.{ℕ, ◌<◌, ◌≤◌, List, length, Result, Ok, Err}
+use Rattle.outer_traits.specs.Outside.{HasRisen, Stays, WritesSome}
+use Rattle.outer_traits.specs.States.{OutputState}
+use Rattle.dump_lines.specs.declared.print_fault.PrintFault.{PrintFault}
+use Rattle.dump_lines.specs.declared.print_fault.PrintFault.TheVariants.{Write, OutOfMemory}
+use Rattle.dump_lines.specs.Output.{IsBuffered}
+
+-- a text went on but for what is left in the buffer, and no write failed
+pub record IsPrinted (before after : OutputState) (text left : List ℕ) : Type 0 where
+  pub buffered : IsBuffered before.written after.written text left
+  pub room : length left < 65536
+  pub no_fault : Stays before.faults after.faults
+
+-- a prefix of it went on, and a write failed
+pub record IsCutOff (before after : OutputState) (text : List ℕ) : Type 0 where
+  pub some : WritesSome before.written after.written text
+  pub later : before.faults ≤ after.faults
+  pub failed : HasRisen before.faults after.faults
+
+-- a prefix of it went on, and no write failed
+pub record IsPartPrinted (before after : OutputState) (text : List ℕ) : Type 0 where
+  pub some : WritesSome before.written after.written text
+  pub no_fault : Stays before.faults after.faults
+
+-- what is left of printing a text, by what the call answers
+abbrev pub PrintsText : {X : Type 0} → Result X PrintFault → OutputState → OutputState → List ℕ → List ℕ → Type 0
+PrintsText (Ok _) before after text left = IsPrinted before after text left
+PrintsText (Err Write) before after text left = IsCutOff before after text
+PrintsText (Err OutOfMemory) before after text left = IsPartPrinted before after text

@@ -1,0 +1,22 @@
+//! Selections from tables, and what is written of them.
+//!
+//! Stands for: the rows of each source that meet a condition, merged by key with ties in the order of the sources, turned where that
+//! is asked, up to a limit (`specs/Selection.antt`), and their text (`specs/SelectionText.antt`).
+//! Called by the command that answers queries.
+//!
+//! `select` goes over the days of the partitions from the side that is asked, reads a day's rows of each source in the order of
+//! their keys, merges them, and asks the condition of one after the other until the limit is reached; no later day is read then.
+//! The idea of its proof: the rows of the partitions that are left are, in the order that is asked, those of the next day and then
+//! those of the others (`days::split_day`), whatever rows in key order they are taken of; so they may be taken of all sources
+//! merged, and the condition, the order and the bounds of the condition are asked in any turn.
+//!
+//! A selection is its rows, which contracts see as their text: it is written line after line, and never stands in one block.
+#![tactic(auto)]
+
+mod days;
+pub mod laws;
+mod merge;
+mod printing;
+pub mod select;
+pub mod selection_text;
+mod values;

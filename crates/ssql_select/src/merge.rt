@@ -1,0 +1,80 @@
+//! The rows of a day, of all sources.
+
+ghost use Rattle.std.specs.Prelude.{◌≡◌, ◌++◌, take, IfOk, IfErr, IfSome};
+ghost use Rattle.std.specs.List.{AllByRecursion};
+ghost use Rattle.arch_types.specs.Table.{sorted};
+ghost use Rattle.partitions.specs.Partitions.{AreRising};
+ghost use Rattle.replay_merge.specs.Source.{IsKeyedRow, IsRowSourceRefusal, UsedRowSource};
+ghost use Rattle.ssql_select.specs.Selection.{rows_between_of};
+
+use arch_types::refusal::Refusal;
+use arch_types::row::{Row, Rows};
+use partitions::bounds::Bounds;
+use partitions::partition::Partition;
+use partitions::rows::merged_by_key;
+use replay_merge::source::RowSource;
+use std::alloc::{AllocError, Global};
+
+/// Rows, and others behind them. The one error is want of memory.
+fn with_rows(rows: Vec<Row>, more: Rows) -> Result<Vec<Row>, AllocError>
+    ensures { IfOk result (λ all. all.items ≡ rows.items ++ more) }
+{
+    if rows.is_empty() {
+        return Ok(more.into_vec());
+    }
+    let mut rows = rows;
+    let mut more = more.into_vec();
+    rows.append(&mut more)?;
+    Ok(rows)
+}
+
+/// The rows of some partitions and a range of times, those of each table in the order of their keys and behind those of the table
+/// before.
+fn rows_by_table<R: RowSource>(
+    alloc: Global,
+    source: &mut R,
+    tables: &[u8],
+    parts: &[Partition],
+    bounds: &Bounds,
+    front: u64,
+) -> Result<Vec<Row>, Refusal>
+    requires { AreRising parts.now }
+    ensures rows { IfOk result (λ rows. IfSome (R.state source.old).history (λ history.
+        rows.items ≡ rows_between_of tables.now parts.now bounds.now.from bounds.now.to (take front history))) }
+    ensures each { IfOk result (λ rows. AllByRecursion IsKeyedRow rows.items) }
+    ensures refused { IfErr result (IsRowSourceRefusal (R.state source.old) (R.state source.new)) }
+    ensures source { UsedRowSource (R.state source.old) (R.state source.new) }
+{
+    let mut rows = Vec::new(alloc);
+    for table in tables {
+        let more = source.rows_between(alloc, *table, parts, bounds.from, bounds.to, front)?;
+        rows = with_rows(rows, more)?;
+    }
+    Ok(rows)
+}
+
+/// The rows of some partitions and a range of times, of all tables in the order of their keys; rows that tie stand in the order of
+/// the tables. Those of one table come in this order.
+pub(crate) fn merged_rows<R: RowSource>(
+    alloc: Global,
+    source: &mut R,
+    tables: &[u8],
+    parts: &[Partition],
+    bounds: &Bounds,
+    front: u64,
+) -> Result<Vec<Row>, Refusal>
+    requires { AreRising parts.now }
+    ensures rows { IfOk result (λ rows. IfSome (R.state source.old).history (λ history. rows.items
+        ≡ sorted (rows_between_of tables.now parts.now bounds.now.from bounds.now.to (take front history)))) }
+    ensures each { IfOk result (λ rows. AllByRecursion IsKeyedRow rows.items) }
+    ensures refused { IfErr result (IsRowSourceRefusal (R.state source.old) (R.state source.new)) }
+    ensures source { UsedRowSource (R.state source.old) (R.state source.new) }
+{
+    if let [table] = tables {
+        let rows = source.rows_between(alloc, *table, parts, bounds.from, bounds.to, front)?;
+        return Ok(rows.into_vec());
+    }
+    let rows = rows_by_table(alloc, source, tables, parts, bounds, front)?;
+    let merged = merged_by_key(rows)?;
+    Ok(merged.into_vec())
+}

@@ -1,0 +1,31 @@
+//! Octets on their way to a sink.
+
+ghost use Rattle.std.specs.Prelude.{◌≤◌, ◌<◌, ◌++◌, length};
+ghost use Rattle.ssql_select.specs.Printed.{PrintsText};
+
+use dump_lines::line_buffer::LineBuffer;
+use dump_lines::print_fault::PrintFault;
+use dump_lines::write::write_all;
+use outer_traits::sink::Sink;
+
+/// The octets from which on a text doesn't go through the buffer.
+const LONG: usize = 512;
+
+/// Prints octets, which may still be buffered.
+pub fn print_octets<K: Sink>(
+    octets: &[u8],
+    line_buffer: &mut LineBuffer,
+    sink: &mut K,
+) -> Result<(), PrintFault>
+    requires room { length line_buffer.old < 65536 }
+    ensures { PrintsText result (K.state sink.old) (K.state sink.new) (line_buffer.old ++ octets.now) line_buffer.new }
+{
+    if octets.len() <= LONG {
+        line_buffer.put(octets);
+        line_buffer.flush_if_full(sink)?;
+        return Ok(());
+    }
+    line_buffer.flush(sink)?;
+    write_all(sink, octets)?;
+    Ok(())
+}

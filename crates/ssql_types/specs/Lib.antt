@@ -1,0 +1,9 @@
+pub mod Rules
+pub mod Literals
+pub mod Columns
+pub mod Names
+pub mod Faults
+pub mod Typed
+pub mod ConditionFormula
+pub mod Typing
+pub mod Laws

@@ -1,0 +1,41 @@
+-- What the parts of the typing answer.
+use Rattle.std.specs.Prelude.{◌≡◌, ◌⊎◌, ℕ, List, [], Option, Some, None, Result, Ok, Err}
+use Rattle.arch_types.specs.declared.refusal.Refusal.{Refusal}
+use Rattle.arch_types.specs.declared.refusal.Refusal.TheVariants.{OutOfMemory}
+use Rattle.ssql_parse.specs.Parsing.{WrittenScript}
+use Rattle.ssql_types.specs.declared.place.ScriptPlace.{ScriptPlace}
+use Rattle.ssql_types.specs.Rules.{TokenFault, first_sql_refusal, places_behind}
+use Rattle.ssql_types.specs.Faults.{script_faults}
+
+-- Nothing is wrong with the tokens of a part, and this is what the part stands for, with the octets at which the tokens behind it begin.
+pub record IsTypedPart {A : Type 0} (faults : List TokenFault) (places : List ℕ) (value : A) (part : A × List ℕ) : Type 0 where
+  pub sound : first_sql_refusal faults places ≡ None
+  pub same : part.0 ≡ value
+  pub rest : part.1 ≡ places_behind faults places
+
+-- Nothing is wrong with these tokens, and at these octets begin those behind them.
+pub record IsPassed (faults : List TokenFault) (places rest : List ℕ) : Type 0 where
+  pub sound : first_sql_refusal faults places ≡ None
+  pub at : rest ≡ places_behind faults places
+
+-- why a part is refused: something is wrong with one of its tokens, and the refusal is that of the first; or memory ran out
+abbrev pub IsTypeRefusal : List TokenFault → List ℕ → Refusal → Type 0
+IsTypeRefusal faults places refusal = (refusal ≡ OutOfMemory) ⊎ (first_sql_refusal faults places ≡ Some refusal)
+
+-- the refusal of a script in a place, beside these tables, if something is wrong with one of its tokens
+abbrev pub script_refusal : ScriptPlace → List (List ℕ) → WrittenScript → Option Refusal
+script_refusal place tables script = first_sql_refusal (script_faults place tables [] script.statements) script.places
+
+-- why a script is refused: that, or memory ran out
+abbrev pub IsScriptRefusal : ScriptPlace → List (List ℕ) → WrittenScript → Refusal → Type 0
+IsScriptRefusal place tables script refusal = (refusal ≡ OutOfMemory) ⊎ (script_refusal place tables script ≡ Some refusal)
+
+-- What a function that types a part answers, seen by view: that nothing is wrong with these tokens and what the part stands for, or the refusal.
+abbrev pub TypesAs : {X A : Type 0} → (X → A × List ℕ) → Result X Refusal → List TokenFault → List ℕ → A → Type 0
+TypesAs view (Ok x) faults places value = IsTypedPart faults places value (view x)
+TypesAs view (Err refusal) faults places value = IsTypeRefusal faults places refusal
+
+-- What a function answers that passes over a part, seen by view: that nothing is wrong with these tokens and what is behind them, or the refusal.
+abbrev pub PassesOver : {X : Type 0} → (X → List ℕ) → Result X Refusal → List TokenFault → List ℕ → Type 0
+PassesOver view (Ok x) faults places = IsPassed faults places (view x)
+PassesOver view (Err refusal) faults places = IsTypeRefusal faults places refusal
