@@ -1,5 +1,7 @@
 pub mod Cells
 pub mod Runs
+pub mod OneReply
+pub mod SameReply
 pub mod KeyOrder
 pub mod Found
 pub mod Ingested

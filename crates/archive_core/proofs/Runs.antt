@@ -1,6 +1,6 @@
 -- Steps and runs.
 use Rattle.std.proofs.Common.{◌≡◌, ℕ, List, [], ◌∷◌, ◌++◌, length, drop, Bool, true, false, Some, ◌+◌, ◌≤◌, refl, sym, ◌∙◌, ap, subst, arith, append-nil, append_assoc}
-use Rattle.std.specs.Prelude.{◌↔◌, slice_get, if◌then◌else◌}
+use Rattle.std.specs.Prelude.{◌↔◌, fold, map, slice_get, if◌then◌else◌}
 use Rattle.std.specs.Option.{is_some}
 use mathlib.Core.List.{IsPrefix}
 use Rattle.arch_types.proofs.Histories.{only_adds}
@@ -8,15 +8,17 @@ use Rattle.arch_types.specs.declared.inserted.Installed.TheVariants as became
 use Rattle.arch_types.specs.declared.interval.Interval.{Interval}
 use Rattle.history_items.specs.declared.fills.Fill.{Fill}
 use Rattle.history_items.specs.declared.fills.Fill.TheVariants.{Begun, Done, Freed}
+use Rattle.history_items.specs.FillList.{flights_of}
 use Rattle.history_items.specs.Fills.{in_flight}
+use Rattle.history_items.specs.Items.{Item}
 use Rattle.archive_core.specs.declared.event.Event.{Event}
 use Rattle.archive_core.specs.declared.event.Event.TheVariants.{Ingest, Begin, Install, Abandon, Retrieve, Replay}
 use Rattle.archive_core.specs.declared.reply.Reply.{Reply}
 use Rattle.archive_core.specs.declared.reply.Reply.TheVariants.{Ingested, NoTask, Task, Void, Installed, Abandoned}
 use Rattle.archive_core.specs.Machine.{MachineStep, MachineRun}
 use Rattle.archive_core.proofs.Ingested.{cut_at, none_from}
-use Rattle.interval_fills.specs.Invariant.{MachineInvariant, first_state}
-use Rattle.interval_fills.specs.Steps.{MachineState, freed}
+use Rattle.interval_fills.specs.Invariant.{MachineInvariant}
+use Rattle.interval_fills.specs.Steps.{MachineState, first_state, state_of, freed, all_freed, given_up}
 use Rattle.interval_fills.proofs.Steps.{first, ingests, begins, installs, gives_up}
 use Rattle.mdb_items.specs.Database.{Database}
 
@@ -86,6 +88,15 @@ module _ (e : ℕ) (tables : List (List ℕ)) (db : Database) where
 
   pub runs : (events : List Event) (replies : List Reply) (new : MachineState) → MachineRun e tables db first_state events replies new → MachineInvariant e new
   runs events replies new is = run_keeps events replies first_state new (first e) is
+
+  -- flights end one after the other
+  ends : (caller : ℕ) (history : List Item) (flights : List Interval) (fills : List Fill) → MachineRun e tables db (state_of history fills) (map (Abandon caller) flights) (map (λ _. Abandoned) flights)
+      (state_of history (fold (λ ended interval. freed interval ended) fills flights))
+  ends caller history [] fills = refl
+  ends caller history (i ∷ flights) fills = (given_up i (state_of history fills), refl, ends caller history flights (freed i fills))
+
+  pub settling : (caller : ℕ) (s : MachineState) → MachineRun e tables db s (map (Abandon caller) (flights_of s.fills)) (map (λ _. Abandoned) (flights_of s.fills)) (state_of s.history (all_freed s.fills))
+  settling caller s = ends caller s.history (flights_of s.fills) s.fills
 
   there : (events later : List Event) (replies more : List Reply) (old new : MachineState) → length events ≡ length replies → MachineRun e tables db old (events ++ later) (replies ++ more) new
       → (mid : MachineState) × MachineRun e tables db old events replies mid × MachineRun e tables db mid later more new

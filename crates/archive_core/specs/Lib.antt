@@ -4,4 +4,5 @@ pub mod Replies
 pub mod Machine
 pub mod Core
 pub mod RowTests
+pub mod Alike
 pub mod Laws

@@ -4,7 +4,8 @@ ghost use Rattle.std.specs.Prelude.{◌≡◌, IfOk, OnErr};
 ghost use mathlib.Core.List.{IsPrefix};
 ghost use Rattle.history_items.specs.Items.{items_of};
 ghost use Rattle.archive_core.specs.Machine.{MachineRun, MachineStep};
-ghost use Rattle.interval_fills.specs.Invariant.{MachineInvariant, first_state};
+ghost use Rattle.interval_fills.specs.Invariant.{MachineInvariant};
+ghost use Rattle.interval_fills.specs.Steps.{first_state};
 
 use crate::answers::answered;
 use crate::event::Event;

@@ -9,7 +9,7 @@ use Rattle.history_items.specs.Items.{Item, prefix}
 use Rattle.history_items.specs.Fills.{base_in}
 use Rattle.history_items.specs.Late.{StandsIn, IsLate}
 use Rattle.interval_fills.specs.Intervals.{rows_of_interval, NoRowSince}
-use Rattle.interval_fills.specs.Steps.{MachineState, IsFillBase}
+use Rattle.interval_fills.specs.Steps.{MachineState, IsFillBase, IsStoredBase}
 use Rattle.interval_fills.proofs.Intervals.{rows_below}
 
 -- ---- a history that grows
@@ -26,6 +26,22 @@ pub base_grows : (e : ℕ) (i : Interval) (base : ℕ) (history more : List Item
 base_grows e i base history more b = record {
   within = omega (arith, b.within, length-append history more);
   row = record { position = b.row.position; stands = stands_grows e i b.row.position history more b.row.stands; below = b.row.below };
+}
+
+pub stored_base : (e : ℕ) (i : Interval) (base : ℕ) (history : List Item) → IsFillBase e i base history → IsStoredBase e i base history
+stored_base e i base history b = record {
+  within = b.within;
+  row = record { position = b.row.position; stands = b.row.stands; below = omega (arith, b.row.below, b.within) };
+}
+
+pub stored_grows : (e : ℕ) (i : Interval) (base : ℕ) (history more : List Item) → IsStoredBase e i base history → IsStoredBase e i base (history ++ more)
+stored_grows e i base history more b = record {
+  within = omega (arith, b.within, length-append history more);
+  row = record {
+    position = b.row.position;
+    stands = stands_grows e i b.row.position history more b.row.stands;
+    below = omega (arith, b.row.below, length-append history more);
+  };
 }
 
 -- an interval that is late has a row

@@ -1,5 +1,5 @@
 -- Steps keep what holds of every state.
-use Rattle.std.proofs.Common.{◌≡◌, ℕ, List, [], ◌∷◌, ◌++◌, Bool, true, false, Option, Some, None, sym, refl, ◌∙◌, ap, subst}
+use Rattle.std.proofs.Common.{◌≡◌, ℕ, ◌≤◌, arith, List, [], ◌∷◌, ◌++◌, Bool, true, false, Option, Some, None, sym, refl, ◌∙◌, ap, subst}
 use Rattle.std.specs.Prelude.{if◌then◌else◌, ℤ, fold}
 use Rattle.std.specs.Option.{is_some}
 use Rattle.std.proofs.lemmas.Bool.Decides.{Decides-int_eq}
@@ -10,37 +10,41 @@ use Rattle.arch_types.specs.declared.inserted.Installed.{Installed}
 use Rattle.arch_types.specs.declared.inserted.Installed.TheVariants as became
 use Rattle.arch_types.specs.declared.row.Row.{Row}
 use Rattle.arch_types.specs.History.{IsHistory}
+use Rattle.history_items.specs.declared.fills.Addition.{Addition}
 use Rattle.history_items.specs.declared.fills.Fill.{Fill}
 use Rattle.history_items.specs.declared.fills.Fill.TheVariants.{Begun, Done, Freed, Fault}
 use Rattle.history_items.specs.Items.{Item}
-use Rattle.history_items.specs.Fills.{is_same, base_in, base_after, in_flight, flight_after}
+use Rattle.history_items.specs.Fills.{is_same, base_in, base_after, in_flight, flight_after, reopened}
 use Rattle.history_items.specs.FillList.{flights_of}
-use Rattle.history_items.proofs.FillLists.{base_after_item, flight_after_item}
-use Rattle.interval_fills.specs.Steps.{MachineState, state_of, Ingests, BeginsFill, InstallsFill, IsFillBase, freed, all_freed, given_up}
-use Rattle.interval_fills.specs.Invariant.{MachineInvariant, first_state}
-use Rattle.interval_fills.proofs.Growing.{base_grows, late_base}
+use Rattle.history_items.proofs.FillLists.{base_after_item, flight_after_item, base_in-reopened, in_flight-reopened}
+use Rattle.history_items.proofs.Late.{last_is_greatest}
+use Rattle.history_items.specs.Late.{IsLastIn, last_in}
+use Rattle.interval_fills.specs.Intervals.{NoRowSince}
+use Rattle.interval_fills.specs.Steps.{MachineState, first_state, state_of, Ingests, BeginsFill, InstallsFill, IsFillBase, IsStoredBase, filled, freed, all_freed, given_up}
+use Rattle.interval_fills.specs.Invariant.{MachineInvariant}
+use Rattle.interval_fills.proofs.Growing.{base_grows, late_base, stored_base, stored_grows}
 
 -- ---- one item more
 
 -- an item may come
 abbrev MayCome : ℕ → Fill → List Item → Type 0
 MayCome e (Begun i base) history = IsFillBase e i base history
-MayCome e (Done i base) history = IsFillBase e i base history
+MayCome e (Done i base) history = IsStoredBase e i base history
 MayCome e (Freed i) history = Unit {0}
 MayCome e (Fault count wrote unacknowledged) history = Unit {0}
 
 pub same_interval : (a b : Interval) → is_same a b ≡ true → a ≡ b
 same_interval a b e = ap (λ (n : ℤ). let i : Interval = record { 0 = n } in i) ((Decides-int_eq a.0 b.0).0 e)
 
-some_is : {A : Type 0} (x y : A) → ◌≡◌ {A = Option A} (Some x) (Some y) → x ≡ y
+pub some_is : {A : Type 0} (x y : A) → ◌≡◌ {A = Option A} (Some x) (Some y) → x ≡ y
 some_is x y e = cc
 
 -- the base of an item, or one from before
-chosen : (e : ℕ) (history : List Item) (i j : Interval) (base b : ℕ) (before : Option ℕ) → IsFillBase e i base history → (before ≡ Some b → IsFillBase e j b history) → (if is_same j i then Some base else before) ≡ Some b → IsFillBase e j b history
-chosen e history i j base b before here old is_it = go (is_same j i) refl is_it
+chosen : (P : Interval → ℕ → Type 0) (i j : Interval) (base b : ℕ) (before : Option ℕ) → P i base → (before ≡ Some b → P j b) → (if is_same j i then Some base else before) ≡ Some b → P j b
+chosen P i j base b before here old is_it = go (is_same j i) refl is_it
   where
-    go : (t : Bool) → is_same j i ≡ t → (if t then Some base else before) ≡ Some b → IsFillBase e j b history
-    go true is it = subst (λ (k : Interval). IsFillBase e k b history) (sym (same_interval j i is)) (subst (λ (n : ℕ). IsFillBase e i n history) (some_is base b it) here)
+    go : (t : Bool) → is_same j i ≡ t → (if t then Some base else before) ≡ Some b → P j b
+    go true is it = subst (λ (k : Interval). P k b) (sym (same_interval j i is)) (subst (P i) (some_is base b it) here)
     go false is it = old it
 
 -- nothing, or one from before
@@ -51,14 +55,14 @@ left e history i j b before old is_it = go (is_same j i) is_it
     go true it = absurd cc
     go false it = old it
 
-base_came : (e : ℕ) (history : List Item) (item : Fill) (j : Interval) (b : ℕ) (before : Option ℕ) → MayCome e item history → (before ≡ Some b → IsFillBase e j b history) → base_after j before item ≡ Some b → IsFillBase e j b history
+base_came : (e : ℕ) (history : List Item) (item : Fill) (j : Interval) (b : ℕ) (before : Option ℕ) → MayCome e item history → (before ≡ Some b → IsStoredBase e j b history) → base_after j before item ≡ Some b → IsStoredBase e j b history
 base_came e history (Begun i base) j b before may old it = old it
-base_came e history (Done i base) j b before may old it = chosen e history i j base b before may old it
+base_came e history (Done i base) j b before may old it = chosen (λ k n. IsStoredBase e k n history) i j base b before may old it
 base_came e history (Freed i) j b before may old it = old it
 base_came e history (Fault count wrote unacknowledged) j b before may old it = old it
 
 flight_came : (e : ℕ) (history : List Item) (item : Fill) (j : Interval) (b : ℕ) (before : Option ℕ) → MayCome e item history → (before ≡ Some b → IsFillBase e j b history) → flight_after j before item ≡ Some b → IsFillBase e j b history
-flight_came e history (Begun i base) j b before may old it = chosen e history i j base b before may old it
+flight_came e history (Begun i base) j b before may old it = chosen (λ k n. IsFillBase e k n history) i j base b before may old it
 flight_came e history (Done i base) j b before may old it = left e history i j b before old it
 flight_came e history (Freed i) j b before may old it = left e history i j b before old it
 flight_came e history (Fault count wrote unacknowledged) j b before may old it = old it
@@ -91,7 +95,7 @@ ingests e old new rows outcomes s step =
     let more = only_adds old.history rows in
     let grown : new.history ≡ old.history ++ more.0 = step.history ∙ more.1 in record {
       history = subst IsHistory (sym step.history) (keeps_history old.history rows s.history);
-      bases = λ i b is. subst (IsFillBase e i b) (sym grown) (base_grows e i b old.history more.0 (s.bases i b (ap (base_in i) (sym step.fills) ∙ is)));
+      bases = λ i b is. subst (IsStoredBase e i b) (sym grown) (stored_grows e i b old.history more.0 (s.bases i b (ap (base_in i) (sym step.fills) ∙ is)));
       flights = λ i b is. subst (IsFillBase e i b) (sym grown) (base_grows e i b old.history more.0 (s.flights i b (ap (in_flight i) (sym step.fills) ∙ is)));
     }
 
@@ -109,8 +113,36 @@ pub gives_up : (e : ℕ) (old : MachineState) (interval : Interval) → MachineI
 gives_up e old interval s = keeps_freed e old.history old.fills interval s
 
 pub installs : (e : ℕ) (old new : MachineState) (interval : Interval) (base : ℕ) (installed : Installed) → MachineInvariant e old → IsFillBase e interval base old.history → InstallsFill e old interval base installed new → MachineInvariant e new
-installs e old new interval base became.Done s may step = subst (MachineInvariant e) (sym step.1) (keeps_item e old.history old.fills (Done interval base) s may)
+installs e old new interval base became.Done s may step = subst (MachineInvariant e) (sym step.1) (keeps_item e old.history old.fills (Done interval base) s (stored_base e interval base old.history may))
 installs e old new interval base (became.Stale position) s may step = subst (MachineInvariant e) (sym step.2) (gives_up e old interval s)
 
 pub settles : (e : ℕ) (old : MachineState) → MachineInvariant e old → MachineInvariant e (state_of old.history (all_freed old.fills))
 settles e old s = keeps_each e old.history (flights_of old.fills) old.fills s
+
+pub opens : (e : ℕ) (old : MachineState) (interval : Interval) (base : ℕ) → MachineInvariant e old → IsStoredBase e interval base old.history → MachineInvariant e (filled interval base old)
+opens e old interval base s may = keeps_item e old.history old.fills (Done interval base) s may
+
+pub faults : (e : ℕ) (old : MachineState) (count : ℕ) (wrote : Bool) (unacknowledged : Addition) → MachineInvariant e old → MachineInvariant e (state_of old.history (old.fills ++ Fault count wrote unacknowledged ∷ []))
+faults e old count wrote unacknowledged s = keeps_item e old.history old.fills (Fault count wrote unacknowledged) s tt
+
+pub reopens : (e : ℕ) (old : MachineState) → MachineInvariant e old → MachineInvariant e (state_of old.history (reopened old.fills))
+reopens e old s = record {
+  history = s.history;
+  bases = λ i b is. s.bases i b (sym (base_in-reopened i old.fills) ∙ is);
+  flights = λ i b is. s.flights i b (sym (in_flight-reopened i old.fills) ∙ is);
+}
+
+-- ---- one outcome
+
+-- a fill that is there isn't stale
+not_both : (e : ℕ) (i : Interval) (base position : ℕ) (history : List Item) → NoRowSince e i base history → base ≤ position → last_in e i history ≡ Some position → ⊥
+not_both e i base position history none since is =
+    let last = subst (IsLastIn e i history) is (last_is_greatest e i history) in
+    omega (arith, since, none position last.0)
+
+pub one_outcome : (e : ℕ) (old new other : MachineState) (interval : Interval) (base : ℕ) (became otherwise : Installed) → InstallsFill e old interval base became new → InstallsFill e old interval base otherwise other
+    → (became ≡ otherwise) × (new ≡ other)
+one_outcome e old new other interval base became.Done became.Done a b = (refl, a.1 ∙ sym b.1)
+one_outcome e old new other interval base became.Done (became.Stale q) a b = absurd (not_both e interval base q old.history a.0 b.0 b.1)
+one_outcome e old new other interval base (became.Stale p) became.Done a b = absurd (not_both e interval base p old.history b.0 a.0 a.1)
+one_outcome e old new other interval base (became.Stale p) (became.Stale q) a b = (ap became.Stale (some_is p q (sym a.1 ∙ b.1)), a.2 ∙ sym b.2)

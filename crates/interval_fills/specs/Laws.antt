@@ -1,5 +1,5 @@
 -- What holds of intervals and of fills.
-use Rattle.std.specs.Prelude.{◌≡◌, ℕ, List, filter, Some, None}
+use Rattle.std.specs.Prelude.{◌≡◌, ◌≢◌, ℕ, Bool, List, [], ◌∷◌, ◌++◌, filter, Some, None}
 use Rattle.std.specs.Ordering.{int_eq}
 use Rattle.arch_types.specs.declared.interval.Interval.{Interval}
 use Rattle.arch_types.specs.declared.inserted.Inserted.{Inserted}
@@ -7,13 +7,15 @@ use Rattle.arch_types.specs.declared.inserted.Installed.{Installed}
 use Rattle.arch_types.specs.declared.row.Row.{Row}
 use Rattle.arch_types.specs.Interval.{interval_of}
 use Rattle.arch_types.specs.Table.{table_of}
+use Rattle.history_items.specs.declared.fills.Addition.{Addition}
 use Rattle.history_items.specs.declared.fills.Fill.{Fill}
+use Rattle.history_items.specs.declared.fills.Fill.TheVariants.{Fault}
 use Rattle.history_items.specs.Items.{Item, prefix, rows_in}
-use Rattle.history_items.specs.Fills.{base_in, in_flight}
+use Rattle.history_items.specs.Fills.{base_in, in_flight, reopened}
 use Rattle.history_items.specs.Late.{IsLate}
 use Rattle.interval_fills.specs.Intervals.{rows_of_interval, NoRowSince}
-use Rattle.interval_fills.specs.Steps.{MachineState, Ingests, BeginsFill, InstallsFill, IsFillBase, filled, given_up, freed, all_freed, state_of}
-use Rattle.interval_fills.specs.Invariant.{MachineInvariant, first_state}
+use Rattle.interval_fills.specs.Steps.{MachineState, first_state, state_of, Ingests, BeginsFill, InstallsFill, IsFillBase, IsStoredBase, filled, given_up, freed, all_freed}
+use Rattle.interval_fills.specs.Invariant.{MachineInvariant}
 
 -- ---- intervals
 
@@ -38,32 +40,58 @@ FilledRowsStay = (exponent : ℕ) (interval : Interval) (base : ℕ) (s : Machin
 
 -- ---- fills
 
--- the first state keeps the invariant, and so does each step, where the base of an installed fill is one that a fill may
--- have
+-- The first state keeps the invariant, and so does each step, where the base of an installed fill is one that a fill
+-- may have. So do a fill that is read from an archive, a fault of the disk and a reopen.
 pub record StepsKeepInvariant : Type 0 where
   pub first : (exponent : ℕ) → MachineInvariant exponent first_state
   pub ingests : (exponent : ℕ) (old new : MachineState) (rows : List Row) (outcomes : List Inserted) →
       MachineInvariant exponent old → Ingests old rows outcomes new → MachineInvariant exponent new
-  pub begins : (exponent : ℕ) (old new : MachineState) (interval : Interval) (base : ℕ) (rows : List Row) →
-      MachineInvariant exponent old → BeginsFill exponent old interval base rows new → MachineInvariant exponent new
-  pub installs : (exponent : ℕ) (old new : MachineState) (interval : Interval) (base : ℕ) (installed : Installed) →
-      MachineInvariant exponent old → IsFillBase exponent interval base old.history →
-      InstallsFill exponent old interval base installed new → MachineInvariant exponent new
+  pub begins : (exponent : ℕ) (old new : MachineState)
+      (interval : Interval) (base : ℕ) (rows : List Row) → MachineInvariant exponent old →
+      BeginsFill exponent old interval base rows new → MachineInvariant exponent new
+  pub installs : (exponent : ℕ) (old new : MachineState)
+      (interval : Interval) (base : ℕ) (installed : Installed) → MachineInvariant exponent old →
+      IsFillBase exponent interval base old.history → InstallsFill exponent old interval base installed new → MachineInvariant exponent new
   pub gives_up : (exponent : ℕ) (old : MachineState) (interval : Interval) →
       MachineInvariant exponent old → MachineInvariant exponent (given_up interval old)
   pub settles : (exponent : ℕ) (old : MachineState) →
       MachineInvariant exponent old → MachineInvariant exponent (state_of old.history (all_freed old.fills))
+  pub opens : (exponent : ℕ) (old : MachineState) (interval : Interval) (base : ℕ) → MachineInvariant exponent old →
+      IsStoredBase exponent interval base old.history → MachineInvariant exponent (filled interval base old)
+  pub faults : (exponent : ℕ) (old : MachineState) (count : ℕ) (wrote : Bool) (unacknowledged : Addition) →
+      MachineInvariant exponent old →
+      MachineInvariant exponent (state_of old.history (old.fills ++ Fault count wrote unacknowledged ∷ []))
+  pub reopens : (exponent : ℕ) (old : MachineState) →
+      MachineInvariant exponent old → MachineInvariant exponent (state_of old.history (reopened old.fills))
 
--- an interval whose fill was installed is neither late nor in flight
+-- a fill has one outcome: it is there or stale by one position, and one state comes next
+abbrev pub InstallHasOneOutcome : Type 0
+InstallHasOneOutcome = (exponent : ℕ) (old new other : MachineState) (interval : Interval) (base : ℕ)
+    (became otherwise : Installed) → InstallsFill exponent old interval base became new →
+    InstallsFill exponent old interval base otherwise other → (became ≡ otherwise) × (new ≡ other)
+
+-- an interval whose fill was installed is neither late nor in flight, and its base is that of the fill
 abbrev pub InstalledIsNotLate : Type 0
 InstalledIsNotLate = (exponent : ℕ) (interval : Interval) (base : ℕ) (s : MachineState) →
     NoRowSince exponent interval base s.history →
     (IsLate exponent interval s.history (filled interval base s).fills → ⊥)
     × (in_flight interval (filled interval base s).fills ≡ None)
+    × (base_in interval (filled interval base s).fills ≡ Some base)
 
 -- a flight that ended is none
 abbrev pub FreedIsFree : Type 0
 FreedIsFree = (interval : Interval) (fills : List Fill) → in_flight interval (freed interval fills) ≡ None
+
+-- a flight that ended without a fill leaves each base, and the flights of other intervals
+abbrev pub FreedLeavesRest : Type 0
+FreedLeavesRest = (interval other : Interval) (fills : List Fill) →
+    (base_in other (freed interval fills) ≡ base_in other fills)
+    × (other ≢ interval → in_flight other (freed interval fills) ≡ in_flight other fills)
+
+-- the end of all flights leaves each base
+abbrev pub AllFreedLeavesBases : Type 0
+AllFreedLeavesBases = (interval : Interval) (fills : List Fill) →
+    base_in interval (all_freed fills) ≡ base_in interval fills
 
 -- once each flight ended no interval is in flight
 abbrev pub NoneIsInFlight : Type 0

@@ -24,6 +24,10 @@ pub record MachineState : Type 0 where
 abbrev pub state_of : List Item → List Fill → MachineState
 state_of history fills = record { history = history; fills = fills }
 
+-- before the first event
+abbrev pub first_state : MachineState
+first_state = state_of [] []
+
 -- ---- which interval is next
 
 -- the interval is late, and no fill of it is in flight
@@ -49,6 +53,12 @@ IsNextToFill exponent s (Some interval) =
 pub record IsFillBase (exponent : ℕ) (interval : Interval) (base : ℕ) (history : List Item) : Type 0 where
   pub within : base ≤ length history
   pub row : HasRowBelow exponent interval base history
+
+-- a base that a fill which is there may have: it is at most the history's length, and the interval has a row. Where the
+-- fill was read from an archive, the row may stand at or after the base: the interval is late then
+pub record IsStoredBase (exponent : ℕ) (interval : Interval) (base : ℕ) (history : List Item) : Type 0 where
+  pub within : base ≤ length history
+  pub row : HasRowBelow exponent interval (length history) history
 
 -- the fill list once the interval's flight, where there is one, has ended without a fill
 abbrev pub freed : Interval → List Fill → List Fill

@@ -1,6 +1,8 @@
 //! Laws of the definitions, carried by functions that do nothing.
 
-ghost use Rattle.interval_fills.specs.Laws.{RangeIsInterval, RowsAreThoseBelow, FilledRowsStay, StepsKeepInvariant, InstalledIsNotLate, FreedIsFree, NoneIsInFlight};
+ghost use Rattle.interval_fills.specs.Laws.{RangeIsInterval, RowsAreThoseBelow, FilledRowsStay};
+ghost use Rattle.interval_fills.specs.Laws.{StepsKeepInvariant, InstallHasOneOutcome, InstalledIsNotLate};
+ghost use Rattle.interval_fills.specs.Laws.{FreedIsFree, FreedLeavesRest, AllFreedLeavesBases, NoneIsInFlight};
 
 /// The rows in an interval's range of times are those whose time is in the interval.
 pub fn range_is_interval()
@@ -22,7 +24,12 @@ pub fn steps_keep_invariant()
     ensures { StepsKeepInvariant }
 {}
 
-/// An interval whose fill was installed is neither late nor in flight.
+/// A fill has one outcome.
+pub fn install_has_one_outcome()
+    ensures { InstallHasOneOutcome }
+{}
+
+/// An interval whose fill was installed is neither late nor in flight, and has the fill's base.
 pub fn installed_is_not_late()
     ensures { InstalledIsNotLate }
 {}
@@ -30,6 +37,16 @@ pub fn installed_is_not_late()
 /// A flight that ended is none.
 pub fn freed_is_free()
     ensures { FreedIsFree }
+{}
+
+/// A flight that ended without a fill leaves each base, and the flights of other intervals.
+pub fn freed_leaves_rest()
+    ensures { FreedLeavesRest }
+{}
+
+/// The end of all flights leaves each base.
+pub fn all_freed_leaves_bases()
+    ensures { AllFreedLeavesBases }
 {}
 
 /// Once each flight ended no interval is in flight.

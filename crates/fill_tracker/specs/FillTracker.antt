@@ -1,0 +1,46 @@
+-- What contracts see of a fill tracker, and how its marks go with a history.
+use Rattle.std.specs.Prelude.{◌≡◌, ℕ, ◌-◌, List, Option, Some, None, Bool, vec_len, vec_capacity}
+use Rattle.std.specs.Global.{Vec}
+use Rattle.std.specs.Option.{is_some}
+use Rattle.arch_types.specs.declared.interval.Interval.{Interval}
+use Rattle.history_items.specs.declared.fills.Fill.{Fill}
+use Rattle.history_items.specs.Items.{Item}
+use Rattle.history_items.specs.Fills.{base_in, in_flight}
+use Rattle.history_items.specs.Late.{last_in}
+use Rattle.late_marks.specs.declared.mark.Mark.{Mark}
+use Rattle.late_marks.specs.Marks.{Marks, mark_of}
+
+-- what happened to fills, the marks, how many more items may be noted without memory beside the end of each flight, and
+-- how many more flights may begin without memory
+pub record FillTrackerView : Type 0 where
+  pub fills : List Fill
+  pub marks : Marks
+  pub room : ℕ
+  pub flight_room : ℕ
+
+-- what contracts see of items, marks and flights
+abbrev pub tracker_of : Vec Fill → Marks → Vec Interval → FillTrackerView
+tracker_of items marks flights = record {
+  fills = items.items;
+  marks = marks;
+  room = vec_capacity items - vec_len items - vec_len flights;
+  flight_room = vec_capacity flights - vec_len flights;
+}
+
+-- the mark of an interval by its last row, the base of its last fill, and whether it is in flight
+abbrev pub mark_by : Option ℕ → Option ℕ → Bool → Option Mark
+mark_by None base taken = None
+mark_by (Some last) base taken = Some (record { last = last; base = base; taken = taken })
+
+-- the marks are those of this history and these fills, and an interval without rows was neither filled nor is it in
+-- flight
+pub record AreMarksOf (exponent : ℕ) (history : List Item) (fills : List Fill) (marks : Marks) : Type 0 where
+  pub each : (i : Interval) →
+      mark_of marks i ≡ mark_by (last_in exponent i history) (base_in i fills) (is_some (in_flight i fills))
+  pub known : (i : Interval) →
+      last_in exponent i history ≡ None → (base_in i fills ≡ None) × (in_flight i fills ≡ None)
+
+-- the marks are those of each history of which they were before
+abbrev pub KeepsMarks : FillTrackerView → FillTrackerView → Type 0
+KeepsMarks old new =
+    (history : List Item) → AreMarksOf 22 history old.fills old.marks → AreMarksOf 22 history new.fills new.marks
