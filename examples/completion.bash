@@ -1,4 +1,5 @@
-# Completion of cudrakh's words for bash: `source` this file, or ./install it below /usr or /usr/local, where the package bash-completion finds it.
+# Completion of cudrakh's words for bash: `source` this file, or ./install it below /usr or /usr/local, where the
+# package bash-completion finds it.
 
 # The names of the parameters of a sheet, below its header.
 _cudrakh_parameters() {
@@ -10,7 +11,7 @@ _cudrakh() {
   local current=${COMP_WORDS[COMP_CWORD]} command=${COMP_WORDS[1]} options='' files=0
   COMPREPLY=()
   if [ "$COMP_CWORD" -eq 1 ]; then
-    mapfile -t COMPREPLY < <(compgen -W 'scan values create load query recover' -- "$current")
+    mapfile -t COMPREPLY < <(compgen -W 'scan values create load query recover verify' -- "$current")
     return
   fi
   case $command in

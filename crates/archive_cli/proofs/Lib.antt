@@ -7,7 +7,7 @@ pub mod ReadOnly
 pub mod Commands
 pub mod OverInputs
 pub mod AskSheets
-pub mod recover_command
+pub mod ArchiveLine
 pub mod create_command
 pub mod query_command
 pub mod load_command

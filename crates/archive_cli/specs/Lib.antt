@@ -7,9 +7,11 @@ pub mod create_command
 pub mod query_command
 pub mod scan_command
 pub mod values_command
+pub mod verify_command
 pub mod ReadDump
 pub mod ReadOnly
 pub mod Command
+pub mod ArchiveLine
 pub mod Asks
 pub mod DumpRest
 pub mod Report

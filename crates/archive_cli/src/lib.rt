@@ -3,7 +3,8 @@
 //! `run` is the top call. What a command does, in which order, is its plan: specs/Command.antt has the parts, a folder of specs/ each command's plan, and
 //! specs/Run.antt which words lead to which. A call took a way that the plan allows, did what is said where that ended, and answers what is due. A
 //! command's file has the call, which makes the ending, and its work, which gives what was done or a refusal. A later command adds its plan, its work, and
-//! a line of `job_plan`.
+//! a line of `job_plan`; one that only prints a line about the archive gives that line alone (`ArchiveLine` in src/archive_line.rt), as `recover` and
+//! `verify` do.
 //!
 //! The way of a dump: for `scan` and `values` `read_scan_input` takes it in, and dump_lines keeps its rows; for `load` load_session hands its packets to
 //! the archive's store. The way of an ask, for `query` and `load`: mdb_sheets reads it; retrieval says whether it can be answered (src/asks.rt),
@@ -13,6 +14,7 @@
 //! the plan allows is the one that it has to go, so the answer is the one that is due (`is_due` in proofs/Commands.antt).
 #![tactic(auto)]
 
+mod archive_line;
 mod asks;
 mod create;
 mod load;
@@ -24,5 +26,6 @@ pub mod run;
 mod scan;
 mod scan_input;
 mod values;
+mod verify;
 
 pub use report::{Ended, Report};

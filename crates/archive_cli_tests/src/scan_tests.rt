@@ -1,23 +1,96 @@
 //! The text that `scan` prints, the words, and faults of the outside.
 
-use crate::calls::{fault_of, file_of, words_of};
+use crate::calls::{Wanted, called, file_of, printed};
 use arch_disk::MemDisk;
-use archive_cli::run::run;
-use outer_traits::clock::FixedClock;
 use outer_traits::mem_inputs::{FailingCall, File, MemInputs};
 use outer_traits::mem_sink::MemSink;
 use std::alloc::{AllocError, Global};
-use std::process::Abort;
 use std::test::Fail;
 
 /// A packet with a secondary header and one octet of data, at 1.5 s.
-const P1: [u8; 13] = [8, 0x64, 0xC0, 0, 0, 6, 0, 0, 0, 1, 0x80, 0, 0x2A];
+const P1: &[u8] = b"\x08\x64\xC0\x00\x00\x06\x00\x00\x00\x01\x80\x00\x2A";
+
+/// It without its last octet.
+const CUT: &[u8] = b"\x08\x64\xC0\x00\x00\x06\x00\x00\x00\x01\x80\x00";
+
+/// It twice, it and the first octet of a packet of version 1, and it, an idle packet, and one without a secondary header.
+const TWICE: &[u8] =
+    b"\x08\x64\xC0\x00\x00\x06\x00\x00\x00\x01\x80\x00\x2A\x08\x64\xC0\x00\x00\x06\x00\x00\x00\x01\x80\x00\x2A";
+
+const VERSION: &[u8] = b"\x08\x64\xC0\x00\x00\x06\x00\x00\x00\x01\x80\x00\x2A\x28";
+
+const MIXED: &[u8] =
+    b"\x08\x64\xC0\x00\x00\x06\x00\x00\x00\x01\x80\x00\x2A\x07\xFF\xC0\x00\x00\x00\x00\x00\x65\xC0\x01\x00\x00\x07";
 
 /// The header of the longest packet, of APID 100.
-const LONGEST: [u8; 6] = [8, 0x64, 0xC0, 0, 0xFF, 0xFF];
+const LONGEST: &[u8] = b"\x08\x64\xC0\x00\xFF\xFF";
 
-/// An idle packet, and one without a secondary header.
-const UNTIMED: [u8; 14] = [7, 0xFF, 0xC0, 0, 0, 0, 0, 0, 0x65, 0xC0, 1, 0, 0, 7];
+/// The first octets of a dump, its length, and how its scan has to end. The octets behind are 0.
+type Scan = (&'static [u8], usize, Wanted);
+
+const SCANS: &[Scan] = &[
+    (
+        b"",
+        0,
+        (0, "scan packets 0 rows 0 duplicates 0 idle 0\n", "", None),
+    ),
+    (
+        P1,
+        13,
+        (
+            0,
+            "row 1500 140820480 13\nscan packets 1 rows 1 duplicates 0 idle 0\n",
+            "",
+            None,
+        ),
+    ),
+    (
+        TWICE,
+        26,
+        (
+            0,
+            "row 1500 140820480 13\nscan packets 2 rows 1 duplicates 1 idle 0\n",
+            "",
+            None,
+        ),
+    ),
+    (CUT, 12, (2, "", "bad packet at 0: truncated", None)),
+    (
+        VERSION,
+        14,
+        (
+            2,
+            "row 1500 140820480 13\n",
+            "bad packet at 13: version",
+            None,
+        ),
+    ),
+    (
+        LONGEST,
+        65_542,
+        (
+            0,
+            "row 0 140820480 65542\nscan packets 1 rows 1 duplicates 0 idle 0\n",
+            "",
+            None,
+        ),
+    ),
+    (
+        MIXED,
+        27,
+        (
+            0,
+            "row 1500 140820480 13\nrow 9000 6668289 7\nscan packets 3 rows 2 duplicates 0 idle 1\n",
+            "",
+            None,
+        ),
+    ),
+];
+
+/// They are functions, so that the tables stand in no goal of their callers.
+fn scans() -> &'static [Scan] {
+    SCANS
+}
 
 /// One file `dump`.
 fn files_of(alloc: Global, dump: &[u8]) -> Result<Vec<File>, AllocError> {
@@ -26,118 +99,92 @@ fn files_of(alloc: Global, dump: &[u8]) -> Result<Vec<File>, AllocError> {
     Ok(files)
 }
 
-/// A call of the program with one file `dump`, at 9 s. It has to end with this status and fault, and to have printed this text.
-fn expect(
-    rt: &(impl Abort + AllocGlobal),
-    line: &str,
-    dump: &[u8],
-    status: u8,
-    text: &str,
-    fault: &str,
-) -> Result<(), Fail> {
-    let alloc = rt.alloc();
-    let words = words_of(alloc, line)?;
-    let mut inputs = MemInputs::new(alloc, files_of(alloc, dump)?);
-    let mut sink = MemSink::new(alloc);
-    let mut clock = FixedClock::new(9000);
-    let ended = run(
+/// Whether a call with one file `dump` ends so.
+fn ends_so(alloc: Global, line: &str, dump: &[u8], want: &Wanted) -> Result<bool, AllocError> {
+    let inputs = MemInputs::new(alloc, files_of(alloc, dump)?);
+    let (is_so, _disk) = called(
         alloc,
-        words.as_slice(),
+        line,
         MemDisk::new(alloc),
-        &mut inputs,
-        &mut sink,
-        &mut clock,
-    );
-    assert_eq!(rt; fault_of(alloc, &ended)?.as_str(), fault);
-    assert_eq!(rt; ended.status, status);
-    assert_eq!(rt; sink.octets.as_slice(), text.as_bytes());
-    Ok(())
+        inputs,
+        MemSink::new(alloc),
+        want,
+    )?;
+    Ok(is_so)
+}
+
+/// Whether a dump is scanned as it is to be.
+fn is_scanned(alloc: Global, scan: &Scan) -> Result<bool, AllocError> {
+    let (front, length, want) = *scan;
+    let mut dump = Vec::from_slice(alloc, front)?;
+    dump.resize(length, 0)?;
+    ends_so(alloc, "scan dump", dump.as_slice(), &want)
+}
+
+/// The place of the first dump that is scanned otherwise.
+fn other_scan(alloc: Global, scans: &[Scan]) -> Result<Option<usize>, AllocError> {
+    let mut place = 0usize;
+    for scan in scans {
+        if !is_scanned(alloc, scan)? {
+            return Ok(Some(place));
+        }
+        place = place.saturating_add(1);
+    }
+    Ok(None)
 }
 
 #[test]
 fn prints_rows(rt: HostRuntime) -> Result<(), Fail> {
-    let alloc = rt.alloc();
-    let mut twice = Vec::from_slice(alloc, &P1)?;
-    twice.extend_from_slice(&P1)?;
-    let mut mixed = Vec::from_slice(alloc, &P1)?;
-    mixed.extend_from_slice(&UNTIMED)?;
-    let mut longest = Vec::from_slice(alloc, &LONGEST)?;
-    longest.resize(65_542, 0)?;
-    let mut version = Vec::from_slice(alloc, &P1)?;
-    version.push(0x28)?;
-    for (dump, status, text, fault) in [
-        (
-            [].as_slice(),
-            0,
-            "scan packets 0 rows 0 duplicates 0 idle 0\n",
-            "",
-        ),
-        (
-            P1.as_slice(),
-            0,
-            "row 1500 140820480 13\nscan packets 1 rows 1 duplicates 0 idle 0\n",
-            "",
-        ),
-        (
-            twice.as_slice(),
-            0,
-            "row 1500 140820480 13\nscan packets 2 rows 1 duplicates 1 idle 0\n",
-            "",
-        ),
-        (&P1[..12], 2, "", "bad packet at 0: truncated"),
-        (
-            version.as_slice(),
-            2,
-            "row 1500 140820480 13\n",
-            "bad packet at 13: version",
-        ),
-        (
-            longest.as_slice(),
-            0,
-            "row 0 140820480 65542\nscan packets 1 rows 1 duplicates 0 idle 0\n",
-            "",
-        ),
-        (
-            mixed.as_slice(),
-            0,
-            "row 1500 140820480 13\nrow 9000 6668289 7\nscan packets 3 rows 2 duplicates 0 idle 1\n",
-            "",
-        ),
-    ] {
-        expect(&rt, "scan dump", dump, status, text, fault)?;
-    }
+    assert_eq!(rt; other_scan(rt.alloc(), scans())?, None);
     Ok(())
+}
+
+/// Words, and the fault of their call.
+type Words = (&'static str, &'static str);
+
+const WORDS: &[Words] = &[
+    ("", "usage"),
+    ("frobnicate", "usage"),
+    ("scan", "usage"),
+    ("scan ", "usage"),
+    ("scan -", "usage"),
+    ("scan -x", "usage"),
+    ("scan --help", "usage"),
+    ("scan --", "usage"),
+    ("scan -- ", "usage"),
+    ("scan dump dump", "usage"),
+    ("-- scan dump", "usage"),
+    ("scan x", "no input x"),
+    ("scan x --", "no input x"),
+    ("scan -- -x", "no input -x"),
+    ("scan -- --", "no input --"),
+    ("scan --dump=x", "usage"),
+    ("values", "usage"),
+    ("values p c k d", "usage"),
+    ("values p c k d n m", "usage"),
+    ("values p c k d -n", "usage"),
+    ("values p c k d ", "usage"),
+    ("values p c k d n", "no input p"),
+    ("values p c k d -- -n", "no input p"),
+];
+
+fn words() -> &'static [Words] {
+    WORDS
+}
+
+/// The first words that are answered otherwise.
+fn other_words(alloc: Global, words: &[Words]) -> Result<Option<&'static str>, AllocError> {
+    for (line, fault) in words {
+        if !ends_so(alloc, line, P1, &(1, "", *fault, None))? {
+            return Ok(Some(*line));
+        }
+    }
+    Ok(None)
 }
 
 #[test]
 fn reads_words(rt: HostRuntime) -> Result<(), Fail> {
-    for (line, fault) in [
-        ("", "usage"),
-        ("frobnicate", "usage"),
-        ("scan", "usage"),
-        ("scan ", "usage"),
-        ("scan -", "usage"),
-        ("scan -x", "usage"),
-        ("scan --help", "usage"),
-        ("scan --", "usage"),
-        ("scan -- ", "usage"),
-        ("scan dump dump", "usage"),
-        ("-- scan dump", "usage"),
-        ("scan x", "no input x"),
-        ("scan x --", "no input x"),
-        ("scan -- -x", "no input -x"),
-        ("scan -- --", "no input --"),
-        ("scan --dump=x", "usage"),
-        ("values", "usage"),
-        ("values p c k d", "usage"),
-        ("values p c k d n m", "usage"),
-        ("values p c k d -n", "usage"),
-        ("values p c k d ", "usage"),
-        ("values p c k d n", "no input p"),
-        ("values p c k d -- -n", "no input p"),
-    ] {
-        expect(&rt, line, &P1, 1, "", fault)?;
-    }
+    assert_eq!(rt; other_words(rt.alloc(), words())?, None);
     Ok(())
 }
 
@@ -148,41 +195,53 @@ fn scan_failing(
     reads: &[FailingCall],
     writes: &[u64],
 ) -> Result<(u8, usize), AllocError> {
-    let words = words_of(alloc, "scan dump")?;
     let reads = Vec::from_slice(alloc, reads)?;
-    let mut inputs = MemInputs::failing(files_of(alloc, dump)?, reads);
-    let mut sink = MemSink::failing(alloc, Vec::from_slice(alloc, writes)?);
-    let mut clock = FixedClock::new(9000);
-    let ended = run(
-        alloc,
-        words.as_slice(),
-        MemDisk::new(alloc),
-        &mut inputs,
-        &mut sink,
-        &mut clock,
-    );
-    Ok((ended.status, sink.octets.len()))
+    let inputs = MemInputs::failing(files_of(alloc, dump)?, reads);
+    let sink = MemSink::failing(alloc, Vec::from_slice(alloc, writes)?);
+    let (ended, octets) = printed(alloc, "scan dump", MemDisk::new(alloc), inputs, sink)?;
+    Ok((ended.status, octets.len()))
 }
 
-#[test]
-fn fails_with_the_outside(rt: HostRuntime) -> Result<(), Fail> {
-    let alloc = rt.alloc();
-    // 10,000 packets of 7 octets, each of which is a line of 19.
+/// 10,000 packets of 7 octets, each of which is a line of 19.
+fn many_packets(alloc: Global) -> Result<Vec<u8>, AllocError> {
     let mut dump = Vec::new(alloc);
     for count in 0..10_000u16 {
         let [high, low] = count.to_be_bytes();
         dump.extend_from_slice(&[0, 0x65, 0xC0 | high, low, 0, 0, 7])?;
     }
-    for read in 0..4 {
+    Ok(dump)
+}
+
+/// The first read that fails without being told, if any.
+fn untold_read(alloc: Global, dump: &[u8]) -> Result<Option<u64>, AllocError> {
+    for read in 0..4u64 {
         let call = FailingCall { opening: 1, read };
-        let ended = scan_failing(alloc, dump.as_slice(), &[call], &[])?;
-        assert_eq!(rt; ended, (3, 0), "at read {read}");
+        if scan_failing(alloc, dump, &[call], &[])? != (3, 0) {
+            return Ok(Some(read));
+        }
     }
-    let (status, first) = scan_failing(alloc, dump.as_slice(), &[], &[1])?;
-    assert_eq!(rt; (status, first), (4, 0));
-    let (status, second) = scan_failing(alloc, dump.as_slice(), &[], &[2])?;
+    Ok(None)
+}
+
+#[test]
+fn reads_that_fail(rt: HostRuntime) -> Result<(), Fail> {
+    let dump = many_packets(rt.alloc())?;
+    assert_eq!(rt; untold_read(rt.alloc(), dump.as_slice())?, None);
+    Ok(())
+}
+
+#[test]
+fn writes_that_fail(rt: HostRuntime) -> Result<(), Fail> {
+    let dump = many_packets(rt.alloc())?;
+    assert_eq!(rt;
+        scan_failing(rt.alloc(), dump.as_slice(), &[], &[1])?,
+        (4, 0)
+    );
+    let (status, second) = scan_failing(rt.alloc(), dump.as_slice(), &[], &[2])?;
     assert!(rt; status == 4 && 65_536 <= second && second < 65_600);
-    let (status, all) = scan_failing(alloc, dump.as_slice(), &[], &[])?;
-    assert_eq!(rt; (status, all), (0, 190_050));
+    assert_eq!(rt;
+        scan_failing(rt.alloc(), dump.as_slice(), &[], &[])?,
+        (0, 190_050)
+    );
     Ok(())
 }

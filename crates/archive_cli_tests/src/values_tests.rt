@@ -1,13 +1,10 @@
 //! The text that `values` prints, its refusals, and faults of the outside.
 
-use crate::calls::{fault_of, file_of, words_of};
+use crate::calls::{Wanted, called, file_of, printed};
 use arch_disk::MemDisk;
-use archive_cli::run::run;
-use outer_traits::clock::FixedClock;
 use outer_traits::mem_inputs::{FailingCall, File, MemInputs};
 use outer_traits::mem_sink::MemSink;
 use std::alloc::{AllocError, Global};
-use std::process::Abort;
 use std::test::Fail;
 
 /// Three sheets: parameters, calibrations and containers.
@@ -108,198 +105,219 @@ const LABELS: &[u8] = &[
 ];
 
 /// Files `parameters`, `calibrations`, `containers` and `dump`.
-fn files_of(alloc: Global, sheets: Sheets, dump: &[u8]) -> Result<Vec<File>, AllocError> {
+fn files_of(alloc: Global, sheets: &Sheets, dump: &[u8]) -> Result<Vec<File>, AllocError> {
+    let [parameters, calibrations, containers] = *sheets;
     let mut files = Vec::new(alloc);
-    for (name, octets) in [
-        ("parameters", sheets[0].as_bytes()),
-        ("calibrations", sheets[1].as_bytes()),
-        ("containers", sheets[2].as_bytes()),
-        ("dump", dump),
-    ] {
-        files.push(file_of(alloc, name, octets)?)?;
-    }
+    files.push(file_of(alloc, "parameters", parameters.as_bytes())?)?;
+    files.push(file_of(alloc, "calibrations", calibrations.as_bytes())?)?;
+    files.push(file_of(alloc, "containers", containers.as_bytes())?)?;
+    files.push(file_of(alloc, "dump", dump)?)?;
     Ok(files)
 }
 
-/// A call of the program with these files at 9 s. It has to end with this status and fault, and to have printed this text.
-fn expect(
-    rt: &(impl Abort + AllocGlobal),
+/// Whether a call with these files ends so.
+fn ends_so(
+    alloc: Global,
     line: &str,
-    sheets: Sheets,
+    sheets: &Sheets,
     dump: &[u8],
-    want: (u8, &str, &str),
-) -> Result<(), Fail> {
-    let alloc = rt.alloc();
-    let words = words_of(alloc, line)?;
-    let mut inputs = MemInputs::new(alloc, files_of(alloc, sheets, dump)?);
-    let mut sink = MemSink::new(alloc);
-    let mut clock = FixedClock::new(9000);
-    let ended = run(
+    want: &Wanted,
+) -> Result<bool, AllocError> {
+    let inputs = MemInputs::new(alloc, files_of(alloc, sheets, dump)?);
+    let (is_so, _disk) = called(
         alloc,
-        words.as_slice(),
+        line,
         MemDisk::new(alloc),
-        &mut inputs,
-        &mut sink,
-        &mut clock,
-    );
-    let (status, text, fault) = want;
-    assert_eq!(rt; fault_of(alloc, &ended)?.as_str(), fault);
-    assert_eq!(rt; ended.status, status);
-    assert_eq!(rt; sink.octets.as_slice(), text.as_bytes());
-    Ok(())
+        inputs,
+        MemSink::new(alloc),
+        want,
+    )?;
+    Ok(is_so)
 }
 
-/// The words of `values` for a parameter of the four files.
-fn asking(alloc: Global, name: &str) -> Result<String, AllocError> {
-    format!(in alloc; "values parameters calibrations containers dump {name}")
+/// Sheets, a dump, the parameter that `values` of the four files is asked for, and how it has to end.
+type Values = (Sheets, &'static [u8], &'static str, Wanted);
+
+const VALUES: &[Values] = &[
+    (
+        TWO_GROUPS,
+        BOTH,
+        "v",
+        (
+            0,
+            "cell 1500 140820480 42 42\ncell 1500 140886016 7 7\nvalues 2\n",
+            "",
+            None,
+        ),
+    ),
+    (
+        TWO_GROUPS,
+        BOTH,
+        "w",
+        (0, "cell 1500 140820480 -2 -2\nvalues 1\n", "", None),
+    ),
+    (TWO_GROUPS, ONE_OCTET, "w", (0, "values 0\n", "", None)),
+    (
+        ONE_GROUP,
+        UNTIMED,
+        "apid",
+        (0, "cell 9000 6668289 101 101\nvalues 1\n", "", None),
+    ),
+    (ONE_GROUP, UNTIMED, "v", (0, "values 0\n", "", None)),
+    (
+        WIDE,
+        GREATEST,
+        "big",
+        (
+            0,
+            "cell 1500 140820480 1152921504606846975 8070450532247.928825\nvalues 1\n",
+            "",
+            None,
+        ),
+    ),
+    (
+        WIDE,
+        LEAST,
+        "big",
+        (0, "cell 1500 140820480 0 0.000000\nvalues 1\n", "", None),
+    ),
+    (
+        CALIBRATED,
+        ON_THE_LINE,
+        "w",
+        (
+            0,
+            "cell 1000 140820480 -5 0.000000\ncell 1000 140820481 0 0.000000\ncell 1000 140820482 1 -0.333334\ncell 1000 140820483 3 -1.000000\ncell 1000 140820484 9 -1.000000\nvalues 5\n",
+            "",
+            None,
+        ),
+    ),
+    (
+        CALIBRATED,
+        LABELS,
+        "s",
+        (
+            0,
+            "cell 1000 140820480 1 ON\ncell 1000 140820481 2 UNDEF\nvalues 2\n",
+            "",
+            None,
+        ),
+    ),
+    // sheets and packets that are refused
+    (
+        NO_PARENT,
+        BOTH,
+        "nothing",
+        (2, "", "bad sheet containers row 6 rule 16", None),
+    ),
+    (
+        TOO_WIDE,
+        GREATEST,
+        "big",
+        (2, "", "bad sheet parameters row 2 rule 14", None),
+    ),
+    (
+        TWO_GROUPS,
+        BOTH_AND_MORE,
+        "nothing",
+        (1, "", "unknown parameter", None),
+    ),
+    (
+        TWO_GROUPS,
+        BOTH_AND_MORE,
+        "no!name",
+        (1, "", "unknown parameter", None),
+    ),
+    (
+        TWO_GROUPS,
+        BOTH_AND_MORE,
+        "v",
+        (
+            2,
+            "cell 1500 140820480 42 42\ncell 1500 140886016 7 7\n",
+            "bad packet at 27: version",
+            None,
+        ),
+    ),
+    (
+        TWO_GROUPS,
+        CUT,
+        "v",
+        (
+            2,
+            "cell 1500 140886016 7 7\n",
+            "bad packet at 13: truncated",
+            None,
+        ),
+    ),
+];
+
+/// They are functions, so that the tables stand in no goal of their callers.
+fn values() -> &'static [Values] {
+    VALUES
+}
+
+/// Whether `values` ends as it is to.
+fn is_answered(alloc: Global, values: &Values) -> Result<bool, AllocError> {
+    let (sheets, dump, name, want) = *values;
+    let line = format!(in alloc; "values parameters calibrations containers dump {name}")?;
+    ends_so(alloc, line.as_str(), &sheets, dump, &want)
+}
+
+/// The place of the first that ends otherwise.
+fn other_values(alloc: Global, all: &[Values]) -> Result<Option<usize>, AllocError> {
+    let mut place = 0usize;
+    for values in all {
+        if !is_answered(alloc, values)? {
+            return Ok(Some(place));
+        }
+        place = place.saturating_add(1);
+    }
+    Ok(None)
 }
 
 #[test]
-fn prints_cells(rt: HostRuntime) -> Result<(), Fail> {
-    for (sheets, dump, name, text) in [
-        (
-            TWO_GROUPS,
-            BOTH,
-            "v",
-            "cell 1500 140820480 42 42\ncell 1500 140886016 7 7\nvalues 2\n",
-        ),
-        (
-            TWO_GROUPS,
-            BOTH,
-            "w",
-            "cell 1500 140820480 -2 -2\nvalues 1\n",
-        ),
-        (TWO_GROUPS, ONE_OCTET, "w", "values 0\n"),
-        (
-            ONE_GROUP,
-            UNTIMED,
-            "apid",
-            "cell 9000 6668289 101 101\nvalues 1\n",
-        ),
-        (ONE_GROUP, UNTIMED, "v", "values 0\n"),
-        (
-            WIDE,
-            GREATEST,
-            "big",
-            "cell 1500 140820480 1152921504606846975 8070450532247.928825\nvalues 1\n",
-        ),
-        (
-            WIDE,
-            LEAST,
-            "big",
-            "cell 1500 140820480 0 0.000000\nvalues 1\n",
-        ),
-        (
-            CALIBRATED,
-            ON_THE_LINE,
-            "w",
-            "cell 1000 140820480 -5 0.000000\ncell 1000 140820481 0 0.000000\ncell 1000 140820482 1 -0.333334\ncell 1000 140820483 3 -1.000000\ncell 1000 140820484 9 -1.000000\nvalues 5\n",
-        ),
-        (
-            CALIBRATED,
-            LABELS,
-            "s",
-            "cell 1000 140820480 1 ON\ncell 1000 140820481 2 UNDEF\nvalues 2\n",
-        ),
-    ] {
-        let line = asking(rt.alloc(), name)?;
-        expect(&rt, line.as_str(), sheets, dump, (0, text, ""))?;
-    }
+fn prints_cells_or_refuses(rt: HostRuntime) -> Result<(), Fail> {
+    assert_eq!(rt; other_values(rt.alloc(), values())?, None);
     Ok(())
+}
+
+/// Words that name inputs that aren't there, and the first of these.
+type Missing = (&'static str, &'static str);
+
+const MISSING: &[Missing] = &[
+    ("values x y containers dump v", "no input x"),
+    ("values parameters y x dump v", "no input y"),
+    ("values parameters calibrations x y v", "no input x"),
+    (
+        "values parameters calibrations containers x v",
+        "no input x",
+    ),
+];
+
+fn missing() -> &'static [Missing] {
+    MISSING
+}
+
+/// A function, as above.
+fn no_parent() -> Sheets {
+    NO_PARENT
+}
+
+/// The first of these words that are answered otherwise.
+fn other_missing(alloc: Global, all: &[Missing]) -> Result<Option<&'static str>, AllocError> {
+    for (line, fault) in all {
+        if !ends_so(alloc, line, &no_parent(), BOTH, &(1, "", *fault, None))? {
+            return Ok(Some(*line));
+        }
+    }
+    Ok(None)
 }
 
 #[test]
 fn refuses_inputs(rt: HostRuntime) -> Result<(), Fail> {
-    for (line, fault) in [
-        ("values x y containers dump v", "no input x"),
-        ("values parameters y x dump v", "no input y"),
-        ("values parameters calibrations x y v", "no input x"),
-        (
-            "values parameters calibrations containers x v",
-            "no input x",
-        ),
-    ] {
-        expect(&rt, line, NO_PARENT, BOTH, (1, "", fault))?;
-    }
+    assert_eq!(rt; other_missing(rt.alloc(), missing())?, None);
     Ok(())
-}
-
-#[test]
-fn refuses_sheets_and_packets(rt: HostRuntime) -> Result<(), Fail> {
-    for (sheets, dump, name, want) in [
-        (
-            NO_PARENT,
-            BOTH,
-            "nothing",
-            (2, "", "bad sheet containers row 6 rule 16"),
-        ),
-        (
-            TOO_WIDE,
-            GREATEST,
-            "big",
-            (2, "", "bad sheet parameters row 2 rule 14"),
-        ),
-        (
-            TWO_GROUPS,
-            BOTH_AND_MORE,
-            "nothing",
-            (1, "", "unknown parameter"),
-        ),
-        (
-            TWO_GROUPS,
-            BOTH_AND_MORE,
-            "no!name",
-            (1, "", "unknown parameter"),
-        ),
-        (
-            TWO_GROUPS,
-            BOTH_AND_MORE,
-            "v",
-            (
-                2,
-                "cell 1500 140820480 42 42\ncell 1500 140886016 7 7\n",
-                "bad packet at 27: version",
-            ),
-        ),
-        (
-            TWO_GROUPS,
-            CUT,
-            "v",
-            (
-                2,
-                "cell 1500 140886016 7 7\n",
-                "bad packet at 13: truncated",
-            ),
-        ),
-    ] {
-        let line = asking(rt.alloc(), name)?;
-        expect(&rt, line.as_str(), sheets, dump, want)?;
-    }
-    Ok(())
-}
-
-/// The status of a call where these calls fail, and how many octets it printed.
-fn failing(
-    alloc: Global,
-    line: &str,
-    sheets: Sheets,
-    reads: &[FailingCall],
-    writes: &[u64],
-) -> Result<(u8, usize), AllocError> {
-    let words = words_of(alloc, line)?;
-    let reads = Vec::from_slice(alloc, reads)?;
-    let mut inputs = MemInputs::failing(files_of(alloc, sheets, BOTH)?, reads);
-    let mut sink = MemSink::failing(alloc, Vec::from_slice(alloc, writes)?);
-    let mut clock = FixedClock::new(9000);
-    let ended = run(
-        alloc,
-        words.as_slice(),
-        MemDisk::new(alloc),
-        &mut inputs,
-        &mut sink,
-        &mut clock,
-    );
-    Ok((ended.status, sink.octets.len()))
 }
 
 /// The words of `values` for `v`.
@@ -308,32 +326,62 @@ const SOUND: &str = "values parameters calibrations containers dump v";
 /// The same with a last sheet that isn't there.
 const LACKING: &str = "values parameters calibrations x dump v";
 
-#[test]
-fn fails_with_the_outside(rt: HostRuntime) -> Result<(), Fail> {
-    let alloc = rt.alloc();
-    for opening in 1..5 {
-        for read in 0..3 {
-            let call = FailingCall { opening, read };
-            let ended = failing(alloc, SOUND, TWO_GROUPS, &[call], &[])?;
-            assert_eq!(rt; ended, (3, 0), "at read {read} of input {opening}");
+/// A function, as above.
+fn two_groups() -> Sheets {
+    TWO_GROUPS
+}
+
+/// The status of a call where these calls fail, and how many octets it printed.
+fn failing(
+    alloc: Global,
+    line: &str,
+    sheets: &Sheets,
+    reads: &[FailingCall],
+    writes: &[u64],
+) -> Result<(u8, usize), AllocError> {
+    let reads = Vec::from_slice(alloc, reads)?;
+    let inputs = MemInputs::failing(files_of(alloc, sheets, BOTH)?, reads);
+    let sink = MemSink::failing(alloc, Vec::from_slice(alloc, writes)?);
+    let (ended, octets) = printed(alloc, line, MemDisk::new(alloc), inputs, sink)?;
+    Ok((ended.status, octets.len()))
+}
+
+/// The first read of an input that fails without being told, if any: 0 is its opening.
+fn untold_read(
+    alloc: Global,
+    line: &str,
+    sheets: &Sheets,
+    opening: u64,
+) -> Result<Option<u64>, AllocError> {
+    for read in 0..3u64 {
+        let call = FailingCall { opening, read };
+        if failing(alloc, line, sheets, &[call], &[])? != (3, 0) {
+            return Ok(Some(read));
         }
     }
-    let unwritten = failing(alloc, SOUND, TWO_GROUPS, &[], &[1])?;
-    assert_eq!(rt; unwritten, (4, 0));
-    let sound = failing(alloc, SOUND, TWO_GROUPS, &[], &[])?;
-    assert_eq!(rt; sound, (0, 59));
+    Ok(None)
+}
+
+#[test]
+fn fails_with_the_outside(rt: HostRuntime) -> Result<(), Fail> {
+    for opening in 1..5u64 {
+        let untold = untold_read(rt.alloc(), SOUND, &two_groups(), opening)?;
+        assert_eq!(rt; untold, None, "input {opening}");
+    }
+    assert_eq!(rt;
+        failing(rt.alloc(), SOUND, &two_groups(), &[], &[1])?,
+        (4, 0)
+    );
+    assert_eq!(rt;
+        failing(rt.alloc(), SOUND, &two_groups(), &[], &[])?,
+        (0, 59)
+    );
     Ok(())
 }
 
 #[test]
 fn answers_the_failed_read_first(rt: HostRuntime) -> Result<(), Fail> {
-    let alloc = rt.alloc();
-    for read in 0..3 {
-        let call = FailingCall { opening: 1, read };
-        let lacking = failing(alloc, LACKING, TWO_GROUPS, &[call], &[])?;
-        assert_eq!(rt; lacking, (3, 0));
-        let broken = failing(alloc, SOUND, NO_PARENT, &[call], &[])?;
-        assert_eq!(rt; broken, (3, 0));
-    }
+    assert_eq!(rt; untold_read(rt.alloc(), LACKING, &two_groups(), 1)?, None);
+    assert_eq!(rt; untold_read(rt.alloc(), SOUND, &no_parent(), 1)?, None);
     Ok(())
 }

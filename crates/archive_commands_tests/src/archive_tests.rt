@@ -1,13 +1,12 @@
 //! The commands on an archive in memory: a day of them, what each refuses and in which order, and a load over a disk that fails.
+//!
+//! A test lists calls and their endings as data. What owns a disk is generic in it, as `archive_cli_tests::calls` says.
 
 use arch_disk::{Crash, Disk, MemDisk};
-use archive_cli::run::run;
-use archive_cli_tests::calls::{fault_of, file_of, words_of};
-use outer_traits::clock::FixedClock;
+use archive_cli_tests::calls::{Wanted, called, file_of, printed};
 use outer_traits::mem_inputs::{FailingCall, File, MemInputs};
 use outer_traits::mem_sink::MemSink;
 use std::alloc::{AllocError, Global};
-use std::process::Abort;
 use std::test::Fail;
 
 const CREATE: &str = "create parameters calibrations containers";
@@ -63,162 +62,149 @@ const TEXTS: &[(&str, &[u8])] = &[
     ("broken", BROKEN),
 ];
 
+/// They are a function, as each table below is, so that they stand in no goal of its callers.
+fn texts() -> &'static [(&'static str, &'static [u8])] {
+    TEXTS
+}
+
 fn files_of(alloc: Global) -> Result<Vec<File>, AllocError> {
     let mut files = Vec::new(alloc);
-    for (name, octets) in TEXTS {
+    for (name, octets) in texts() {
         files.push(file_of(alloc, name, octets)?)?;
     }
     Ok(files)
 }
 
-/// How a call has to end: its status and fault, what it printed, and the lengths of the history before and after, where an archive was opened.
-type Wanted<'a> = (u8, &'a str, &'a str, Option<(u64, u64)>);
+/// A line of words, and how its call has to end.
+type Call = (&'static str, Wanted);
 
-/// A call of the program with these inputs.
-fn expect_of(
-    rt: &(impl Abort + AllocGlobal),
-    line: &str,
-    disk: MemDisk,
-    mut inputs: MemInputs,
-    mut sink: MemSink,
-    want: Wanted<'_>,
-) -> Result<MemDisk, Fail> {
-    let alloc = rt.alloc();
-    let words = words_of(alloc, line)?;
-    let mut clock = FixedClock::new(9000);
-    let ended = run(
-        alloc,
-        words.as_slice(),
-        disk,
-        &mut inputs,
-        &mut sink,
-        &mut clock,
-    );
-    let (status, text, fault, lengths) = want;
-    assert_eq!(rt; fault_of(alloc, &ended)?.as_str(), fault);
-    assert_eq!(rt; ended.status, status);
-    assert_eq!(rt; sink.octets.as_slice(), text.as_bytes());
-    let (before, after) = lengths.unwrap_or((0, 0));
-    assert_eq!(rt; ended.report.opened, lengths.is_some());
-    assert_eq!(rt; ended.report.before, before);
-    assert_eq!(rt; ended.report.after, after);
-    Ok(ended.disk)
+/// The first of these calls that ends otherwise, and the disk.
+fn other_call<D: Disk + Drop>(
+    alloc: Global,
+    disk: D,
+    calls: &[Call],
+) -> Result<(Option<&'static str>, D), Fail> {
+    let mut disk = disk;
+    for (line, want) in calls {
+        let inputs = MemInputs::new(alloc, files_of(alloc)?);
+        let (is_so, left) = called(alloc, line, disk, inputs, MemSink::new(alloc), want)?;
+        disk = left;
+        if !is_so {
+            return Ok((Some(*line), disk));
+        }
+    }
+    Ok((None, disk))
 }
 
-/// A call of the program, of whose inputs and sink no call fails.
-fn expect(
-    rt: &(impl Abort + AllocGlobal),
-    line: &str,
-    disk: MemDisk,
-    want: Wanted<'_>,
-) -> Result<MemDisk, Fail> {
-    let alloc = rt.alloc();
-    let inputs = MemInputs::new(alloc, files_of(alloc)?);
-    expect_of(rt, line, disk, inputs, MemSink::new(alloc), want)
+/// The same on a new disk.
+fn other_of_new(alloc: Global, calls: &[Call]) -> Result<Option<&'static str>, Fail> {
+    let (other, _disk) = other_call(alloc, MemDisk::new(alloc), calls)?;
+    Ok(other)
+}
+
+const USAGE: Wanted = (1, "", "usage", None);
+
+const FIRST_LOAD: &str = "load packets 3 new 2 duplicates 1 idle 0 rows 2\n";
+
+const LOAD_AGAIN: &str = "load packets 3 new 0 duplicates 3 idle 0 rows 2\n";
+
+const A_DAY: &[Call] = &[
+    ("recover", (1, "", "no archive", None)),
+    ("verify", (1, "", "no archive", None)),
+    ("query --ask asks", (1, "", "no archive", None)),
+    ("load --link 256 twice", (1, "", "no archive", None)),
+    (CREATE, (0, CREATED, "", Some((0, 0)))),
+    (CREATE, (1, "", "archive exists", None)),
+    (
+        "query --ask asks",
+        (0, "ask 1 front 0\nend 0\n", "", Some((0, 0))),
+    ),
+    (
+        "load --link 256 twice",
+        (2, "", "limit Links 255", Some((0, 0))),
+    ),
+    ("load x", (1, "", "no input x", None)),
+    (
+        "load twice",
+        (
+            0,
+            "load packets 3 new 2 duplicates 1 idle 0 rows 2\n",
+            "",
+            Some((0, 2)),
+        ),
+    ),
+    (
+        "query --ask asks",
+        (
+            0,
+            "ask 1 front 2\ncell 1500 140886016 7 7\nend 1\n",
+            "",
+            Some((2, 2)),
+        ),
+    ),
+    (
+        "load --link=255 twice",
+        (
+            0,
+            "load packets 3 new 0 duplicates 3 idle 0 rows 2\n",
+            "",
+            Some((2, 2)),
+        ),
+    ),
+    (
+        "load broken",
+        (2, "", "bad packet at 20: version", Some((2, 2))),
+    ),
+    (
+        "query --ask=unknown",
+        (1, "", "unknown parameter", Some((2, 2))),
+    ),
+    (
+        "query --ask=backwards",
+        (1, "", "bad range 2000 0", Some((2, 2))),
+    ),
+    (
+        "query --ask=bad",
+        (2, "", "bad sheet asks row 1 rule 1", Some((2, 2))),
+    ),
+    (
+        "recover",
+        (0, "recovered rows 2 filled 0\n", "", Some((2, 2))),
+    ),
+    (
+        "verify",
+        (0, "sound rows 2 intervals 1 late 1\n", "", Some((2, 2))),
+    ),
+];
+
+fn a_day_of_calls() -> &'static [Call] {
+    A_DAY
 }
 
 #[test]
 fn a_day(rt: HostRuntime) -> Result<(), Fail> {
-    let mut disk = MemDisk::new(rt.alloc());
-    for (line, want) in [
-        ("recover", (1, "", "no archive", None)),
-        ("query --ask asks", (1, "", "no archive", None)),
-        ("load --link 256 twice", (1, "", "no archive", None)),
-        (CREATE, (0, CREATED, "", Some((0, 0)))),
-        (CREATE, (1, "", "archive exists", None)),
-        (
-            "query --ask asks",
-            (0, "ask 1 front 0\nend 0\n", "", Some((0, 0))),
-        ),
-        (
-            "load --link 256 twice",
-            (2, "", "limit Links 255", Some((0, 0))),
-        ),
-        ("load x", (1, "", "no input x", None)),
-        (
-            "load twice",
-            (
-                0,
-                "load packets 3 new 2 duplicates 1 idle 0 rows 2\n",
-                "",
-                Some((0, 2)),
-            ),
-        ),
-        (
-            "query --ask asks",
-            (
-                0,
-                "ask 1 front 2\ncell 1500 140886016 7 7\nend 1\n",
-                "",
-                Some((2, 2)),
-            ),
-        ),
-        (
-            "load --link=255 twice",
-            (
-                0,
-                "load packets 3 new 0 duplicates 3 idle 0 rows 2\n",
-                "",
-                Some((2, 2)),
-            ),
-        ),
-        (
-            "load broken",
-            (2, "", "bad packet at 20: version", Some((2, 2))),
-        ),
-        (
-            "query --ask=unknown",
-            (1, "", "unknown parameter", Some((2, 2))),
-        ),
-        (
-            "query --ask=backwards",
-            (1, "", "bad range 2000 0", Some((2, 2))),
-        ),
-        (
-            "query --ask=bad",
-            (2, "", "bad sheet asks row 1 rule 1", Some((2, 2))),
-        ),
-        (
-            "recover",
-            (0, "recovered rows 2 filled 0\n", "", Some((2, 2))),
-        ),
-    ] {
-        disk = expect(&rt, line, disk, want)?;
-    }
+    assert_eq!(rt; other_of_new(rt.alloc(), a_day_of_calls())?, None);
     Ok(())
 }
 
-/// A query over this disk, whose sheet of asks has these rows.
-fn expect_answers(
-    rt: &(impl Abort + AllocGlobal),
-    rows: &str,
-    disk: MemDisk,
-    want: Wanted<'_>,
-) -> Result<MemDisk, Fail> {
-    let alloc = rt.alloc();
+/// A file `sheet` of asks with these rows.
+fn sheet_of(alloc: Global, rows: &str) -> Result<Vec<File>, AllocError> {
     let mut sheet = Vec::from_slice(alloc, b"kind,name,from,to,order,limit,names\n")?;
     sheet.extend_from_slice(rows.as_bytes())?;
     let mut files = Vec::new(alloc);
     files.push(file_of(alloc, "sheet", sheet.as_slice())?)?;
-    let inputs = MemInputs::new(alloc, files);
-    expect_of(
-        rt,
-        "query --ask sheet",
-        disk,
-        inputs,
-        MemSink::new(alloc),
-        want,
-    )
+    Ok(files)
 }
 
-/// Rows of a sheet, and what the archive of two named packets answers.
-const REPLAYS: [(&str, (u8, &str, &str)); 17] = [
+/// Rows of a sheet, and how the query of the archive of two named packets has to end.
+const REPLAYS: &[Call] = &[
     (
         "replay,tm,0,2000,,,B\n",
         (
             0,
             "ask 1 front 2\npacket tm 1500 140886016 1 B 13\nend 1\n",
             "",
+            Some((2, 2)),
         ),
     ),
     (
@@ -227,6 +213,7 @@ const REPLAYS: [(&str, (u8, &str, &str)); 17] = [
             0,
             "ask 1 front 2\npacket tm 1500 140820480 1 A 14\npacket tm 1500 140886016 1 B 13\nend 2\n",
             "",
+            Some((2, 2)),
         ),
     ),
     (
@@ -235,6 +222,7 @@ const REPLAYS: [(&str, (u8, &str, &str)); 17] = [
             0,
             "ask 1 front 2\npacket tm 1500 140820480 1 A 14\nend 1\n",
             "",
+            Some((2, 2)),
         ),
     ),
     (
@@ -243,21 +231,32 @@ const REPLAYS: [(&str, (u8, &str, &str)); 17] = [
             0,
             "ask 1 front 2\npacket tm 1500 140886016 1 B 13\nend 1\n",
             "",
+            Some((2, 2)),
         ),
     ),
-    ("replay,tm,0,1500,,,\n", (0, "ask 1 front 2\nend 0\n", "")),
+    (
+        "replay,tm,0,1500,,,\n",
+        (0, "ask 1 front 2\nend 0\n", "", Some((2, 2))),
+    ),
+    (
+        "values,v,0,1500,,,\n",
+        (0, "ask 1 front 2\nend 0\n", "", Some((2, 2))),
+    ),
     (
         "replay,tm,1500,1500,,,\n",
-        (0, "ask 1 front 2\nend 0\n", ""),
+        (0, "ask 1 front 2\nend 0\n", "", Some((2, 2))),
     ),
     (
         "replay,tm,1501,86400000,,,\n",
-        (0, "ask 1 front 2\nend 0\n", ""),
+        (0, "ask 1 front 2\nend 0\n", "", Some((2, 2))),
     ),
-    ("replay,tm,0,2000,,0,\n", (0, "ask 1 front 2\nend 0\n", "")),
+    (
+        "replay,tm,0,2000,,0,\n",
+        (0, "ask 1 front 2\nend 0\n", "", Some((2, 2))),
+    ),
     (
         "replay,tm,0,2000,,,HDR;Z\n",
-        (0, "ask 1 front 2\nend 0\n", ""),
+        (0, "ask 1 front 2\nend 0\n", "", Some((2, 2))),
     ),
     (
         "values,v,0,2000,desc,1,\nreplay,tm,0,2000,,,B\n",
@@ -265,251 +264,401 @@ const REPLAYS: [(&str, (u8, &str, &str)); 17] = [
             0,
             "ask 1 front 2\ncell 1500 140886016 7 7\nend 1\nask 2 front 2\npacket tm 1500 140886016 1 B 13\nend 1\n",
             "",
+            Some((2, 2)),
         ),
     ),
     (
         "values,v,0,2000,,,\nreplay,copy,5,4,,,\n",
-        (1, "", "unknown table copy"),
+        (1, "", "unknown table copy", Some((2, 2))),
     ),
     (
         "replay,tm,0,2000,,,\nreplay,tm,5,4,,,\n",
-        (1, "", "bad range 5 4"),
+        (1, "", "bad range 5 4", Some((2, 2))),
     ),
     (
         "replay,copy,5,4,,,\nvalues,zz,0,1,,,\n",
-        (1, "", "unknown table copy"),
+        (1, "", "unknown table copy", Some((2, 2))),
     ),
     (
         "values,zz,0,1,,,\nreplay,copy,5,4,,,\n",
-        (1, "", "unknown parameter"),
+        (1, "", "unknown parameter", Some((2, 2))),
     ),
     (
         "values,v,5,4,,,\nreplay,copy,0,1,,,\n",
-        (1, "", "bad range 5 4"),
+        (1, "", "bad range 5 4", Some((2, 2))),
     ),
     (
         "replay,copy,0,1,,,\nreplay,tm,0,1,desc,,\n",
-        (2, "", "bad sheet asks row 3 rule 32"),
+        (2, "", "bad sheet asks row 3 rule 32", Some((2, 2))),
     ),
     (
         "replay,tm,0,1,,,A;\n",
-        (2, "", "bad sheet asks row 2 rule 34"),
+        (2, "", "bad sheet asks row 2 rule 34", Some((2, 2))),
     ),
 ];
 
+fn replay_sheets() -> &'static [Call] {
+    REPLAYS
+}
+
+const NAMED_LOAD: &[Call] = &[
+    (
+        "create parameters calibrations three",
+        (
+            0,
+            "created tables 1 parameters 2 containers 3\n",
+            "",
+            Some((0, 0)),
+        ),
+    ),
+    (
+        "load named",
+        (
+            0,
+            "load packets 2 new 2 duplicates 0 idle 0 rows 2\n",
+            "",
+            Some((0, 2)),
+        ),
+    ),
+];
+
+fn named_load() -> &'static [Call] {
+    NAMED_LOAD
+}
+
+/// The first sheet, by its rows, whose query ends otherwise.
+fn other_answer<D: Disk + Drop>(
+    alloc: Global,
+    disk: D,
+    sheets: &[Call],
+) -> Result<Option<&'static str>, Fail> {
+    let mut disk = disk;
+    for (rows, want) in sheets {
+        let inputs = MemInputs::new(alloc, sheet_of(alloc, rows)?);
+        let sink = MemSink::new(alloc);
+        let (is_so, left) = called(alloc, "query --ask sheet", disk, inputs, sink, want)?;
+        disk = left;
+        if !is_so {
+            return Ok(Some(*rows));
+        }
+    }
+    Ok(None)
+}
+
 #[test]
 fn replays(rt: HostRuntime) -> Result<(), Fail> {
-    let created = "created tables 1 parameters 2 containers 3\n";
-    let loaded = "load packets 2 new 2 duplicates 0 idle 0 rows 2\n";
-    let mut disk = MemDisk::new(rt.alloc());
-    for (line, want) in [
-        (
-            "create parameters calibrations three",
-            (0, created, "", Some((0, 0))),
-        ),
-        ("load named", (0, loaded, "", Some((0, 2)))),
-    ] {
-        disk = expect(&rt, line, disk, want)?;
-    }
-    for (rows, (status, text, fault)) in REPLAYS {
-        disk = expect_answers(&rt, rows, disk, (status, text, fault, Some((2, 2))))?;
-    }
+    let alloc = rt.alloc();
+    let (other, disk) = other_call(alloc, MemDisk::new(alloc), named_load())?;
+    assert_eq!(rt; other, None);
+    assert_eq!(rt; other_answer(alloc, disk, replay_sheets())?, None);
     Ok(())
+}
+
+const ANSWERED: &str =
+    "ask 1 front 2\ncell 1500 140886016 7 7\nend 1\nload packets 3 new 2 duplicates 1 idle 0 rows 2\n";
+
+const REPLAYED: &str =
+    "ask 1 front 2\npacket tm 1500 140820480 7 HDR 13\npacket tm 1500 140886016 7 HDR 13\nend 2\nload packets 3 new 0 duplicates 3 idle 0 rows 2\n";
+
+const LOADS_WITH_ASKS: &[Call] = &[
+    ("load --ask bad twice", (1, "", "no archive", None)),
+    (CREATE, (0, CREATED, "", Some((0, 0)))),
+    ("load --ask x y", (1, "", "no input x", None)),
+    ("load --ask bad y", (1, "", "no input y", None)),
+    (
+        "load --ask bad --link 256 twice",
+        (2, "", "limit Links 255", Some((0, 0))),
+    ),
+    (
+        "load --ask bad twice",
+        (2, "", "bad sheet asks row 1 rule 1", Some((0, 0))),
+    ),
+    (
+        "load twice --ask unknown",
+        (1, "", "unknown parameter", Some((0, 0))),
+    ),
+    (
+        "load --ask=backwards broken",
+        (1, "", "bad range 2000 0", Some((0, 0))),
+    ),
+    (
+        "load --ask asks --link 7 twice",
+        (0, ANSWERED, "", Some((0, 2))),
+    ),
+    (
+        "load --link 9 --ask replayed twice",
+        (0, REPLAYED, "", Some((2, 2))),
+    ),
+    (
+        "load --ask asks broken",
+        (2, "", "bad packet at 20: version", Some((2, 2))),
+    ),
+    (
+        "load --ask twice twice",
+        (2, "", "bad sheet asks row 1 rule 1", Some((2, 2))),
+    ),
+    (
+        "load --ask asks asks",
+        (2, "", "bad packet at 0: version", Some((2, 2))),
+    ),
+    ("load --ask= twice", USAGE),
+    ("load --ask asks --ask asks twice", USAGE),
+    ("load twice --ask", USAGE),
+];
+
+fn calls_with_asks() -> &'static [Call] {
+    LOADS_WITH_ASKS
 }
 
 #[test]
 fn loads_with_asks(rt: HostRuntime) -> Result<(), Fail> {
-    let usage = (1, "", "usage", None);
-    let answered =
-        "ask 1 front 2\ncell 1500 140886016 7 7\nend 1\nload packets 3 new 2 duplicates 1 idle 0 rows 2\n";
-    let replayed =
-        "ask 1 front 2\npacket tm 1500 140820480 7 HDR 13\npacket tm 1500 140886016 7 HDR 13\nend 2\nload packets 3 new 0 duplicates 3 idle 0 rows 2\n";
-    let mut disk = MemDisk::new(rt.alloc());
-    for (line, want) in [
-        ("load --ask bad twice", (1, "", "no archive", None)),
-        (CREATE, (0, CREATED, "", Some((0, 0)))),
-        ("load --ask x y", (1, "", "no input x", None)),
-        ("load --ask bad y", (1, "", "no input y", None)),
-        (
-            "load --ask bad --link 256 twice",
-            (2, "", "limit Links 255", Some((0, 0))),
-        ),
-        (
-            "load --ask bad twice",
-            (2, "", "bad sheet asks row 1 rule 1", Some((0, 0))),
-        ),
-        (
-            "load twice --ask unknown",
-            (1, "", "unknown parameter", Some((0, 0))),
-        ),
-        (
-            "load --ask=backwards broken",
-            (1, "", "bad range 2000 0", Some((0, 0))),
-        ),
-        (
-            "load --ask asks --link 7 twice",
-            (0, answered, "", Some((0, 2))),
-        ),
-        (
-            "load --link 9 --ask replayed twice",
-            (0, replayed, "", Some((2, 2))),
-        ),
-        (
-            "load --ask asks broken",
-            (2, "", "bad packet at 20: version", Some((2, 2))),
-        ),
-        (
-            "load --ask twice twice",
-            (2, "", "bad sheet asks row 1 rule 1", Some((2, 2))),
-        ),
-        (
-            "load --ask asks asks",
-            (2, "", "bad packet at 0: version", Some((2, 2))),
-        ),
-        ("load --ask= twice", usage),
-        ("load --ask asks --ask asks twice", usage),
-        ("load twice --ask", usage),
-    ] {
-        disk = expect(&rt, line, disk, want)?;
-    }
+    assert_eq!(rt; other_of_new(rt.alloc(), calls_with_asks())?, None);
     Ok(())
+}
+
+const WORDS_OF_A_LOAD: &[Call] = &[
+    (CREATE, (0, CREATED, "", Some((0, 0)))),
+    ("load --link 7 twice", (0, FIRST_LOAD, "", Some((0, 2)))),
+    ("load twice --link 255", (0, LOAD_AGAIN, "", Some((2, 2)))),
+    ("load --link 007 twice", (0, LOAD_AGAIN, "", Some((2, 2)))),
+    ("load --link 0 twice", USAGE),
+    ("load --link 12345678901234567890 twice", USAGE),
+    ("load --link 1 --link 1 twice", USAGE),
+    ("load twice --link", USAGE),
+    ("load twice twice", USAGE),
+    ("load", USAGE),
+    ("recover x", USAGE),
+    ("verify x", USAGE),
+    ("query", USAGE),
+];
+
+fn load_words() -> &'static [Call] {
+    WORDS_OF_A_LOAD
 }
 
 #[test]
 fn words_of_a_load(rt: HostRuntime) -> Result<(), Fail> {
-    let usage = (1, "", "usage", None);
-    let first = "load packets 3 new 2 duplicates 1 idle 0 rows 2\n";
-    let again = "load packets 3 new 0 duplicates 3 idle 0 rows 2\n";
-    let mut disk = MemDisk::new(rt.alloc());
-    for (line, want) in [
-        (CREATE, (0, CREATED, "", Some((0, 0)))),
-        ("load --link 7 twice", (0, first, "", Some((0, 2)))),
-        ("load twice --link 255", (0, again, "", Some((2, 2)))),
-        ("load --link 007 twice", (0, again, "", Some((2, 2)))),
-        ("load --link 0 twice", usage),
-        ("load --link 12345678901234567890 twice", usage),
-        ("load --link 1 --link 1 twice", usage),
-        ("load twice --link", usage),
-        ("load twice twice", usage),
-        ("load", usage),
-        ("recover x", usage),
-        ("query", usage),
-    ] {
-        disk = expect(&rt, line, disk, want)?;
-    }
+    assert_eq!(rt; other_of_new(rt.alloc(), load_words())?, None);
     Ok(())
 }
 
-/// A call of the program whose first write fails.
-fn expect_unwritten(
-    rt: &(impl Abort + AllocGlobal),
-    line: &str,
-    disk: MemDisk,
-    lengths: (u64, u64),
-) -> Result<MemDisk, Fail> {
-    let alloc = rt.alloc();
-    let inputs = MemInputs::new(alloc, files_of(alloc)?);
-    let sink = MemSink::failing(alloc, vec![in alloc; 1; 1]?);
-    let want = (4, "", "write fault", Some(lengths));
-    expect_of(rt, line, disk, inputs, sink, want)
+/// Calls whose first write fails.
+const UNWRITTEN: &[Call] = &[
+    (CREATE, (4, "", "write fault", Some((0, 0)))),
+    ("load twice", (4, "", "write fault", Some((0, 2)))),
+    ("query --ask asks", (4, "", "write fault", Some((2, 2)))),
+    ("query --ask replayed", (4, "", "write fault", Some((2, 2)))),
+    (
+        "load --ask asks twice",
+        (4, "", "write fault", Some((2, 2))),
+    ),
+    ("recover", (4, "", "write fault", Some((2, 2)))),
+    ("verify", (4, "", "write fault", Some((2, 2)))),
+];
+
+fn unwritten() -> &'static [Call] {
+    UNWRITTEN
+}
+
+/// The first of these calls that ends otherwise where its first write fails.
+fn other_unwritten<D: Disk + Drop>(
+    alloc: Global,
+    disk: D,
+    calls: &[Call],
+) -> Result<Option<&'static str>, Fail> {
+    let mut disk = disk;
+    for (line, want) in calls {
+        let inputs = MemInputs::new(alloc, files_of(alloc)?);
+        let sink = MemSink::failing(alloc, vec![in alloc; 1; 1]?);
+        let (is_so, left) = called(alloc, line, disk, inputs, sink, want)?;
+        disk = left;
+        if !is_so {
+            return Ok(Some(*line));
+        }
+    }
+    Ok(None)
 }
 
 #[test]
 fn writes_that_fail(rt: HostRuntime) -> Result<(), Fail> {
-    let mut disk = MemDisk::new(rt.alloc());
-    for (line, lengths) in [
-        (CREATE, (0, 0)),
-        ("load twice", (0, 2)),
-        ("query --ask asks", (2, 2)),
-        ("query --ask replayed", (2, 2)),
-        ("load --ask asks twice", (2, 2)),
-        ("recover", (2, 2)),
-    ] {
-        disk = expect_unwritten(&rt, line, disk, lengths)?;
-    }
+    let other = other_unwritten(rt.alloc(), MemDisk::new(rt.alloc()), unwritten())?;
+    assert_eq!(rt; other, None);
     Ok(())
 }
 
-/// A call of the program of whose first source this read fails, or the opening where it's 0.
-fn expect_unread(
-    rt: &(impl Abort + AllocGlobal),
-    line: &str,
-    disk: MemDisk,
-    read: u64,
-    want: Wanted<'_>,
-) -> Result<MemDisk, Fail> {
-    let alloc = rt.alloc();
+/// A line of words, the read of its first source that fails, or 0 for the opening, and how its call has to end.
+type Unread = (&'static str, u64, Wanted);
+
+const UNREAD: &[Unread] = &[
+    (CREATE, 1, (3, "", "read fault", None)),
+    ("load twice", 0, (3, "", "read fault", None)),
+    ("load twice", 1, (1, "", "no archive", None)),
+    ("query --ask asks", 1, (3, "", "read fault", None)),
+    ("load --ask asks twice", 0, (3, "", "read fault", None)),
+    ("load --ask asks twice", 1, (3, "", "read fault", None)),
+    (CREATE, 9, (0, CREATED, "", Some((0, 0)))),
+    ("load twice", 0, (3, "", "read fault", None)),
+    ("load twice", 1, (3, "", "read fault", Some((0, 0)))),
+    (
+        "load --link 256 twice",
+        1,
+        (2, "", "limit Links 255", Some((0, 0))),
+    ),
+    ("query --ask bad", 1, (3, "", "read fault", None)),
+];
+
+fn unread() -> &'static [Unread] {
+    UNREAD
+}
+
+/// Inputs of which this read of the first source fails.
+fn failing_at(alloc: Global, read: u64) -> Result<MemInputs, AllocError> {
     let mut calls = Vec::new(alloc);
     calls.push(FailingCall { opening: 1, read })?;
-    let inputs = MemInputs::failing(files_of(alloc)?, calls);
-    expect_of(rt, line, disk, inputs, MemSink::new(alloc), want)
+    Ok(MemInputs::failing(files_of(alloc)?, calls))
+}
+
+/// The place of the first of these calls that ends otherwise.
+fn other_unread<D: Disk + Drop>(
+    alloc: Global,
+    disk: D,
+    calls: &[Unread],
+) -> Result<Option<usize>, Fail> {
+    let mut disk = disk;
+    let mut place = 0usize;
+    for (line, read, want) in calls {
+        let inputs = failing_at(alloc, *read)?;
+        let (is_so, left) = called(alloc, line, disk, inputs, MemSink::new(alloc), want)?;
+        disk = left;
+        if !is_so {
+            return Ok(Some(place));
+        }
+        place = place.saturating_add(1);
+    }
+    Ok(None)
 }
 
 #[test]
 fn reads_that_fail(rt: HostRuntime) -> Result<(), Fail> {
-    let mut disk = MemDisk::new(rt.alloc());
-    let unread = (3, "", "read fault", None);
-    for (line, read, want) in [
-        (CREATE, 1, unread),
-        ("load twice", 0, unread),
-        ("load twice", 1, (1, "", "no archive", None)),
-        ("query --ask asks", 1, unread),
-        ("load --ask asks twice", 0, unread),
-        ("load --ask asks twice", 1, unread),
-        (CREATE, 9, (0, CREATED, "", Some((0, 0)))),
-        ("load twice", 0, unread),
-        ("load twice", 1, (3, "", "read fault", Some((0, 0)))),
-        (
-            "load --link 256 twice",
-            1,
-            (2, "", "limit Links 255", Some((0, 0))),
-        ),
-        ("query --ask bad", 1, unread),
-    ] {
-        disk = expect_unread(&rt, line, disk, read, want)?;
-    }
+    let other = other_unread(rt.alloc(), MemDisk::new(rt.alloc()), unread())?;
+    assert_eq!(rt; other, None);
     Ok(())
 }
 
 /// A disk whose file 0 holds these octets.
 fn holding(alloc: Global, octets: &[u8]) -> Result<MemDisk, Fail> {
     let mut disk = MemDisk::new(alloc);
-    match disk.write_at(0, 0, octets) {
-        Ok(()) => Ok(disk),
-        Err(_) => Err(Fail::from("a write")),
+    disk.write_at(0, 0, octets)?;
+    Ok(disk)
+}
+
+const NO_ARCHIVE: &[Call] = &[
+    ("recover", (1, "", "no archive", None)),
+    ("load twice", (1, "", "no archive", None)),
+    ("query --ask bad", (1, "", "no archive", None)),
+];
+
+const DAMAGED: &[Call] = &[
+    ("recover", (6, "", "damaged file 0 at 0", None)),
+    ("load twice", (6, "", "damaged file 0 at 0", None)),
+    ("query --ask bad", (6, "", "damaged file 0 at 0", None)),
+];
+
+fn no_archive() -> &'static [Call] {
+    NO_ARCHIVE
+}
+
+fn damaged() -> &'static [Call] {
+    DAMAGED
+}
+
+/// Whether a call on a disk ends so.
+fn ends_so<D: Disk + Drop>(
+    alloc: Global,
+    disk: D,
+    line: &str,
+    want: &Wanted,
+) -> Result<bool, Fail> {
+    let inputs = MemInputs::new(alloc, files_of(alloc)?);
+    let (is_so, _disk) = called(alloc, line, disk, inputs, MemSink::new(alloc), want)?;
+    Ok(is_so)
+}
+
+/// The first of these calls that ends otherwise, each on a disk of its own that holds these octets.
+fn other_held(alloc: Global, octets: &[u8], calls: &[Call]) -> Result<Option<&'static str>, Fail> {
+    for (line, want) in calls {
+        if !ends_so(alloc, holding(alloc, octets)?, line, want)? {
+            return Ok(Some(*line));
+        }
     }
+    Ok(None)
 }
 
 #[test]
 fn what_a_disk_may_hold(rt: HostRuntime) -> Result<(), Fail> {
-    let alloc = rt.alloc();
-    let damaged = (6, "", "damaged file 0 at 0", None);
-    for line in ["recover", "load twice", "query --ask bad"] {
-        let short = holding(alloc, b"\x01")?;
-        let _disk = expect(&rt, line, short, (1, "", "no archive", None))?;
-        let cut_off = holding(alloc, b"\x01\x00\x00\x00\x09\x01\x00")?;
-        let _disk = expect(&rt, line, cut_off, damaged)?;
-        let failing = MemDisk::failing(alloc, vec![in alloc; 1; 1]?);
-        let _disk = expect(&rt, line, failing, (5, "", "disk fault", None))?;
-    }
+    assert_eq!(rt; other_held(rt.alloc(), b"\x01", no_archive())?, None);
+    assert_eq!(rt;
+        other_held(rt.alloc(), b"\x01\x00\x00\x00\x09\x01\x00", damaged())?,
+        None
+    );
     Ok(())
+}
+
+const FAULTS: &[Call] = &[
+    ("recover", (5, "", "disk fault", None)),
+    ("load twice", (5, "", "disk fault", None)),
+    ("query --ask bad", (5, "", "disk fault", None)),
+];
+
+fn faults() -> &'static [Call] {
+    FAULTS
+}
+
+/// The first of these calls that ends otherwise, each on a disk of its own whose first call fails.
+fn other_failing(alloc: Global, calls: &[Call]) -> Result<Option<&'static str>, Fail> {
+    for (line, want) in calls {
+        let disk = MemDisk::failing(alloc, vec![in alloc; 1; 1]?);
+        if !ends_so(alloc, disk, line, want)? {
+            return Ok(Some(*line));
+        }
+    }
+    Ok(None)
+}
+
+#[test]
+fn a_disk_that_fails_at_once(rt: HostRuntime) -> Result<(), Fail> {
+    assert_eq!(rt; other_failing(rt.alloc(), faults())?, None);
+    Ok(())
+}
+
+const LOADED: &[Call] = &[
+    (CREATE, (0, CREATED, "", Some((0, 0)))),
+    ("load twice", (0, FIRST_LOAD, "", Some((0, 2)))),
+];
+
+const RECOVERED: &[Call] = &[(
+    "recover",
+    (0, "recovered rows 2 filled 0\n", "", Some((2, 2))),
+)];
+
+fn loaded() -> &'static [Call] {
+    LOADED
+}
+
+fn recovered() -> &'static [Call] {
+    RECOVERED
 }
 
 #[test]
 fn what_an_append_may_leave(rt: HostRuntime) -> Result<(), Fail> {
     let alloc = rt.alloc();
-    let disk = expect(
-        &rt,
-        CREATE,
-        MemDisk::new(alloc),
-        (0, CREATED, "", Some((0, 0))),
-    )?;
-    let text = "load packets 3 new 2 duplicates 1 idle 0 rows 2\n";
-    let mut disk = expect(&rt, "load twice", disk, (0, text, "", Some((0, 2))))?;
+    let (other, disk) = other_call(alloc, MemDisk::new(alloc), loaded())?;
+    assert_eq!(rt; other, None);
+    let mut disk = disk;
     let end = disk.content(0).len() as u64;
-    assert!(&rt; end > 1 && disk.write_at(0, end - 1, b"\x07 left over").is_ok());
-    let text = "recovered rows 2 filled 0\n";
-    let _disk = expect(&rt, "recover", disk, (0, text, "", Some((2, 2))))?;
+    assert!(rt; end > 1 && disk.write_at(0, end - 1, b"\x07 left over").is_ok());
+    let (other, _disk) = other_call(alloc, disk, recovered())?;
+    assert_eq!(rt; other, None);
     Ok(())
 }
 
@@ -523,97 +672,139 @@ fn two_batches(alloc: Global) -> Result<Vec<u8>, AllocError> {
 }
 
 /// A call of the program, of which nothing is expected yet: its status, the length of the history afterwards, and the disk.
-fn call(alloc: Global, line: &str, disk: MemDisk) -> Result<(u8, u64, MemDisk), Fail> {
-    let words = words_of(alloc, line)?;
+fn call<D: Disk + Drop>(alloc: Global, line: &str, disk: D) -> Result<(u8, u64, D), Fail> {
     let mut files = files_of(alloc)?;
     files.push(file_of(alloc, "batches", two_batches(alloc)?.as_slice())?)?;
-    let mut inputs = MemInputs::new(alloc, files);
-    let mut sink = MemSink::new(alloc);
-    let mut clock = FixedClock::new(9000);
-    let ended = run(
-        alloc,
-        words.as_slice(),
-        disk,
-        &mut inputs,
-        &mut sink,
-        &mut clock,
-    );
+    let inputs = MemInputs::new(alloc, files);
+    let (ended, _octets) = printed(alloc, line, disk, inputs, MemSink::new(alloc))?;
     Ok((ended.status, ended.report.after, ended.disk))
 }
 
+/// A disk that tells how many calls were made, and what its crashes leave now.
+trait Crashing: Disk + Drop {
+    fn calls(&self) -> u64;
+
+    fn image(&self, crash: Crash) -> Result<MemDisk, Fail>;
+}
+
+impl Crashing for MemDisk {
+    fn calls(&self) -> u64 {
+        self.made()
+    }
+
+    fn image(&self, crash: Crash) -> Result<MemDisk, Fail> {
+        Ok(self.crashed(self.moments(), crash)?)
+    }
+}
+
 /// Whether an archive opens that has just these rows.
-fn holds(alloc: Global, disk: MemDisk, rows: u64) -> Result<bool, Fail> {
+fn holds<D: Disk + Drop>(alloc: Global, disk: D, rows: u64) -> Result<bool, Fail> {
     let (status, found, _disk) = call(alloc, "recover", disk)?;
     Ok(status == 0 && found == rows)
 }
 
 /// Whether there's no archive.
-fn holds_none(alloc: Global, disk: MemDisk) -> Result<bool, Fail> {
+fn holds_none<D: Disk + Drop>(alloc: Global, disk: D) -> Result<bool, Fail> {
     let (status, _, _disk) = call(alloc, "recover", disk)?;
     Ok(status == 1)
 }
 
-/// Loads two batches on a disk of which a call fails. The answer says so, and afterwards the disk has the rows that the report tells, whatever a crash
-/// leaves. It tells whether an archive was made.
-fn load_failing(rt: &(impl Abort + AllocGlobal), fails: u64) -> Result<bool, Fail> {
-    let alloc = rt.alloc();
-    let disk = MemDisk::failing(alloc, vec![in alloc; fails; 1]?);
-    let (created, _, disk) = call(alloc, CREATE, disk)?;
-    if created != 0 {
-        assert_eq!(rt; created, 5);
-        for crash in Crash::ALL {
-            let image = disk.crashed(disk.moments(), crash)?;
-            assert!(rt; holds_none(alloc, image)?, "{crash:?} after call {fails}");
-        }
-        return Ok(false);
-    }
-    let (status, rows, disk) = call(alloc, "load batches", disk)?;
-    let whole = disk.made() < fails;
-    assert_eq!(rt; status, if whole { 0 } else { 5 });
-    assert!(rt; rows == 0 || rows == 64 || (whole && rows == 66));
+/// Whether what each kind of crash leaves is an archive that has just these rows.
+fn images_hold<D: Crashing>(alloc: Global, disk: &D, rows: u64) -> Result<bool, Fail> {
     for crash in Crash::ALL {
-        let image = disk.crashed(disk.moments(), crash)?;
-        assert!(rt; holds(alloc, image, rows)?, "{crash:?} after call {fails}");
+        if !holds(alloc, disk.image(crash)?, rows)? {
+            return Ok(false);
+        }
     }
-    assert!(rt; whole || holds(alloc, disk, rows)?);
     Ok(true)
 }
 
+/// Whether none of them is an archive.
+fn images_hold_none<D: Crashing>(alloc: Global, disk: &D) -> Result<bool, Fail> {
+    for crash in Crash::ALL {
+        if !holds_none(alloc, disk.image(crash)?)? {
+            return Ok(false);
+        }
+    }
+    Ok(true)
+}
+
+/// Whether an archive was made, where all is as it should be.
+fn made_where(is_right: bool, is_made: bool) -> Option<bool> {
+    if is_right { Some(is_made) } else { None }
+}
+
+/// The same after a `create` that failed.
+fn made_none<D: Crashing>(alloc: Global, status: u8, disk: D) -> Result<Option<bool>, Fail> {
+    let is_right = status == 5 && images_hold_none(alloc, &disk)?;
+    Ok(made_where(is_right, false))
+}
+
+/// Loads two batches into a new archive on a disk whose call of this number fails. The answer says so, and afterwards the disk has the rows that the
+/// report tells, whatever a crash leaves.
+fn made_and_loaded<D: Crashing>(alloc: Global, fails: u64, disk: D) -> Result<Option<bool>, Fail> {
+    let (status, rows, disk) = call(alloc, "load batches", disk)?;
+    let is_right = images_hold(alloc, &disk, rows)?;
+    if disk.calls() < fails {
+        let is_told = status == 0 && (rows == 0 || rows == 64 || rows == 66);
+        return Ok(made_where(is_right && is_told, true));
+    }
+    let is_told = status == 5 && (rows == 0 || rows == 64);
+    let is_held = holds(alloc, disk, rows)?;
+    Ok(made_where(is_right && is_told && is_held, true))
+}
+
+/// The same from the making of the archive on.
+fn made_on<D: Crashing>(alloc: Global, fails: u64, disk: D) -> Result<Option<bool>, Fail> {
+    let (status, _, disk) = call(alloc, CREATE, disk)?;
+    if status != 0 {
+        return made_none(alloc, status, disk);
+    }
+    made_and_loaded(alloc, fails, disk)
+}
+
+#[test]
+fn a_load_on_a_failing_disk(rt: HostRuntime) -> Result<(), Fail> {
+    let alloc = rt.alloc();
+    let mut made = 0u64;
+    for fails in 1..40u64 {
+        let disk = MemDisk::failing(alloc, vec![in alloc; fails; 1]?);
+        let found = made_on(alloc, fails, disk)?;
+        assert!(rt; found.is_some(), "call {fails}");
+        if found == Some(true) {
+            made = made.saturating_add(1);
+        }
+    }
+    assert!(rt; made > 20);
+    Ok(())
+}
+
 /// How many calls the making of an archive and the load of two batches make.
-fn calls_of_a_load(alloc: Global) -> Result<u64, Fail> {
-    let (_, _, disk) = call(alloc, CREATE, MemDisk::new(alloc))?;
+fn calls_of_a_load<D: Crashing>(alloc: Global, disk: D) -> Result<u64, Fail> {
+    let (_, _, disk) = call(alloc, CREATE, disk)?;
     let (_, _, disk) = call(alloc, "load batches", disk)?;
-    Ok(disk.made())
+    Ok(disk.calls())
+}
+
+/// What a load of two batches answers, whether what each crash leaves then holds 64 rows, and what a `recover` and a second load answer.
+fn answers_of_a_load<D: Crashing>(alloc: Global, disk: D) -> Result<([(u8, u64); 3], bool), Fail> {
+    let (_, _, disk) = call(alloc, CREATE, disk)?;
+    let (status, rows, disk) = call(alloc, "load batches", disk)?;
+    let first = (status, rows);
+    let are_kept = images_hold(alloc, &disk, 64)?;
+    let (status, rows, disk) = call(alloc, "recover", disk)?;
+    let second = (status, rows);
+    let (status, rows, _disk) = call(alloc, "load batches", disk)?;
+    Ok(([first, second, (status, rows)], are_kept))
 }
 
 #[test]
 fn a_load_whose_last_sync_fails(rt: HostRuntime) -> Result<(), Fail> {
     let alloc = rt.alloc();
-    let last = calls_of_a_load(alloc)?;
+    let last = calls_of_a_load(alloc, MemDisk::new(alloc))?;
     let disk = MemDisk::failing(alloc, vec![in alloc; last; 1]?);
-    let (_, _, disk) = call(alloc, CREATE, disk)?;
-    let (status, rows, disk) = call(alloc, "load batches", disk)?;
-    assert_eq!(&rt; status, 5);
-    assert_eq!(&rt; rows, 64);
-    for crash in Crash::ALL {
-        let image = disk.crashed(disk.moments(), crash)?;
-        assert!(&rt; holds(alloc, image, 64)?, "{crash:?}");
-    }
-    let (status, rows, disk) = call(alloc, "recover", disk)?;
-    assert_eq!(&rt; (status, rows), (0, 64));
-    let (status, rows, _disk) = call(alloc, "load batches", disk)?;
-    assert_eq!(&rt; (status, rows), (0, 66));
-    Ok(())
-}
-
-#[test]
-fn a_load_on_a_failing_disk(rt: HostRuntime) -> Result<(), Fail> {
-    let mut made = 0u64;
-    for fails in 1..40u64 {
-        if load_failing(&rt, fails)? {
-            made = made.saturating_add(1);
-        }
-    }
-    assert!(rt; made > 20);
+    let (answers, are_kept) = answers_of_a_load(alloc, disk)?;
+    assert_eq!(rt; answers, [(5, 64), (0, 64), (0, 66)]);
+    assert!(rt; are_kept);
     Ok(())
 }

@@ -7,7 +7,7 @@ use Rattle.clap.specs.Walk.{Row, first_of}
 use Rattle.text_forms.specs.Digits.{digits_at_most}
 use Rattle.command_words.specs.declared.job.CommandName.{CommandName}
 use Rattle.command_words.specs.declared.job.CommandName.TheVariants as name
-use Rattle.command_words.specs.Job.{Job, Scan, Values, Create, Load, Query, Recover, values_words, sheet_words, load_words, link_of, from_one, command_named, app_of_command, job_in, command_job, job_of, HasLink, IsNoJob}
+use Rattle.command_words.specs.Job.{Job, Scan, Values, Create, Load, Query, Recover, Verify, values_words, sheet_words, load_words, link_of, from_one, command_named, app_of_command, job_in, command_job, job_of, HasLink, IsNoJob}
 use Rattle.command_words.specs.Words.{rows_of_words, IsNotFound}
 
 -- where nothing was found there is no job
@@ -71,6 +71,7 @@ found_link name.Load rows job =
     load_link (first_of (codes "dump") rows) (link_of (first_of (codes "link") rows)) (first_of (codes "ask") rows) job (link_from_one (first_of (codes "link") rows))
 found_link name.Query rows job = named_link Query (first_of (codes "ask") rows) job (λ n. tt)
 found_link name.Recover rows job = λ is. this_job Recover job is tt
+found_link name.Verify rows job = λ is. this_job Verify job is tt
 
 rows_link : (command : CommandName) (found : Option (List Row)) (job : Job) → option_and_then (job_in command) found ≡ Some job → HasLink job
 rows_link command None job e = no_job job e

@@ -40,6 +40,7 @@ pub data Job : Type 0 where
   -- by the name of a sheet of asks
   Query : List ℕ → Job
   Recover : Job
+  Verify : Job
 
 -- ---- what each command's words ask
 
@@ -79,10 +80,11 @@ command_named word =
     else if bytes_eq word (codes "load") then Some name.Load
     else if bytes_eq word (codes "query") then Some name.Query
     else if bytes_eq word (codes "recover") then Some name.Recover
+    else if bytes_eq word (codes "verify") then Some name.Verify
     else None
 
 -- the words that a command takes: `scan DUMP`, `values PARAMETERS CALIBRATIONS CONTAINERS DUMP NAME`, `create PARAMETERS CALIBRATIONS CONTAINERS`,
--- `load [--ask FILE] [--link N] DUMP`, `query --ask FILE`, `recover`
+-- `load [--ask FILE] [--link N] DUMP`, `query --ask FILE`, `recover`, `verify`
 abbrev pub app_of_command : CommandName → App
 app_of_command name.Scan = command_app (codes "scan") (word_rule (codes "dump") ∷ [])
 app_of_command name.Values =
@@ -92,6 +94,7 @@ app_of_command name.Create = command_app (codes "create") (word_rule (codes "par
 app_of_command name.Load = command_app (codes "load") (word_rule (codes "dump") ∷ option_rule (codes "link") false ∷ option_rule (codes "ask") false ∷ [])
 app_of_command name.Query = command_app (codes "query") (option_rule (codes "ask") true ∷ [])
 app_of_command name.Recover = command_app (codes "recover") []
+app_of_command name.Verify = command_app (codes "verify") []
 
 -- the job of a command, by the words that clap found
 abbrev pub job_in : CommandName → List Row → Option Job
@@ -102,6 +105,7 @@ job_in name.Create rows = sheet_words (first_of (codes "parameters") rows) (firs
 job_in name.Load rows = load_words (first_of (codes "dump") rows) (link_of (first_of (codes "link") rows)) (first_of (codes "ask") rows)
 job_in name.Query rows = option_map Query (first_of (codes "ask") rows)
 job_in name.Recover rows = Some Recover
+job_in name.Verify rows = Some Verify
 
 -- the job of the words behind a command, where they are one
 abbrev pub command_job : CommandName → List (List ℕ) → Option Job

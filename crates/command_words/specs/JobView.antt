@@ -2,7 +2,7 @@
 use Rattle.std.specs.Prelude.{option_map}
 use Rattle.command_words.specs.Job as spec
 use Rattle.command_words.specs.declared.job.Job.{Job}
-use Rattle.command_words.specs.declared.job.Job.TheVariants.{Scan, Values, Create, Load, Query, Recover}
+use Rattle.command_words.specs.declared.job.Job.TheVariants.{Scan, Values, Create, Load, Query, Recover, Verify}
 use Rattle.command_words.specs.declared.job.SheetWords.{SheetWords}
 use Rattle.command_words.specs.declared.job.LoadWords.{LoadWords}
 use Rattle.command_words.specs.declared.job.ValuesWords.{ValuesWords}
@@ -33,3 +33,4 @@ job_view (Create words) = spec.Create (sheet_words_of words)
 job_view (Load words) = spec.Load (load_words_of words)
 job_view (Query name) = spec.Query name.now
 job_view Recover = spec.Recover
+job_view Verify = spec.Verify

@@ -53,6 +53,8 @@ pub enum Job<'a> {
     Query { asks: &'a str },
     /// How many rows the archive has.
     Recover,
+    /// Whether what is stored of intervals is what their rows give.
+    Verify,
 }
 
 /// The command that is asked for.
@@ -64,6 +66,7 @@ pub enum CommandName {
     Load,
     Query,
     Recover,
+    Verify,
 }
 
 /// The job of the words behind the program's name, or Usage where they are none.
@@ -101,6 +104,9 @@ fn command_named(word: &str) -> Option<CommandName>
     }
     if word == "recover" {
         return Some(CommandName::Recover);
+    }
+    if word == "verify" {
+        return Some(CommandName::Verify);
     }
     None
 }
@@ -172,6 +178,7 @@ fn found_words<'a>(
             read_arguments(alloc, "query", &[asks], words)
         }
         CommandName::Recover => read_arguments(alloc, "recover", &[], words),
+        CommandName::Verify => read_arguments(alloc, "verify", &[], words),
     }
 }
 
@@ -186,6 +193,7 @@ fn job_in<'a>(command: CommandName, found: &ArgMatches<'a>) -> Option<Job<'a>>
         CommandName::Load => load_in(found),
         CommandName::Query => query_in(found),
         CommandName::Recover => Some(Job::Recover),
+        CommandName::Verify => Some(Job::Verify),
     }
 }
 

@@ -1,15 +1,15 @@
 -- The command `recover`.
-use Rattle.std.specs.Prelude.{length}
+use Rattle.std.specs.Prelude.{ℕ, List, ◌++◌, length, codes, decimal}
 use Rattle.arch_disk.specs.Disk.{Device}
 use Rattle.archive_store.specs.Entries.{Archive}
-use Rattle.command_plans.specs.Plan.{OfMemory, CommandPlan, May, and_then}
-use Rattle.archive_cli.specs.Command.{Progress, nothing_done, archive_opened, opening_plan, printing_plan}
-use Rattle.archive_cli.specs.recover_command.RecoverLine.{recover_line}
+use Rattle.command_plans.specs.Plan.{CommandPlan}
+use Rattle.archive_cli.specs.ArchiveLine.{archive_line_plan}
+use Rattle.archive_cli.specs.Command.{Progress}
 
--- what it does with the archive that it opened
-abbrev pub line_plan : Archive → CommandPlan Progress ⊥
-line_plan archive = printing_plan (archive_opened 0 archive) (recover_line (length archive.history))
+-- how many rows an archive has; nothing is filled, as no fill is kept yet
+abbrev pub recover_line : Archive → List ℕ
+recover_line archive = codes "recovered rows " ++ decimal (length archive.history) ++ codes " filled 0\n"
 
 -- opens the archive, and prints its line
 abbrev pub recover_plan : {D : Type 0} → Device D → D → CommandPlan Progress ⊥
-recover_plan device disk = May OfMemory (nothing_done 0) (and_then (opening_plan 0 device disk) line_plan)
+recover_plan device disk = archive_line_plan recover_line device disk

@@ -3,7 +3,7 @@ use Rattle.clap.specs.Words.{is_simple}
 use Rattle.clap.specs.Faults.{is_simple_and_free}
 use Rattle.clap.proofs.OnLiterals.{clap_on_literals}
 use Rattle.command_words.specs.declared.job.CommandName.{CommandName}
-use Rattle.command_words.specs.declared.job.CommandName.TheVariants.{Scan, Values, Create, Load, Query, Recover}
+use Rattle.command_words.specs.declared.job.CommandName.TheVariants.{Scan, Values, Create, Load, Query, Recover, Verify}
 use Rattle.command_words.specs.Job.{app_of_command}
 use Rattle.command_words.proofs.job.found_words.Goals as goal
 
@@ -15,6 +15,7 @@ simple Create = refl
 simple Load = refl
 simple Query = refl
 simple Recover = refl
+simple Verify = refl
 
 free : (command : CommandName) → is_simple_and_free (app_of_command command) ≡ true
 unfolding clap_on_literals
@@ -24,6 +25,7 @@ free Create = refl
 free Load = refl
 free Query = refl
 free Recover = refl
+free Verify = refl
 
 pub read_arguments-requires : goal.read_arguments-requires
 read_arguments-requires c = record { simple = simple Scan; free = free Scan }
@@ -42,6 +44,9 @@ read_arguments-requires-in-Query c = record { simple = simple Query; free = free
 
 pub read_arguments-requires-in-Recover : goal.read_arguments-requires-in-Recover
 read_arguments-requires-in-Recover c = record { simple = simple Recover; free = free Recover }
+
+pub read_arguments-requires-in-Verify : goal.read_arguments-requires-in-Verify
+read_arguments-requires-in-Verify c = record { simple = simple Verify; free = free Verify }
 
 pub returns-in-Values : goal.returns-in-Values
 returns-in-Values c = rw c.in-Values.is (record { found = c.read_arguments-in-Values.ensures.found; none = c.read_arguments-in-Values.ensures.none })

@@ -4,21 +4,20 @@ use Rattle.archive_store.specs.StoreView.{archive_of}
 use Rattle.dump_lines.specs.Output.{IsFinished}
 use Rattle.command_plans.specs.Plan.{OfMemory, and_then}
 use Rattle.archive_cli.specs.Command.{Ran, effects_of, nothing_done, archive_opened, opening_plan}
-use Rattle.archive_cli.specs.recover_command.Recover.{recover_plan, line_plan}
-use Rattle.archive_cli.specs.recover_command.RecoverLine.{recover_line}
+use Rattle.archive_cli.specs.ArchiveLine.{archive_line_plan, line_plan}
 use Rattle.archive_cli.specs.Report.{read_only}
 use Rattle.archive_cli.proofs.Commands.{ran_later, ran_opened, ran_printed, ran_refused_opening, ran_without_memory}
 use Rattle.archive_cli.proofs.ReadOnly.{opened_outcome}
-use Rattle.archive_cli.proofs.recover.work.Goals as goal
+use Rattle.archive_cli.proofs.archive_line.work.Goals as goal
 
 pub returns-in_default : goal.returns-in_default
-returns-in_default g c = ran_without_memory g.D.Disk.device c.args.disk (g.K.Sink.state c.args.sink.now) 0 (and_then (opening_plan 0 g.D.Disk.device c.args.disk) line_plan)
+returns-in_default g c = ran_without_memory g.D.Disk.device c.args.disk (g.K.Sink.state c.args.sink.now) 0 (and_then (opening_plan 0 g.D.Disk.device c.args.disk) (line_plan g.L.ArchiveLine.line))
 
 pub returns-in_err-store : goal.returns-in_err-store
 returns-in_err-store g c =
     let e = c.in_err-store.ensures in
     let p = err_from_is_err_and c.from_residual.result c.from_residual.ensures.1 in
-    rw (p.1, p.2) (ran_refused_opening g.D.Disk.device c.args.disk (g.K.Sink.state c.args.sink.now) 0 line_plan c.in_err-store.field-0.0 e.refused e.reads e.crash e.counts)
+    rw (p.1, p.2) (ran_refused_opening g.D.Disk.device c.args.disk (g.K.Sink.state c.args.sink.now) 0 (line_plan g.L.ArchiveLine.line) c.in_err-store.field-0.0 e.refused e.reads e.crash e.counts)
 
 pub returns : goal.returns
 returns g c =
@@ -33,10 +32,10 @@ returns g c =
     let output' = g.K.Sink.state c.finish-refusal.new.sink in
     let went = effects_of c.args.disk s.disk output output' report in
     let is : report ≡ read_only refusal (length s.history) = c.read_only.ensures ∙ ap (read_only refusal) c.front-rows.ensures.front in
-    let line : c.put_line.new.line_buffer ≡ recover_line (length s.history) = c.put_line.ensures ∙ ap recover_line c.front-rows.ensures.front in
-    let text = subst (IsFinished refusal written written') line c.finish-refusal.ensures.finished in
+    let line = g.L.ArchiveLine.line in
+    let text = subst (IsFinished refusal written written') c.put.ensures c.finish-refusal.ensures.finished in
     let disk = opened_outcome device c.args.disk s e.opened e.reads e.crash e.counts c.into_disk.ensures.images c.into_disk.ensures.faults in
-    subst (λ (d : g.row.D.Denot). Ran device (recover_plan device c.args.disk) (effects_of c.args.disk d output output' report)) (sym c.into_disk.ensures.disk)
-    (ran_later device went OfMemory (nothing_done 0) (and_then (opening_plan 0 device c.args.disk) line_plan)
-    (ran_opened device went line_plan 0 (archive_of s) (λ known. e.opened.stands known)
-    (ran_printed device went (archive_opened 0 (archive_of s)) (recover_line (length s.history)) refusal refl refl text c.finish-refusal.ensures.later c.finish-refusal.ensures.counted is disk)))
+    subst (λ (d : g.row.D.Denot). Ran device (archive_line_plan line device c.args.disk) (effects_of c.args.disk d output output' report)) (sym c.into_disk.ensures.disk)
+    (ran_later device went OfMemory (nothing_done 0) (and_then (opening_plan 0 device c.args.disk) (line_plan line))
+    (ran_opened device went (line_plan line) 0 (archive_of s) (λ known. e.opened.stands known)
+    (ran_printed device went (archive_opened 0 (archive_of s)) (line (archive_of s)) refusal refl refl text c.finish-refusal.ensures.later c.finish-refusal.ensures.counted is disk)))
