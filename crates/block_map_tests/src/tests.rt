@@ -111,6 +111,47 @@ fn removes_keys(rt: HostRuntime) -> Result<(), Fail> {
     Ok(())
 }
 
+/// The keys 1 to 1,500, which two blocks hold.
+fn in_two_blocks(alloc: Global) -> Result<Index<u64, u64>, AllocError> {
+    let mut index = Index::new(alloc);
+    index.reserve(1500)?;
+    for key in 1..1501 {
+        let _ = inserted(&mut index, key, key);
+    }
+    Ok(index)
+}
+
+/// Of the keys 1,500 down to 501, how many were taken out.
+fn removed_from_above(index: &mut Index<u64, u64>) -> usize {
+    let mut removed: usize = 0;
+    for above in 0..1000u64 {
+        if index.remove(1500u64.saturating_sub(above)).is_some() {
+            removed = removed.saturating_add(1);
+        }
+    }
+    removed
+}
+
+// The second block then lacks entries, and is joined with the first.
+#[test]
+fn removes_keys_from_above(rt: HostRuntime) -> Result<(), Fail> {
+    let mut index = in_two_blocks(rt.alloc())?;
+    assert_eq!(rt; removed_from_above(&mut index), 1000);
+    assert_eq!(rt; (index.len(), index.get(500)), (500, Some(500)));
+    Ok(())
+}
+
+// A key that no block begins with, and a list from the place where it stood.
+#[test]
+fn removes_from_the_middle(rt: HostRuntime) -> Result<(), Fail> {
+    let (mut index, _) = six_hundred(rt.alloc())?;
+    assert_eq!(rt; index.remove(301), Some(43));
+    assert_eq!(rt; (index.get(300), index.get(301)), (Some(558), None));
+    let mut above = index.from_key(301);
+    assert_eq!(rt; above.next().copied(), Some((302, 129)));
+    Ok(())
+}
+
 #[test]
 fn takes_keys_again(rt: HostRuntime) -> Result<(), Fail> {
     let (mut index, _) = six_hundred(rt.alloc())?;

@@ -7,34 +7,70 @@ use std::alloc::{AllocError, Global};
 use std::test::Fail;
 use std::thread::join;
 
-// Strokes part the records of a sheet, and commas their fields.
+// Strokes part the records of a sheet, and commas their fields. Each text has a function, so that it stands in no goal of its callers.
 const PARAMETERS: &str = "name,coding,bits,calibration|apid,uint,11,|v,uint,8,|w,int,8,";
+
+fn parameters_text() -> &'static str {
+    PARAMETERS
+}
 
 const CALIBRATIONS: &str = "name,kind,x,y";
 
+fn calibrations_text() -> &'static str {
+    CALIBRATIONS
+}
+
 const CONTAINERS: &str =
     "container,parent,condition,archive,entry,position|HDR,,,,apid,5|A,HDR,apid==100,yes,v,96|,,,,w,|B,HDR,apid==101,yes,v,96";
+
+fn containers_text() -> &'static str {
+    CONTAINERS
+}
 
 // Their database, spelled by hand.
 const OCTETS: &str =
     "00030461706964000b00000176000800000177010800000000000303484452000000000001000000000005014100010101000000000000000000000000000000000000640002000100000060000200000068014200010101000000000000000000000000000000000000650001000100000060";
 
+fn octets_text() -> &'static str {
+    OCTETS
+}
+
 // As those, with two calibrations beside each other that have one name: their rows would be those of one calibration.
 const NEIGHBOURS: &str =
     "00030461706964000b00000176000800000177010800000002016b0000000001000000000000000000016b0000000001010000000000000000000303484452000000000001000000000005014100010101000000000000000000000000000000000000640002000100000060000200000068014200010101000000000000000000000000000000000000650001000100000060";
+
+fn neighbours_text() -> &'static str {
+    NEIGHBOURS
+}
 
 // Sheets with each coding, kind of calibration, operator and form of a position.
 const EACH_PARAMETER: &str =
     "name,coding,bits,calibration|a,uint,8,|b,intLE,16,k|c,int,8,p|d,uintLE,8,e";
 
+fn each_parameter_text() -> &'static str {
+    EACH_PARAMETER
+}
+
 const EACH_CALIBRATION: &str =
     "name,kind,x,y|k,poly,0,-10|k,poly,1,0.01|p,points,-2,0|p,points,03,-1.0|e,enum,-0,OFF|e,enum,18446744073709551615,ON ~";
+
+fn each_calibration_text() -> &'static str {
+    EACH_CALIBRATION
+}
 
 const EACH_CONTAINER: &str =
     "container,parent,condition,archive,entry,position|R,,,,a,5|,,,,b,+5|S.1/x-y,R, a==1; a != 2;a<3;a<=4 ;a>5;b >= -6 ,yes,,|T,S.1/x-y,,no,c,|,,,,d,000100";
 
+fn each_container_text() -> &'static str {
+    EACH_CONTAINER
+}
+
 const EACH_OCTETS: &str =
     "00040161000800000162031000010163010800020164020800030003016b000000000200ffffffffff67698001000000000000271001700100000002fffffffffffffffffffffffffffffffe000000000000000000000000000000000000000000000003fffffffffff0bdc00165020000000200000000000000000000000000000000034f46460000000000000000ffffffffffffffff044f4e207e0003015200000000000200000000000500010000001207532e312f782d79000101060000000000000000000000000000000000000100000100000000000000000000000000000002000002000000000000000000000000000000030000030000000000000000000000000000000400000400000000000000000000000000000005000105fffffffffffffffffffffffffffffffa00000154000200000002000200000022000300000064";
+
+fn each_octets_text() -> &'static str {
+    EACH_OCTETS
+}
 
 // A path is the row that breaks a rule first, the rule, and the sheet. The other two sheets are sound.
 const BROKEN_CALIBRATIONS: &str = "1#1#name,kind,x
@@ -62,6 +98,10 @@ const BROKEN_CALIBRATIONS: &str = "1#1#name,kind,x
 2#9#name,kind,x,y|k,points,0,z
 3#2#name,kind,x,y|k,points,0,1|k,line";
 
+fn broken_calibrations_text() -> &'static str {
+    BROKEN_CALIBRATIONS
+}
+
 const BROKEN_PARAMETERS: &str = "1#1#name,coding,bits
 2#2#name,coding,bits,calibration|apid,uint,11
 2#3#name,coding,bits,calibration|a b,uint,11,
@@ -71,10 +111,15 @@ const BROKEN_PARAMETERS: &str = "1#1#name,coding,bits
 2#12#name,coding,bits,calibration|apid,uintLE,12,
 2#13#name,coding,bits,calibration|apid,uint,11,z
 2#14#name,coding,bits,calibration|big,uint,61,k
+2#14#name,coding,bits,calibration|big,uint,61,j
 2#3#name,coding,bits,calibration|a b,float,65,z
 3#5#name,coding,bits,calibration|a,uint,8,|a,float,65,z
 2#11#name,coding,bits,calibration|apid,float,65,z
 2#12#name,coding,bits,calibration|apid,uint,0,z";
+
+fn broken_parameters_text() -> &'static str {
+    BROKEN_PARAMETERS
+}
 // Their header is left out.
 const BROKEN_CONTAINERS: &str = "2#2#|HDR,,,,apid
 2#3#|H D,,,,apid,5
@@ -116,11 +161,27 @@ const BROKEN_CONTAINERS: &str = "2#2#|HDR,,,,apid
 3#25#|HDR,,,,apid,5|A,HDR,,,apid,x
 3#26#|HDR,,,,apid,5|,,,,,x";
 
+fn broken_containers_text() -> &'static str {
+    BROKEN_CONTAINERS
+}
+
 const LABELLED: &str = "name,coding,bits,calibration|a,int,8,e|b,int,8,";
+
+fn labelled_text() -> &'static str {
+    LABELLED
+}
 
 const LABELS: &str = "name,kind,x,y|e,enum,7,SEVEN|e,enum,-1,BELOW|e,enum,3,THREE";
 
+fn labels_text() -> &'static str {
+    LABELS
+}
+
 const LABELLED_ROOT: &str = "container,parent,condition,archive,entry,position|r,,,,a,";
+
+fn labelled_root_text() -> &'static str {
+    LABELLED_ROOT
+}
 
 fn record(alloc: Global, line: &str) -> Result<Record, AllocError> {
     let mut fields = Record::new(alloc);
@@ -152,7 +213,11 @@ fn check(
     Mdb::check(alloc, &raw)
 }
 
-const CALIBRATION: &str = "name,kind,x,y|k,poly,1,0.000007";
+const CALIBRATION: &str = "name,kind,x,y|k,poly,1,0.000007|j,poly,1,0.000001";
+
+fn calibration_text() -> &'static str {
+    CALIBRATION
+}
 
 /// What is answered where the containers are this text below their header.
 fn containers_fault(
@@ -162,15 +227,20 @@ fn containers_fault(
 ) -> Result<Option<MdbFault>, AllocError> {
     let header = "container,parent,condition,archive,entry,position";
     let whole = format!(in alloc; "{header}{text}")?;
-    Ok(check(alloc, parameters, CALIBRATION, whole.as_str()).err())
+    Ok(check(alloc, parameters, calibration_text(), whole.as_str()).err())
 }
 
 /// What is answered where one sheet is this text, a containers sheet below its header.
 fn fault(alloc: Global, sheet: MdbSheet, text: &str) -> Result<Option<MdbFault>, AllocError> {
     match sheet {
-        MdbSheet::Calibrations => Ok(check(alloc, PARAMETERS, text, CONTAINERS).err()),
-        MdbSheet::Parameters => Ok(check(alloc, text, CALIBRATION, CONTAINERS).err()),
-        MdbSheet::Containers => containers_fault(alloc, PARAMETERS, text),
+        MdbSheet::Calibrations => Ok(check(
+            alloc,
+            parameters_text(),
+            text,
+            containers_text(),
+        ).err()),
+        MdbSheet::Parameters => Ok(check(alloc, text, calibration_text(), containers_text()).err()),
+        MdbSheet::Containers => containers_fault(alloc, parameters_text(), text),
     }
 }
 
@@ -187,25 +257,56 @@ fn parts_of(line: &str) -> (usize, u8, &str) {
     (row, rule, parts.next().unwrap_or(""))
 }
 
-#[test]
-fn broken_rules(rt: HostRuntime) -> Result<(), Fail> {
-    for (sheet, lines) in [
-        (MdbSheet::Calibrations, BROKEN_CALIBRATIONS),
-        (MdbSheet::Parameters, BROKEN_PARAMETERS),
-        (MdbSheet::Containers, BROKEN_CONTAINERS),
-    ] {
-        for line in lines.split('\n') {
-            let (row, rule, text) = parts_of(line);
-            let bad = MdbFault::Bad { sheet, row, rule };
-            assert_eq!(rt; fault(rt.alloc(), sheet, text)?, Some(bad), "{line}");
+/// The first path after which another row, rule or sheet is answered.
+fn other_broken(
+    alloc: Global,
+    sheet: MdbSheet,
+    lines: &'static str,
+) -> Result<Option<&'static str>, AllocError> {
+    for line in lines.split('\n') {
+        let (row, rule, text) = parts_of(line);
+        let bad = MdbFault::Bad { sheet, row, rule };
+        if fault(alloc, sheet, text)? != Some(bad) {
+            return Ok(Some(line));
         }
     }
+    Ok(None)
+}
+
+#[test]
+fn broken_calibrations(rt: HostRuntime) -> Result<(), Fail> {
+    let other = other_broken(
+        rt.alloc(),
+        MdbSheet::Calibrations,
+        broken_calibrations_text(),
+    )?;
+    assert_eq!(rt; other, None);
+    Ok(())
+}
+
+#[test]
+fn broken_parameters(rt: HostRuntime) -> Result<(), Fail> {
+    let other = other_broken(rt.alloc(), MdbSheet::Parameters, broken_parameters_text())?;
+    assert_eq!(rt; other, None);
+    Ok(())
+}
+
+#[test]
+fn broken_containers(rt: HostRuntime) -> Result<(), Fail> {
+    let other = other_broken(rt.alloc(), MdbSheet::Containers, broken_containers_text())?;
+    assert_eq!(rt; other, None);
     Ok(())
 }
 
 #[test]
 fn broken_header(rt: HostRuntime) -> Result<(), Fail> {
-    let headless = check(rt.alloc(), PARAMETERS, CALIBRATIONS, "container").err();
+    let headless = check(
+        rt.alloc(),
+        parameters_text(),
+        calibrations_text(),
+        "container",
+    )
+    .err();
     let bad = MdbFault::Bad {
         sheet: MdbSheet::Containers,
         row: 1,
@@ -234,7 +335,15 @@ fn listed(
 
 const PARAMETERS_HEADER: &str = "name,coding,bits,calibration";
 
+fn parameters_header_text() -> &'static str {
+    PARAMETERS_HEADER
+}
+
 const ROOT: &str = "container,parent,condition,archive,entry,position|root,,,,,";
+
+fn root_text() -> &'static str {
+    ROOT
+}
 
 /// What is answered for so many calibrations and parameters, and so many containers below the root.
 fn counted(
@@ -243,9 +352,9 @@ fn counted(
     parameters: usize,
     containers: usize,
 ) -> Result<Option<MdbFault>, AllocError> {
-    let calibrations = listed(alloc, CALIBRATIONS, calibrations, "n", ",enum,0,A")?;
-    let parameters = listed(alloc, PARAMETERS_HEADER, parameters, "n", ",uint,8,")?;
-    let containers = listed(alloc, ROOT, containers, "n", ",root,,,,")?;
+    let calibrations = listed(alloc, calibrations_text(), calibrations, "n", ",enum,0,A")?;
+    let parameters = listed(alloc, parameters_header_text(), parameters, "n", ",uint,8,")?;
+    let containers = listed(alloc, root_text(), containers, "n", ",root,,,,")?;
     Ok(check(
         alloc,
         parameters.as_str(),
@@ -274,7 +383,7 @@ fn limits_in_their_order(rt: HostRuntime) -> Result<(), Fail> {
 
 /// What is answered for a calibration of so many rows.
 fn rows_fault(alloc: Global, rows: usize) -> Result<Option<MdbFault>, AllocError> {
-    let text = listed(alloc, CALIBRATIONS, rows, "k,enum,", ",A")?;
+    let text = listed(alloc, calibrations_text(), rows, "k,enum,", ",A")?;
     fault(alloc, MdbSheet::Calibrations, text.as_str())
 }
 
@@ -291,7 +400,7 @@ fn most_calibration_rows(rt: HostRuntime) -> Result<(), Fail> {
 
 /// What is answered where these are the containers, over 257 parameters.
 fn many(alloc: Global, containers: &str) -> Result<Option<MdbFault>, AllocError> {
-    let parameters = listed(alloc, PARAMETERS_HEADER, 257, "n", ",uint,8,")?;
+    let parameters = listed(alloc, parameters_header_text(), 257, "n", ",uint,8,")?;
     containers_fault(alloc, parameters.as_str(), containers)
 }
 
@@ -359,7 +468,7 @@ fn most_comparisons(rt: HostRuntime) -> Result<(), Fail> {
     for (count, want) in [(255, None), (256, Some(bad))] {
         let text = comparing(rt.alloc(), count)?;
         assert_eq!(rt;
-            containers_fault(rt.alloc(), PARAMETERS, text.as_str())?,
+            containers_fault(rt.alloc(), parameters_text(), text.as_str())?,
             want
         );
     }
@@ -388,7 +497,7 @@ fn longest_path(rt: HostRuntime) -> Result<(), Fail> {
     for (count, want) in [(32, None), (33, Some(bad))] {
         let text = path(rt.alloc(), count)?;
         assert_eq!(rt;
-            containers_fault(rt.alloc(), PARAMETERS, text.as_str())?,
+            containers_fault(rt.alloc(), parameters_text(), text.as_str())?,
             want
         );
     }
@@ -427,7 +536,12 @@ fn children(mdb: &Mdb, number: u16) -> &[u16] {
 }
 
 fn each(alloc: Global) -> Result<Mdb, MdbFault> {
-    let mdb = check(alloc, EACH_PARAMETER, EACH_CALIBRATION, EACH_CONTAINER)?;
+    let mdb = check(
+        alloc,
+        each_parameter_text(),
+        each_calibration_text(),
+        each_container_text(),
+    )?;
     mdb.is_sound();
     Ok(mdb.copy()?)
 }
@@ -463,7 +577,12 @@ fn label_row(mdb: &Mdb, number: u16, raw: i128) -> Option<usize> {
 
 #[test]
 fn labels_by_number(rt: HostRuntime) -> Result<(), Fail> {
-    let mdb = check(rt.alloc(), LABELLED, LABELS, LABELLED_ROOT)?;
+    let mdb = check(
+        rt.alloc(),
+        labelled_text(),
+        labels_text(),
+        labelled_root_text(),
+    )?;
     for (raw, row) in [(7, Some(0)), (-1, Some(1)), (3, Some(2)), (4, None)] {
         assert_eq!(rt; label_row(&mdb, 0, raw), row);
     }
@@ -475,7 +594,12 @@ fn labels_by_number(rt: HostRuntime) -> Result<(), Fail> {
 fn equal_databases(rt: HostRuntime) -> Result<(), Fail> {
     let mdb = each(rt.alloc())?;
     let again = each(rt.alloc())?;
-    let other = check(rt.alloc(), LABELLED, LABELS, LABELLED_ROOT)?;
+    let other = check(
+        rt.alloc(),
+        labelled_text(),
+        labels_text(),
+        labelled_root_text(),
+    )?;
     assert_eq!(rt; mdb.equals(&again), true);
     assert_eq!(rt; mdb.equals(&other), false);
     Ok(())
@@ -553,59 +677,97 @@ fn spelled(
     again(alloc, &mdb)
 }
 
+/// Whether hexadecimal digits spell these octets.
+fn are_spelled(alloc: Global, digits: &str, octets: &[u8]) -> Result<bool, AllocError> {
+    Ok(octets_of(alloc, digits)?.as_slice() == octets)
+}
+
 #[test]
 fn octets_both_ways(rt: HostRuntime) -> Result<(), Fail> {
-    let alloc = rt.alloc();
-    let octets = octets_of(alloc, OCTETS)?;
-    let own = spelled(alloc, PARAMETERS, CALIBRATIONS, CONTAINERS)?;
-    assert_eq!(rt; own, octets);
+    let own = spelled(
+        rt.alloc(),
+        parameters_text(),
+        calibrations_text(),
+        containers_text(),
+    )?;
+    assert!(rt; are_spelled(rt.alloc(), octets_text(), own.as_slice())?);
     Ok(())
 }
 
 #[test]
 fn each_octets_both_ways(rt: HostRuntime) -> Result<(), Fail> {
-    let alloc = rt.alloc();
-    let octets = octets_of(alloc, EACH_OCTETS)?;
-    let own = spelled(alloc, EACH_PARAMETER, EACH_CALIBRATION, EACH_CONTAINER)?;
-    assert_eq!(rt; own, octets);
+    let own = spelled(
+        rt.alloc(),
+        each_parameter_text(),
+        each_calibration_text(),
+        each_container_text(),
+    )?;
+    assert!(rt; are_spelled(rt.alloc(), each_octets_text(), own.as_slice())?);
     Ok(())
+}
+
+/// Whether octets are no database's.
+fn is_malformed(alloc: Global, octets: &[u8]) -> bool {
+    match Mdb::from_bytes(alloc, octets) {
+        Err(NotMdb::Malformed) => true,
+        _ => false,
+    }
+}
+
+/// The length of the first front of octets that is some database's.
+fn front_of_a_database(alloc: Global, octets: &[u8]) -> Option<usize> {
+    for place in 0..octets.len() {
+        if !is_malformed(alloc, &octets[..place]) {
+            return Some(place);
+        }
+    }
+    None
+}
+
+/// The first place whose octet has a change that isn't refused, nor a database's own spelling.
+fn other_spelling(alloc: Global, octets: &[u8]) -> Result<Option<usize>, AllocError> {
+    for place in 0..octets.len() {
+        if !is_own_at(alloc, octets, place)? {
+            return Ok(Some(place));
+        }
+    }
+    Ok(None)
 }
 
 #[test]
 fn refuses_each_front(rt: HostRuntime) -> Result<(), Fail> {
-    for digits in [OCTETS, EACH_OCTETS] {
+    for digits in [octets_text(), each_octets_text()] {
         let octets = octets_of(rt.alloc(), digits)?;
-        for place in 0..octets.len() {
-            let front = Mdb::from_bytes(rt.alloc(), &octets.as_slice()[..place]);
-            assert_eq!(rt; front.err(), Some(NotMdb::Malformed), "{place}");
-        }
+        assert_eq!(rt; front_of_a_database(rt.alloc(), octets.as_slice()), None);
     }
     Ok(())
 }
 
 #[test]
 fn refuses_other_spellings(rt: HostRuntime) -> Result<(), Fail> {
-    for digits in [OCTETS, EACH_OCTETS] {
+    for digits in [octets_text(), each_octets_text()] {
         let octets = octets_of(rt.alloc(), digits)?;
-        for place in 0..octets.len() {
-            assert!(rt; is_own_at(rt.alloc(), octets.as_slice(), place)?, "{place}");
-        }
+        assert_eq!(rt; other_spelling(rt.alloc(), octets.as_slice())?, None);
     }
     Ok(())
 }
 
 #[test]
 fn refuses_neighbours_of_one_name(rt: HostRuntime) -> Result<(), Fail> {
-    let octets = octets_of(rt.alloc(), NEIGHBOURS)?;
-    let read = Mdb::from_bytes(rt.alloc(), octets.as_slice());
-    assert_eq!(rt; read.err(), Some(NotMdb::Malformed));
+    let octets = octets_of(rt.alloc(), neighbours_text())?;
+    assert!(rt; is_malformed(rt.alloc(), octets.as_slice()));
     Ok(())
 }
 
 #[test]
 fn threads_share_a_database(rt: HostRuntime) -> Result<(), Fail> {
     let alloc = rt.alloc();
-    let mdb = check(alloc, PARAMETERS, CALIBRATIONS, CONTAINERS)?;
+    let mdb = check(
+        alloc,
+        parameters_text(),
+        calibrations_text(),
+        containers_text(),
+    )?;
     let found = join(
         &rt,
         || mdb.container_number("B"),

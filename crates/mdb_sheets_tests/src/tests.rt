@@ -5,8 +5,7 @@ use arch_types::refusal::{Refusal, Sheet as Named, Which};
 use mdb_model::{RawMdb, Sheet};
 use mdb_sheets::{read_asks, read_mdb};
 use outer_traits::mem_inputs::{FailingCall, File, MemInputs};
-use std::alloc::{AllocError, AllocGlobal, Global};
-use std::process::Abort;
+use std::alloc::{AllocError, Global};
 use std::test::Fail;
 
 fn file(alloc: Global, name: &str, octets: &[u8]) -> Result<File, AllocError> {
@@ -47,7 +46,9 @@ fn shown(alloc: Global, sheet: &Sheet) -> Result<Vec<u8>, AllocError> {
 }
 
 /// A sheet, and its records as they are shown.
-const SHEETS: [(&str, &str); 7] = [
+type Shown = (&'static str, &'static str);
+
+const SHEETS: &[Shown] = &[
     ("", ""),
     ("name,kind,x,y", "[name][kind][x][y]\n"),
     ("a,b\r\nc\r\n", "[a][b]\n[c]\n"),
@@ -57,31 +58,34 @@ const SHEETS: [(&str, &str); 7] = [
     ("\n\na\n\r\n\n, ,\n", "[a]\n[][ ][]\n"),
 ];
 
-#[test]
-fn reads_records(rt: HostRuntime) -> Result<(), Fail> {
-    let alloc = rt.alloc();
-    for (sheet, records) in SHEETS {
+/// A function, as for each table below, so that they stand in no goal of its callers.
+fn sheets_shown() -> &'static [Shown] {
+    SHEETS
+}
+
+/// Whether three sheets are shown so.
+fn are_shown(alloc: Global, raw: &RawMdb, texts: &[&str; 3]) -> Result<bool, AllocError> {
+    Ok(
+        shown(alloc, &raw.parameters)?.as_slice() == texts[0].as_bytes()
+            && shown(alloc, &raw.calibrations)?.as_slice() == texts[1].as_bytes()
+            && shown(alloc, &raw.containers)?.as_slice() == texts[2].as_bytes(),
+    )
+}
+
+/// The first sheet `c` whose records are others, beside `p` and `k`.
+fn other_records(alloc: Global, all: &[Shown]) -> Result<Option<&'static str>, Fail> {
+    for (sheet, records) in all {
         let raw = sheets(alloc, sheet.as_bytes())?;
-        assert_eq!(rt;
-            shown(alloc, &raw.calibrations)?.as_slice(),
-            records.as_bytes()
-        );
+        if !are_shown(alloc, &raw, &["[p]\n", *records, "[k]\n"])? {
+            return Ok(Some(*sheet));
+        }
     }
-    Ok(())
+    Ok(None)
 }
 
 #[test]
-fn reads_the_sheets_by_their_names(rt: HostRuntime) -> Result<(), Fail> {
-    let alloc = rt.alloc();
-    let raw = sheets(alloc, b"c")?;
-    assert_eq!(rt;
-        shown(alloc, &raw.parameters)?.as_slice(),
-        b"[p]\n".as_slice()
-    );
-    assert_eq!(rt;
-        shown(alloc, &raw.containers)?.as_slice(),
-        b"[k]\n".as_slice()
-    );
+fn reads_records(rt: HostRuntime) -> Result<(), Fail> {
+    assert_eq!(rt; other_records(rt.alloc(), sheets_shown())?, None);
     Ok(())
 }
 
@@ -121,7 +125,15 @@ fn answer(
 }
 
 /// The octets of `c`, the opening and the read that fail, the names that are read, and what is said.
-const ANSWERS: [(usize, u64, u64, (&str, &str, &str), &str); 9] = [
+type Answer = (
+    usize,
+    u64,
+    u64,
+    (&'static str, &'static str, &'static str),
+    &'static str,
+);
+
+const ANSWERS: &[Answer] = &[
     (4_194_304, 9, 0, ("p", "c", "k"), "read"),
     (4_194_305, 9, 0, ("p", "c", "x"), "limit"),
     (4_194_305, 9, 0, ("x", "c", "y"), "missing x"),
@@ -133,13 +145,30 @@ const ANSWERS: [(usize, u64, u64, (&str, &str, &str), &str); 9] = [
     (1, 3, 1, ("p", "c", "k"), "read fault"),
 ];
 
+/// A function, as above.
+fn answers() -> &'static [Answer] {
+    ANSWERS
+}
+
+/// The place of the first of these of which something else is said.
+fn other_answer(alloc: Global, all: &[Answer]) -> Result<Option<usize>, AllocError> {
+    let mut place = 0usize;
+    for (octets, opening, read, names, words) in all {
+        let call = FailingCall {
+            opening: *opening,
+            read: *read,
+        };
+        if answer(alloc, *octets, call, *names)? != *words {
+            return Ok(Some(place));
+        }
+        place = place.saturating_add(1);
+    }
+    Ok(None)
+}
+
 #[test]
 fn refuses_at_the_first_sheet(rt: HostRuntime) -> Result<(), Fail> {
-    let alloc = rt.alloc();
-    for (octets, opening, read, names, words) in ANSWERS {
-        let call = FailingCall { opening, read };
-        assert_eq!(rt; answer(alloc, octets, call, names)?, words);
-    }
+    assert_eq!(rt; other_answer(rt.alloc(), answers())?, None);
     Ok(())
 }
 
@@ -183,7 +212,9 @@ fn sheet_of_rows(alloc: Global, row: &str, times: u32, last: &str) -> Result<Vec
 }
 
 /// How often a row stands, the row, and what is counted.
-const ROWS: [(u32, &str, (u64, u8)); 24] = [
+type Counted = (u32, &'static str, (u64, u8));
+
+const ROWS: &[Counted] = &[
     (1, "", (0, 0)),
     (2, "values,v,0,2000,desc,1,\n", (2, 0)),
     (1, "values,v,0,2000\n", (2, 2)),
@@ -210,36 +241,52 @@ const ROWS: [(u32, &str, (u64, u8)); 24] = [
     (257, "values,v,0,1,up,,\n", (2, 32)),
 ];
 
+/// A function, as above.
+fn rows_counted() -> &'static [Counted] {
+    ROWS
+}
+
+/// What is counted of a sheet.
+fn count_of(alloc: Global, octets: &[u8]) -> Result<(u64, u8), Fail> {
+    Ok(counted(&asks(alloc, octets)?))
+}
+
+/// The first row of which something else is counted.
+fn other_count(alloc: Global, all: &[Counted]) -> Result<Option<&'static str>, Fail> {
+    for (times, row, count) in all {
+        let sheet = sheet_of_rows(alloc, row, *times, "")?;
+        if count_of(alloc, sheet.as_slice())? != *count {
+            return Ok(Some(*row));
+        }
+    }
+    Ok(None)
+}
+
 #[test]
 fn counts_asks_or_tells_the_first_rule_broken(rt: HostRuntime) -> Result<(), Fail> {
-    let alloc = rt.alloc();
-    for (times, row, count) in ROWS {
-        let sheet = sheet_of_rows(alloc, row, times, "")?;
-        assert_eq!(rt;
-            counted(&asks(alloc, sheet.as_slice())?),
-            count,
-            "{times} {row}"
-        );
-    }
+    assert_eq!(rt; other_count(rt.alloc(), rows_counted())?, None);
     Ok(())
 }
 
 #[test]
 fn tells_a_rule_before_the_limit(rt: HostRuntime) -> Result<(), Fail> {
-    let alloc = rt.alloc();
-    let sheet = sheet_of_rows(alloc, "values,v,0,1,,,\n", 256, "values,v,0,1,,x,\n")?;
-    assert_eq!(rt; counted(&asks(alloc, sheet.as_slice())?), (258, 33));
+    let sheet = sheet_of_rows(rt.alloc(), "values,v,0,1,,,\n", 256, "values,v,0,1,,x,\n")?;
+    assert_eq!(rt; count_of(rt.alloc(), sheet.as_slice())?, (258, 33));
     Ok(())
 }
 
 /// Sheets without the header of asks.
-const HEADLESS: [&str; 3] = ["", "values,v,0,1,,,\n", "kind,name,from,to,order,limit\n"];
+const HEADLESS: &[&str] = &["", "values,v,0,1,,,\n", "kind,name,from,to,order,limit\n"];
+
+/// A function, as above.
+fn headless() -> &'static [&'static str] {
+    HEADLESS
+}
 
 #[test]
 fn asks_have_a_header(rt: HostRuntime) -> Result<(), Fail> {
-    let alloc = rt.alloc();
-    for sheet in HEADLESS {
-        assert_eq!(rt; counted(&asks(alloc, sheet.as_bytes())?), (1, 1));
+    for sheet in headless() {
+        assert_eq!(rt; count_of(rt.alloc(), sheet.as_bytes())?, (1, 1));
     }
     Ok(())
 }
@@ -259,7 +306,9 @@ fn second_ask(alloc: Global, row: &str) -> Result<(i64, i64, bool, Option<u64>),
 }
 
 /// A row, and its bounds, its order and its limit.
-const ASKS: [(&str, (i64, i64, bool, Option<u64>)); 3] = [
+type Read = (&'static str, (i64, i64, bool, Option<u64>));
+
+const ASKS: &[Read] = &[
     ("values,v,-5,0002000,desc,07,\n", (-5, 2000, true, Some(7))),
     (
         "values,v,1970-01-01T00:00:01.5Z,1970-01-02T00:00:00,asc,,\n",
@@ -268,11 +317,15 @@ const ASKS: [(&str, (i64, i64, bool, Option<u64>)); 3] = [
     ("values,v,5,4,,0,\n", (5, 4, false, Some(0))),
 ];
 
+/// A function, as above.
+fn rows_read() -> &'static [Read] {
+    ASKS
+}
+
 #[test]
 fn reads_what_is_asked(rt: HostRuntime) -> Result<(), Fail> {
-    let alloc = rt.alloc();
-    for (row, ask) in ASKS {
-        assert_eq!(rt; second_ask(alloc, row)?, ask);
+    for (row, ask) in rows_read() {
+        assert_eq!(rt; second_ask(rt.alloc(), row)?, *ask);
     }
     Ok(())
 }
@@ -297,31 +350,10 @@ fn shown_replay(alloc: Global, request: &ReplayRequest) -> Result<Vec<u8>, Alloc
     Ok(text)
 }
 
-/// The only ask of a sheet of this row has to be this replay: its table and names in words, its bounds and its limit.
-fn expect_replay(
-    rt: &(impl Abort + AllocGlobal),
-    row: &str,
-    words: &str,
-    numbers: (i64, i64, Option<u64>),
-) -> Result<(), Fail> {
-    let alloc = rt.alloc();
-    let sheet = sheet_of_rows(alloc, row, 1, "")?;
-    match asks(alloc, sheet.as_slice())??.as_slice() {
-        [Ask::Replay(request)] => {
-            assert_eq!(rt;
-                shown_replay(alloc, request)?.as_slice(),
-                words.as_bytes(),
-                "{row}"
-            );
-            assert_eq!(rt; (request.from, request.to, request.limit), numbers, "{row}");
-            Ok(())
-        }
-        _ => Err(Fail::new("another ask")),
-    }
-}
-
 /// A row, its replay in words, its bounds and its limit.
-const REPLAYS: [(&str, &str, (i64, i64, Option<u64>)); 4] = [
+type Replayed = (&'static str, &'static str, (i64, i64, Option<u64>));
+
+const REPLAYS: &[Replayed] = &[
     ("replay,tm,0,2000,,,\n", "tm;", (0, 2000, None)),
     (
         "replay,copy,-5,0002000,asc,07,B\n",
@@ -336,10 +368,40 @@ const REPLAYS: [(&str, &str, (i64, i64, Option<u64>)); 4] = [
     ("replay,t-m,5,4,,,\"A;B\"\n", "t-m;:A;B;", (5, 4, None)),
 ];
 
+/// A function, as above.
+fn replays() -> &'static [Replayed] {
+    REPLAYS
+}
+
+/// Whether asks are one replay, with its table and names in words, its bounds and its limit.
+fn are_replay(
+    alloc: Global,
+    asks: &Asks,
+    words: &str,
+    numbers: (i64, i64, Option<u64>),
+) -> Result<bool, AllocError> {
+    match asks.as_slice() {
+        [Ask::Replay(request)] => Ok(
+            shown_replay(alloc, request)?.as_slice() == words.as_bytes()
+                && (request.from, request.to, request.limit) == numbers,
+        ),
+        _ => Ok(false),
+    }
+}
+
+/// The first of these rows that is read otherwise.
+fn other_replay(alloc: Global, all: &[Replayed]) -> Result<Option<&'static str>, Fail> {
+    for (row, words, numbers) in all {
+        let sheet = sheet_of_rows(alloc, row, 1, "")?;
+        if !are_replay(alloc, &asks(alloc, sheet.as_slice())??, words, *numbers)? {
+            return Ok(Some(*row));
+        }
+    }
+    Ok(None)
+}
+
 #[test]
 fn reads_what_is_replayed(rt: HostRuntime) -> Result<(), Fail> {
-    for (row, words, numbers) in REPLAYS {
-        expect_replay(&rt, row, words, numbers)?;
-    }
+    assert_eq!(rt; other_replay(rt.alloc(), replays())?, None);
     Ok(())
 }

@@ -9,3 +9,5 @@ mod folders;
 mod input_tests;
 #[cfg(test)]
 mod lock_tests;
+#[cfg(test)]
+mod steps;

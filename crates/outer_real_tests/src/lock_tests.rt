@@ -1,19 +1,37 @@
 //! Two programs on one folder: two disks, since a lock belongs to the handle that took it.
 
-use crate::folders::{disk_in, failures, fresh, has_octets, inside, read_two, write_file, writes};
-use arch_disk::Disk;
+use crate::disk_tests::failures;
+use crate::folders::{fresh, has_octets, inside, write_file};
+use crate::steps::{Step, leaves_anothers, other_beside_many, other_on, other_on_two};
 use std::fs::{self, File, Permissions};
 use std::os::unix::fs::PermissionsExt;
 use std::test::Fail;
+
+const TWO_OCTETS: &[Step] = &[Step::Len(0, Some(2))];
+
+const WRITE: &[Step] = &[Step::Write(0, 0, b"ab", true)];
+
+const LOCKED: &[Step] = &[Step::Len(0, None)];
+
+/// They are functions, so that the tables stand in no goal of their callers.
+fn two_octets() -> &'static [Step] {
+    TWO_OCTETS
+}
+
+fn write() -> &'static [Step] {
+    WRITE
+}
+
+fn locked() -> &'static [Step] {
+    LOCKED
+}
 
 #[test]
 fn second_disk_fails_every_call(rt: HostRuntime) -> Result<(), Fail> {
     let path = fresh(&rt, "outer_real_second")?;
     write_file(&rt, path.as_str(), "00000000", b"ab".as_slice())?;
-    let mut first = disk_in(&rt, path.as_str())?;
-    let mut second = disk_in(&rt, path.as_str())?;
-    assert_eq!(rt; first.len(0).ok(), Some(2));
-    assert_eq!(rt; failures(&mut second, 0), 5);
+    let others = other_on_two(&rt, path.as_str(), two_octets(), failures())?;
+    assert_eq!(rt; others, [None; 2]);
     assert!(rt; has_octets(&rt, path.as_str(), "00000000", b"ab")?);
     fs::remove_dir_all(&rt, path.as_str())?;
     Ok(())
@@ -22,10 +40,8 @@ fn second_disk_fails_every_call(rt: HostRuntime) -> Result<(), Fail> {
 #[test]
 fn new_file_is_locked(rt: HostRuntime) -> Result<(), Fail> {
     let path = fresh(&rt, "outer_real_new")?;
-    let mut first = disk_in(&rt, path.as_str())?;
-    let mut second = disk_in(&rt, path.as_str())?;
-    assert!(rt; writes(&mut first, 0, 0, b"ab"));
-    assert!(rt; second.len(0).is_err());
+    let others = other_on_two(&rt, path.as_str(), write(), locked())?;
+    assert_eq!(rt; others, [None; 2]);
     fs::remove_dir_all(&rt, path.as_str())?;
     Ok(())
 }
@@ -33,11 +49,8 @@ fn new_file_is_locked(rt: HostRuntime) -> Result<(), Fail> {
 #[test]
 fn lock_goes_with_its_disk(rt: HostRuntime) -> Result<(), Fail> {
     let path = fresh(&rt, "outer_real_free")?;
-    let mut first = disk_in(&rt, path.as_str())?;
-    assert!(rt; writes(&mut first, 0, 0, b"ab"));
-    drop(first);
-    let mut second = disk_in(&rt, path.as_str())?;
-    assert_eq!(rt; second.len(0).ok(), Some(2));
+    assert_eq!(rt; other_on(&rt, path.as_str(), write())?, None);
+    assert_eq!(rt; other_on(&rt, path.as_str(), two_octets())?, None);
     fs::remove_dir_all(&rt, path.as_str())?;
     Ok(())
 }
@@ -45,27 +58,16 @@ fn lock_goes_with_its_disk(rt: HostRuntime) -> Result<(), Fail> {
 #[test]
 fn file_made_by_another_is_not_written(rt: HostRuntime) -> Result<(), Fail> {
     let path = fresh(&rt, "outer_real_other")?;
-    let mut disk = disk_in(&rt, path.as_str())?;
-    assert_eq!(rt; disk.len(0).ok(), Some(0));
-    write_file(&rt, path.as_str(), "00000000", b"other".as_slice())?;
-    assert!(rt; !writes(&mut disk, 0, 0, b"ab"));
+    assert!(rt; leaves_anothers(&rt, path.as_str())?);
     assert!(rt; has_octets(&rt, path.as_str(), "00000000", b"other")?);
     fs::remove_dir_all(&rt, path.as_str())?;
     Ok(())
 }
 
-/// More files than stay open.
-const MANY: u32 = 70;
-
 #[test]
 fn file_0_stays_locked(rt: HostRuntime) -> Result<(), Fail> {
     let path = fresh(&rt, "outer_real_zero")?;
-    let mut first = disk_in(&rt, path.as_str())?;
-    for file in 0..MANY {
-        assert!(rt; writes(&mut first, file, 0, b"a"));
-    }
-    let mut second = disk_in(&rt, path.as_str())?;
-    assert!(rt; second.len(0).is_err());
+    assert_eq!(rt; other_beside_many(&rt, path.as_str(), locked())?, None);
     fs::remove_dir_all(&rt, path.as_str())?;
     Ok(())
 }
@@ -87,39 +89,56 @@ fn may_write(rt: &HostRuntime, path: &str) -> Result<bool, Fail> {
     Ok(to_write.open(rt, file).is_ok())
 }
 
+/// Takes away a folder of a file that may only be read.
+fn take_away(rt: &HostRuntime, path: &str) -> Result<(), Fail> {
+    fs::set_permissions(rt, path, Permissions::from_mode(0o755))?;
+    fs::remove_dir_all(rt, path)?;
+    Ok(())
+}
+
+const READ: &[Step] = &[Step::Sync(0, true), Step::Read(0, 0, Some([b'a', b'b']))];
+
+const REFUSED: &[Step] = &[Step::Write(0, 0, b"AB", false)];
+
+const WRITTEN: &[Step] = &[Step::Write(0, 0, b"AB", true), Step::Cut(0, 1, true)];
+
+fn read() -> &'static [Step] {
+    READ
+}
+
+/// What a write is answered, by whether this process may write the file.
+fn written_where(may_write: bool) -> &'static [Step] {
+    if may_write { WRITTEN } else { REFUSED }
+}
+
+/// What a second disk is answered, by the same: one that may write locks the file for itself.
+fn shared_where(may_write: bool) -> &'static [Step] {
+    if may_write { LOCKED } else { TWO_OCTETS }
+}
+
 #[test]
 fn read_only_file_is_read_and_synced(rt: HostRuntime) -> Result<(), Fail> {
     let path = fresh(&rt, "outer_real_read_only")?;
     make_read_only(&rt, path.as_str())?;
-    let mut disk = disk_in(&rt, path.as_str())?;
-    assert!(rt; disk.sync(0).is_ok());
-    assert_eq!(rt; read_two(&mut disk, 0, 0), Some(*b"ab"));
-    fs::set_permissions(&rt, path.as_str(), Permissions::from_mode(0o755))?;
-    fs::remove_dir_all(&rt, path.as_str())?;
-    Ok(())
+    assert_eq!(rt; other_on(&rt, path.as_str(), read())?, None);
+    take_away(&rt, path.as_str())
 }
 
 #[test]
 fn read_only_file_is_not_written(rt: HostRuntime) -> Result<(), Fail> {
     let path = fresh(&rt, "outer_real_unwritten")?;
     make_read_only(&rt, path.as_str())?;
-    let mut disk = disk_in(&rt, path.as_str())?;
-    let is_written = writes(&mut disk, 0, 0, b"AB") && disk.cut(0, 1).is_ok();
-    assert_eq!(rt; is_written, may_write(&rt, path.as_str())?);
-    fs::set_permissions(&rt, path.as_str(), Permissions::from_mode(0o755))?;
-    fs::remove_dir_all(&rt, path.as_str())?;
-    Ok(())
+    let steps = written_where(may_write(&rt, path.as_str())?);
+    assert_eq!(rt; other_on(&rt, path.as_str(), steps)?, None);
+    take_away(&rt, path.as_str())
 }
 
 #[test]
 fn readers_of_a_read_only_file_share_it(rt: HostRuntime) -> Result<(), Fail> {
     let path = fresh(&rt, "outer_real_shared")?;
     make_read_only(&rt, path.as_str())?;
-    let mut first = disk_in(&rt, path.as_str())?;
-    let mut second = disk_in(&rt, path.as_str())?;
-    let are_shared = first.len(0).is_ok() && second.len(0).is_ok();
-    assert_eq!(rt; are_shared, !may_write(&rt, path.as_str())?);
-    fs::set_permissions(&rt, path.as_str(), Permissions::from_mode(0o755))?;
-    fs::remove_dir_all(&rt, path.as_str())?;
-    Ok(())
+    let steps = shared_where(may_write(&rt, path.as_str())?);
+    let others = other_on_two(&rt, path.as_str(), two_octets(), steps)?;
+    assert_eq!(rt; others, [None; 2]);
+    take_away(&rt, path.as_str())
 }
