@@ -114,6 +114,10 @@ const A_DAY: &[Call] = &[
     ("query --ask asks", (1, "", "no archive", None)),
     ("load --link 256 twice", (1, "", "no archive", None)),
     (CREATE, (0, CREATED, "", Some((0, 0)))),
+    (
+        "verify",
+        (0, "sound rows 0 intervals 0 late 0\n", "", Some((0, 0))),
+    ),
     (CREATE, (1, "", "archive exists", None)),
     (
         "query --ask asks",

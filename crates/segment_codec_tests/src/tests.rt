@@ -2,7 +2,7 @@
 
 ghost use Rattle.std.specs.Prelude.{◌≤◌};
 
-use segment_codec::{NotASegment, put_segment, read_column, read_segment, write_segment};
+use segment_codec::{NotASegment, Segment, put_segment, read_column, read_segment, write_segment};
 use std::alloc::{AllocError, Global};
 use std::test::*;
 
@@ -28,8 +28,10 @@ const TWO: [u8; 62] = [
     1, 0, 0, 0, 0, 0, 0, 0, 0, 0, 0, 0, 0, 0, 0, 0, 3, 3, 0x1C, // form 1
 ];
 
-/// One octet of the worked segment changed each time, and what is wrong then.
-const CHANGES: [(usize, u8, &str); 10] = [
+/// A place of the worked segment, the octet that is put there, and what is wrong then.
+type Change = (usize, u8, &'static str);
+
+const CHANGES: &[Change] = &[
     (1, 0, "no parameter"),
     (5, 0, "no row"),
     (4, 0x10, "4,098 rows"),
@@ -46,32 +48,71 @@ const CHANGES: [(usize, u8, &str); 10] = [
     (42, 0x1D, "a bit behind the last difference"),
 ];
 
-#[test]
-fn worked_row(rt: HostRuntime) -> Result<(), Fail> {
-    let Ok((segment, end)) = read_segment(rt.alloc(), &WORKED, 0) else {
+fn worked() -> &'static [u8] {
+    &WORKED
+}
+
+/// The worked segment before its raw column.
+fn front() -> &'static [u8] {
+    &WORKED[..COLUMN]
+}
+
+fn two() -> &'static [u8] {
+    &TWO
+}
+
+fn changes() -> &'static [Change] {
+    CHANGES
+}
+
+/// The segment that octets begin with, and where it ends.
+fn read(alloc: Global, octets: &[u8]) -> Result<(Segment, usize), Fail> {
+    match read_segment(alloc, octets, 0) {
+        Ok(read) => Ok(read),
+        Err(_) => Err(Fail::from("a segment")),
+    }
+}
+
+/// Whether a segment has one column, with these values.
+fn has_column(segment: &Segment, values: &[i128]) -> bool {
+    match segment.columns.as_slice() {
+        [column] => column.as_slice() == values,
+        _ => false,
+    }
+}
+
+/// Whether octets are one segment with these values of its one parameter, and just what it spells.
+fn have_values(alloc: Global, octets: &[u8], values: &[i128]) -> Result<bool, Fail> {
+    let Ok((segment, end)) = read_segment(alloc, octets, 0) else {
         return Err(Fail::from("a segment"));
     };
-    assert_eq!(rt; end, WORKED.len());
+    let spelled = write_segment(alloc, &segment)?;
+    Ok(end == octets.len() && spelled.as_slice() == octets && has_column(&segment, values))
+}
+
+#[test]
+fn worked_values(rt: HostRuntime) -> Result<(), Fail> {
+    assert!(rt; have_values(rt.alloc(), worked(), &[3, 10])?);
+    Ok(())
+}
+
+#[test]
+fn worked_keys(rt: HostRuntime) -> Result<(), Fail> {
+    let (segment, _) = read(rt.alloc(), worked())?;
     assert_eq!(rt; segment.parameters.as_slice(), [0u16].as_slice());
     let [first, second] = segment.keys.as_slice() else {
         return Err(Fail::from("two rows"));
     };
     assert_eq!(rt; (first.time, first.seq), (1500, 140_820_480));
     assert_eq!(rt; (second.time, second.seq), (2500, 140_820_481));
-    let [values] = segment.columns.as_slice() else {
-        return Err(Fail::from("one column"));
-    };
-    assert_eq!(rt; values.as_slice(), [3i128, 10].as_slice());
-    let octets = write_segment(rt.alloc(), &segment)?;
-    assert_eq!(rt; octets.as_slice(), WORKED.as_slice());
     Ok(())
 }
 
 /// Octets are refused, or begin with the spelling of a segment that is written so again.
-fn is_exact(rt: &HostRuntime, octets: &[u8]) -> Result<bool, Fail> {
-    match read_segment(rt.alloc(), octets, 0) {
+fn is_exact(alloc: Global, octets: &[u8]) -> Result<bool, Fail> {
+    match read_segment(alloc, octets, 0) {
         Ok((segment, end)) => {
-            let spelled = write_segment(rt.alloc(), &segment)?;
+            let spelled = write_segment(alloc, &segment)?;
             Ok(&octets[..end] == spelled.as_slice())
         }
         Err(fault) => Ok(fault == NotASegment::Malformed),
@@ -79,44 +120,49 @@ fn is_exact(rt: &HostRuntime, octets: &[u8]) -> Result<bool, Fail> {
 }
 
 /// So is each change of these bits of one octet, and each front is refused.
-fn each_counts(rt: &HostRuntime, octets: &[u8], bits: u8) -> Result<bool, Fail> {
+fn each_counts(alloc: Global, octets: &[u8], bits: u8) -> Result<bool, Fail> {
     for cut in 0..octets.len() {
-        let mut changed = Vec::from_slice(rt.alloc(), octets)?;
+        let mut changed = Vec::from_slice(alloc, octets)?;
         changed[cut] ^= bits;
-        if !is_exact(rt, &changed)? || read_segment(rt.alloc(), &octets[..cut], 0).is_ok() {
+        if !is_exact(alloc, &changed)? || read_segment(alloc, &octets[..cut], 0).is_ok() {
             return Ok(false);
         }
     }
-    is_exact(rt, octets)
+    is_exact(alloc, octets)
 }
 
 #[test]
 fn each_octet_counts(rt: HostRuntime) -> Result<(), Fail> {
     for bits in [0x01u8, 0x80, 0xFF] {
-        assert!(rt; each_counts(&rt, &WORKED, bits)?, "{bits}");
-        assert!(rt; each_counts(&rt, &TWO, bits)?, "{bits}");
+        assert!(rt; each_counts(rt.alloc(), worked(), bits)?, "{bits}");
+        assert!(rt; each_counts(rt.alloc(), two(), bits)?, "{bits}");
     }
     Ok(())
 }
 
+/// Whether the worked segment is refused with another octet at a place.
+fn is_refused(alloc: Global, place: usize, octet: u8) -> Result<bool, Fail> {
+    let mut octets = Vec::from_slice(alloc, worked())?;
+    let Some(changed) = octets.get_mut(place) else {
+        return Err(Fail::from("a place of the segment"));
+    };
+    *changed = octet;
+    Ok(matches!(read_segment(alloc, &octets, 0), Err(NotASegment::Malformed)))
+}
+
 #[test]
 fn refuses_second_spellings(rt: HostRuntime) -> Result<(), Fail> {
-    for (place, octet, wrong) in CHANGES {
-        let mut octets = Vec::from_slice(rt.alloc(), &WORKED)?;
-        let Some(changed) = octets.get_mut(place) else {
-            return Err(Fail::from("a place of the segment"));
-        };
-        *changed = octet;
-        let read = read_segment(rt.alloc(), &octets, 0);
-        assert!(rt; matches!(read, Err(NotASegment::Malformed)), "{wrong}");
+    for (place, octet, wrong) in changes() {
+        assert!(rt; is_refused(rt.alloc(), *place, *octet)?, "{wrong}");
     }
     Ok(())
 }
 
 #[test]
 fn refuses_places_past_the_end(rt: HostRuntime) {
-    for at in [1, WORKED.len(), WORKED.len() + 1, usize::MAX] {
-        let read = read_segment(rt.alloc(), &WORKED, at);
+    let octets = worked();
+    for at in [1, octets.len(), octets.len() + 1, usize::MAX] {
+        let read = read_segment(rt.alloc(), octets, at);
         assert!(rt; matches!(read, Err(NotASegment::Malformed)), "{at}");
     }
 }
@@ -126,7 +172,7 @@ fn of_width(alloc: Global, width: u32) -> Result<Vec<u8>, AllocError>
     requires some { 1 ≤ width }
     requires most { width ≤ 64 }
 {
-    let mut octets = Vec::from_slice(alloc, &WORKED[..COLUMN])?;
+    let mut octets = Vec::from_slice(alloc, front())?;
     octets.push(1)?;
     octets.extend_from_slice(&[0; 16])?;
     octets.push(width as u8)?;
@@ -141,38 +187,30 @@ fn each_width(rt: HostRuntime) -> Result<(), Fail> {
     for narrower in 0u32..64 {
         let width = narrower + 1;
         let octets = of_width(rt.alloc(), width)?;
-        let Ok((segment, _)) = read_segment(rt.alloc(), &octets, 0) else {
-            return Err(Fail::from("a segment"));
-        };
         let greatest = i128::from(u64::MAX >> (64 - width));
-        let [values] = segment.columns.as_slice() else {
-            return Err(Fail::from("one column"));
-        };
-        assert_eq!(rt; values.as_slice(), [0, greatest].as_slice(), "{width}");
-        let spelled = write_segment(rt.alloc(), &segment)?;
-        assert_eq!(rt; spelled.as_slice(), octets.as_slice(), "{width}");
+        assert!(rt;
+            have_values(rt.alloc(), &octets, &[0, greatest])?,
+            "{width}"
+        );
     }
     Ok(())
 }
 
-#[test]
-fn widest_column(rt: HostRuntime) -> Result<(), Fail> {
-    let mut octets = Vec::from_slice(rt.alloc(), &WORKED[..COLUMN])?;
+/// The worked segment with the least and the greatest value that there are.
+fn of_widest(alloc: Global) -> Result<Vec<u8>, AllocError> {
+    let mut octets = Vec::from_slice(alloc, front())?;
     octets.push(1)?;
     octets.extend_from_slice(&i128::MIN.to_be_bytes())?;
     octets.push(128)?;
     octets.extend_from_slice(&[0; 16])?;
     octets.extend_from_slice(&[0xFF; 16])?;
-    let Ok((segment, end)) = read_segment(rt.alloc(), &octets, 0) else {
-        return Err(Fail::from("a segment"));
-    };
-    assert_eq!(rt; end, COLUMN + 50);
-    let [values] = segment.columns.as_slice() else {
-        return Err(Fail::from("one column"));
-    };
-    assert_eq!(rt; values.as_slice(), [i128::MIN, i128::MAX].as_slice());
-    let spelled = write_segment(rt.alloc(), &segment)?;
-    assert_eq!(rt; spelled.as_slice(), octets.as_slice());
+    Ok(octets)
+}
+
+#[test]
+fn widest_column(rt: HostRuntime) -> Result<(), Fail> {
+    let octets = of_widest(rt.alloc())?;
+    assert!(rt; have_values(rt.alloc(), &octets, &[i128::MIN, i128::MAX])?);
     Ok(())
 }
 
@@ -192,61 +230,65 @@ fn of_most_rows(alloc: Global) -> Result<Vec<u8>, AllocError> {
     Ok(octets)
 }
 
+/// How many rows the segment of octets has, where it spells just these.
+fn spelled_rows(alloc: Global, octets: &[u8]) -> Result<Option<usize>, Fail> {
+    let Ok((segment, end)) = read_segment(alloc, octets, 0) else {
+        return Err(Fail::from("a segment"));
+    };
+    let spelled = write_segment(alloc, &segment)?;
+    let is_same = end == octets.len() && spelled.as_slice() == octets;
+    Ok(is_same.then_some(segment.keys.len()))
+}
+
 #[test]
 fn most_rows(rt: HostRuntime) -> Result<(), Fail> {
     let octets = of_most_rows(rt.alloc())?;
-    let Ok((segment, end)) = read_segment(rt.alloc(), &octets, 0) else {
-        return Err(Fail::from("a segment"));
-    };
-    assert_eq!(rt; end, octets.len());
-    assert_eq!(rt; segment.keys.len(), 4096);
-    let spelled = write_segment(rt.alloc(), &segment)?;
-    assert_eq!(rt; spelled.as_slice(), octets.as_slice());
+    assert_eq!(rt; spelled_rows(rt.alloc(), &octets)?, Some(4096));
     Ok(())
+}
+
+/// The worked segment with one value in both rows: 17 octets.
+fn of_constant(alloc: Global, value: i128) -> Result<Vec<u8>, AllocError> {
+    let mut octets = Vec::from_slice(alloc, front())?;
+    octets.push(0)?;
+    octets.extend_from_slice(&value.to_be_bytes())?;
+    Ok(octets)
 }
 
 #[test]
 fn constants_take_17_octets(rt: HostRuntime) -> Result<(), Fail> {
     for value in [i128::MIN, -1, 0, 10, i128::MAX] {
-        let mut octets = Vec::from_slice(rt.alloc(), &WORKED[..COLUMN])?;
-        octets.push(0)?;
-        octets.extend_from_slice(&value.to_be_bytes())?;
-        let Ok((segment, end)) = read_segment(rt.alloc(), &octets, 0) else {
-            return Err(Fail::from("a segment"));
-        };
-        assert_eq!(rt; end, COLUMN + 17);
-        let [values] = segment.columns.as_slice() else {
-            return Err(Fail::from("one column"));
-        };
-        assert_eq!(rt; values.as_slice(), [value, value].as_slice());
-        let spelled = write_segment(rt.alloc(), &segment)?;
-        assert_eq!(rt; spelled.as_slice(), octets.as_slice());
+        let octets = of_constant(rt.alloc(), value)?;
+        assert_eq!(rt; octets.len(), front().len() + 17);
+        assert!(rt; have_values(rt.alloc(), &octets, &[value, value])?);
     }
     Ok(())
 }
 
 #[test]
 fn one_column_of_two(rt: HostRuntime) -> Result<(), Fail> {
-    if read_segment(rt.alloc(), &TWO, 0).is_err() {
+    let octets = two();
+    if read_segment(rt.alloc(), octets, 0).is_err() {
         return Err(Fail::from("a segment"));
     }
-    let Some(column) = read_column(rt.alloc(), &TWO, 0, 3)? else {
+    let Some(column) = read_column(rt.alloc(), octets, 0, 3)? else {
         return Err(Fail::from("a column"));
     };
     assert_eq!(rt; column.values.as_slice(), [3i128, 10].as_slice());
     assert_eq!(rt; column.keys.len(), 2);
-    assert!(rt; read_column(rt.alloc(), &TWO, 0, 4)?.is_none());
+    assert!(rt; read_column(rt.alloc(), octets, 0, 4)?.is_none());
     Ok(())
 }
 
 #[test]
 fn one_behind_the_other(rt: HostRuntime) -> Result<(), Fail> {
-    let Ok((segment, _)) = read_segment(rt.alloc(), &WORKED, 0) else {
+    let Ok((segment, _)) = read_segment(rt.alloc(), worked(), 0) else {
         return Err(Fail::from("a segment"));
     };
-    let mut octets = Vec::from_slice(rt.alloc(), &TWO)?;
+    let first = two();
+    let mut octets = Vec::from_slice(rt.alloc(), first)?;
     put_segment(rt.alloc(), &mut octets, &segment)?;
-    let Ok((second, end)) = read_segment(rt.alloc(), &octets, TWO.len()) else {
+    let Ok((second, end)) = read_segment(rt.alloc(), &octets, first.len()) else {
         return Err(Fail::from("a second segment"));
     };
     assert_eq!(rt; end, octets.len());
