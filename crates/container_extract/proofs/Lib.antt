@@ -1,4 +1,5 @@
 pub mod Numbers
+pub mod Words
 pub mod Widths
 pub mod Chains
 pub mod Known

@@ -1,6 +1,6 @@
 //! Bit fields.
 
-ghost use Rattle.std.specs.Prelude.{◌≡◌, ◌+◌, ◌*◌, ◌^◌, ◌<◌, ◌≤◌, length, true, Some};
+ghost use Rattle.std.specs.Prelude.{◌≡◌, ◌+◌, ◌*◌, ◌^◌, ◌<◌, ◌≤◌, drop, length, take, true, IfSome, Some};
 ghost use Rattle.mdb_items.specs.ParameterRows.{fits_coding};
 ghost use Rattle.container_extract.specs.Bits.{raw_bits_at, field_at, big_endian_number, reversed, twos_complement};
 
@@ -30,9 +30,55 @@ fn wide_number_of(octets: &[u8]) -> u128
     number
 }
 
+/// Eight octets of a packet as one number, from a place on.
+fn eight_octets(packet: &[u8], start: usize) -> u64
+    requires { start + 8 ≤ length packet.now }
+    ensures { result ≡ big_endian_number (take 8 (drop start packet.now)) }
+{
+    let (_, behind) = packet.split_at(start);
+    let (front, _) = behind.split_at(8);
+    u64::from_be_bytes([
+        front[0], front[1], front[2], front[3], front[4], front[5], front[6], front[7],
+    ])
+}
+
+/// Where eight octets of a packet begin, from an octet on, or earlier where the packet ends before.
+fn word_start(len: usize, first: usize) -> usize
+    requires { 8 ≤ len }
+    ensures inside { result + 8 ≤ len }
+    ensures before { result ≤ first }
+{
+    if first <= len - 8 {
+        return first;
+    }
+    len - 8
+}
+
+/// The field of so many bits at a bit of a packet, where eight of its octets hold it: they're read and shifted as one
+/// word.
+fn word_field(packet: &[u8], at: u32, width: u8) -> Option<u64>
+    requires width { (1 ≤ width) × (width ≤ 64) }
+    requires inside { at + width ≤ 8 * length packet.now }
+    ensures value { IfSome result (λ field. field ≡ field_at packet.now at width) }
+    ensures bound { IfSome result (λ field. field < 2 ^ width) }
+{
+    if packet.len() < 8 {
+        return None;
+    }
+    let start = word_start(packet.len(), at as usize / 8);
+    let ahead = at as usize - 8 * start + width as usize;
+    if ahead > 64 {
+        return None;
+    }
+    let word = eight_octets(packet, start);
+    let mask = u64::MAX >> (64 - width);
+    Some((word >> (64 - ahead)) & mask)
+}
+
 /// The field of so many bits at a bit of a packet: of the octets that it touches, nine at most, the bits after it are shifted out and
 /// those before it are cleared.
-fn field(packet: &[u8], at: u32, width: u8) -> u64
+#[inline(never)]
+fn long_field(packet: &[u8], at: u32, width: u8) -> u64
     requires width { (1 ≤ width) × (width ≤ 64) }
     requires inside { at + width ≤ 8 * length packet.now }
     ensures value { result ≡ field_at packet.now at width }
@@ -53,7 +99,21 @@ fn field(packet: &[u8], at: u32, width: u8) -> u64
     (shifted & mask) as u64
 }
 
+/// The field of so many bits at a bit of a packet.
+fn field(packet: &[u8], at: u32, width: u8) -> u64
+    requires width { (1 ≤ width) × (width ≤ 64) }
+    requires inside { at + width ≤ 8 * length packet.now }
+    ensures value { result ≡ field_at packet.now at width }
+    ensures bound { result < 2 ^ width }
+{
+    match word_field(packet, at, width) {
+        Some(field) => field,
+        None => long_field(packet, at, width),
+    }
+}
+
 /// A number of so many octets with its octets in the reverse order.
+#[inline(never)]
 fn reversed(octets: u8, number: u64) -> u64
     requires { octets ≤ 8 }
     ensures value { result ≡ reversed octets number }

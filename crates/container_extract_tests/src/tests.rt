@@ -76,6 +76,26 @@ const FLAGGED: Worked = (
 02: 2: 0 1 2 3: 0=2",
 );
 
+// An entry of 9 bits of which a packet of one octet lacks the last, and a comparison with the last parameter of a path.
+const NINE_BITS: Worked = (
+    "name,coding,bits,calibration|a,uint,9,|b,uint,8,|c,uint,8,",
+    "name,kind,x,y",
+    "container,parent,condition,archive,entry,position|R,,,,a,0|S,R,a==3,,b,|,,,,c,|T,S,c==7,yes,,",
+    "0180: 0: 0 1: 0=3
+01: 0: 0:
+01828380: 2: 0 1 2: 0=3 1=5 2=7
+01838280: 0: 0 1: 0=3 1=7 2=5",
+);
+
+// A constant, a line and a square together.
+const SQUARE: Worked = (
+    "name,coding,bits,calibration|a,int,8,square",
+    "name,kind,x,y|square,poly,0,1|square,poly,1,-2|square,poly,2,0.5",
+    "container,parent,condition,archive,entry,position|R,,,,a,0",
+    "03: 0: 0: 0=3~-500000
+fd: 0: 0: 0=-3~11500000",
+);
+
 fn record(alloc: Global, line: &str) -> Result<Record, AllocError> {
     let mut fields = Record::new(alloc);
     for field in line.split(',') {
@@ -214,12 +234,27 @@ fn other(alloc: Global, worked: Worked) -> Result<Option<&'static str>, Fail> {
     other_line(alloc, &mdb, worked.3)
 }
 
-const TABLES: [Worked; 5] = [FLIGHT, WIDE, CALIBRATED, COMPARED, FLAGGED];
+const TABLES: &[Worked] = &[
+    FLIGHT, WIDE, CALIBRATED, COMPARED, FLAGGED, NINE_BITS, SQUARE,
+];
+
+/// They are functions, so that no table stands in a goal of their callers.
+fn tables() -> &'static [Worked] {
+    TABLES
+}
+
+fn flight() -> Worked {
+    FLIGHT
+}
+
+fn calibrated() -> Worked {
+    CALIBRATED
+}
 
 #[test]
 fn worked_packets(rt: HostRuntime) -> Result<(), Fail> {
-    for worked in TABLES {
-        assert_eq!(rt; other(rt.alloc(), worked)?, None);
+    for worked in tables() {
+        assert_eq!(rt; other(rt.alloc(), *worked)?, None);
     }
     Ok(())
 }
@@ -255,7 +290,7 @@ fn named(
 
 #[test]
 fn packets_one_after_the_other(rt: HostRuntime) -> Result<(), Fail> {
-    let mdb = database(rt.alloc(), FLIGHT)?;
+    let mdb = database(rt.alloc(), flight())?;
     let mut extractor = Extractor::new(rt.alloc())?;
     for (digits, want) in [
         ("0864c00000070000000180002afe", (1, 3)),
@@ -304,7 +339,7 @@ fn eng_said(
 
 #[test]
 fn engineering_values(rt: HostRuntime) -> Result<(), Fail> {
-    let mdb = database(rt.alloc(), CALIBRATED)?;
+    let mdb = database(rt.alloc(), calibrated())?;
     let mut extractor = Extractor::new(rt.alloc())?;
     for (digits, want) in [
         ("fb00", Some(Eng::Label(0))),

@@ -12,7 +12,7 @@ pub mod Places
 pub mod Contents
 pub mod Starts
 pub mod Loops
-pub mod Parts
+pub mod NumberedSegments
 pub mod CellOrder
 pub mod SegmentCells
 pub mod Calibrated

@@ -18,8 +18,8 @@ unfoldable pub rows_in_octets : List ℕ → List SetRow
 rows_in_octets octets = rows_of_segments (unwrap_or (whole (counted_at w32 segment_at) octets) [])
 
 -- the rows of the segment with a number
-abbrev pub part_rows : List SetRow → ℕ → List SetRow
-part_rows rows part = rows_of_segment (slice_index_or (set_of rows) part (segment_of [] []))
+abbrev pub rows_of_numbered_segment : List SetRow → ℕ → List SetRow
+rows_of_numbered_segment rows number = rows_of_segment (slice_index_or (set_of rows) number (segment_of [] []))
 
 -- the place where each segment begins, the first at a place
 abbrev pub starts_from : ℕ → List Segment → List ℕ

@@ -7,6 +7,7 @@ ghost use Rattle.param_segments.specs.GroupContents.{AreContents, all_starts, fi
 ghost use Rattle.param_segments.specs.Rows.{AreSetRows, set_row};
 
 use crate::group::{Group, are_parameters_of, write_parameters};
+use crate::group_guesses::GroupGuesses;
 use crate::group_numbers::GroupNumbers;
 use crate::set::SegSet;
 use arch_types::key::Key;
@@ -23,8 +24,8 @@ pub struct SetBuilder {
     numbers: GroupNumbers,
     /// The groups in the order of their first rows.
     groups: Vec<Group>,
-    /// The place of the last row's group, which most often has the next row.
-    last: usize,
+    /// The group that may have the next row.
+    guesses: GroupGuesses,
     /// The parameters of the row that is looked for: its room is used again.
     parameters: Vec<u16>,
 }
@@ -41,12 +42,12 @@ impl Model for SetBuilder {
     ghost invariant = { λ b. AreGroups b.numbers b.groups.items };
 }
 
-/// The number of the group of values: most often the last row's, else found by the hash of their parameters, which
-/// then stand in the buffer.
+/// The number of the group of values: most often the one that was guessed, else found by the hash of their parameters,
+/// which then stand in the buffer.
 fn number_of(
     numbers: &GroupNumbers,
     groups: &[Group],
-    last: usize,
+    guess: usize,
     parameters: &mut Vec<u16>,
     values: &[RawValue],
 ) -> Result<Option<usize>, AllocError>
@@ -57,8 +58,8 @@ fn number_of(
     ensures parameters { IfOk result (λ number.
         number ≡ None → parameters.new.items ≡ map (λ v. v.parameter) values.now) }
 {
-    if last < groups.len() && are_parameters_of(&groups[last].parameters, values) {
-        return Ok(Some(last));
+    if guess < groups.len() && are_parameters_of(&groups[guess].parameters, values) {
+        return Ok(Some(guess));
     }
     write_parameters(parameters, values)?;
     Ok(numbers.number(parameters))
@@ -92,7 +93,7 @@ fn add_row(
     alloc: Global,
     numbers: &mut GroupNumbers,
     groups: &mut Vec<Group>,
-    last: &mut usize,
+    guesses: &mut GroupGuesses,
     parameters: &mut Vec<u16>,
     key: Key,
     values: &[RawValue],
@@ -105,13 +106,14 @@ fn add_row(
     ensures kept { OnErr result (map group_contents groups.new.items ≡ map group_contents groups.old.items) }
     ensures numbered { numbers.new ≡ map (λ g. g.parameters.items) groups.new.items }
 {
-    match number_of(numbers, groups, *last, parameters, values)? {
+    let guess = guesses.guess(values);
+    match number_of(numbers, groups, guess, parameters, values)? {
         None => {
-            *last = groups.len();
+            guesses.keep(values, groups.len());
             add_group(alloc, numbers, groups, parameters, key, values)
         }
         Some(number) => {
-            *last = number;
+            guesses.keep(values, number);
             groups[number].add(alloc, key, values)
         }
     }
@@ -171,7 +173,7 @@ impl SetBuilder {
         SetBuilder {
             numbers: GroupNumbers::new(alloc),
             groups: Vec::new(alloc),
-            last: 0,
+            guesses: GroupGuesses::new(),
             parameters: Vec::new(alloc),
         }
     }
@@ -186,7 +188,7 @@ impl SetBuilder {
             alloc,
             &mut self.numbers,
             &mut self.groups,
-            &mut self.last,
+            &mut self.guesses,
             &mut self.parameters,
             key,
             values,

@@ -8,7 +8,7 @@ ghost use Rattle.param_segments.specs.Cells.{cells_from, is_cell_earlier, raw_ce
 ghost use Rattle.segment_codec.specs.Segment.{HasSegmentAt};
 ghost use Rattle.segment_codec.specs.declared.segment.Segment.{Segment};
 ghost use Rattle.param_segments.specs.Groups.{set_of};
-ghost use Rattle.param_segments.specs.Octets.{IsSpelledSet, part_rows, rows_in_octets};
+ghost use Rattle.param_segments.specs.Octets.{IsSpelledSet, rows_of_numbered_segment, rows_in_octets};
 
 use crate::raw_cell::RawCell;
 use arch_types::cell::{Cell, Cells};
@@ -71,20 +71,26 @@ fn gathered_cells(
 }
 
 /// The raw cells of a parameter in one segment.
-pub(crate) fn part_raw_cells(
+pub(crate) fn raw_cells_in_segment(
     alloc: Global,
     octets: &[u8],
     starts: &[u32],
-    part: usize,
+    segment: usize,
     parameter: u16,
 ) -> Result<Vec<RawCell>, AllocError>
     requires spelled { IsSpelledSet octets.now starts.now }
-    requires part { part < length starts.now }
+    requires segment { segment < length starts.now }
     ensures { IfOk result (λ cells. cells.items ≡ filter_map (raw_cell_of parameter)
-        (part_rows (rows_in_octets octets.now) part)) }
+        (rows_of_numbered_segment (rows_in_octets octets.now) segment)) }
 {
     let mut cells = Vec::new(alloc);
-    put_segment_cells(alloc, &mut cells, octets, starts[part] as usize, parameter)?;
+    put_segment_cells(
+        alloc,
+        &mut cells,
+        octets,
+        starts[segment] as usize,
+        parameter,
+    )?;
     Ok(cells)
 }
 

@@ -43,7 +43,7 @@ fn every_nth(
     let mut column = Vec::with_capacity(alloc, count)?;
     let mut rest = raws;
     for _ in 0..count {
-        column.push(rest[from])?;
+        column.push_reserved(rest[from]);
         let (_, after) = rest.split_at(width);
         rest = after;
     }
@@ -113,6 +113,7 @@ fn put_parameters(parameters: &mut Vec<u16>, values: &[RawValue])
 }
 
 /// Writes the parameters of values in place of what a buffer has. It takes no memory where there's room.
+#[inline(never)]
 pub(crate) fn write_parameters(
     parameters: &mut Vec<u16>,
     values: &[RawValue],

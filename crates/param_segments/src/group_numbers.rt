@@ -33,6 +33,8 @@ impl GroupNumbers {
     }
 
     /// The number of a list.
+    // aside, so that the loop over rows keeps its registers: few rows come here
+    #[inline(never)]
     pub fn number(&self, parameters: &[u16]) -> Option<usize>
         ensures { result ≡ position (pointwise nat_eq parameters.now) self.now }
     {

@@ -22,6 +22,7 @@ mod builder;
 mod cells;
 mod decoding;
 mod group;
+mod group_guesses;
 mod group_numbers;
 pub mod laws;
 mod plan;

@@ -9,7 +9,7 @@ ghost use Rattle.octet_fields.specs.Answers.{ReadsEach, ReadsOnly};
 ghost use Rattle.param_segments.specs.Cells.{AreValuesOf};
 ghost use Rattle.param_segments.specs.Extracted.{IsSetOf};
 ghost use Rattle.param_segments.specs.Groups.{set_of};
-ghost use Rattle.param_segments.specs.Octets.{set_octets};
+ghost use Rattle.param_segments.specs.Octets.{rows_in_octets, set_octets};
 ghost use Rattle.param_segments.specs.RowPlaces.{IsRowPlace, placed_row};
 ghost use Rattle.param_segments.specs.Rows.{SetRow};
 ghost use Rattle.segment_codec.specs.Segment.{IsSegment};
@@ -154,6 +154,7 @@ impl SegSet {
         ensures spelled { ReadsOnly (IsSetOf mdb.now 22 interval.0) set_octets (λ s. s) octets result }
         ensures each { ReadsEach (IsSetOf mdb.now 22 interval.0) set_octets (λ s. s) (λ e. e ≡ OutOfMemory)
             octets result }
+        ensures value { IfOk result (λ set. set ≡ rows_in_octets octets) }
     {
         let own = spelled_set(alloc, interval, octets.as_slice(), mdb)?;
         Ok(own.over(octets))

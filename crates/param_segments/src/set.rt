@@ -3,9 +3,9 @@
 ghost use Rattle.std.specs.Prelude.{◌≡◌, ◌+◌, ◌<◌, length, IfOk};
 ghost use Rattle.param_segments.specs.Cells.{AreValuesOf, set_cells};
 ghost use Rattle.param_segments.specs.Groups.{set_of};
-ghost use Rattle.param_segments.specs.Octets.{IsSpelledSet, part_rows, rows_in_octets, set_octets};
+ghost use Rattle.param_segments.specs.Octets.{IsSpelledSet, rows_of_numbered_segment, rows_in_octets, set_octets};
 
-use crate::cells::{calibrated_cells, part_raw_cells, raw_cells};
+use crate::cells::{calibrated_cells, raw_cells, raw_cells_in_segment};
 use arch_types::cell::Cells;
 use arch_types::octets::Octets;
 use arch_types::steps::Steps;
@@ -47,7 +47,8 @@ impl SegSet {
     /// The same set over other octets that spell it, in place of its own.
     pub(crate) fn over(self, octets: Octets) -> SegSet
         requires { octets ≡ set_octets self }
-        ensures { result ≡ self }
+        ensures same { result ≡ self }
+        ensures value { result ≡ rows_in_octets octets }
     {
         SegSet::of_spelling(octets, self.starts)
     }
@@ -63,32 +64,33 @@ impl SegSet {
     }
 
     /// The number of its segments.
-    pub fn parts(&self) -> u32
+    pub fn segments(&self) -> u32
         ensures { result ≡ length (set_of self.now) }
     {
         self.starts.len() as u32
     }
 
     /// The cells of a parameter in the segment with a number, in the order of their keys, in one step.
-    pub fn part_cells<L: Ledger>(
+    pub fn cells_in_segment<L: Ledger>(
         &self,
         alloc: Global,
         mdb: &Mdb,
-        part: u32,
+        segment: u32,
         parameter: u16,
         steps: &mut Steps<L>,
     ) -> Result<Cells, AllocError>
-        requires part { part < length (set_of self.now) }
+        requires segment { segment < length (set_of self.now) }
         requires values { AreValuesOf mdb.now self.now }
-        ensures cells { IfOk result (λ cells. cells ≡ set_cells mdb.now parameter (part_rows self.now part)) }
+        ensures cells { IfOk result (λ cells.
+            cells ≡ set_cells mdb.now parameter (rows_of_numbered_segment self.now segment)) }
         ensures step { steps.new ≡ steps.old + 1 }
     {
         steps.tick();
-        let raw = part_raw_cells(
+        let raw = raw_cells_in_segment(
             alloc,
             self.octets.as_slice(),
             &self.starts,
-            part as usize,
+            segment as usize,
             parameter,
         )?;
         calibrated_cells(alloc, mdb, parameter, &raw)

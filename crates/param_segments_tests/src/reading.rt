@@ -40,7 +40,7 @@ fn changed(alloc: Global, place: usize, bits: u8) -> Result<Vec<u8>, Fail> {
 fn read_set(alloc: Global, octets: &[u8], mdb: &Mdb) -> Result<(u32, bool), Fail> {
     let set = SegSet::from_bytes(alloc, Interval(0), octets, mdb)?;
     let spelled = set.to_bytes()?;
-    Ok((set.parts(), spelled.as_slice() == octets))
+    Ok((set.segments(), spelled.as_slice() == octets))
 }
 
 /// The same of octets that the set shares.
@@ -48,7 +48,7 @@ fn read_shared(alloc: Global, octets: &[u8], mdb: &Mdb) -> Result<(u32, bool), F
     let shared = Octets::from_slice(alloc, octets)?;
     let set = SegSet::from_octets(alloc, Interval(0), shared, mdb)?;
     let spelled = set.to_bytes()?;
-    Ok((set.parts(), spelled.as_slice() == octets))
+    Ok((set.segments(), spelled.as_slice() == octets))
 }
 
 #[test]

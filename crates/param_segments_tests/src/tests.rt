@@ -86,7 +86,7 @@ fn worked_set(rt: HostRuntime) -> Result<(), Fail> {
         return Err(Fail::from("rows in their order"));
     };
     assert_eq!(rt; set.to_bytes()?.as_slice(), worked());
-    assert_eq!(rt; set.parts(), 1);
+    assert_eq!(rt; set.segments(), 1);
     let cells = set.cells(rt.alloc(), &mdb, 0)?;
     let [first, second] = cells.as_slice() else {
         return Err(Fail::from("two cells"));
@@ -127,7 +127,7 @@ fn groups_alternate(rt: HostRuntime) -> Result<(), Fail> {
     let Some(set) = built(rt.alloc(), Interval(0), &rows, &mdb)? else {
         return Err(Fail::from("rows in their order"));
     };
-    assert_eq!(rt; set.parts(), 2);
+    assert_eq!(rt; set.segments(), 2);
     let cells = set.cells(rt.alloc(), &mdb, 0)?;
     assert_eq!(rt; cells.len(), 1000);
     for (cell, row) in cells.as_slice().iter().zip(rows.as_slice()) {
@@ -138,7 +138,7 @@ fn groups_alternate(rt: HostRuntime) -> Result<(), Fail> {
 }
 
 /// The number of segments of so many rows of one group.
-fn parts_of(alloc: Global, count: u16) -> Result<u32, Fail> {
+fn segments_of(alloc: Global, count: u16) -> Result<u32, Fail> {
     let mdb = database(alloc, ONE)?;
     let mut rows = Rows::new(alloc);
     for n in 0..count {
@@ -151,13 +151,13 @@ fn parts_of(alloc: Global, count: u16) -> Result<u32, Fail> {
     if copy.cells(alloc, &mdb, 0)?.len() != usize::from(count) {
         return Err(Fail::from("a cell for each row"));
     }
-    Ok(set.parts())
+    Ok(set.segments())
 }
 
 #[test]
 fn full_segments(rt: HostRuntime) -> Result<(), Fail> {
-    assert_eq!(rt; parts_of(rt.alloc(), 4096)?, 1);
-    assert_eq!(rt; parts_of(rt.alloc(), 4097)?, 2);
-    assert_eq!(rt; parts_of(rt.alloc(), 8193)?, 3);
+    assert_eq!(rt; segments_of(rt.alloc(), 4096)?, 1);
+    assert_eq!(rt; segments_of(rt.alloc(), 4097)?, 2);
+    assert_eq!(rt; segments_of(rt.alloc(), 8193)?, 3);
     Ok(())
 }

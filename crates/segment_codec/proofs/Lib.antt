@@ -8,5 +8,6 @@ pub mod Distinct
 pub mod Segments
 pub mod Looping
 pub mod Written
+pub mod Ranges
 pub mod Skipped
 pub mod Places

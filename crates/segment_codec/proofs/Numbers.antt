@@ -227,6 +227,13 @@ masked t s few =
     let one : 1 * 2 ^ s ≡ 2 ^ s = omega arith in
     (rw (whole, one) (and_mask t s), mod_below t (2 ^ s) (pow_pos s))
 
+-- the lowest bits of a word, by a mask
+pub masked_word : (t s : ℕ) → s < 64 → (bit_and t (1 * 2 ^ s % 2 ^ 64 - 1) ≡ t % 2 ^ s) × (t % 2 ^ s < 2 ^ s)
+masked_word t s few =
+    let whole = shl_whole 1 1 s 64 (omega arith) (omega arith) in
+    let one : 1 * 2 ^ s ≡ 2 ^ s = omega arith in
+    (rw (whole, one) (and_mask t s), mod_below t (2 ^ s) (pow_pos s))
+
 pub cut_same : (t s l a : ℕ) → t / 2 ^ s * 2 ^ (s + 8 * l) + (t % 2 ^ s * 2 ^ (8 * l) + a) ≡ t * 2 ^ (8 * l) + a
 cut_same t s l a =
     let split = ap (λ (n : ℕ). n * 2 ^ (8 * l)) (shr_split t s) in
@@ -244,6 +251,18 @@ gathered_below bits count rest below h =
 
 pub small_bits : (bits count : ℕ) → count < 64 → bits < 2 ^ count → bits < 2 ^ 64
 small_bits bits count lt below = let p = pow_below count 64 lt in omega arith
+
+-- a number behind fewer than 64 bits, in a word
+pub sum_in_word : (b n c w : ℕ) → b < 2 ^ c → n < 2 ^ w → c + w < 64 → b * 2 ^ w % 2 ^ 64 + n < 2 ^ 64
+sum_in_word b n c w below fits room =
+    let whole = shl_whole b c w 64 below (omega arith) in
+    let place = mul-add-lt b (2 ^ w) n (2 ^ c) below fits in
+    let power = pow-add 2 c w in
+    let top = pow_below (c + w) 64 room in
+    rw whole (omega arith)
+
+pub shifted_in_word : (b n c w : ℕ) → b < 2 ^ c → c + w < 64 → b * 2 ^ w % 2 ^ 64 + n ≡ b * 2 ^ w + n
+shifted_in_word b n c w below room = ap (λ (x : ℕ). x + n) (shl_whole b c w 64 below (omega arith))
 
 -- ---- packing
 

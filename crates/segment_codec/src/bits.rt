@@ -1,6 +1,6 @@
 //! Writes numbers of one width, one after the other, without gaps. 64 bits go out at once.
 
-ghost use Rattle.std.specs.Prelude.{◌≡◌, ◌+◌, ◌^◌, ◌<◌, ◌≤◌, length, OnOk, IfOk};
+ghost use Rattle.std.specs.Prelude.{◌≡◌, ◌+◌, ◌*◌, ◌^◌, ◌<◌, ◌≤◌, length, OnOk, IfOk};
 ghost use Rattle.std.specs.List.{AllByRecursion};
 ghost use Rattle.octet_fields.specs.Exact.{IsOctets};
 ghost use Rattle.segment_codec.specs.Bits.{octet_count, packed};
@@ -17,6 +17,43 @@ pub(crate) struct Pending {
     pub(crate) count: u32,
 }
 
+/// Fewer than 64 bits with a number behind them, where they have room for it in a word.
+#[tactic(auto, using(crate::proofs::Numbers::small_bits, crate::proofs::Numbers::sum_in_word))]
+fn joined_word(pending: Pending, width: u32, number: u64) -> u64
+    requires pending { IsPending pending }
+    requires room { pending.count + width < 64 }
+    requires number { number < 2 ^ width }
+    ensures { result ≡ pending.bits * 2 ^ width + number }
+{
+    let bits = pending.bits as u64;
+    (bits << width) + number
+}
+
+/// Writes a number of up to 64 bits, with which there are 64 or more.
+fn put_full(
+    out: &mut Vec<u8>,
+    pending: Pending,
+    width: u32,
+    number: u64,
+) -> Result<Pending, AllocError>
+    requires pending { IsPending pending }
+    requires width { width ≤ 64 }
+    requires number { number < 2 ^ width }
+    requires full { 64 ≤ pending.count + width }
+    ensures pending { IfOk result (λ after. IsPending after) }
+    ensures len { IfOk result (λ after. IsLongerBy width out.old.items pending out.new.items after) }
+    ensures written { IfOk result (λ after. HasWritten width number out.old.items pending out.new.items after) }
+{
+    let bits = (pending.bits << width) + u128::from(number);
+    let spare = pending.count + width - 64;
+    let high = bits >> spare;
+    out.extend_from_slice(&(high as u64).to_be_bytes())?;
+    Ok(Pending {
+        bits: bits - (high << spare),
+        count: spare,
+    })
+}
+
 /// Writes a number of up to 64 bits.
 fn put(out: &mut Vec<u8>, pending: Pending, width: u32, number: u64) -> Result<Pending, AllocError>
     requires pending { IsPending pending }
@@ -26,18 +63,13 @@ fn put(out: &mut Vec<u8>, pending: Pending, width: u32, number: u64) -> Result<P
     ensures len { IfOk result (λ after. IsLongerBy width out.old.items pending out.new.items after) }
     ensures written { IfOk result (λ after. HasWritten width number out.old.items pending out.new.items after) }
 {
-    let bits = (pending.bits << width) + u128::from(number);
     let count = pending.count + width;
     if count < 64 {
+        // most numbers only join the bits, which takes a word
+        let bits = u128::from(joined_word(pending, width, number));
         return Ok(Pending { bits, count });
     }
-    let spare = count - 64;
-    let high = bits >> spare;
-    out.extend_from_slice(&(high as u64).to_be_bytes())?;
-    Ok(Pending {
-        bits: bits - (high << spare),
-        count: spare,
-    })
+    put_full(out, pending, width, number)
 }
 
 /// Writes a number of up to 128 bits.
@@ -89,7 +121,9 @@ pub(crate) fn pack(
     requires offsets { AllByRecursion (λ d. d < 2 ^ width) (offsets_from low values.now) }
     ensures { IfOk result (λ v. v.items ≡ packed width (offsets_from low values.now)) }
 {
-    let mut out = Vec::new(alloc);
+    // room for all the octets, so that no number asks for more
+    let room = values.len().saturating_mul(width as usize) / 8 + 1;
+    let mut out = Vec::with_capacity(alloc, room)?;
     let mut pending = Pending { bits: 0, count: 0 };
     for value in values {
         pending = put_wide(&mut out, pending, width, value.abs_diff(low))?;

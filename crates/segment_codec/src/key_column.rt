@@ -1,11 +1,12 @@
 //! The key column, both ways.
 
-ghost use Rattle.std.specs.Prelude.{◌≡◌, ◌≤◌, ◌++◌, length, OnOk};
+ghost use Rattle.std.specs.Prelude.{◌≡◌, ◌≤◌, ◌++◌, length, IfSome, OnOk};
 ghost use Rattle.octet_fields.specs.Answers.{Answers, Gives};
 ghost use Rattle.segment_codec.specs.KeyColumn.{first_key_at, key_after_at, key_column, key_gap, key_gaps, keys_at};
+ghost use Rattle.segment_codec.specs.Varint.{varint};
 
 use crate::segment::KeyList;
-use crate::varint::{put_varint, varint_at};
+use crate::varint::{put_varint, put_word, varint_at};
 use arch_types::key::Key;
 use octet_fields::{DecodeError, Short, i64_at, put_i64, put_u32, room_for, u32_at};
 use std::alloc::{AllocError, Global};
@@ -72,13 +73,40 @@ fn key_gap(last: Key, key: Key) -> u128
     after.abs_diff(before)
 }
 
+/// How far a key lies behind another, where that's in order and the times are less than 2^31 apart.
+#[tactic(auto, unfolding(crate::specs::KeyColumn::key_gap))]
+fn short_gap(last: Key, key: Key) -> Option<u64>
+    ensures { IfSome result (λ gap. gap ≡ key_gap last key) }
+{
+    let apart = key.time.abs_diff(last.time);
+    if key.time < last.time || apart >= 0x8000_0000 {
+        return None;
+    }
+    let before = u64::from(last.seq);
+    let after = apart * 0x1_0000_0000 + u64::from(key.seq);
+    if after < before {
+        return None;
+    }
+    Some(after - before)
+}
+
+/// Writes the gap before a key: in 64 bits within weeks, where it takes half the time.
+fn put_key_gap(out: &mut Vec<u8>, last: Key, key: Key) -> Result<(), AllocError>
+    ensures { OnOk result (out.new.items ≡ out.old.items ++ varint (key_gap last key)) }
+{
+    match short_gap(last, key) {
+        Some(gap) => put_word(out, gap),
+        None => put_varint(out, key_gap(last, key)),
+    }
+}
+
 /// Writes the gap before each key.
 fn put_gaps(out: &mut Vec<u8>, first: Key, keys: &[Key]) -> Result<(), AllocError>
     ensures { OnOk result (out.new.items ≡ out.old.items ++ key_gaps first keys.now) }
 {
     let mut last = first;
     for key in keys {
-        put_varint(out, key_gap(last, *key))?;
+        put_key_gap(out, last, *key)?;
         last = *key;
     }
     Ok(())

@@ -1,6 +1,6 @@
 //! Reads numbers of one width, one after the other, without gaps, as values above a least one. 64 bits come in at once.
 
-ghost use Rattle.std.specs.Prelude.{◌≡◌, ◌+◌, ◌*◌, ◌^◌, ◌<◌, ◌≤◌, length};
+ghost use Rattle.std.specs.Prelude.{◌≡◌, ◌+◌, ◌*◌, ◌/◌, ◌%◌, ◌^◌, ◌<◌, ◌≤◌, length};
 ghost use Rattle.octet_fields.specs.Answers.{Gives};
 ghost use Rattle.octet_fields.specs.Reading.{mapped_at};
 ghost use Rattle.segment_codec.specs.Bits.{number_from_digits, packed_at};
@@ -55,6 +55,22 @@ fn refill(rest: &[u8], pending: Pending, width: u32) -> (Pending, &[u8])
     (Pending { bits, count }, after)
 }
 
+/// The next number, where the bits have it: most numbers are taken so, in a word.
+fn take_at_hand(pending: Pending, width: u32) -> (u64, Pending)
+    requires pending { IsPending pending }
+    requires enough { width ≤ pending.count }
+    ensures pending { IsPending result.1 }
+    ensures number { result.0 < 2 ^ width }
+    ensures len { result.1.count + width ≡ pending.count }
+    ensures high { result.0 ≡ pending.bits / 2 ^ result.1.count }
+    ensures low { result.1.bits ≡ pending.bits % 2 ^ result.1.count }
+{
+    let count = pending.count - width;
+    let word = pending.bits as u64;
+    let bits = u128::from(word & ((1u64 << count) - 1));
+    (word >> count, Pending { bits, count })
+}
+
 /// The next number of up to 64 bits.
 fn take(rest: &[u8], pending: Pending, width: u32) -> (u64, Pending, &[u8])
     requires pending { IsPending pending }
@@ -65,6 +81,10 @@ fn take(rest: &[u8], pending: Pending, width: u32) -> (u64, Pending, &[u8])
     ensures len { unread_bits result.1 result.2.now + width ≡ unread_bits pending rest.now }
     ensures same { HasUnpacked result.0 pending rest.now result.1 result.2.now }
 {
+    if width <= pending.count {
+        let (number, behind) = take_at_hand(pending, width);
+        return (number, behind, rest);
+    }
     let (ahead, after) = refill(rest, pending, width);
     let spare = ahead.count - width;
     let number = ahead.bits >> spare;

@@ -1,4 +1,4 @@
-//! Unsigned varints.
+//! Unsigned varints. They're written from 64 bits: the gap of two keys within weeks has no more.
 
 ghost use Rattle.std.specs.Prelude.{◌≡◌, ◌++◌, ◌∷◌, [], OnOk, MatchResult};
 ghost use Rattle.octet_fields.specs.Answers.{Answers};
@@ -9,6 +9,18 @@ use std::alloc::AllocError;
 
 /// Adds the varint of a number to a buffer.
 pub(crate) fn put_varint(out: &mut Vec<u8>, n: u128) -> Result<(), AllocError>
+    ensures { OnOk result (out.new.items ≡ out.old.items ++ varint n) }
+{
+    let mut rest = n;
+    while rest >= 0x1_0000_0000_0000_0000 {
+        out.push((rest % 128) as u8 + 128)?;
+        rest /= 128;
+    }
+    put_word(out, rest as u64)
+}
+
+/// Adds the varint of a number of 64 bits to a buffer.
+pub(crate) fn put_word(out: &mut Vec<u8>, n: u64) -> Result<(), AllocError>
     ensures { OnOk result (out.new.items ≡ out.old.items ++ varint n) }
 {
     let mut rest = n;

@@ -24,13 +24,22 @@ fn put_columns(alloc: Global, out: &mut Vec<u8>, columns: &[RawColumn]) -> Resul
     Ok(())
 }
 
+/// Room for the spelling of most segments: a key of eight octets, values of two. Where more is wanted, more is taken.
+fn usual_room(segment: &Segment) -> usize {
+    let keys = segment.keys.len();
+    let columns = segment.columns.len();
+    let row = columns.saturating_mul(2).saturating_add(8);
+    let fronts = columns.saturating_mul(32);
+    keys.saturating_mul(row).saturating_add(fronts)
+}
+
 /// The one spelling of a segment, in a buffer of its own.
 #[tactic(auto, unfolding(crate::specs::Segment::segment_octets))]
 fn spelled(alloc: Global, segment: &Segment) -> Result<Vec<u8>, AllocError>
     requires { IsSegment segment.now }
     ensures { IfOk result (λ octets. octets.items ≡ segment_octets segment.now) }
 {
-    let mut out = Vec::new(alloc);
+    let mut out = Vec::with_capacity(alloc, usual_room(segment))?;
     put_parameters(&mut out, segment.parameters.as_slice())?;
     put_u16(&mut out, segment.keys.len() as u16)?;
     put_keys(&mut out, segment.keys.as_slice())?;

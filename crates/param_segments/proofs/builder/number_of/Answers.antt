@@ -9,11 +9,11 @@ pub returns-then-are_parameters_of-clause-number : goal.returns-then-are_paramet
 returns-then-are_parameters_of-clause-number c =
     let groups = c.args.groups.now in
     let numbers = c.args.numbers.now in
-    let last = c.args.last in
+    let guess = c.args.guess in
     let ps = map (λ v. v.parameter) c.args.values.now in
-    let lt : last < length numbers = subst (λ (n : ℕ). last < n) (sym (ap length c.requires.numbered ∙ length-parameters groups)) c.if-last-groups.true in
-    let own : pointwise nat_eq ps (get_or numbers last []) ≡ true =
-    ap (λ (ns : List (List ℕ)). pointwise nat_eq ps (get_or ns last [])) c.requires.numbered
-    ∙ ap (pointwise nat_eq ps) (parameters_at groups last c.index-groups-last.result c.if-last-groups.true c.index-groups-last.is ∙ ap (λ (g : Group). g.parameters.items) c.index-groups-last.is ∙ sym c.deref.ensures.value)
+    let lt : guess < length numbers = subst (λ (n : ℕ). guess < n) (sym (ap length c.requires.numbered ∙ length-parameters groups)) c.if-guess-groups.true in
+    let own : pointwise nat_eq ps (get_or numbers guess []) ≡ true =
+    ap (λ (ns : List (List ℕ)). pointwise nat_eq ps (get_or ns guess [])) c.requires.numbered
+    ∙ ap (pointwise nat_eq ps) (parameters_at groups guess c.index-groups-guess.result c.if-guess-groups.true c.index-groups-guess.is ∙ ap (λ (g : Group). g.parameters.items) c.index-groups-guess.is ∙ sym c.deref.ensures.value)
     ∙ sym c.are_parameters_of.ensures ∙ c.if-are_parameters_of.true in
-    sym (found_place ps numbers last c.requires.distinct lt own)
+    sym (found_place ps numbers guess c.requires.distinct lt own)

@@ -19,7 +19,7 @@ put_wide-requires-clause-number c =
     subst (λ (d : ℕ). d < 2 ^ c.args.width) (sym offset) (offset_below c.args.width c.args.low values i c.requires.offsets c.loop-value-test.true)
 
 pub loop-value-init : goal.loop-value-init
-loop-value-init c = record { pending = record { few = omega arith; bits = omega arith }; len = rw c.new-out.ensures.items (omega arith); written = rw c.new-out.ensures.items (omega (arith, number_from_digits-nil 8, number_from_digits-nil c.args.width)) }
+loop-value-init c = record { pending = record { few = omega arith; bits = omega arith }; len = rw c.in_ok-out.ensures.items (omega arith); written = rw c.in_ok-out.ensures.items (omega (arith, number_from_digits-nil 8, number_from_digits-nil c.args.width)) }
 
 pub loop-value-preserved : goal.loop-value-preserved
 loop-value-preserved c =

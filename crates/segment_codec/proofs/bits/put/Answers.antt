@@ -1,40 +1,11 @@
-use Rattle.std.proofs.Common.{◌≡◌, ℕ, ◌+◌, ◌-◌, ◌*◌, ◌^◌, ◌++◌, refl, ap, ◌∙◌, List, arith}
-use Rattle.segment_codec.proofs.Numbers.{joined, kept, cut, written}
+use Rattle.std.proofs.Common.{arith}
+use Rattle.segment_codec.proofs.Numbers.{joined, kept}
 use Rattle.segment_codec.proofs.bits.put.Goals as goal
 
 pub returns-then-count-lt64-clause-pending : goal.returns-then-count-lt64-clause-pending
 returns-then-count-lt64-clause-pending c =
     let j = joined c.args.pending.bits c.args.number c.args.pending.count c.args.width c.requires.pending.few c.requires.pending.bits c.requires.width c.requires.number in
-    record { few = omega arith; bits = rw (j.0, c.from.ensures) j.1 }
+    record { few = omega arith; bits = rw (c.from-bits.ensures, c.joined_word.ensures) j.1 }
 
 pub returns-then-count-lt64-clause-written : goal.returns-then-count-lt64-clause-written
-returns-then-count-lt64-clause-written c =
-    let j = joined c.args.pending.bits c.args.number c.args.pending.count c.args.width c.requires.pending.few c.requires.pending.bits c.requires.width c.requires.number in
-    rw (j.0, c.from.ensures) (kept c.args.out.now.items c.args.pending.bits c.args.number c.args.pending.count c.args.width)
-
-pub overflow_cast-high-2 : goal.overflow_cast-high-2
-overflow_cast-high-2 c =
-    let j = joined c.args.pending.bits c.args.number c.args.pending.count c.args.width c.requires.pending.few c.requires.pending.bits c.requires.width c.requires.number in
-    let s = c.args.pending.count + c.args.width - 64 in
-    let same : c.args.pending.count + c.args.width ≡ 64 + s = omega arith in
-    let q = cut (c.args.pending.bits * 2 ^ c.args.width + c.args.number) s (rw (← same) j.1) (omega arith) in
-    rw (j.0, c.from.ensures) (record { fits = q.0 })
-
-pub returns-clause-pending : goal.returns-clause-pending
-returns-clause-pending c =
-    let j = joined c.args.pending.bits c.args.number c.args.pending.count c.args.width c.requires.pending.few c.requires.pending.bits c.requires.width c.requires.number in
-    let s = c.args.pending.count + c.args.width - 64 in
-    let same : c.args.pending.count + c.args.width ≡ 64 + s = omega arith in
-    let q = cut (c.args.pending.bits * 2 ^ c.args.width + c.args.number) s (rw (← same) j.1) (omega arith) in
-    record { few = omega arith; bits = rw (j.0, c.from.ensures, q.1) q.2 }
-
-pub returns-clause-written : goal.returns-clause-written
-returns-clause-written c =
-    let b = c.args.pending.bits in
-    let n = c.args.number in
-    let w = c.args.width in
-    let j = joined b n c.args.pending.count w c.requires.pending.few c.requires.pending.bits c.requires.width c.requires.number in
-    let s = c.args.pending.count + w - 64 in
-    let same : c.args.pending.count + w ≡ 64 + s = omega arith in
-    let q = cut (b * 2 ^ w + n) s (rw (← same) j.1) (omega arith) in
-    rw (j.0, c.from.ensures, q.1) (written c.args.out.now.items c.extend_from_slice.new.self.items b n c.args.pending.count w s (b * 2 ^ w + n) refl q.0 same (c.in_ok-extend_from_slice.ensures.items ∙ ap (λ (w : List ℕ). c.args.out.now.items ++ w) (rw (c.to_be_bytes.ensures, j.0, c.from.ensures) refl)))
+returns-then-count-lt64-clause-written c = rw (c.from-bits.ensures, c.joined_word.ensures) (kept c.args.out.now.items c.args.pending.bits c.args.number c.args.pending.count c.args.width)

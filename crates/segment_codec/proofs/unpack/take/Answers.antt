@@ -29,3 +29,8 @@ returns-clause-same c =
     let t = c.refill.result.0.bits in
     let s = c.refill.result.0.count - c.args.width in
     rw (masked t s (omega arith)).0 (cut_same t s (length c.refill.result.1.now) (number_from_digits 8 c.refill.result.1.now) ∙ c.refill.ensures.same)
+
+pub returns-then-width-pending-clause-same : goal.returns-then-width-pending-clause-same
+returns-then-width-pending-clause-same c =
+    rw (c.take_at_hand-number.ensures.high, c.take_at_hand-number.ensures.low)
+    (cut_same c.args.pending.bits c.take_at_hand-number.result.1.count (length c.args.rest.now) (number_from_digits 8 c.args.rest.now))

@@ -8,7 +8,7 @@ of_spelling-requires c =
     let same : c.args.octets ≡ c.self.inside.octets = c.requires ∙ ap set_octets (sym c.self.view_is) ∙ sym c.self.invariant.spelled in
     spelled_by _ _ _ _ same refl c.self.invariant
 
-pub returns : goal.returns
-returns c =
+pub returns-clause-same : goal.returns-clause-same
+returns-clause-same c =
     let same : c.args.octets ≡ c.self.inside.octets = c.requires ∙ ap set_octets (sym c.self.view_is) ∙ sym c.self.invariant.spelled in
     c.of_spelling.ensures ∙ ap rows_in_octets same ∙ c.self.view_is

@@ -6,7 +6,7 @@ use Rattle.segment_codec.specs.declared.segment.Segment.{Segment}
 use Rattle.mdb_items.specs.Database.{Database}
 use Rattle.container_extract.specs.Values.{IsRawValue}
 use Rattle.param_segments.specs.Cells.{AreValuesOf}
-use Rattle.param_segments.specs.Octets.{part_rows}
+use Rattle.param_segments.specs.Octets.{rows_of_numbered_segment}
 use Rattle.param_segments.specs.Groups.{group_segments, groups_of, is_of_group, row_pieces, segment_of, set_of}
 use Rattle.param_segments.specs.Rows.{SetRow, row_parameters}
 use Rattle.param_segments.specs.Segments.{rows_of_segment}
@@ -50,7 +50,7 @@ all_get P (x ∷ xs) zero d all lt = all.0
 all_get P (x ∷ xs) (suc i) d all lt = all_get P xs i d all.1 (omega arith)
 
 -- the values of the rows of a segment are of the database that those of the set are of
-pub part_values : (db : Database) (rows : List SetRow) (i : ℕ) → AreValuesOf db rows → i < length (set_of rows) → AreValuesOf db (part_rows rows i)
-part_values db rows i all lt =
+pub segment_values : (db : Database) (rows : List SetRow) (i : ℕ) → AreValuesOf db rows → i < length (set_of rows) → AreValuesOf db (rows_of_numbered_segment rows i)
+segment_values db rows i all lt =
     let P : SetRow → Type 0 = λ row. AllByRecursion (IsRawValue db) row.values in
     all_get (HoldsIn P) (set_of rows) i (segment_of [] []) (segments_hold P rows all) lt

@@ -1,7 +1,7 @@
 use Rattle.std.proofs.Common.{◌≡◌, take}
 use Rattle.std.specs.Prelude.{fold}
 use Rattle.std.specs.Int.{int_max, int_min}
-use Rattle.segment_codec.proofs.raw_column.least_and_greatest.Given as goal
+use Rattle.segment_codec.proofs.raw_column.wide_range.Given as goal
 
 abbrev pub invariant-loop-value : goal.invariant-loop-value
 invariant-loop-value l = record {

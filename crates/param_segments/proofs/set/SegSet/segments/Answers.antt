@@ -3,7 +3,7 @@ use Rattle.param_segments.specs.Groups.{set_of}
 use Rattle.param_segments.specs.Octets.{rows_in_octets}
 use Rattle.param_segments.specs.Rows.{SetRow}
 use Rattle.param_segments.proofs.Starts.{length-of_starts}
-use Rattle.param_segments.proofs.set.SegSet.parts.Goals as goal
+use Rattle.param_segments.proofs.set.SegSet.segments.Goals as goal
 
 pub overflow_cast-result : goal.overflow_cast-result
 overflow_cast-result c =

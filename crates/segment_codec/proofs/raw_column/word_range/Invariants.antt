@@ -1,0 +1,10 @@
+use Rattle.std.proofs.Common.{◌≡◌, pos, take}
+use Rattle.std.specs.Prelude.{fold}
+use Rattle.std.specs.Int.{int_max, int_min}
+use Rattle.segment_codec.proofs.raw_column.word_range.Given as goal
+
+abbrev pub invariant-loop-value : goal.invariant-loop-value
+invariant-loop-value l = record {
+  low : pos l.low ≡ fold int_min l.first (take l.value-index l.others);
+  high : pos l.high ≡ fold int_max l.first (take l.value-index l.others);
+}
