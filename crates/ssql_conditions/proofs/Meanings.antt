@@ -18,7 +18,7 @@ module _ {A : Type 0} (m : Meaning A) where
 
   -- a parenthesis behind one more term, whatever NOT stand before it
   abbrev closed_by : OpenGroup A → A → OpenGroup A
-  closed_by g v = record { any = g.any; all = m.meet g.all v; nots = zero }
+  closed_by g v = record { any = g.any; all = m.both g.all v; nots = zero }
 
   term_means : (f : Formula) (g : OpenGroup Formula) → meant (with_term formulas f g) ≡ with_term m (meaning_of m f) (meant g)
   term_means f g = ap (λ (v : A). closed_by (meant g) v) (negated_means g.nots f)

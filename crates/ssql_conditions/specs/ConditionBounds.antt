@@ -112,7 +112,7 @@ either_bounds a b = if is_empty_range a then b else (if is_empty_range b then a 
 
 -- NOT, AND and OR of bounds: NOT bounds nothing
 abbrev pub bounding : Meaning Bounds
-bounding = record { always_is = all_bounds; never_is = no_bounds; of_predicate = predicate_bounds; negate = λ bounds. all_bounds; meet = both_bounds; join = either_bounds }
+bounding = record { always_is = all_bounds; never_is = no_bounds; of_predicate = predicate_bounds; negate = λ bounds. all_bounds; both = both_bounds; either = either_bounds }
 
 -- the bounds of a condition
 abbrev pub bounds_of : Formula → Bounds

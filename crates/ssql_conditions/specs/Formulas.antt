@@ -21,8 +21,8 @@ pub record Meaning (A : Type 0) : Type 0 where
   pub never_is : A
   pub of_predicate : TypedPredicate → A
   pub negate : A → A
-  pub meet : A → A → A
-  pub join : A → A → A
+  pub both : A → A → A
+  pub either : A → A → A
 
 -- what a formula means, by cases
 abbrev pub meaning_of : {A : Type 0} → Meaning A → Formula → A
@@ -30,8 +30,8 @@ meaning_of m always = m.always_is
 meaning_of m never = m.never_is
 meaning_of m (meets x) = m.of_predicate x
 meaning_of m (negation f) = m.negate (meaning_of m f)
-meaning_of m (conjunction f g) = m.meet (meaning_of m f) (meaning_of m g)
-meaning_of m (disjunction f g) = m.join (meaning_of m f) (meaning_of m g)
+meaning_of m (conjunction f g) = m.both (meaning_of m f) (meaning_of m g)
+meaning_of m (disjunction f g) = m.either (meaning_of m f) (meaning_of m g)
 
 -- ---- the same piece by piece, for values of any kind
 
@@ -53,11 +53,11 @@ module _ {A : Type 0} (m : Meaning A) where
 
   -- behind one more term
   abbrev pub with_term : A → OpenGroup A → OpenGroup A
-  with_term v g = record { any = g.any; all = m.meet g.all (negated g.nots v); nots = zero }
+  with_term v g = record { any = g.any; all = m.both g.all (negated g.nots v); nots = zero }
 
   -- what a parenthesis means that ends here
   abbrev pub group_meaning : OpenGroup A → A
-  group_meaning g = m.join g.any g.all
+  group_meaning g = m.either g.any g.all
 
   -- the open parentheses behind a piece, the innermost first; the last stands for the whole condition
   abbrev pub groups_behind : TypedPiece → List (OpenGroup A) → List (OpenGroup A)
@@ -89,7 +89,7 @@ module _ {A : Type 0} (m : Meaning A) where
 
 -- formulas themselves as values
 abbrev pub formulas : Meaning Formula
-formulas = record { always_is = always; never_is = never; of_predicate = meets; negate = negation; meet = conjunction; join = disjunction }
+formulas = record { always_is = always; never_is = never; of_predicate = meets; negate = negation; both = conjunction; either = disjunction }
 
 -- the formula of a condition's pieces
 abbrev pub formula_of : List TypedPiece → Formula

@@ -59,7 +59,7 @@ is_met_by row (Pname test) = name_passes test row.pname
 
 -- NOT, AND and OR of truths, where it is known which predicates are met
 abbrev pub truths : (TypedPredicate → Bool) → Meaning Bool
-truths met = record { always_is = true; never_is = false; of_predicate = met; negate = not; meet = λ a b. a && b; join = λ a b. a || b }
+truths met = record { always_is = true; never_is = false; of_predicate = met; negate = not; both = λ a b. a && b; either = λ a b. a || b }
 
 -- the same for a row
 abbrev pub truth : Row → Meaning Bool

@@ -31,8 +31,8 @@ fn range_bounds(from: i64, to: i64, names: Option<PnameList>) -> Bounds
     }
 }
 
-/// All times and names.
-fn all_bounds() -> Bounds
+/// All times of the clock, and all names.
+pub fn all_bounds() -> Bounds
     ensures { result ≡ spec.all_bounds }
 {
     Bounds {

@@ -1,10 +1,11 @@
 //! Conditions, held piece by piece.
 
-ghost use Rattle.std.specs.Prelude.{◌≡◌, true};
+ghost use Rattle.std.specs.Prelude.{◌≡◌, true, IfOk};
 ghost use Rattle.ssql_conditions.specs.Formulas.{formula_of, parens_fit};
 
 use crate::predicate::TypedPredicate;
 use item_list::Items;
+use std::alloc::{AllocError, Global};
 use std::marker::Model;
 
 /// A piece of a condition, as it is written.
@@ -22,6 +23,37 @@ pub enum TypedPiece {
     Or,
     /// A column and its test.
     Predicate(TypedPredicate),
+}
+
+impl TypedPiece {
+    /// An equal piece.
+    fn copy(&self, alloc: Global) -> Result<TypedPiece, AllocError>
+        ensures { IfOk result (λ copy. copy ≡ self.now) }
+    {
+        match self {
+            TypedPiece::Not => Ok(TypedPiece::Not),
+            TypedPiece::Open => Ok(TypedPiece::Open),
+            TypedPiece::Close => Ok(TypedPiece::Close),
+            TypedPiece::And => Ok(TypedPiece::And),
+            TypedPiece::Or => Ok(TypedPiece::Or),
+            TypedPiece::Predicate(predicate) => {
+                let predicate = predicate.copy(alloc)?;
+                Ok(TypedPiece::Predicate(predicate))
+            }
+        }
+    }
+}
+
+/// Equal pieces, in their order.
+fn copied_pieces(alloc: Global, pieces: &[TypedPiece]) -> Result<Items<TypedPiece>, AllocError>
+    ensures { IfOk result (λ copies. copies ≡ pieces.now) }
+{
+    let mut copies = Items::new(alloc);
+    for piece in pieces {
+        let copy = piece.copy(alloc)?;
+        copies.push(copy)?;
+    }
+    Ok(copies)
 }
 
 /// What is asked of a row. A query without WHERE has a condition too, which each row meets.
@@ -61,5 +93,13 @@ impl Condition {
         ensures room { parens_fit result.now 0 ≡ true }
     {
         self.pieces.as_slice()
+    }
+
+    /// An equal condition.
+    pub fn copy(&self, alloc: Global) -> Result<Condition, AllocError>
+        ensures { IfOk result (λ copy. copy ≡ self.now) }
+    {
+        let pieces = copied_pieces(alloc, self.pieces())?;
+        Ok(Condition::new(pieces))
     }
 }

@@ -1,7 +1,10 @@
 //! What predicates ask of a row.
 
+ghost use Rattle.std.specs.Prelude.{◌≡◌, IfOk};
+
 use item_list::Items;
 use ssql_tokens::ComparisonOperator;
+use std::alloc::{AllocError, Global};
 
 /// A column whose values are numbers.
 #[derive(Clone, Copy, Debug, PartialEq, Eq)]
@@ -47,4 +50,53 @@ pub enum TypedPredicate {
     Number(NumberColumn, NumberTest),
     /// The name of the packet.
     Pname(NameTest),
+}
+
+impl NumberTest {
+    /// An equal test.
+    fn copy(&self, alloc: Global) -> Result<NumberTest, AllocError>
+        ensures { IfOk result (λ copy. copy ≡ self.now) }
+    {
+        match self {
+            NumberTest::Compare(operator, number) => Ok(NumberTest::Compare(*operator, *number)),
+            NumberTest::In(numbers) => {
+                let numbers = numbers.copy(alloc)?;
+                Ok(NumberTest::In(numbers))
+            }
+        }
+    }
+}
+
+impl NameTest {
+    /// An equal test.
+    fn copy(&self, alloc: Global) -> Result<NameTest, AllocError>
+        ensures { IfOk result (λ copy. copy ≡ self.now) }
+    {
+        match self {
+            NameTest::Is(number) => Ok(NameTest::Is(*number)),
+            NameTest::IsNot(number) => Ok(NameTest::IsNot(*number)),
+            NameTest::In(numbers) => {
+                let numbers = numbers.copy(alloc)?;
+                Ok(NameTest::In(numbers))
+            }
+        }
+    }
+}
+
+impl TypedPredicate {
+    /// An equal predicate.
+    pub(crate) fn copy(&self, alloc: Global) -> Result<TypedPredicate, AllocError>
+        ensures { IfOk result (λ copy. copy ≡ self.now) }
+    {
+        match self {
+            TypedPredicate::Number(column, test) => {
+                let test = test.copy(alloc)?;
+                Ok(TypedPredicate::Number(*column, test))
+            }
+            TypedPredicate::Pname(test) => {
+                let test = test.copy(alloc)?;
+                Ok(TypedPredicate::Pname(test))
+            }
+        }
+    }
 }

@@ -6,3 +6,5 @@ pub mod GrammarFormulas
 pub mod Parentheses
 pub mod TokenCounts
 pub mod SameParts
+pub mod DistinctTables
+pub mod KnownTables

@@ -74,7 +74,7 @@ column_rule k.Packet = Some WrongType
 abbrev pub operator_rule : ColumnKind → ComparisonOperator → Option Rule
 operator_rule (k.Number column) operator = None
 operator_rule k.Pname operator = if is_order operator then Some WrongType else None
-operator_rule k.Packet operator = None
+operator_rule k.Packet operator = None  -- of no account: its column is refused
 
 -- a number: it lies from -2^63 to 2^63 - 1
 abbrev pub number_rule : List ℕ → Option Rule
@@ -90,4 +90,4 @@ literal_rule (k.Number column) (l.Number text) = number_rule text
 literal_rule (k.Number column) (l.Quoted text) = time_rule column text
 literal_rule k.Pname (l.Number text) = Some WrongType
 literal_rule k.Pname (l.Quoted text) = None
-literal_rule k.Packet literal = None
+literal_rule k.Packet literal = None  -- of no account: its column is refused

@@ -7,3 +7,4 @@ pub mod Typed
 pub mod ConditionFormula
 pub mod Typing
 pub mod Laws
+pub mod CreatedTables

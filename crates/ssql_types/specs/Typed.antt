@@ -48,7 +48,7 @@ abbrev pub name_test : List (List ℕ) → Test → NameTest
 name_test names (a.Compare operator literal) = if is_equality operator then Is (literal_name names literal) else IsNot (literal_name names literal)
 name_test names (a.In literals) = In (map (literal_name names) literals)
 
--- a predicate over a column of a kind
+-- a predicate over a column of a kind; over a packet it is of no account: its column is refused
 abbrev pub predicate_over : List (List ℕ) → ColumnKind → Test → TypedPredicate
 predicate_over names (k.Number column) test = Number column (number_test test)
 predicate_over names k.Pname test = Pname (name_test names test)

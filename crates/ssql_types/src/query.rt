@@ -47,6 +47,17 @@ pub struct TypedFlow {
     pub condition: Condition,
 }
 
+impl TypedFlow {
+    /// An equal query.
+    pub fn copy(&self, alloc: Global) -> Result<TypedFlow, AllocError>
+        ensures { IfOk result (λ copy. copy ≡ self.now) }
+    {
+        let sources = self.sources.copy(alloc)?;
+        let condition = self.condition.copy(alloc)?;
+        Ok(TypedFlow { sources, condition })
+    }
+}
+
 /// The columns that `*` stands for.
 fn all_columns(alloc: Global) -> Result<Items<Column>, AllocError>
     ensures { IfOk result (λ columns. columns ≡ spec.selected_columns Columns.All) }

@@ -3,7 +3,7 @@
 
 #[cfg(test)]
 mod conditions;
-mod forms;
+pub mod forms;
 #[cfg(test)]
 mod scripts;
 #[cfg(test)]

@@ -1,0 +1,3 @@
+pub mod StreamPaths
+pub mod ReachedTables
+pub mod StatementPass
