@@ -4,5 +4,6 @@ pub mod Merged
 pub mod Selecting
 pub mod Selected
 pub mod Printings
+pub mod ShownRows
 pub mod Clocks
 pub mod Hexes

@@ -4,6 +4,7 @@ use Rattle.std.specs.Prelude.{flat_map, Result, Ok, Err}
 use Rattle.std.proofs.Math.Seq.{take-suc}
 use Rattle.std.proofs.lemmas.Grind.{flat_map-append}
 use Rattle.std.proofs.lemmas.List.{take_all, take-append-drop}
+use Rattle.partitions.proofs.Parted.{default_free}
 use Rattle.outer_traits.specs.Outside.{HasRisen, Stays, WritesSome}
 use Rattle.outer_traits.specs.States.{OutputState}
 use Rattle.dump_lines.specs.Output.{Appends}
@@ -106,6 +107,20 @@ module _ {A : Type 0} (line : A → List ℕ) (front : List ℕ) (rows : List A)
       subst (λ (l : List ℕ). PrintsText r first new l last) (ap (λ (l : List ℕ). l ++ flat_map line (drop (i + 1) rows)) lines_next ∙ whole)
       (failed_front r e first new ((front ++ flat_map line (take i rows)) ++ octets) (flat_map line (drop (i + 1) rows)) last last is_err
       (printed_then {X = X} (Err e) first now new (front ++ flat_map line (take i rows)) octets left last is more))
+
+-- what was put into a line that was cleared
+pub only_added : (octets put cleared added : List ℕ) → octets ≡ put → put ≡ cleared ++ added → cleared ≡ [] → octets ≡ added
+only_added octets put cleared added same is none = same ∙ is ∙ ap (λ (l : List ℕ). l ++ added) none
+
+module _ {A : Type 0} (line : A → List ℕ) (front : List ℕ) (rows : List A) (i : ℕ) (d : A) (within : i < length rows) (octets : List ℕ) (are : octets ≡ line (get_or rows i d)) where
+  -- one line more, by its place
+  pub next_printed : (first now new : OutputState) (left last : List ℕ) → IsPrinted first now (front ++ flat_map line (take i rows)) left → IsPrinted now new (left ++ octets) last → IsPrinted first new (front ++ flat_map line (take (i + 1) rows)) last
+  next_printed = line_printed line front rows i (get_or rows i d) within (default_free rows i d (get_or rows i d) within) octets are
+
+  -- it failed
+  pub next_failed : {X : Type 0} (r : Result X PrintFault) (e : PrintFault) (first now new : OutputState) (left last : List ℕ) → r ≡ Err e → IsPrinted first now (front ++ flat_map line (take i rows)) left →
+      PrintsText {X = X} (Err e) now new (left ++ octets) last → PrintsText r first new (front ++ flat_map line rows) last
+  next_failed {X} r e first now new left last = line_failed line front rows i (get_or rows i d) within (default_free rows i d (get_or rows i d) within) octets are {X = X} r e first now new left last
 
 -- ---- lines, and then the last one
 

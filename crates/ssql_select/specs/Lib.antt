@@ -1,4 +1,5 @@
 pub mod Selection
 pub mod SelectionText
+pub mod ShowText
 pub mod Printed
 pub mod Laws

@@ -15,7 +15,7 @@ use ssql_parse::Direction;
 use std::alloc::{AllocError, Global};
 
 /// Partitions in their order, each once. The one error is want of memory.
-pub(crate) fn in_order(alloc: Global, parts: &PartList) -> Result<Vec<Partition>, AllocError>
+pub(crate) fn rising_once(alloc: Global, parts: &PartList) -> Result<Vec<Partition>, AllocError>
     ensures same { IfOk result (λ rising. (part : APartition) → Contains rising.items part ↔ Contains parts.now part) }
     ensures rising { IfOk result (λ rising. AreRising rising.items) }
 {

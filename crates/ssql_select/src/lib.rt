@@ -11,6 +11,7 @@
 //! merged, and the condition, the order and the bounds of the condition are asked in any turn.
 //!
 //! A selection is its rows, which contracts see as their text: it is written line after line, and never stands in one block.
+//! What SHOW prints (`specs/ShowText.antt`) is written so too, of lines that are counted before.
 #![tactic(auto)]
 
 mod days;
@@ -19,4 +20,5 @@ mod merge;
 mod printing;
 pub mod select;
 pub mod selection_text;
+pub mod show;
 mod values;

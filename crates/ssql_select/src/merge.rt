@@ -54,7 +54,7 @@ fn rows_by_table<R: RowSource>(
 }
 
 /// The rows of some partitions and a range of times, of all tables in the order of their keys; rows that tie stand in the order of
-/// the tables. Those of one table come in this order.
+/// the tables. Those of a single table come in the order of their keys already.
 pub(crate) fn merged_rows<R: RowSource>(
     alloc: Global,
     source: &mut R,

@@ -8,7 +8,7 @@ use dump_lines::print_fault::PrintFault;
 use dump_lines::write::write_all;
 use outer_traits::sink::Sink;
 
-/// The octets from which on a text doesn't go through the buffer.
+/// The most octets of a text that goes through the buffer.
 const LONG: usize = 512;
 
 /// Prints octets, which may still be buffered.

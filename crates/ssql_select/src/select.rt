@@ -10,7 +10,7 @@ ghost use Rattle.ssql_select.specs.Selection as spec;
 ghost use Rattle.ssql_select.specs.Selection.{HoldsSelected, directed, is_selected, merged_between, selected_between, selection_of, rows_of_sources};
 ghost use Rattle.ssql_select.specs.SelectionText.{selection_text};
 
-use crate::days::{in_order, split_day};
+use crate::days::{rising_once, split_day};
 use crate::merge::merged_rows;
 use crate::selection_text::SelectionText;
 use arch_types::name::Names;
@@ -53,7 +53,7 @@ fn turned(mut rows: Vec<Row>, direction: Direction) -> Vec<Row>
     rows
 }
 
-/// Adds a row that meets a condition, in one step.
+/// Adds a row if it meets a condition, in one step.
 fn add_if_met<L: Ledger>(
     condition: &Condition,
     row: Row,
@@ -157,7 +157,7 @@ fn select_rows<R: RowSource, L: Ledger>(
 {
     bounds_hold();
     let bounds = bounds(alloc, &statement.condition)?;
-    let parts = in_order(alloc, parts)?;
+    let parts = rising_once(alloc, parts)?;
     select_days(
         alloc,
         statement,
@@ -169,9 +169,12 @@ fn select_rows<R: RowSource, L: Ledger>(
     )
 }
 
-/// What a query selects of the rows of its sources with a position below the front that stand in some partitions, in any order and
-/// as often as may be, in at most a step for each of these rows. Only the times in the bounds of its condition are read, and no day
-/// once the limit is reached. Refused as a source refuses.
+/// What a query selects of the rows of its sources with a position below the front.
+///
+/// `parts` are partitions in any order, also more than once: together those that may hold a row in the bounds of the condition, for
+/// each source. `names` are the packet names by number; a number without one prints as nothing. Takes at most one step for each row
+/// of a source in these partitions: only the times in the bounds are read, and no day once the limit is reached. Refused as the
+/// source refuses.
 pub fn select<'a, R: RowSource, L: Ledger>(
     alloc: Global,
     statement: &'a TypedSelect,

@@ -58,12 +58,13 @@ fn clock_time(packet: &[u8], rectime: i64, time: i64) -> i64
     ensures time { result ≡ time }
     ensures clock { IsClockTime result }
 {
+    // an octet seen is below 256: from that the proof has that the time is the clock's
     let _octet = packet.first();
     time
 }
 
 /// The generation time of a row.
-fn gentime(row: &Row) -> i64
+pub(crate) fn gentime(row: &Row) -> i64
     requires { IsKeyedRow row.now }
     ensures time { result ≡ row.now.key.time }
     ensures clock { IsClockTime result }

@@ -1,5 +1,11 @@
-// Tests of ssql_select: selections of a source in memory, as they are printed.
+// Tests of ssql_select: what is printed of selections, and of SHOW, over a source in memory.
 #![tactic(auto)]
 
 #[cfg(test)]
-mod tests;
+mod faults;
+#[cfg(test)]
+mod forms;
+#[cfg(test)]
+mod selections;
+#[cfg(test)]
+mod shows;

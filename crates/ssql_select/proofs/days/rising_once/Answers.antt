@@ -2,7 +2,7 @@ use Rattle.std.proofs.Common.{subst, ◌∙◌}
 use Rattle.std.specs.Prelude.{List, Contains, ◌↔◌}
 use Rattle.partitions.specs.declared.partition.Partition.{Partition}
 use Rattle.replay_merge.proofs.Opening.{are_same, same_by_order, once_rising, once_same}
-use Rattle.ssql_select.proofs.days.in_order.Goals as goal
+use Rattle.ssql_select.proofs.days.rising_once.Goals as goal
 
 pub returns-clause-same : goal.returns-clause-same
 returns-clause-same c = λ part.
