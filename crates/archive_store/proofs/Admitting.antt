@@ -5,6 +5,7 @@ use Rattle.arch_types.specs.declared.refusal.Which.{Which}
 use Rattle.arch_types.specs.declared.refusal.Which.TheVariants as limits
 use Rattle.arch_types.specs.declared.row.Row.{Row}
 use Rattle.arch_types.specs.History.{ingested}
+use Rattle.octet_fields.specs.Exact.{IsOctets}
 use Rattle.history_items.specs.Items.{Item, items_of}
 use Rattle.field_codec.specs.declared.entry.Entry.{Entry}
 use Rattle.field_codec.specs.declared.entry.Entry.TheVariants as entries
@@ -12,7 +13,7 @@ use Rattle.field_codec.specs.Entries.{IsArchiveEntry}
 use Rattle.field_codec.specs.Spelling.{entry_octets}
 use Rattle.field_codec.proofs.EntryKinds.{one_spelling}
 use Rattle.archive_store.specs.declared.head.Head.{Head}
-use Rattle.archive_store.specs.Entries.{Archive, archive, Applies, IsPlaced, AreAdmitted}
+use Rattle.archive_store.specs.Entries.{FilledArchive, archive, Applies, IsPlaced, AreAdmitted}
 use Rattle.archive_history.specs.Limits.{IsWithin, PassesFirst, IsLimit}
 use Rattle.archive_store.specs.Stands.{Breaks}
 use Rattle.archive_store.proofs.Exact.{takes_entry}
@@ -63,13 +64,13 @@ limit_is limits.SqlDepth records items p = p
 limit_is limits.Tables records items p = p
 limit_is limits.Records records items p = absurd p
 
-pub all_admitted : (head : Head) (items : List Item) (rows : List Row) → IsArchiveEntry (entries.Rows rows) → AllByRecursion (IsPlaced head) rows → IsWithin 22 (items ++ items_of rows) → ingested items rows ≡ items ++ items_of rows → AreAdmitted (archive head items) rows
-all_admitted head items rows spelled placed within fresh = record { spelled = spelled; placed = placed; fresh = fresh; within = within }
+pub all_admitted : (head : Head) (items : List Item) (rows : List Row) → IsArchiveEntry (entries.Rows rows) → AllByRecursion (IsPlaced head) rows → AllByRecursion (λ row. IsOctets row.packet) rows → IsWithin 22 (items ++ items_of rows) → ingested items rows ≡ items ++ items_of rows → AreAdmitted (archive head items) rows
+all_admitted head items rows spelled placed octets within fresh = record { spelled = spelled; placed = placed; octets = octets; fresh = fresh; within = within }
 
 -- an entry that may not follow, and no entry at all
-pub breaks_entry : (old : Option Archive) (e : Entry) (body : List ℕ) → IsArchiveEntry e → body ≡ entry_octets e → ((after : Archive) → Applies old e after → ⊥) → Breaks old body
+pub breaks_entry : (old : Option FilledArchive) (e : Entry) (body : List ℕ) → IsArchiveEntry e → body ≡ entry_octets e → ((after : FilledArchive) → Applies old e after → ⊥) → Breaks old body
 breaks_entry old e body fits spells bad entry after is takes =
     bad after (subst (λ (x : Entry). Applies old x after) (one_spelling entry e (takes_entry old entry after takes) fits (sym is ∙ spells)) takes)
 
-pub breaks_none : (old : Option Archive) (body : List ℕ) → ((e : Entry) → IsArchiveEntry e → body ≡ entry_octets e → ⊥) → Breaks old body
+pub breaks_none : (old : Option FilledArchive) (body : List ℕ) → ((e : Entry) → IsArchiveEntry e → body ≡ entry_octets e → ⊥) → Breaks old body
 breaks_none old body none entry after is takes = none entry (takes_entry old entry after takes) is

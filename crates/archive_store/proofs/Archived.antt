@@ -6,12 +6,13 @@ use Rattle.arch_types.specs.declared.row.Row.{Row}
 use Rattle.arch_types.specs.History.{is_in_table}
 use Rattle.arch_types.specs.Order.{is_before, order_by, place_by}
 use Rattle.arch_types.specs.Table.{is_in_time_range, range_of}
+use Rattle.octet_fields.specs.Exact.{IsOctets}
 use Rattle.history_items.specs.Items.{Item}
 use Rattle.field_codec.specs.Entries.{IsStored}
 use Rattle.field_codec.specs.declared.entry.Entry.{Entry}
 use Rattle.field_codec.specs.declared.entry.Entry.TheVariants as entries
 use Rattle.archive_store.specs.declared.head.Head.{Head}
-use Rattle.archive_store.specs.Entries.{Archive, archive, Applies, AreAdmitted, HasArchivedRows, IsArchivedRow, IsPlaced}
+use Rattle.archive_store.specs.Entries.{FilledArchive, archive, Applies, AreAdmitted, HasArchivedRows, IsArchivedRow, IsPlaced}
 
 module _ {X : Type 0} (P : X → Type 0) where
   all_more : (xs ys : List X) → AllByRecursion P xs → AllByRecursion P ys → AllByRecursion P (xs ++ ys)
@@ -44,17 +45,19 @@ range_archived head table low high history all =
     all_filtered (IsArchivedRow head) (is_in_time_range low high) (order_by is_before (filter (is_in_table table) history))
     (all_ordered (IsArchivedRow head) is_before [] (filter (is_in_table table) history) tt (all_filtered (IsArchivedRow head) (is_in_table table) history all))
 
-both : (head : Head) (rows : List Row) → AllByRecursion IsStored rows → AllByRecursion (IsPlaced head) rows → AllByRecursion (IsArchivedRow head) rows
-both head [] stored placed = tt
-both head (row ∷ rows) stored placed = (record { stored = stored.0; placed = placed.0 }, both head rows stored.1 placed.1)
+each_archived : (head : Head) (rows : List Row) → AllByRecursion IsStored rows → AllByRecursion (IsPlaced head) rows → AllByRecursion (λ row. IsOctets row.packet) rows → AllByRecursion (IsArchivedRow head) rows
+each_archived head [] stored placed octets = tt
+each_archived head (row ∷ rows) stored placed octets = (record { stored = stored.0; placed = placed.0; octets = octets.0 }, each_archived head rows stored.1 placed.1 octets.1)
 
 -- rows that are admitted are such rows
 pub more_archived : (head : Head) (history : List Item) (rows : List Row) → AllByRecursion (IsArchivedRow head) history → AreAdmitted (archive head history) rows → AllByRecursion (IsArchivedRow head) (history ++ rows)
-more_archived head history rows all ok = all_more (IsArchivedRow head) history rows all (both head rows ok.spelled.each ok.placed)
+more_archived head history rows all ok = all_more (IsArchivedRow head) history rows all (each_archived head rows ok.spelled.each ok.placed ok.octets)
 
 -- and so an entry leaves an archive of such rows
-pub applied_archived : (old : Option Archive) (entry : Entry) (new : Archive) → HasArchivedRows old → Applies old entry new → HasArchivedRows (Some new)
-applied_archived None (entries.Head tables mdb) new all applies = subst (λ (a : Archive). HasArchivedRows (Some a)) (sym applies.1) tt
+pub applied_archived : (old : Option FilledArchive) (entry : Entry) (new : FilledArchive) → HasArchivedRows old → Applies old entry new → HasArchivedRows (Some new)
+applied_archived None (entries.Head tables mdb) new all applies = subst (λ (a : FilledArchive). HasArchivedRows (Some a)) (sym applies.1) tt
 applied_archived None (entries.Rows rows) new all applies = absurd applies
+applied_archived None (entries.Fill interval base octets) new all applies = absurd applies
+applied_archived (Some old) (entries.Fill interval base octets) new all applies = subst (λ (a : FilledArchive). HasArchivedRows (Some a)) (sym applies.1) all
 applied_archived (Some old) (entries.Head tables mdb) new all applies = absurd applies
-applied_archived (Some old) (entries.Rows rows) new all applies = subst (λ (a : Archive). HasArchivedRows (Some a)) (sym applies.1) (more_archived old.head old.history rows all applies.0)
+applied_archived (Some old) (entries.Rows rows) new all applies = subst (λ (a : FilledArchive). HasArchivedRows (Some a)) (sym applies.1) (more_archived old.plain.head old.plain.history rows all applies.0)

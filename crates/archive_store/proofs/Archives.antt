@@ -9,17 +9,17 @@ use Rattle.field_codec.specs.declared.entry.Entry.{Entry}
 use Rattle.field_codec.specs.Spelling.{entry_octets}
 use Rattle.archive_store.specs.declared.reading.PartialArchive.{PartialArchive}
 use Rattle.archive_store.specs.declared.reading.ReadArchive.{ReadArchive}
-use Rattle.archive_store.specs.Entries.{Archive, archive, HasArchivedRows, Replays}
-use Rattle.archive_store.specs.PartialArchive.{archive_made, HasTables, IsReadArchive}
+use Rattle.archive_store.specs.Entries.{FilledArchive, HasArchivedRows, Replays}
+use Rattle.archive_store.specs.PartialArchive.{archive_made, filled_made, HasMarks, HasTables, IsReadArchive}
 use Rattle.archive_store.specs.Stands.{Breaks, IsArchiveDamagedAt}
 
 -- an archive that was made stays one
-some_stays : (a : Archive) (b : Option Archive) (es : List Entry) → Replays (Some a) es b → b ≡ None → ⊥
+some_stays : (a : FilledArchive) (b : Option FilledArchive) (es : List Entry) → Replays (Some a) es b → b ≡ None → ⊥
 some_stays a b [] replays none = cc (replays, none)
 some_stays a b (e ∷ es) replays none = some_stays replays.0 b es replays.2 none
 
 -- what made nothing were no entries
-pub no_entries : (b : Option Archive) (es : List Entry) → Replays None es b → b ≡ None → es ≡ []
+pub no_entries : (b : Option FilledArchive) (es : List Entry) → Replays None es b → b ≡ None → es ≡ []
 no_entries b [] replays none = refl
 no_entries b (e ∷ es) replays none = absurd (some_stays replays.0 b es replays.2 none)
 
@@ -32,7 +32,7 @@ opens_some content one h = go h.tail h.file_is h.closed
     go (gate ∷ rest) is closed = closed (ap (λ (l : List ℕ). get_or l 0 0) (sym is) ∙ one)
 
 -- a record that is cut short
-pub damaged_short : (image : Image) (at : ℕ) (before : Option Archive) (opening : Opening) (es : List Entry) → 2 ≤ length (image 0) → IsAt opening (image 0) (map entry_octets es) → Replays None es before → at ≡ gate_of opening → IsCutShortAt (image 0) (map entry_octets es) → IsArchiveDamagedAt image at
+pub damaged_short : (image : Image) (at : ℕ) (before : Option FilledArchive) (opening : Opening) (es : List Entry) → 2 ≤ length (image 0) → IsAt opening (image 0) (map entry_octets es) → Replays None es before → at ≡ gate_of opening → IsCutShortAt (image 0) (map entry_octets es) → IsArchiveDamagedAt image at
 damaged_short image at before opening es long is replays at_is short = record {
   entries = es;
   before = before;
@@ -46,7 +46,7 @@ damaged_short image at before opening es long is replays at_is short = record {
 }
 
 -- a record that breaks a rule
-pub damaged_wrong : (image : Image) (at : ℕ) (before : Option Archive) (old new : Opening) (es : List Entry) (body : List ℕ) → 2 ≤ length (image 0) → IsAt old (image 0) (map entry_octets es) → IsAt new (image 0) (map entry_octets es ++ body ∷ []) → Replays None es before → at ≡ gate_of old → length body < 2 ^ 32 → Breaks before body → IsArchiveDamagedAt image at
+pub damaged_wrong : (image : Image) (at : ℕ) (before : Option FilledArchive) (old new : Opening) (es : List Entry) (body : List ℕ) → 2 ≤ length (image 0) → IsAt old (image 0) (map entry_octets es) → IsAt new (image 0) (map entry_octets es ++ body ∷ []) → Replays None es before → at ≡ gate_of old → length body < 2 ^ 32 → Breaks before body → IsArchiveDamagedAt image at
 damaged_wrong image at before old new es body long is next replays at_is small breaks =
     let more : List ℕ = next.up_to.rest in
     record {
@@ -70,7 +70,7 @@ damaged_wrong image at before old new es body long is next replays at_is small b
 
 -- what was read to the end
 pub found_is : (content : List ℕ) (opening : Opening) (es : List Entry) (made : Option PartialArchive) (f : ReadArchive) → Some f.made ≡ made → IsReadJournal opening f.journal → HasRecords content (map entry_octets es) → IsAt opening content (map entry_octets es) → Replays None es (archive_made made)
-    → IsReadArchive content f.journal (archive f.made.head f.made.history.items)
+    → IsReadArchive content f.journal (filled_made f.made)
 found_is content opening es made f is finished has at replays = record {
   entries = es;
   has = has;
@@ -81,6 +81,9 @@ found_is content opening es made f is finished has at replays = record {
 
 pub rows_found : (made : Option PartialArchive) (f : ReadArchive) → Some f.made ≡ made → HasArchivedRows (archive_made made) → HasArchivedRows (archive_made (Some f.made))
 rows_found made f is has = subst (λ (m : Option PartialArchive). HasArchivedRows (archive_made m)) (sym is) has
+
+pub marks_found : (made : Option PartialArchive) (f : ReadArchive) → Some f.made ≡ made → HasMarks made → HasMarks (Some f.made)
+marks_found made f is has = subst HasMarks (sym is) has
 
 pub tables_found : (made : Option PartialArchive) (f : ReadArchive) → Some f.made ≡ made → HasTables made → HasTables (Some f.made)
 tables_found made f is has = subst HasTables (sym is) has

@@ -6,6 +6,7 @@ use Rattle.arch_types.specs.declared.inserted.Inserted.{Inserted}
 use Rattle.arch_types.specs.declared.inserted.Inserted.TheVariants.{New, Duplicate}
 use Rattle.arch_types.specs.declared.row.Row.{Row}
 use Rattle.arch_types.specs.Packet.{IsPacket}
+use Rattle.octet_fields.specs.Exact.{IsOctets}
 use Rattle.history_items.specs.Items.{Item, items_of}
 use Rattle.history_items.specs.Outcomes.{answered_new, outcomes_of, fresh_of}
 use Rattle.history_items.proofs.Outcomes.{fresh_new, length-fresh}
@@ -67,8 +68,9 @@ few_rows head rectime (a ∷ arrivals) all =
 
 -- the new rows of a batch may be added
 pub admitted : (head : Head) (history : List Item) (batch : Batch) → IsArchiveEntry (entries.Head head.tables head.mdb) → length head.mdb.containers < 2 ^ 16 → IsBatch head batch
-    → 1 ≤ length (fresh_of history (batch_rows batch)) → IsWithin 22 (history ++ items_of (fresh_of history (batch_rows batch))) → AreAdmitted (archive head history) (fresh_of history (batch_rows batch))
-admitted head history batch fits names is some within =
+    → 1 ≤ length (fresh_of history (batch_rows batch)) → IsWithin 22 (history ++ items_of (fresh_of history (batch_rows batch)))
+    → AllByRecursion (λ row. IsOctets row.packet) (fresh_of history (batch_rows batch)) → AreAdmitted (archive head history) (fresh_of history (batch_rows batch))
+admitted head history batch fits names is some within octets =
     let rows = batch_rows batch in
     let all : AllByRecursion (Fits head batch.rectime is.rectime fits.0.few names) (fresh_of history rows) =
     all_answered (Fits head batch.rectime is.rectime fits.0.few names) (outcomes_of history rows) rows (rows_fit head batch.rectime is.rectime fits.0.few names batch.arrivals is.each) in
@@ -79,6 +81,7 @@ admitted head history batch fits names is some within =
         each = all_weaker (Fits head batch.rectime is.rectime fits.0.few names) IsStored (fresh_of history rows) (λ row p. p.0) all;
       };
       placed = all_weaker (Fits head batch.rectime is.rectime fits.0.few names) (IsPlaced head) (fresh_of history rows) (λ row p. p.1) all;
+      octets = octets;
       fresh = fresh_new history rows;
       within = within;
     }

@@ -13,93 +13,105 @@ use Rattle.disk_journal.specs.State.{unhealed_fault, file_of, IsOldBut}
 use Rattle.disk_journal.specs.declared.journal.Journal.{Journal}
 use Rattle.field_codec.specs.Spelling.{entry_octets}
 use Rattle.archive_store.specs.declared.head.Head.{Head}
-use Rattle.archive_store.specs.Entries.{archive, Applies}
+use Rattle.param_segments.specs.Rows.{SetRow}
+use Rattle.store_fills.specs.FilledSets.{FilledIntervals, fillings_in}
+use Rattle.store_fills.specs.Sound.{Fillings}
+use Rattle.archive_store.specs.Entries.{FilledArchive, archive, filled_archive, Applies}
 use Rattle.archive_store.specs.Images.{ArchiveInvariant, IsPlainLog}
 use Rattle.archive_store.specs.Inside.{StoreInvariant}
 use Rattle.archive_store.specs.PlainLog.{IsUnacknowledged, IsSinceArchive}
 use Rattle.archive_store.specs.StoreView.{IsNow}
 use Rattle.archive_store.proofs.Kept.{unacknowledged_in_faults}
 use Rattle.archive_store.proofs.OneJournal as one
-use Rattle.archive_store.proofs.PlainLog.{PlainNow, plain_lower, now_over, now_for, found_whole, found_unacknowledged}
+use Rattle.archive_store.proofs.PlainLog.{PlainNow, plain_lower, now_for, found_whole, found_unacknowledged}
 
 module _ {D : Type 0} (device : Device D) where
   -- a crash during the call leaves what it might have left before
-  pub heal_moments : (disk new opened : D) (journal : Journal) (head : Head) (history : List Item) (fills : List Fill) (pending_fault : Option ℕ)
-      → StoreInvariant device disk opened journal head history fills pending_fault
+  pub heal_moments : (disk new opened : D) (journal : Journal) (head : Head) (history : List Item) (fills : List Fill) (filled : FilledIntervals) (pending_fault : Option ℕ)
+      → StoreInvariant device disk opened journal head history fills filled pending_fault
       → (IsTrue device.is_transparent → (bodies : List (List ℕ)) (pending : List ℕ) → JournalHasOnDisk device journal bodies pending disk
       → LeavesOnly device disk new (λ c. IsBeforeOrAfter bodies pending (c (file_of journal))))
       → LeavesOnly device disk new (IsOldBut device (file_of journal) disk)
       → (unhealed_fault journal ≡ None → new ≡ disk)
-      → IsTrue device.is_transparent → LeavesOnly device disk new (IsNow head history (unacknowledged_rows fills))
-  heal_moments disk new opened journal head history fills pending_fault k run elsewhere no_call transparent =
-      weakens device disk new _ _
-      (one.heal_moments entry_octets Applies IsPlainLog plain_lower device disk new opened journal (archive head history) (IsUnacknowledged head history (unacknowledged_rows fills))
-      (IsSinceArchive head k.before history (rows_of_faults fills)) k.archives run elsewhere no_call transparent) (λ c now. now_for head history (unacknowledged_rows fills) c now)
+      → IsTrue device.is_transparent → LeavesOnly device disk new (PlainNow (filled_archive head history (fillings_in filled)) (unacknowledged_rows fills))
+  heal_moments disk new opened journal head history fills filled pending_fault k run elsewhere no_call transparent =
+      one.heal_moments entry_octets Applies IsPlainLog plain_lower device disk new opened journal (filled_archive head history (fillings_in filled)) (IsUnacknowledged (filled_archive head history (fillings_in filled)) (unacknowledged_rows fills))
+      (IsSinceArchive (filled_archive head k.before k.fillings) (archive head history) (rows_of_faults fills)) k.archives run elsewhere no_call transparent
 
-  moments_over : (disk new : D) (head : Head) (history : List Item) (fills : List Fill) → LeavesOnly device disk new (IsNow head history (unacknowledged_rows fills)) → LeavesOnly device disk new (PlainNow head history (unacknowledged_rows fills))
-  moments_over disk new head history fills moments = weakens device disk new _ _ moments (λ c now. now_over head history (unacknowledged_rows fills) c now)
+  -- as contracts say it
+  pub moments_for : (disk new : D) (head : Head) (history : List Item) (fills : List Fill) (fillings : Fillings (List SetRow)) → LeavesOnly device disk new (PlainNow (filled_archive head history fillings) (unacknowledged_rows fills))
+      → LeavesOnly device disk new (IsNow head history (unacknowledged_rows fills))
+  moments_for disk new head history fills fillings moments = weakens device disk new _ _ moments (λ c now. now_for head history fillings (unacknowledged_rows fills) c now)
 
-  pub kept_healed : (disk new opened : D) (journal next : Journal) (head : Head) (history : List Item) (fills : List Fill) (pending_fault : Option ℕ)
-      → StoreInvariant device disk opened journal head history fills pending_fault
-      → (IsTrue device.is_transparent → LeavesOnly device disk new (IsNow head history (unacknowledged_rows fills)))
+  pub kept_healed : (disk new opened : D) (journal next : Journal) (head : Head) (history : List Item) (fills : List Fill) (filled : FilledIntervals) (pending_fault : Option ℕ)
+      → StoreInvariant device disk opened journal head history fills filled pending_fault
+      → (IsTrue device.is_transparent → LeavesOnly device disk new (PlainNow (filled_archive head history (fillings_in filled)) (unacknowledged_rows fills)))
       → (IsTrue device.is_transparent → (bodies : List (List ℕ)) (pending : List ℕ) → JournalHasOnDisk device journal bodies pending disk → JournalHasOnDisk device next bodies pending new)
       → LeavesOnly device disk new (IsOldBut device (file_of journal) disk)
       → file_of next ≡ file_of journal
       → unhealed_fault next ≡ None
       → device.fault_count disk ≤ device.fault_count new
       → device.failed_writes disk ≤ device.failed_writes new
-      → StoreInvariant device new opened next head history (reopened fills) None
-  kept_healed disk new opened journal next head history fills pending_fault k moments keeps elsewhere file no_pending_fault later writes = record {
-    faults = record {
-      rising = Rising-reopened fills (above (device.fault_count opened)) (device.fault_count new) (Rising-later fills (above (device.fault_count opened)) (device.fault_count disk) (device.fault_count new) later k.faults.rising);
-      later = omega (arith, k.faults.later, later);
-      writes_later = omega (arith, k.faults.writes_later, writes);
-      wrote = λ faults is. absurd (none_stands faults is);
-    };
-    before = k.before;
-    begins = k.begins;
-    opening = k.opening;
-    archives = subst (λ (l : List (List Item)). ArchiveInvariant entry_octets Applies IsPlainLog device new opened next (archive head history) (IsUnacknowledged head history (unacknowledged_rows (reopened fills))) (IsSinceArchive head k.before history l))
-        (sym (rows_of_faults-reopened fills))
-        (one.kept_healed entry_octets Applies IsPlainLog plain_lower device disk new opened journal next (archive head history) (IsUnacknowledged head history (unacknowledged_rows fills))
-        (IsUnacknowledged head history (unacknowledged_rows (reopened fills))) (IsSinceArchive head k.before history (rows_of_faults fills)) k.archives (λ transparent. moments_over disk new head history fills (moments transparent)) keeps elsewhere
-        file no_pending_fault (found_whole head k.before history (rows_of_faults fills) k.begins)
-        (found_unacknowledged head k.before history (rows_of_faults fills) (unacknowledged_rows fills) (unacknowledged_in_faults fills) k.begins));
-    pending_fault_is = sym (pending_fault_of-reopened fills);
-    journal_fault = λ faults is. absurd (cc (is, no_pending_fault));
-    head_is = k.head_is;
-    rows = k.rows;
-  }
+      → StoreInvariant device new opened next head history (reopened fills) filled None
+  kept_healed disk new opened journal next head history fills filled pending_fault k moments keeps elsewhere file no_pending_fault later writes =
+      let now : FilledArchive = filled_archive head history (fillings_in filled) in
+      let before : FilledArchive = filled_archive head k.before k.fillings in record {
+        faults = record {
+          rising = Rising-reopened fills (above (device.fault_count opened)) (device.fault_count new) (Rising-later fills (above (device.fault_count opened)) (device.fault_count disk) (device.fault_count new) later k.faults.rising);
+          later = omega (arith, k.faults.later, later);
+          writes_later = omega (arith, k.faults.writes_later, writes);
+          wrote = λ faults is. absurd (none_stands faults is);
+        };
+        before = k.before;
+        fillings = k.fillings;
+        begins = k.begins;
+        opening = k.opening;
+        sound = k.sound;
+        archives = subst (λ (l : List (List Item)). ArchiveInvariant entry_octets Applies IsPlainLog device new opened next now (IsUnacknowledged now (unacknowledged_rows (reopened fills))) (IsSinceArchive before (archive head history) l))
+            (sym (rows_of_faults-reopened fills))
+            (one.kept_healed entry_octets Applies IsPlainLog plain_lower device disk new opened journal next now (IsUnacknowledged now (unacknowledged_rows fills))
+            (IsUnacknowledged now (unacknowledged_rows (reopened fills))) (IsSinceArchive before (archive head history) (rows_of_faults fills)) k.archives moments keeps elsewhere
+            file no_pending_fault (found_whole before head history (fillings_in filled) (rows_of_faults fills) k.begins k.sound)
+            (found_unacknowledged before head history (fillings_in filled) (rows_of_faults fills) k.begins k.sound (unacknowledged_rows fills) (unacknowledged_in_faults fills)));
+        pending_fault_is = sym (pending_fault_of-reopened fills);
+        journal_fault = λ faults is. absurd (cc (is, no_pending_fault));
+        head_is = k.head_is;
+        rows = k.rows;
+      }
     where
       none_stands : (faults : ℕ) → pending_fault_of (reopened fills) ≡ Some faults → ⊥
       none_stands faults is = let none = pending_fault_of-reopened fills in cc (is, none)
 
-  pub kept_unhealed : (disk new opened : D) (journal next : Journal) (head : Head) (history : List Item) (fills : List Fill) (pending_fault : Option ℕ)
-      → StoreInvariant device disk opened journal head history fills pending_fault
-      → (IsTrue device.is_transparent → LeavesOnly device disk new (IsNow head history (unacknowledged_rows fills)))
+  pub kept_unhealed : (disk new opened : D) (journal next : Journal) (head : Head) (history : List Item) (fills : List Fill) (filled : FilledIntervals) (pending_fault : Option ℕ)
+      → StoreInvariant device disk opened journal head history fills filled pending_fault
+      → (IsTrue device.is_transparent → LeavesOnly device disk new (PlainNow (filled_archive head history (fillings_in filled)) (unacknowledged_rows fills)))
       → (IsTrue device.is_transparent → (bodies : List (List ℕ)) (pending : List ℕ) → JournalHasOnDisk device journal bodies pending disk → JournalHasOnDisk device next bodies pending new)
       → LeavesOnly device disk new (IsOldBut device (file_of journal) disk)
       → file_of next ≡ file_of journal
       → unhealed_fault next ≡ unhealed_fault journal
       → device.fault_count disk ≤ device.fault_count new
       → device.failed_writes disk ≤ device.failed_writes new
-      → StoreInvariant device new opened next head history fills pending_fault
-  kept_unhealed disk new opened journal next head history fills pending_fault k moments keeps elsewhere file same later writes = record {
-    faults = record {
-      rising = Rising-later fills (above (device.fault_count opened)) (device.fault_count disk) (device.fault_count new) later k.faults.rising;
-      later = omega (arith, k.faults.later, later);
-      writes_later = omega (arith, k.faults.writes_later, writes);
-      wrote = λ faults is. omega (arith, k.faults.wrote faults is, writes);
-    };
-    before = k.before;
-    begins = k.begins;
-    opening = k.opening;
-    archives = one.kept_unhealed entry_octets Applies IsPlainLog plain_lower device disk new opened journal next (archive head history) (IsUnacknowledged head history (unacknowledged_rows fills))
-        (IsSinceArchive head k.before history (rows_of_faults fills)) k.archives (λ transparent. moments_over disk new head history fills (moments transparent)) keeps elsewhere file same
-        (found_whole head k.before history (rows_of_faults fills) k.begins)
-        (found_unacknowledged head k.before history (rows_of_faults fills) (unacknowledged_rows fills) (unacknowledged_in_faults fills) k.begins);
-    pending_fault_is = k.pending_fault_is;
-    journal_fault = λ faults is. k.journal_fault faults (sym same ∙ is);
-    head_is = k.head_is;
-    rows = k.rows;
-  }
+      → StoreInvariant device new opened next head history fills filled pending_fault
+  kept_unhealed disk new opened journal next head history fills filled pending_fault k moments keeps elsewhere file same later writes =
+      let now : FilledArchive = filled_archive head history (fillings_in filled) in
+      let before : FilledArchive = filled_archive head k.before k.fillings in record {
+        faults = record {
+          rising = Rising-later fills (above (device.fault_count opened)) (device.fault_count disk) (device.fault_count new) later k.faults.rising;
+          later = omega (arith, k.faults.later, later);
+          writes_later = omega (arith, k.faults.writes_later, writes);
+          wrote = λ faults is. omega (arith, k.faults.wrote faults is, writes);
+        };
+        before = k.before;
+        fillings = k.fillings;
+        begins = k.begins;
+        opening = k.opening;
+        sound = k.sound;
+        archives = one.kept_unhealed entry_octets Applies IsPlainLog plain_lower device disk new opened journal next now (IsUnacknowledged now (unacknowledged_rows fills))
+            (IsSinceArchive before (archive head history) (rows_of_faults fills)) k.archives moments keeps elsewhere file same
+            (found_whole before head history (fillings_in filled) (rows_of_faults fills) k.begins k.sound)
+            (found_unacknowledged before head history (fillings_in filled) (rows_of_faults fills) k.begins k.sound (unacknowledged_rows fills) (unacknowledged_in_faults fills));
+        pending_fault_is = k.pending_fault_is;
+        journal_fault = λ faults is. k.journal_fault faults (sym same ∙ is);
+        head_is = k.head_is;
+        rows = k.rows;
+      }

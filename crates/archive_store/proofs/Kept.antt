@@ -21,7 +21,10 @@ use Rattle.disk_journal.specs.declared.journal.Journal.{Journal}
 use Rattle.field_codec.specs.declared.entry.Entry.TheVariants as entries
 use Rattle.field_codec.specs.Spelling.{entry_octets}
 use Rattle.archive_store.specs.declared.head.Head.{Head}
-use Rattle.archive_store.specs.Entries.{archive, AreAdmitted, Applies}
+use Rattle.param_segments.specs.Rows.{SetRow}
+use Rattle.store_fills.specs.FilledSets.{FilledIntervals, fillings_in}
+use Rattle.store_fills.specs.Sound.{Fillings}
+use Rattle.archive_store.specs.Entries.{FilledArchive, IsSoundArchive, archive, filled_archive, AreAdmitted, Applies}
 use Rattle.archive_store.specs.Images.{IsPlainLog}
 use Rattle.archive_store.specs.Inside.{StoreInvariant}
 use Rattle.archive_store.specs.PlainLog.{IsUnacknowledged, IsSinceArchive}
@@ -30,7 +33,7 @@ use Rattle.archive_store.specs.StoreView.{StoreView, archive_of, IsNow, CrashInv
 use Rattle.archive_store.proofs.Archived.{more_archived}
 use Rattle.archive_store.proofs.OneJournal as one
 use Rattle.archive_store.proofs.PendingFaults.{prefix_self, prefix_more}
-use Rattle.archive_store.proofs.PlainLog.{plain_lower, found_whole, found_with, found_on, either_over, either_for}
+use Rattle.archive_store.proofs.PlainLog.{StandsPlain, plain_lower, found_whole, found_with, found_on, rows_sound}
 
 -- one fault more
 abbrev pub fault : ℕ → List Row → Fill
@@ -85,38 +88,47 @@ healthy (Some faults) pending journal_fault none = let both = journal_fault faul
 
 module _ {D : Type 0} (device : Device D) where
   -- all of it is the same but for room
-  pub kept_same : (disk opened : D) (journal next : Journal) (head : Head) (history : List Item) (fills : List Fill) (pending_fault : Option ℕ)
-      → StoreInvariant device disk opened journal head history fills pending_fault → IsSame journal next
-      → StoreInvariant device disk opened next head history fills pending_fault
-  kept_same disk opened journal next head history fills pending_fault k same = record {
+  pub kept_same : (disk opened : D) (journal next : Journal) (head : Head) (history : List Item) (fills : List Fill) (filled : FilledIntervals) (pending_fault : Option ℕ)
+      → StoreInvariant device disk opened journal head history fills filled pending_fault → IsSame journal next
+      → StoreInvariant device disk opened next head history fills filled pending_fault
+  kept_same disk opened journal next head history fills filled pending_fault k same = record {
     faults = record { rising = k.faults.rising; later = k.faults.later; writes_later = k.faults.writes_later; wrote = k.faults.wrote };
     before = k.before;
+    fillings = k.fillings;
     begins = k.begins;
     opening = k.opening;
-    archives = one.kept_same entry_octets Applies IsPlainLog plain_lower device disk opened journal next (archive head history) _ _ k.archives same;
+    sound = k.sound;
+    archives = one.kept_same entry_octets Applies IsPlainLog plain_lower device disk opened journal next (filled_archive head history (fillings_in filled)) _ _ k.archives same;
     pending_fault_is = k.pending_fault_is;
     journal_fault = λ faults is. k.journal_fault faults (sym (ap faults_of same.pending_fault) ∙ is);
     head_is = k.head_is;
     rows = k.rows;
   }
 
+  -- the images of an append, as what they stand for
+  abbrev pub LeavesRows : D → D → Head → List Item → Fillings (List SetRow) → List Row → Type 0
+  LeavesRows disk new head history fillings rows = LeavesOnly device disk new (λ c. StandsPlain c (filled_archive head history fillings) ⊎ StandsPlain c (filled_archive head (history ++ items_of rows) fillings))
+
   -- rows were appended
-  pub kept_ok : (disk new opened : D) (journal next : Journal) (head : Head) (history : List Item) (rows : List Row) (fills : List Fill) (pending_fault : Option ℕ)
-      → StoreInvariant device disk opened journal head history fills pending_fault
+  pub kept_ok : (disk new opened : D) (journal next : Journal) (head : Head) (history : List Item) (rows : List Row) (fills : List Fill) (filled : FilledIntervals) (pending_fault : Option ℕ)
+      → StoreInvariant device disk opened journal head history fills filled pending_fault
       → AreAdmitted (archive head history) rows
       → pending_fault_of fills ≡ None
       → file_of next ≡ file_of journal
       → unhealed_fault next ≡ None
       → (IsTrue device.is_transparent → (bodies : List (List ℕ)) (pending : List ℕ) → JournalHasOnDisk device journal bodies pending disk → JournalHasOnDisk device next (bodies ++ entry_octets (entries.Rows rows) ∷ []) pending new)
-      → (IsTrue device.is_transparent → LeavesOnly device disk new (λ c. StandsFor c (archive head history) ⊎ StandsFor c (archive head (history ++ items_of rows))))
+      → (IsTrue device.is_transparent → LeavesRows disk new head history (fillings_in filled) rows)
       → LeavesOnly device disk new (IsOldBut device (file_of journal) disk)
       → device.fault_count disk ≤ device.fault_count new
       → device.failed_writes new ≡ device.failed_writes disk
-      → StoreInvariant device new opened next head (history ++ items_of rows) fills pending_fault
-  kept_ok disk new opened journal next head history rows fills pending_fault k ok healed file no_pending_fault keeps moments elsewhere later writes =
+      → StoreInvariant device new opened next head (history ++ items_of rows) fills filled pending_fault
+  kept_ok disk new opened journal next head history rows fills filled pending_fault k ok healed file no_pending_fault keeps moments elsewhere later writes =
       let whole : List Item = history ++ items_of rows in
+      let fillings : Fillings (List SetRow) = fillings_in filled in
+      let before : FilledArchive = filled_archive head k.before k.fillings in
       let in_faults : List (List Item) = rows_of_faults fills in
-      let begins : IsPrefix k.before whole = prefix_more k.before history (items_of rows) k.begins in record {
+      let begins : IsPrefix k.before whole = prefix_more k.before history (items_of rows) k.begins in
+      let sound : IsSoundArchive before → IsSoundArchive (filled_archive head whole fillings) = λ was. rows_sound head history fillings (items_of rows) (k.sound was) in record {
         faults = record {
           rising = Rising-later fills (above (device.fault_count opened)) (device.fault_count disk) (device.fault_count new) later k.faults.rising;
           later = omega (arith, k.faults.later, later);
@@ -124,13 +136,17 @@ module _ {D : Type 0} (device : Device D) where
           wrote = λ faults is. omega (arith, k.faults.wrote faults is, writes);
         };
         before = k.before;
+        fillings = k.fillings;
         begins = begins;
         opening = k.opening;
-        archives = one.kept_ok entry_octets Applies IsPlainLog plain_lower device disk new opened journal next (archive head history) (archive head whole) (entries.Rows rows)
-            (IsUnacknowledged head history (unacknowledged_rows fills)) (IsUnacknowledged head whole (unacknowledged_rows fills)) (IsSinceArchive head k.before history in_faults) (IsSinceArchive head k.before whole in_faults) k.archives (ok, refl) file
-            no_pending_fault keeps (λ transparent. either_over device disk new (archive head history) (archive head whole) (moments transparent)) elsewhere
-            (found_on head k.before history whole in_faults in_faults (λ xs p. prefix_more xs history (items_of rows) p) (λ more there. there))
-            (record { kept = history; holds = k.begins; begins = prefix_more history history (items_of rows) (prefix_self history); found_is = inl refl }) (found_whole head k.before whole in_faults begins);
+        sound = sound;
+        archives = one.kept_ok entry_octets Applies IsPlainLog plain_lower device disk new opened journal next (filled_archive head history fillings) (filled_archive head whole fillings) (entries.Rows rows)
+            (IsUnacknowledged (filled_archive head history fillings) (unacknowledged_rows fills)) (IsUnacknowledged (filled_archive head whole fillings) (unacknowledged_rows fills))
+            (IsSinceArchive before (archive head history) in_faults) (IsSinceArchive before (archive head whole) in_faults) k.archives (ok, refl) file
+            no_pending_fault keeps moments elsewhere
+            (found_on before (archive head history) (archive head whole) in_faults in_faults refl (λ xs p. prefix_more xs history (items_of rows) p) (λ more there. there))
+            (record { kept = history; holds = k.begins; begins = prefix_more history history (items_of rows) (prefix_self history); found_is = inl refl; sound = k.sound })
+            (found_whole before head whole fillings in_faults begins sound);
         pending_fault_is = k.pending_fault_is;
         journal_fault = λ faults is. absurd (cc (is, no_pending_fault));
         head_is = k.head_is;
@@ -138,60 +154,66 @@ module _ {D : Type 0} (device : Device D) where
       }
 
   -- an append failed
-  pub kept_err : (disk new opened : D) (journal next : Journal) (head : Head) (history : List Item) (rows : List Row) (fills : List Fill) (pending_fault : Option ℕ) (count : ℕ)
-      → StoreInvariant device disk opened journal head history fills pending_fault
+  pub kept_err : (disk new opened : D) (journal next : Journal) (head : Head) (history : List Item) (rows : List Row) (fills : List Fill) (filled : FilledIntervals) (pending_fault : Option ℕ) (count : ℕ)
+      → StoreInvariant device disk opened journal head history fills filled pending_fault
       → AreAdmitted (archive head history) rows
       → pending_fault_of fills ≡ None
       → file_of next ≡ file_of journal
       → unhealed_fault next ≡ Some (min (device.fault_count new) (2 ^ 64 - 1))
       → count ≡ min (device.fault_count new) (2 ^ 64 - 1)
       → (IsTrue device.is_transparent → (bodies : List (List ℕ)) (pending : List ℕ) → JournalHasOnDisk device journal bodies pending disk → JournalHasOnDisk device next bodies (entry_octets (entries.Rows rows)) new)
-      → (IsTrue device.is_transparent → LeavesOnly device disk new (λ c. StandsFor c (archive head history) ⊎ StandsFor c (archive head (history ++ items_of rows))))
+      → (IsTrue device.is_transparent → LeavesRows disk new head history (fillings_in filled) rows)
       → LeavesOnly device disk new (IsOldBut device (file_of journal) disk)
       → raised (device.fault_count disk) ≤ device.fault_count new
       → device.failed_writes new ≡ raised (device.failed_writes disk)
-      → StoreInvariant device new opened next head history (fills ++ fault count rows ∷ []) (Some count)
-  kept_err disk new opened journal next head history rows fills pending_fault count k ok healed file unhealed_fault_is count_is keeps moments elsewhere rose writes = let more : List Fill = fills ++ fault count rows ∷ [] in record {
-    faults = record {
-      rising = Rising-append (above (device.fault_count opened)) (device.fault_count disk) (device.fault_count new) fills (fault count rows ∷ []) (omega (arith, k.faults.later)) (omega (arith, rose)) k.faults.rising
-          (omega (arith, rose, count_is), omega (arith, count_is), tt);
-      later = omega (arith, k.faults.later, rose);
-      writes_later = omega (arith, k.faults.writes_later, writes);
-      wrote = λ faults is. omega (arith, k.faults.writes_later, writes);
-    };
-    before = k.before;
-    begins = k.begins;
-    opening = k.opening;
-    archives = one.kept_err entry_octets Applies IsPlainLog plain_lower device disk new opened journal next (archive head history) (archive head (history ++ items_of rows)) (entries.Rows rows)
-        (IsUnacknowledged head history (unacknowledged_rows fills)) (IsUnacknowledged head history (unacknowledged_rows more)) (IsSinceArchive head k.before history (rows_of_faults fills)) (IsSinceArchive head k.before history (rows_of_faults more))
-        (min (device.fault_count new) (2 ^ 64 - 1)) k.archives (ok, refl) file (healthy (unhealed_fault journal) (pending_fault_of fills) k.journal_fault healed) unhealed_fault_is keeps
-        (λ transparent. either_over device disk new (archive head history) (archive head (history ++ items_of rows)) (moments transparent)) elsewhere
-        (found_on head k.before history history (rows_of_faults fills) (rows_of_faults more) (λ xs p. p) (λ r there. subst (λ (l : List (List Item)). Contains l r) (sym (rows_of_faults-fault fills count rows)) (Contains-append_left (rows_of_faults fills) (items_of rows ∷ []) r there)))
-        (found_whole head k.before history (rows_of_faults more) k.begins) (found_with head k.before history (items_of rows) (rows_of_faults more) k.begins (rows_of_faults_last fills count rows))
-        (subst (λ (o : Option (List Item)). IsUnacknowledged head history o (archive head (history ++ items_of rows))) (sym (hand-fault fills count rows healed)) refl);
-    pending_fault_is = sym pending_fault_now;
-    journal_fault = λ faults is. pending_fault_now ∙ ap Some count_is ∙ sym unhealed_fault_is ∙ is;
-    head_is = k.head_is;
-    rows = k.rows;
-  }
+      → StoreInvariant device new opened next head history (fills ++ fault count rows ∷ []) filled (Some count)
+  kept_err disk new opened journal next head history rows fills filled pending_fault count k ok healed file unhealed_fault_is count_is keeps moments elsewhere rose writes =
+      let more : List Fill = fills ++ fault count rows ∷ [] in
+      let fillings : Fillings (List SetRow) = fillings_in filled in
+      let before : FilledArchive = filled_archive head k.before k.fillings in record {
+        faults = record {
+          rising = Rising-append (above (device.fault_count opened)) (device.fault_count disk) (device.fault_count new) fills (fault count rows ∷ []) (omega (arith, k.faults.later)) (omega (arith, rose)) k.faults.rising
+              (omega (arith, rose, count_is), omega (arith, count_is), tt);
+          later = omega (arith, k.faults.later, rose);
+          writes_later = omega (arith, k.faults.writes_later, writes);
+          wrote = λ faults is. omega (arith, k.faults.writes_later, writes);
+        };
+        before = k.before;
+        fillings = k.fillings;
+        begins = k.begins;
+        opening = k.opening;
+        sound = k.sound;
+        archives = one.kept_err entry_octets Applies IsPlainLog plain_lower device disk new opened journal next (filled_archive head history fillings) (filled_archive head (history ++ items_of rows) fillings) (entries.Rows rows)
+            (IsUnacknowledged (filled_archive head history fillings) (unacknowledged_rows fills)) (IsUnacknowledged (filled_archive head history fillings) (unacknowledged_rows more))
+            (IsSinceArchive before (archive head history) (rows_of_faults fills)) (IsSinceArchive before (archive head history) (rows_of_faults more))
+            (min (device.fault_count new) (2 ^ 64 - 1)) k.archives (ok, refl) file (healthy (unhealed_fault journal) (pending_fault_of fills) k.journal_fault healed) unhealed_fault_is keeps
+            moments elsewhere
+            (found_on before (archive head history) (archive head history) (rows_of_faults fills) (rows_of_faults more) refl (λ xs p. p) (λ r there. subst (λ (l : List (List Item)). Contains l r) (sym (rows_of_faults-fault fills count rows)) (Contains-append_left (rows_of_faults fills) (items_of rows ∷ []) r there)))
+            (found_whole before head history fillings (rows_of_faults more) k.begins k.sound) (found_with before head history fillings (rows_of_faults more) k.begins k.sound (items_of rows) (rows_of_faults_last fills count rows))
+            (subst (λ (o : Option (List Item)). IsUnacknowledged (filled_archive head history fillings) o (filled_archive head (history ++ items_of rows) fillings)) (sym (hand-fault fills count rows healed)) refl);
+        pending_fault_is = sym pending_fault_now;
+        journal_fault = λ faults is. pending_fault_now ∙ ap Some count_is ∙ sym unhealed_fault_is ∙ is;
+        head_is = k.head_is;
+        rows = k.rows;
+      }
     where
       pending_fault_now : pending_fault_of (fills ++ fault count rows ∷ []) ≡ Some count
       pending_fault_now = pending_fault_of-fault fills count rows healed
 
-  -- the images of an append, as what they stand for
-  pub moments_of : (disk new opened : D) (journal mid : Journal) (head : Head) (history : List Item) (rows : List Row) (fills : List Fill) (pending_fault : Option ℕ)
-      → StoreInvariant device disk opened journal head history fills pending_fault
+  -- what an append leaves at each moment
+  pub moments_of : (disk new opened : D) (journal mid : Journal) (head : Head) (history : List Item) (rows : List Row) (fills : List Fill) (filled : FilledIntervals) (pending_fault : Option ℕ)
+      → StoreInvariant device disk opened journal head history fills filled pending_fault
       → AreAdmitted (archive head history) rows
       → pending_fault_of fills ≡ None
       → IsSame journal mid
       → (IsTrue device.is_transparent → (bodies : List (List ℕ)) (pending : List ℕ) → JournalHasOnDisk device mid bodies pending disk → unhealed_fault mid ≡ None
       → LeavesOnly device disk new (λ c. IsBeforeOrAfter bodies (entry_octets (entries.Rows rows)) (c (file_of mid))))
       → LeavesOnly device disk new (IsOldBut device (file_of mid) disk)
-      → IsTrue device.is_transparent → LeavesOnly device disk new (λ c. StandsFor c (archive head history) ⊎ StandsFor c (archive head (history ++ items_of rows)))
-  moments_of disk new opened journal mid head history rows fills pending_fault k ok healed same run elsewhere transparent =
-      either_for device disk new (archive head history) (archive head (history ++ items_of rows))
-      (one.moments_of entry_octets Applies IsPlainLog plain_lower device disk new opened journal mid (archive head history) (archive head (history ++ items_of rows)) (entries.Rows rows)
-      (IsUnacknowledged head history (unacknowledged_rows fills)) (IsSinceArchive head k.before history (rows_of_faults fills)) k.archives (ok, refl) (healthy (unhealed_fault journal) (pending_fault_of fills) k.journal_fault healed) same run elsewhere transparent)
+      → IsTrue device.is_transparent → LeavesRows disk new head history (fillings_in filled) rows
+  moments_of disk new opened journal mid head history rows fills filled pending_fault k ok healed same run elsewhere transparent =
+      one.moments_of entry_octets Applies IsPlainLog plain_lower device disk new opened journal mid (filled_archive head history (fillings_in filled)) (filled_archive head (history ++ items_of rows) (fillings_in filled)) (entries.Rows rows)
+      (IsUnacknowledged (filled_archive head history (fillings_in filled)) (unacknowledged_rows fills)) (IsSinceArchive (filled_archive head k.before k.fillings) (archive head history) (rows_of_faults fills)) k.archives (ok, refl)
+      (healthy (unhealed_fault journal) (pending_fault_of fills) k.journal_fault healed) same run elsewhere transparent
 
 -- while no failed write stands, a crash leaves what stands for the history
 pub stands_now : {D : Type 0} (device : Device D) (store : StoreView D) (P : Image → Type 0) → CrashInvariant device store → pending_fault_of store.fills ≡ None → ((c : Image) → StandsFor c (archive_of store) → P c) → LeavesOnly device store.disk store.disk P

@@ -1,11 +1,9 @@
 -- What images stand for: one entry more.
-use Rattle.std.proofs.Common.{◌≡◌, ◌⊎◌, inl, inr, ℕ, List, [], ◌∷◌, ◌++◌, map, Option, Some, None, refl, sym, ◌∙◌, ap, subst, append_assoc}
+use Rattle.std.proofs.Common.{◌≡◌, inl, ℕ, List, [], ◌∷◌, ◌++◌, map, Option, Some, None, refl, sym, ◌∙◌, ap, subst, append_assoc}
 use Rattle.std.proofs.lemmas.List.{map-append, append-nil}
 use mathlib.Core.List.{IsPrefix}
 use Rattle.arch_disk.specs.Image.{Image}
 use Rattle.arch_disk.specs.Disk.{Device, IsDurable}
-use Rattle.arch_types.specs.declared.row.Row.{Row}
-use Rattle.history_items.specs.Items.{Item, items_of}
 use Rattle.disk_journal.specs.Format.{HasRecords, IsBeforeOrAfter}
 use Rattle.disk_journal.specs.State.{HasOnDisk, StateIs, faults_of, unhealed_fault, file_of}
 use Rattle.disk_journal.specs.declared.journal.Journal.{Journal}
@@ -13,39 +11,16 @@ use Rattle.disk_journal.specs.declared.journal.PendingFault.{PendingFault}
 use Rattle.disk_journal.specs.declared.journal.PendingFault.TheVariants.{Absent, GateClosed, GateWritten}
 use Rattle.disk_journal.proofs.Files.{staged_either}
 use Rattle.field_codec.specs.declared.entry.Entry.{Entry}
-use Rattle.field_codec.specs.declared.entry.Entry.TheVariants as entries
 use Rattle.field_codec.specs.Spelling.{entry_octets}
-use Rattle.archive_store.specs.declared.head.Head.{Head}
-use Rattle.archive_store.specs.Entries.{Archive, archive, AreAdmitted, Applies, Replays}
-use Rattle.archive_store.specs.Stands.{StandsFor}
+use Rattle.archive_store.specs.Entries.{FilledArchive, Applies, Replays}
 
--- one entry more
-pub replays_more : (a : Option Archive) (b c : Archive) (es : List Entry) (entry : Entry) → Replays a es (Some b) → Applies (Some b) entry c → Replays a (es ++ entry ∷ []) (Some c)
-replays_more a b c [] entry replays takes = (c, subst (λ (x : Option Archive). Applies x entry c) replays takes, refl)
-replays_more a b c (e ∷ es) entry replays takes = (replays.0, replays.1, replays_more (Some replays.0) b c es entry replays.2 takes)
-
--- and the first
-pub replays_next : (a b : Option Archive) (c : Archive) (es : List Entry) (entry : Entry) → Replays a es b → Applies b entry c → Replays a (es ++ entry ∷ []) (Some c)
-replays_next a b c [] entry replays takes = (c, subst (λ (x : Option Archive). Applies x entry c) replays takes, refl)
+-- one entry more, or the first
+pub replays_next : (a b : Option FilledArchive) (c : FilledArchive) (es : List Entry) (entry : Entry) → Replays a es b → Applies b entry c → Replays a (es ++ entry ∷ []) (Some c)
+replays_next a b c [] entry replays takes = (c, subst (λ (x : Option FilledArchive). Applies x entry c) replays takes, refl)
 replays_next a b c (e ∷ es) entry replays takes = (replays.0, replays.1, replays_next (Some replays.0) b c es entry replays.2 takes)
 
 pub bodies_more : (es : List Entry) (entry : Entry) → map entry_octets (es ++ entry ∷ []) ≡ map entry_octets es ++ entry_octets entry ∷ []
 bodies_more es entry = map-append entry_octets es (entry ∷ [])
-
--- the images by the records of file 0
-pub stands_before : (a : Archive) (es : List Entry) (c : Image) → Replays None es (Some a) → HasRecords (c 0) (map entry_octets es) → StandsFor c a
-stands_before a es c replays has = record { entries = es; has = has; replays = replays }
-
-pub stands_after : (head : Head) (history : List Item) (rows : List Row) (es : List Entry) (c : Image) → Replays None es (Some (archive head history)) → AreAdmitted (archive head history) rows → HasRecords (c 0) (map entry_octets es ++ entry_octets (entries.Rows rows) ∷ []) → StandsFor c (archive head (history ++ items_of rows))
-stands_after head history rows es c replays ok has = record {
-  entries = es ++ entries.Rows rows ∷ [];
-  has = subst (HasRecords (c 0)) (sym (bodies_more es (entries.Rows rows))) has;
-  replays = replays_more None (archive head history) (archive head (history ++ items_of rows)) es (entries.Rows rows) replays (ok, refl);
-}
-
-pub stands_either : (head : Head) (history : List Item) (rows : List Row) (es : List Entry) (c : Image) → Replays None es (Some (archive head history)) → AreAdmitted (archive head history) rows → IsBeforeOrAfter (map entry_octets es) (entry_octets (entries.Rows rows)) (c 0) → StandsFor c (archive head history) ⊎ StandsFor c (archive head (history ++ items_of rows))
-stands_either head history rows es c replays ok (inl has) = inl (stands_before (archive head history) es c replays has)
-stands_either head history rows es c replays ok (inr has) = inr (stands_after head history rows es c replays ok has)
 
 module _ {D : Type 0} (device : Device D) where
   -- a journal without a failure that isn't healed

@@ -4,18 +4,22 @@ use denote.Param.Send.{IsSend, IsSync, sendable}
 use Rattle.std.proofs.Crossing.{crosses}
 use Rattle.arch_disk.specs.declared.disk.Disk as disk
 use Rattle.arch_types.specs.contracts.row.Row as Row
-use Rattle.history_items.specs.contracts.fill_list.FillList as FillList
+use Rattle.fill_tracker.specs.contracts.tracker.FillTracker as FillTracker
 use Rattle.history_items.specs.contracts.fills.Fill as Fill
 use Rattle.archive_history.specs.contracts.history.History as History
 use Rattle.archive_history.specs.contracts.limit_counts.LimitCounts as LimitCounts
 use Rattle.archive_history.proofs.Sending.{table_set_send}
 use Rattle.archive_store.specs.contracts.store.Store as Store
+use Rattle.late_marks.specs.contracts.marks.LateMarks as LateMarks
 use Rattle.mdb_items.specs.contracts.calibration.Calibration as Calibration
 use Rattle.mdb_items.specs.contracts.container.Container as Container
 use Rattle.mdb_model.specs.contracts.mdb.Inner as Inner
 use Rattle.mdb_model.specs.contracts.mdb.Mdb as Mdb
 use Rattle.mdb_items.specs.contracts.name.MdbName as MdbName
 use Rattle.mdb_items.specs.contracts.parameter.Parameter as Parameter
+use Rattle.param_segments.specs.contracts.set.SegSet as SegSet
+use Rattle.store_fills.specs.contracts.sets.FilledSets as FilledSets
+use Rattle.store_fills.specs.contracts.sets.FilledSlot as FilledSlot
 
 -- ---- the mission database, which plans share
 name_send : IsSend MdbName.the_row
@@ -67,9 +71,25 @@ history_send = search (crosses, table_set_send, counts_send, sendable) depth 60
 fill_send : IsSend Fill.the_row
 fill_send = search (crosses, row_send, sendable) depth 60 fits 10000
 
-fill_list_send : IsSend FillList.the_row
-fill_list_send = search (crosses, fill_send, sendable) depth 60
+marks_send : IsSend LateMarks.the_row
+marks_send = search (crosses, sendable) depth 60 fits 10000
+
+tracker_send : IsSend FillTracker.the_row
+tracker_send = search (crosses, fill_send, marks_send, sendable) depth 60
+
+-- ---- the fills
+set_send : IsSend SegSet.the_row
+set_send = search (crosses, sendable) depth 60
+
+set_sync : IsSync SegSet.the_row
+set_sync = search (crosses, sendable) depth 60
+
+slot_send : IsSend FilledSlot.the_row
+slot_send = search (crosses, set_send, set_sync, sendable) depth 60
+
+sets_send : IsSend FilledSets.the_row
+sets_send = search (crosses, slot_send, sendable) depth 60
 
 -- ---- the store: it may go where its disk may
 pub store_send : (D : RattleType) (device : disk.Ghosts D.Denot) → IsSend D → IsSend (Store.the_row D device)
-store_send D device sent = search (crosses, mdb_send, mdb_sync, history_send, fill_list_send, sendable) depth 60
+store_send D device sent = search (crosses, mdb_send, mdb_sync, history_send, tracker_send, sets_send, sendable) depth 60

@@ -1,5 +1,6 @@
 -- What the calls of a store answer, and what each answer leaves of the store and of its disk.
 use Rattle.std.specs.Prelude.{◌≡◌, ◌≢◌, ◌≤◌, ◌⊎◌, ℕ, ◌+◌, ◌++◌, List, [], length, IsTrue, None, Some, Result, Ok, Err, IsErrAnd, MatchResult}
+use Rattle.std.specs.List.{AllByRecursion}
 use Rattle.arch_disk.specs.Image.{Image}
 use Rattle.arch_disk.specs.Disk.{Device, LeavesOnly, NoWriteFailed, raised}
 use Rattle.arch_types.specs.declared.inserted.Inserted.{Inserted}
@@ -10,15 +11,18 @@ use Rattle.arch_types.specs.declared.row.Row.{Row}
 use Rattle.arch_types.specs.Limits.{limit_of}
 use Rattle.history_items.specs.declared.fills.Addition.TheVariants.{Rows}
 use Rattle.history_items.specs.Fills.{pending_fault_of, reopened, unacknowledged_rows}
+use Rattle.store_fills.specs.Faults.{IsDone}
 use Rattle.history_items.specs.Items.{after_rows, items_of}
 use Rattle.history_items.specs.Outcomes.{outcomes_of, fresh_of}
 use Rattle.archive_history.specs.Limits.{IsLimit, IsBelowLimits}
 use Rattle.disk_journal.specs.Calls.{BeginsOpen, IsJournalCreateFailed, IsJournalOpenFailed}
 use Rattle.disk_journal.specs.Format.{HasRecords, HoldsNone}
+use Rattle.store_fills.specs.FilledSets.{fillings_in}
+use Rattle.store_fills.specs.Sound.{no_fillings}
 use Rattle.archive_store.specs.declared.head.Head.{Head}
 use Rattle.archive_store.specs.Entries.{Archive, archive}
-use Rattle.archive_store.specs.Stands.{StandsFor, IsArchiveDamagedAt}
-use Rattle.archive_store.specs.StoreView.{StoreView, AddsFault, IsNow, archive_of}
+use Rattle.archive_store.specs.Stands.{IsSoundImage, StandsFilled, StandsFor, IsArchiveDamagedAt}
+use Rattle.archive_store.specs.StoreView.{StoreView, AddsFault, IsNow, archive_of, filled_of}
 
 -- ---- crashes
 
@@ -60,6 +64,7 @@ pub record AreIngested {D : Type 0} (device : Device D) (old new : StoreView D) 
   pub outcomes_are : outcomes ≡ outcomes_of old.history rows
   pub history : new.history ≡ after_rows old.history rows
   pub fills : new.fills ≡ old.fills
+  pub filled : new.filled ≡ old.filled
   pub one_record : fresh_of old.history rows ≢ [] → new.records ≡ old.records + 1
   pub no_call : fresh_of old.history rows ≡ [] → new ≡ old
   pub no_failed_write : NoWriteFailed device old.disk new.disk
@@ -90,6 +95,7 @@ IsIngestRefusal device old new rows _ = ⊥
 pub record AreAppended {D : Type 0} (device : Device D) (old new : StoreView D) (rows : List Row) : Type 0 where
   pub history : new.history ≡ old.history ++ items_of rows
   pub fills : new.fills ≡ old.fills
+  pub filled : new.filled ≡ old.filled
   pub records : new.records ≡ old.records + 1
   pub no_failed_write : NoWriteFailed device old.disk new.disk
 
@@ -134,12 +140,13 @@ abbrev pub opened_disk_of : {D : Type 0} → Result (StoreView D) (D × Refusal)
 opened_disk_of (Ok store) = store.opened
 opened_disk_of (Err refused) = refused.0
 
--- the store is what the disk stands for, of as many records as file 0 has, without a fault
+-- the store is what the disk stands for, of as many records as file 0 has, without a fault or a flight
 pub record IsStoreOpened {D : Type 0} (device : Device D) (disk : D) (store : StoreView D) : Type 0 where
   pub stands : IsTrue device.is_transparent → StandsFor (device.reads disk) (archive_of store)
   pub records : IsTrue device.is_transparent →
       (bodies : List (List ℕ)) × HasRecords (device.reads disk 0) bodies × (store.records ≡ length bodies)
-  pub fills : store.fills ≡ []
+  pub fills : AllByRecursion IsDone store.fills
+  pub filled : IsTrue device.is_transparent → StandsFilled (device.reads disk) (filled_of store)
   pub opening : device.reads store.opened ≡ device.reads disk
   pub no_failed_write : NoWriteFailed device disk store.disk
 
@@ -177,6 +184,8 @@ pub record IsStoreCreated {D : Type 0} (device : Device D) (disk : D) (head : He
   pub none : IsTrue device.is_transparent → HoldsNone (device.reads disk 0)
   pub history : store.history ≡ []
   pub fills : store.fills ≡ []
+  pub filled : fillings_in store.filled ≡ no_fillings
+  pub sound : IsTrue device.is_transparent → IsSoundImage (device.reads store.opened)
   pub head_is : store.head ≡ head
   pub records : store.records ≡ 1
   pub opened : store.opened ≡ store.disk

@@ -5,6 +5,7 @@ use Rattle.std.specs.Ordering.{nat_cmp, ordering_then, is_gt}
 use Rattle.std.specs.declared.cmp.Ordering.{Ordering}
 use Rattle.arch_types.specs.Order.{key_cmp}
 use Rattle.arch_types.specs.declared.row.Row.{Row}
+use Rattle.octet_fields.specs.Exact.{IsOctets}
 use Rattle.history_items.specs.Items.{Item, items_of, row_item}
 use Rattle.history_items.specs.Outcomes.{outcomes_of, fresh_of}
 use Rattle.archive_history.specs.TableSet.{is_at_key}
@@ -35,8 +36,10 @@ IsFoundAt rows at (Some i) =
     (there : Row) × (slice_get rows i ≡ Some there) × (is_at_key at.table at.key (row_item there) ≡ true)
 IsFoundAt rows at None = list_any (is_at_key at.table at.key) (items_of rows) ≡ false
 
--- what became of rows that came to a history, and those of them that are new, with the last of their keys
+-- what became of rows that came to a history, and those of them that are new, with the last of their keys; their packets
+-- are octets
 pub record IsClassified (history : List Item) (rows : List Row) (classified : ClassifiedBatch) : Type 0 where
   pub outcomes : classified.outcomes ≡ outcomes_of history rows
   pub fresh : classified.fresh ≡ fresh_of history rows
   pub last : NoneAbove classified.last classified.fresh
+  pub octets : AllByRecursion (λ row. IsOctets row.packet) classified.fresh

@@ -3,25 +3,31 @@ use Rattle.std.specs.Prelude.{◌≡◌, ℕ, IsTrue, List, Option, Some}
 use Rattle.std.specs.List.{AllByRecursion}
 use mathlib.Core.List.{IsPrefix}
 use Rattle.arch_disk.specs.Disk.{Device}
+use Rattle.arch_types.specs.declared.interval.Interval.{Interval}
 use Rattle.history_items.specs.declared.fills.Fill.{Fill}
 use Rattle.history_items.specs.Items.{Item, rows_in}
-use Rattle.history_items.specs.Fills.{pending_fault_of}
+use Rattle.history_items.specs.Fills.{base_in, pending_fault_of}
 use Rattle.disk_journal.specs.State.{unhealed_fault, count_of}
 use Rattle.disk_journal.specs.declared.journal.Journal.{Journal}
 use Rattle.field_codec.specs.declared.entry.Entry.TheVariants as kinds
 use Rattle.field_codec.specs.Entries.{IsArchiveEntry}
+use Rattle.param_segments.specs.Extracted.{IsSetOf}
+use Rattle.param_segments.specs.Rows.{SetRow}
+use Rattle.store_fills.specs.FilledSets.{FilledIntervals, fillings_in}
+use Rattle.store_fills.specs.Sound.{Filling, Fillings, base_of_filling}
 use Rattle.archive_store.specs.declared.head.Head.{Head}
-use Rattle.archive_store.specs.Entries.{archive, IsArchivedRow}
+use Rattle.archive_store.specs.Entries.{IsArchivedRow, IsSoundArchive, filled_archive}
 use Rattle.archive_store.specs.PlainLog.{RowsInvariant}
-use Rattle.archive_store.specs.Stands.{StandsFor}
+use Rattle.archive_store.specs.Stands.{StandsFilled}
 use Rattle.archive_store.specs.StoreView.{StoreView, FaultInvariant}
 
--- what contracts see of a store: the disk now and as it was opened, the journal's records, the head, the history, the
--- fills
-abbrev pub view_of : {D : Type 0} → D → D → Journal → Head → List Item → List Fill → StoreView D
-view_of disk opened journal head history fills = record {
+-- what contracts see of a store: the disk now and as it was opened, the journal's records, the head, the history, what
+-- happened to fills, and the fills that are there
+abbrev pub view_of : {D : Type 0} → D → D → Journal → Head → List Item → List Fill → FilledIntervals → StoreView D
+view_of disk opened journal head history fills filled = record {
   history = history;
   fills = fills;
+  filled = filled;
   head = head;
   records = count_of journal;
   disk = disk;
@@ -31,13 +37,24 @@ view_of disk opened journal head history fills = record {
 -- what a crash leaves and what the log holds, by the archive of the opening, and how journal, head and faults go
 -- together; a journal that wants a heal does so for the first failed write that is pending
 pub record StoreInvariant {D : Type 0} (device : Device D) (disk opened : D) (journal : Journal) (head : Head)
-    (history : List Item) (fills : List Fill) (pending_fault : Option ℕ) : Type 0 where
-  pub faults : FaultInvariant device (view_of disk opened journal head history fills)
+    (history : List Item) (fills : List Fill) (filled : FilledIntervals) (pending_fault : Option ℕ) : Type 0 where
+  pub faults : FaultInvariant device (view_of disk opened journal head history fills filled)
   pub before : List Item
+  pub fillings : Fillings (List SetRow)
   pub begins : IsPrefix before history
-  pub opening : IsTrue device.is_transparent → StandsFor (device.reads opened) (archive head before)
-  pub archives : RowsInvariant device (view_of disk opened journal head history fills) journal before
+  pub opening : IsTrue device.is_transparent → StandsFilled (device.reads opened) (filled_archive head before fillings)
+  pub sound : IsSoundArchive (filled_archive head before fillings) →
+      IsSoundArchive (filled_archive head history (fillings_in filled))
+  pub archives : RowsInvariant device (view_of disk opened journal head history fills filled) journal
+      (filled_archive head before fillings)
   pub pending_fault_is : pending_fault ≡ pending_fault_of fills
   pub journal_fault : (faults : ℕ) → unhealed_fault journal ≡ Some faults → pending_fault_of fills ≡ Some faults
   pub head_is : IsArchiveEntry (kinds.Head head.tables head.mdb)
   pub rows : AllByRecursion (IsArchivedRow head) (rows_in history)
+
+-- the fill list and the fills that are there tell one base of each interval, and each set is one of its interval and of
+-- the database
+pub record HoldsFills (head : Head) (fills : List Fill) (filled : FilledIntervals) : Type 0 where
+  pub bases : (i : Interval) → base_in i fills ≡ base_of_filling (fillings_in filled) i
+  pub fits : (i : Interval) (f : Filling (List SetRow)) → fillings_in filled i ≡ Some f →
+      IsSetOf head.mdb 22 i.0 f.set

@@ -1,16 +1,23 @@
--- What holds of the images of a disk, and of replays.
+-- What holds of the images of a disk, of replays, and of rows.
 use Rattle.std.specs.Prelude.{◌≡◌, ◌≤◌, ℕ, List, length}
 use mathlib.Core.List.{IsPrefix}
 use Rattle.arch_disk.specs.Image.{Image}
+use Rattle.arch_types.specs.declared.row.Row.{Row}
+use Rattle.text_forms.specs.ClockTime.{IsClockTime}
 use Rattle.history_items.specs.Items.{Item, rows_in}
 use Rattle.disk_journal.specs.Format.{HoldsNone}
 use Rattle.replay_merge.specs.Cursor.{CursorView, rest_of}
-use Rattle.archive_store.specs.Entries.{Archive}
-use Rattle.archive_store.specs.Stands.{StandsFor, IsArchiveDamagedAt}
+use Rattle.archive_store.specs.declared.head.Head.{Head}
+use Rattle.archive_store.specs.Entries.{Archive, FilledArchive, IsArchivedRow}
+use Rattle.archive_store.specs.Stands.{StandsFilled, StandsFor, IsArchiveDamagedAt}
 
 -- an image stands for one archive at most
 abbrev pub ArchivesAreOne : Type 0
 ArchivesAreOne = (image : Image) (a b : Archive) → StandsFor image a → StandsFor image b → a ≡ b
+
+-- with one fill at most of each interval
+abbrev pub FillsAreOne : Type 0
+FillsAreOne = (image : Image) (a b : FilledArchive) → StandsFilled image a → StandsFilled image b → a ≡ b
 
 -- it is damaged at one gate at most
 abbrev pub DamageIsOne : Type 0
@@ -32,3 +39,7 @@ abbrev pub ReplaysKeepTheirFront : Type 0
 ReplaysKeepTheirFront =
     (c : CursorView) (history later : List Item) → c.front ≤ length history → IsPrefix history later →
     rest_of c (rows_in later) ≡ rest_of c (rows_in history)
+
+-- the time of a row that a store gives is a moment of the clock
+abbrev pub ArchivedRowsHaveClockTimes : Type 0
+ArchivedRowsHaveClockTimes = (head : Head) (row : Row) → IsArchivedRow head row → IsClockTime row.key.time

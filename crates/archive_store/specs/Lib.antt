@@ -11,3 +11,4 @@ pub mod Replays
 pub mod StoreView
 pub mod Classifying
 pub mod Stands
+pub mod Tasks

@@ -1,6 +1,8 @@
 -- What a reading of an archive gives.
 use Rattle.std.specs.Prelude.{◌≡◌, ◌≤◌, IsTrue, List, Option, Some, None, ℕ, map, length, option_map}
+use Rattle.std.specs.List.{AllByRecursion}
 use Rattle.arch_disk.specs.Disk.{Device, raised}
+use Rattle.arch_types.specs.declared.interval.Interval.{Interval}
 use Rattle.arch_types.specs.declared.refusal.Refusal.{Refusal}
 use Rattle.arch_types.specs.declared.refusal.Refusal.TheVariants as refused
 use Rattle.disk_journal.specs.Format.{HasRecords, written}
@@ -12,14 +14,26 @@ use Rattle.field_codec.specs.declared.entry.Entry.{Entry}
 use Rattle.field_codec.specs.declared.entry.Entry.TheVariants as entries
 use Rattle.field_codec.specs.Entries.{IsArchiveEntry}
 use Rattle.field_codec.specs.Spelling.{entry_octets}
+use Rattle.fill_tracker.specs.FillTracker.{AreMarksOf}
+use Rattle.store_fills.specs.Faults.{IsDone}
+use Rattle.param_segments.specs.Extracted.{IsSetOf}
+use Rattle.param_segments.specs.Octets.{rows_in_octets, set_octets}
+use Rattle.param_segments.specs.Rows.{SetRow}
+use Rattle.store_fills.specs.FilledSets.{fillings_in}
+use Rattle.archive_store.specs.declared.head.Head.{Head}
 use Rattle.archive_store.specs.declared.reading.PartialArchive.{PartialArchive}
 use Rattle.archive_store.specs.declared.reading.ReadArchive.{ReadArchive}
-use Rattle.archive_store.specs.Entries.{Archive, archive, HasArchivedRows, Replays}
+use Rattle.archive_store.specs.Entries.{FilledArchive, filled_archive, HasArchivedRows, Replays}
+use Rattle.archive_store.specs.Inside.{HoldsFills}
 use Rattle.archive_store.specs.Stands.{IsArchiveDamagedAt}
 
+-- the archive of what entries have made
+abbrev pub filled_made : PartialArchive → FilledArchive
+filled_made made = filled_archive made.head made.history.items (fillings_in made.sets.filled)
+
 -- what the entries so far have made
-abbrev pub archive_made : Option PartialArchive → Option Archive
-archive_made made = option_map (λ m. archive m.head m.history.items) made
+abbrev pub archive_made : Option PartialArchive → Option FilledArchive
+archive_made made = option_map filled_made made
 
 -- there are as many tables as the head has names, and the head has a spelling
 abbrev pub HasTables : Option PartialArchive → Type 0
@@ -27,8 +41,24 @@ HasTables None = Unit {0}
 HasTables (Some made) =
     (made.history.tables ≡ length made.head.tables) × IsArchiveEntry (entries.Head made.head.tables made.head.mdb)
 
+-- fills that are there were noted and nothing else, the marks are those of the history and of these, and their sets are
+-- kept
+abbrev pub HasMarks : Option PartialArchive → Type 0
+HasMarks None = Unit {0}
+HasMarks (Some made) =
+    AllByRecursion IsDone made.tracker.fills
+    × AreMarksOf 22 made.history.items made.tracker.fills made.tracker.marks
+    × HoldsFills made.head made.tracker.fills made.sets.filled
+
+-- octets hold this set of an interval and of a head's database, or they are the spelling of none
+abbrev pub IsSetRead : Head → Interval → List ℕ → Option (List SetRow) → Type 0
+IsSetRead head interval octets None =
+    (rows : List SetRow) → IsSetOf head.mdb 22 interval.0 rows → octets ≡ set_octets rows → ⊥
+IsSetRead head interval octets (Some rows) =
+    IsSetOf head.mdb 22 interval.0 rows × (octets ≡ set_octets rows) × (rows ≡ rows_in_octets octets)
+
 -- the octets of a file are records of entries that make this archive, and the journal has their places
-pub record IsReadArchive (content : List ℕ) (journal : Journal) (found : Archive) : Type 0 where
+pub record IsReadArchive (content : List ℕ) (journal : Journal) (found : FilledArchive) : Type 0 where
   pub entries : List Entry
   pub has : HasRecords content (map entry_octets entries)
   pub replays : Replays None entries (Some found)
@@ -58,10 +88,11 @@ refusal_of_create faults.OutOfMemory = refused.OutOfMemory
 -- the journal of file 0 whole, and the archive that its entries make, with all that the type of a store keeps of it
 pub record IsArchiveRead {D : Type 0} (device : Device D) (disk : D) (read : ReadArchive) : Type 0 where
   pub archive_is : IsTrue device.is_transparent →
-      IsReadArchive (device.reads disk 0) read.journal (archive read.made.head read.made.history.items)
+      IsReadArchive (device.reads disk 0) read.journal (filled_made read.made)
   pub in_file : file_of read.journal ≡ 0
   pub no_pending_fault : unhealed_fault read.journal ≡ None
   pub tables : HasTables (Some read.made)
+  pub marks : HasMarks (Some read.made)
   pub rows : HasArchivedRows (archive_made (Some read.made))
 
 -- why no archive was read: an open record passes the file's end or breaks a rule, a read failed, or memory is wanting

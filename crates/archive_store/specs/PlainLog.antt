@@ -7,29 +7,33 @@ use Rattle.history_items.specs.Fills.{rows_of_faults, unacknowledged_rows}
 use Rattle.history_items.specs.Items.{Item}
 use Rattle.disk_journal.specs.declared.journal.Journal.{Journal}
 use Rattle.field_codec.specs.Spelling.{entry_octets}
-use Rattle.archive_store.specs.declared.head.Head.{Head}
-use Rattle.archive_store.specs.Entries.{Archive, archive, Applies}
+use Rattle.archive_store.specs.Entries.{Archive, FilledArchive, IsSoundArchive, archive, filled_archive, Applies}
 use Rattle.archive_store.specs.Images.{ArchiveInvariant, IsPlainLog}
-use Rattle.archive_store.specs.StoreView.{StoreView, archive_of}
+use Rattle.archive_store.specs.StoreView.{StoreView, archive_of, filled_of}
+
+-- an archive with more rows, and the fills that it has
+abbrev pub with_rows : FilledArchive → List Item → FilledArchive
+with_rows now more = filled_archive now.plain.head (now.plain.history ++ more) now.fillings
 
 -- the archive that the unacknowledged rows make
-abbrev pub IsUnacknowledged : Head → List Item → Option (List Item) → Archive → Type 0
-IsUnacknowledged head history None after = ⊥
-IsUnacknowledged head history (Some more) after = after ≡ archive head (history ++ more)
+abbrev pub IsUnacknowledged : FilledArchive → Option (List Item) → FilledArchive → Type 0
+IsUnacknowledged now None after = ⊥
+IsUnacknowledged now (Some more) after = after ≡ with_rows now more
 
 -- An archive of a prefix of the history that holds the history of the opening, or of such a prefix followed by the rows
--- that one fault holds.
-pub record IsSinceArchive (head : Head) (before history : List Item) (in_faults : List (List Item))
-    (found : Archive) : Type 0 where
+-- that one fault holds. Its fills are sound if those of the opening were.
+pub record IsSinceArchive (before : FilledArchive) (now : Archive) (in_faults : List (List Item))
+    (found : FilledArchive) : Type 0 where
   pub kept : List Item
-  pub holds : IsPrefix before kept
-  pub begins : IsPrefix kept history
-  pub found_is : (found ≡ archive head kept)
-      ⊎ ((more : List Item) × Contains in_faults more × (found ≡ archive head (kept ++ more)))
+  pub holds : IsPrefix before.plain.history kept
+  pub begins : IsPrefix kept now.history
+  pub found_is : (found.plain ≡ archive now.head kept)
+      ⊎ ((more : List Item) × Contains in_faults more × (found.plain ≡ archive now.head (kept ++ more)))
+  pub sound : IsSoundArchive before → IsSoundArchive found
 
--- what a store of rows keeps of its log and of its images, by the history of the opening
-abbrev pub RowsInvariant : {D : Type 0} → Device D → StoreView D → Journal → List Item → Type 0
+-- what a store keeps of its log and of its images, by the archive of the opening
+abbrev pub RowsInvariant : {D : Type 0} → Device D → StoreView D → Journal → FilledArchive → Type 0
 RowsInvariant device store journal before =
-    ArchiveInvariant entry_octets Applies IsPlainLog device store.disk store.opened journal (archive_of store)
-    (IsUnacknowledged store.head store.history (unacknowledged_rows store.fills))
-    (IsSinceArchive store.head before store.history (rows_of_faults store.fills))
+    ArchiveInvariant entry_octets Applies IsPlainLog device store.disk store.opened journal (filled_of store)
+    (IsUnacknowledged (filled_of store) (unacknowledged_rows store.fills))
+    (IsSinceArchive before (archive_of store) (rows_of_faults store.fills))

@@ -5,20 +5,30 @@ use Rattle.arch_disk.specs.Image.{Image}
 use Rattle.disk_journal.specs.Format.{HasRecords, written, framed, AreSmall}
 use Rattle.field_codec.specs.declared.entry.Entry.{Entry}
 use Rattle.field_codec.specs.Spelling.{entry_octets}
-use Rattle.archive_store.specs.Entries.{Archive, Applies, Replays}
+use Rattle.archive_store.specs.Entries.{Archive, Applies, FilledArchive, IsSoundArchive, Replays}
 
--- the bodies of the journal's records are entries that make this archive
-pub record StandsFor (image : Image) (archive : Archive) : Type 0 where
+-- the bodies of the journal's records are entries that make this archive with its fills
+pub record StandsFilled (image : Image) (filled : FilledArchive) : Type 0 where
   pub entries : List Entry
   pub has : HasRecords (image 0) (map entry_octets entries)
-  pub replays : Replays None entries (Some archive)
+  pub replays : Replays None entries (Some filled)
+
+-- they make this archive, with some fills or none
+pub record StandsFor (image : Image) (archive : Archive) : Type 0 where
+  pub filled : FilledArchive
+  pub plain_is : filled.plain ≡ archive
+  pub stands : StandsFilled image filled
+
+-- the fills of the archive that an image stands for are sound
+abbrev pub IsSoundImage : Image → Type 0
+IsSoundImage image = (filled : FilledArchive) → StandsFilled image filled → IsSoundArchive filled
 
 -- no entry with this body may follow
-abbrev pub Breaks : Option Archive → List ℕ → Type 0
-Breaks before body = (entry : Entry) (after : Archive) → body ≡ entry_octets entry → Applies before entry after → ⊥
+abbrev pub Breaks : Option FilledArchive → List ℕ → Type 0
+Breaks before body = (entry : Entry) (after : FilledArchive) → body ≡ entry_octets entry → Applies before entry after → ⊥
 
 -- a whole record stands there, with the gate octet after it, and breaks a rule
-pub record IsWrong (before : Option Archive) (rest : List ℕ) : Type 0 where
+pub record IsWrong (before : Option FilledArchive) (rest : List ℕ) : Type 0 where
   pub body : List ℕ
   pub more : List ℕ
   pub small : length body < 2 ^ 32
@@ -33,7 +43,7 @@ IsCutShort rest = length rest ≤ 4 + from_be_bytes w32 (take 4 rest)
 -- at this gate stands the first open record that passes the end or breaks a rule
 pub record IsArchiveDamagedAt (image : Image) (at : ℕ) : Type 0 where
   pub entries : List Entry
-  pub before : Option Archive
+  pub before : Option FilledArchive
   pub rest : List ℕ
   pub long : 2 ≤ length (image 0)
   pub small : AreSmall (map entry_octets entries)

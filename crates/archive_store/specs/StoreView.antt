@@ -9,14 +9,16 @@ use Rattle.history_items.specs.declared.fills.Fill.TheVariants.{Fault}
 use Rattle.history_items.specs.Items.{Item}
 use Rattle.history_items.specs.Fills.{rows_of_faults, pending_fault_of, unacknowledged_rows, Rising, above}
 use Rattle.archive_store.specs.declared.head.Head.{Head}
-use Rattle.archive_store.specs.Entries.{Archive, archive}
-use Rattle.archive_store.specs.Stands.{StandsFor}
+use Rattle.store_fills.specs.FilledSets.{FilledIntervals, fillings_in}
+use Rattle.archive_store.specs.Entries.{Archive, FilledArchive, archive, filled_archive}
+use Rattle.archive_store.specs.Stands.{StandsFor, IsSoundImage}
 
--- the history and the fill list, the head, how many records the journal has, the disk, and the disk as it was at the
--- opening
+-- the history and the fill list, the fills that are there, the head, how many records the journal has, the disk, and the
+-- disk as it was at the opening
 pub record StoreView (D : Type 0) : Type 0 where
   pub history : List Item
   pub fills : List Fill
+  pub filled : FilledIntervals
   pub head : Head
   pub records : ℕ
   pub disk : D
@@ -25,6 +27,10 @@ pub record StoreView (D : Type 0) : Type 0 where
 -- what a store stands for
 abbrev pub archive_of : {D : Type 0} → StoreView D → Archive
 archive_of store = archive store.head store.history
+
+-- the same with its fills
+abbrev pub filled_of : {D : Type 0} → StoreView D → FilledArchive
+filled_of store = filled_archive store.head store.history (fillings_in store.filled)
 
 -- An image stands for a prefix of the history that holds the history of the opening, or for such a prefix followed by
 -- the rows that one fault holds.
@@ -44,7 +50,7 @@ IsNow head history (Some more) image =
     StandsFor image (archive head history) ⊎ StandsFor image (archive head (history ++ more))
 
 -- where the disk is transparent: what a crash now may leave, and what a crash at any moment since the opening's syncs
--- may have left
+-- may have left, which has sound fills if the disk of the opening had
 pub record CrashInvariant {D : Type 0} (device : Device D) (store : StoreView D) : Type 0 where
   pub before : List Item
   pub opening : StandsFor (device.reads store.opened) (archive store.head before)
@@ -53,6 +59,7 @@ pub record CrashInvariant {D : Type 0} (device : Device D) (store : StoreView D)
       IsNow store.head store.history (unacknowledged_rows store.fills) c
   pub since : LeavesOnly device store.opened store.disk
       (IsSince store.head before store.history (rows_of_faults store.fills))
+  pub sound : IsSoundImage (device.reads store.opened) → LeavesOnly device store.opened store.disk IsSoundImage
 
 -- always: the count of each fault is above the count at the opening and that of each earlier fault, and not above the
 -- count now; one with a failed write is there only where the count of failed writes is above its value at the opening
@@ -66,6 +73,7 @@ pub record FaultInvariant {D : Type 0} (device : Device D) (store : StoreView D)
 -- a call whose write failed adds one fault, which holds what it would have added, and leaves history and records
 pub record AddsFault {D : Type 0} (device : Device D) (old new : StoreView D) (addition : Addition) : Type 0 where
   pub history : new.history ≡ old.history
+  pub filled : new.filled ≡ old.filled
   pub records : new.records ≡ old.records
   pub count : ℕ
   pub count_is : count ≡ min (device.fault_count new.disk) (2 ^ 64 - 1)

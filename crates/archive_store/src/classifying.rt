@@ -12,6 +12,7 @@ ghost use Rattle.archive_store.specs.Batches.{arrival_row, arrival_rows, batch_r
 ghost use Rattle.arch_types.specs.GenerationTime.{key_of};
 
 use crate::batch::{Arrival, Batch};
+use crate::packets::packet_is_octets;
 use arch_types::inserted::{Inserted, Outcomes};
 use arch_types::key::Key;
 use arch_types::row::{Row, Rows};
@@ -154,6 +155,7 @@ fn classify_row(
         OnOk result (IsClassified history.now.items (rows ++ arrival_row batch.now.rectime arrival.now table ∷ [])
         classified.new) }
 {
+    packet_is_octets(&arrival.packet);
     let key = key_at(batch, arrival);
     let at = TableKey { key, table };
     let outcome = outcome(history, classified, at);

@@ -14,9 +14,9 @@ use replay_merge::source::RowSource;
 use std::alloc::Global;
 use std::marker::Model;
 
-/// The rows of a history in memory. That it only borrows them tells that a replay changes nothing of its store.
+/// The rows of a history in memory. That it only borrows them tells that whoever reads them changes nothing of their store.
 #[derive(Drop)]
-pub(crate) struct HistorySource<'a> {
+pub struct HistorySource<'a> {
     head: &'a Head,
     history: &'a History,
 }
@@ -78,8 +78,9 @@ impl<'a> RowSource for HistorySource<'a> {
 }
 
 impl<D: Disk> Store<D> {
-    /// The rows in memory.
-    pub(crate) fn source(&self) -> HistorySource<'_>
+    /// The rows in memory, as a source: to read them changes nothing, makes no fault of the disk, and is refused for want of memory
+    /// alone.
+    pub fn source(&self) -> HistorySource<'_>
         ensures { result ≡ rows_in self.now.history }
     {
         HistorySource {

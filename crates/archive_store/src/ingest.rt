@@ -6,6 +6,7 @@ ghost use Rattle.disk_journal.specs.State.{HasRoom, IsSame};
 ghost use Rattle.field_codec.specs.declared.entry.Entry.TheVariants as entries;
 ghost use Rattle.field_codec.specs.Entries.{IsArchiveEntry};
 ghost use Rattle.field_codec.specs.Spelling.{entry_octets};
+ghost use Rattle.fill_tracker.specs.FillTracker.{KeepsMarks};
 ghost use Rattle.archive_store.specs.Batches.{batch_rows, IsBatch};
 ghost use Rattle.archive_store.specs.Entries.{archive, AreAdmitted};
 ghost use Rattle.arch_types.specs.Limits.{limit_of};
@@ -22,7 +23,7 @@ use arch_types::row::{Row, Rows};
 use archive_history::history::History;
 use disk_journal::{Frame, Journal};
 use field_codec::{put_rows, rows_entry_len};
-use history_items::FillList;
+use fill_tracker::FillTracker;
 use history_items::fills::Addition;
 use std::alloc::{AllocError, Global};
 
@@ -37,22 +38,25 @@ fn rows_frame(alloc: Global, rows: &[Row]) -> Result<Frame, AllocError>
 }
 
 /// Takes all memory that an ingest of these rows needs.
+#[tactic(auto, using(crate::proofs::KeptMarks::keeps_roomy, crate::proofs::KeptMarks::keeps_roomier))]
 fn prepare(
     alloc: Global,
     journal: &mut Journal,
     history: &mut History,
-    fills: &mut FillList,
+    tracker: &mut FillTracker,
     fresh: &[Row],
 ) -> Result<Frame, AllocError>
     requires { IsArchiveEntry (entries.Rows fresh.now) }
     ensures frame { IfOk result (λ frame. frame ≡ entry_octets (entries.Rows fresh.now)) }
     ensures room { OnOk result (HasRoom journal.new × (length fresh.now ≤ history.new.room) ×
-        (0 < fills.new.room)) }
+        (1 ≤ tracker.new.room) × (length fresh.now ≤ tracker.new.marks.room)) }
     ensures journal { IsSame journal.old journal.new }
     ensures history { (history.new.items ≡ history.old.items) × (history.new.tables ≡ history.old.tables) }
-    ensures fills { fills.new.items ≡ fills.old.items }
+    ensures fills { tracker.new.fills ≡ tracker.old.fills }
+    ensures marks { KeepsMarks tracker.old tracker.new }
 {
-    fills.reserve_fault()?;
+    tracker.reserve()?;
+    tracker.reserve_rows(fresh.len() as u64)?;
     history.reserve(fresh.len())?;
     journal.reserve()?;
     rows_frame(alloc, fresh)
@@ -95,7 +99,7 @@ impl<D: Disk> Store<D> {
             alloc,
             &mut self.journal,
             &mut self.history,
-            &mut self.fills,
+            &mut self.tracker,
             fresh.as_slice(),
         );
         let Ok(frame) = prepared else {
@@ -103,12 +107,14 @@ impl<D: Disk> Store<D> {
         };
         match self.journal.append(&mut self.disk, &frame) {
             Ok(_) => {
+                let first = self.history.len() as u64;
+                self.tracker.touch(fresh.as_slice(), first);
                 let _ = self.history.add_all(fresh);
                 Ok(())
             }
             Err(_) => {
                 let count = self.disk.faults();
-                self.fills.note_fault(count, true, Addition::Rows(fresh));
+                self.tracker.note_fault(count, true, Addition::Rows(fresh));
                 self.pending_fault = Some(count);
                 Err(Refusal::DiskFault)
             }
@@ -179,7 +185,7 @@ impl<D: Disk> Store<D> {
     {
         match self.journal.heal(&mut self.disk) {
             Ok(()) => {
-                self.fills.clear_failed_writes();
+                self.tracker.clear_failed_writes();
                 self.pending_fault = None;
                 Ok(())
             }

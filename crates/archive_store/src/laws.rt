@@ -1,6 +1,6 @@
-//! Laws of what an image of the disk stands for and of replays, carried by functions that do nothing.
+//! Laws of what an image of the disk stands for, of replays and of rows, carried by functions that do nothing.
 
-ghost use Rattle.archive_store.specs.Laws.{ArchivesAreOne, ArchivesAreWhole, DamageIsOne, NoneIsNone, ReplaysKeepTheirFront};
+ghost use Rattle.archive_store.specs.Laws.{ArchivedRowsHaveClockTimes, ArchivesAreOne, ArchivesAreWhole, DamageIsOne, FillsAreOne, NoneIsNone, ReplaysKeepTheirFront};
 
 use crate::store::Store;
 use arch_disk::Disk;
@@ -9,6 +9,11 @@ use std::marker::Send;
 /// An image stands for one archive at most.
 pub fn archives_are_one()
     ensures { ArchivesAreOne }
+{}
+
+/// It has one fill at most of each interval.
+pub fn fills_are_one()
+    ensures { FillsAreOne }
 {}
 
 /// It is damaged at one gate at most.
@@ -29,6 +34,11 @@ pub fn none_is_none()
 /// A replay gives no row that came to the history after its opening.
 pub fn replays_keep_their_front()
     ensures { ReplaysKeepTheirFront }
+{}
+
+/// The time of a row that a store gives is a moment of the clock, so that it fits the texts and the intervals.
+pub fn archived_rows_have_clock_times()
+    ensures { ArchivedRowsHaveClockTimes }
 {}
 
 fn is_sendable<T: Send>() {}

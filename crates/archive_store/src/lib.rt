@@ -1,10 +1,12 @@
 // The store of one process: an archive on a disk that stands for its history at every moment.
 //
-// A history is rows of tables, the first to come with its key in its table. It stands in the journal in file 0 of the disk: a head record
-// with the tables and the mission database, and then a record for each batch that had new rows. `StandsFor` (specs/Stands.antt) says which
-// archive an image of the disk is, `IsArchiveDamagedAt` where it is none, and `laws` that no image is two things. Contracts see a
-// store as `StoreView` (specs/StoreView.antt): history, fill list, head, the disk, and the disk of the opening. What each call
-// answers, and what each answer leaves, stands in specs/Calls.antt.
+// A history is rows of tables, the first to come with its key in its table. It stands in the journal in file 0 of the
+// disk: a head record with the tables and the mission database, and then a record for each batch that had new rows, and
+// for each fill: the set of an interval's segments, over a front of the history. `StandsFilled` (specs/Stands.antt) says
+// which archive an image of the disk is, and which fills it has, `StandsFor` the archive alone, `IsArchiveDamagedAt` where
+// it is none, and `laws` that no image is two things. Contracts see a store as `StoreView` (specs/StoreView.antt): history,
+// fill list, fills, head, the disk, and the disk of the opening. What each call answers, and what each answer leaves,
+// stands in specs/Calls.antt.
 // Callers: the commands that create, load, ask and recover an archive, and the store that many callers take in turns.
 //
 // The one idea of the proof is in the store's type: it keeps which archives a crash at any moment since the opening may have left, whatever archives and
@@ -12,24 +14,30 @@
 // (`FaultInvariant`), of the value alone. So `front` and `into_disk` hand both out (`CrashInvariant`), and each call proves one step:
 // a record more, an unacknowledged record, a record taken back (proofs/Kept.antt, proofs/Healing.antt).
 //
-// In memory the rows stand in a table with its partitions for each name of the head; their order is kept for contracts
-// alone (archive_history). A plan of param_segments has copies of those that a retrieval extracts, by interval. A replay
-// goes over them by a cursor of replay_merge; a step of it borrows them.
+// Which intervals are late is read from marks that the type keeps beside history and fill list (`AreMarksOf` of
+// fill_tracker): contracts speak of the two lists alone. In memory the rows stand in a table with its partitions for each
+// name of the head; their order is kept for contracts alone (archive_history). A plan of param_segments has copies of
+// those that a retrieval extracts, by interval. A replay goes over them by a cursor of replay_merge; a step of it borrows them.
 // To be changed together: `Applies` in specs/Entries.antt, src/reading.rt and `IsBatch`; the limits, in archive_history.
 #![tactic(auto)]
 
 mod batch;
 mod classifying;
+mod filling;
 mod head;
 mod history_source;
 mod ingest;
 pub mod laws;
 mod names;
+mod packets;
 mod reading;
 mod replaying;
 mod retrieving;
 mod store;
+mod task;
 
 pub use batch::{Arrival, Arrivals, Batch, Ingested};
 pub use head::Head;
+pub use history_source::HistorySource;
 pub use store::Store;
+pub use task::FillTask;

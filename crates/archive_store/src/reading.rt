@@ -1,45 +1,83 @@
 //! Reading an archive, record by record.
 
-ghost use Rattle.std.specs.Prelude.{◌≡◌, ◌++◌, [], None, Some, IsTrue, true, false, length, OnErr, IfOk, IfErr, Err};
+ghost use Rattle.std.specs.Prelude.{◌≡◌, ◌++◌, [], ◌∷◌, None, Some, IsTrue, true, false, length, OnErr, OnOk, IfOk, IfErr, Err};
 ghost use Rattle.std.specs.List.{AllByRecursion};
 ghost use Rattle.arch_disk.specs.Disk.{OnlyReads};
 ghost use Rattle.disk_journal.specs.Calls.{BeginsOpen};
 ghost use Rattle.disk_journal.specs.Reading.{IsAt, file_read, IsReadJournal};
 ghost use Rattle.arch_types.specs.declared.refusal.Refusal.TheVariants.{Damaged};
 ghost use Rattle.arch_types.specs.declared.row.Row.{Row as ARow};
+ghost use Rattle.octet_fields.specs.Exact.{IsOctets};
+ghost use Rattle.std.specs.Arc.{arc_value};
+ghost use Rattle.history_items.specs.declared.fills.Fill.TheVariants as noted;
+ghost use Rattle.late_marks.specs.Marks.{has_rows};
+ghost use Rattle.fill_tracker.specs.FillTracker.{KeepsMarks};
+ghost use Rattle.interval_fills.specs.Steps.{IsStoredBase};
+ghost use Rattle.store_fills.specs.FilledSets.{fill_over, fillings_in};
+ghost use Rattle.store_fills.specs.Sound.{no_fillings, with_filling};
 ghost use Rattle.field_codec.specs.declared.entry.Entry.{Entry as AnEntry};
 ghost use Rattle.field_codec.specs.declared.entry.Entry.TheVariants as entries;
 ghost use Rattle.field_codec.specs.Entries.{IsArchiveEntry};
 ghost use Rattle.field_codec.specs.Spelling.{entry_octets};
-ghost use Rattle.archive_store.specs.Entries.{archive, Applies, AreAdmitted, IsPlaced, Archive};
-ghost use Rattle.archive_store.specs.PartialArchive.{archive_made, HasTables, read_refusal, IsArchiveRead, IsArchiveReadRefusal};
+ghost use Rattle.archive_store.specs.Entries.{archive, filled_archive, Applies, AreAdmitted, FilledArchive, IsFillable, IsPlaced};
+ghost use Rattle.archive_store.specs.PartialArchive.{archive_made, filled_made, IsSetRead, HasMarks, HasTables, read_refusal, IsArchiveRead, IsArchiveReadRefusal};
 ghost use Rattle.archive_store.specs.Stands.{Breaks};
 
 use crate::head::Head;
+use crate::packets::packet_is_octets;
 use arch_disk::Disk;
+use arch_types::interval::Interval;
 use arch_types::octets::Octets;
 use arch_types::refusal::Refusal;
 use arch_types::row::{Row, Rows};
 use archive_history::history::History;
 use disk_journal::{Journal, JournalFault, Opening};
 use field_codec::{Entry, NotAnEntry, read_shared};
+use fill_tracker::FillTracker;
+use param_segments::{NotASegment, SegSet};
 use std::alloc::{AllocError, Global};
+use std::sync::Arc;
+use store_fills::FilledSets;
 
 /// What the entries so far have made.
 #[derive(Drop)]
 pub(crate) struct PartialArchive {
     pub head: Head,
     pub history: History,
+    /// What happened to fills, with the late marks of the history.
+    pub tracker: FillTracker,
+    /// The last fill of each interval.
+    pub sets: FilledSets,
+}
+
+/// What a head makes.
+fn of_head(alloc: Global, head: Head) -> Result<PartialArchive, AllocError>
+    requires { IsArchiveEntry (entries.Head head.tables head.mdb) }
+    ensures made { IfOk result (λ made. filled_made made ≡ filled_archive head [] no_fillings) }
+    ensures tables { IfOk result (λ made. HasTables (Some made)) }
+    ensures marks { IfOk result (λ made. HasMarks (Some made)) }
+{
+    let history = History::new(alloc, head.tables.as_slice().len())?;
+    let tracker = FillTracker::new(alloc);
+    let sets = FilledSets::new(alloc);
+    Ok(PartialArchive {
+        head,
+        history,
+        tracker,
+        sets,
+    })
 }
 
 /// Whether the tables and packet names of rows are there.
 fn are_placed(head: &Head, rows: &[Row]) -> bool
     ensures yes { result ≡ true → AllByRecursion (IsPlaced head.now) rows.now }
+    ensures octets { result ≡ true → AllByRecursion (λ row. IsOctets row.packet) rows.now }
     ensures no { result ≡ false → AllByRecursion (IsPlaced head.now) rows.now → ⊥ }
 {
     let tables = head.tables.as_slice().len();
     let names = head.mdb.containers();
     for row in rows {
+        packet_is_octets(&row.packet);
         if row.table as usize >= tables || row.pname >= names {
             return false;
         }
@@ -51,11 +89,13 @@ fn are_placed(head: &Head, rows: &[Row]) -> bool
 fn admit(made: &mut PartialArchive, rows: Rows) -> Result<bool, AllocError>
     requires entry { IsArchiveEntry (entries.Rows rows) }
     requires tables { made.old.history.tables ≡ length made.old.head.tables }
+    requires marks { HasMarks (Some made.old) }
     ensures yes { IfOk result (λ ok. ok ≡ true → AreAdmitted (archive made.old.head made.old.history.items) rows
         × (made.new.history.items ≡ made.old.history.items ++ rows)) }
     ensures no { IfOk result (λ ok. ok ≡ false → AreAdmitted (archive made.old.head made.old.history.items) rows → ⊥) }
-    ensures head { made.new.head ≡ made.old.head }
+    ensures head { (made.new.head ≡ made.old.head) × (made.new.sets.filled ≡ made.old.sets.filled) }
     ensures tables { made.new.history.tables ≡ made.old.history.tables }
+    ensures marks { IfOk result (λ ok. ok ≡ true → HasMarks (Some made.new)) }
 {
     if !are_placed(&made.head, rows.as_slice()) {
         return Ok(false);
@@ -64,7 +104,113 @@ fn admit(made: &mut PartialArchive, rows: Rows) -> Result<bool, AllocError>
         return Ok(false);
     }
     made.history.reserve(rows.len())?;
+    made.tracker.reserve_rows(rows.len() as u64)?;
+    let first = made.history.len() as u64;
+    made.tracker.touch(rows.as_slice(), first);
     Ok(made.history.add_all(rows))
+}
+
+/// Whether a fill of an interval over the first `base` items may be there: the history has these, and the interval a row.
+fn may_fill(made: &PartialArchive, interval: Interval, base: u64) -> bool
+    requires { HasMarks (Some made.now) }
+    ensures yes { result ≡ true → IsStoredBase 22 interval base made.now.history.items }
+    ensures no { result ≡ false → IsStoredBase 22 interval base made.now.history.items → ⊥ }
+    ensures rows { result ≡ true → has_rows made.now.tracker.marks interval ≡ true }
+{
+    let count = made.history.len() as u64;
+    if base > count {
+        return false;
+    }
+    made.tracker.last(interval).is_some()
+}
+
+/// Notes a fill, where there is memory for it.
+fn note_fill(
+    made: &mut PartialArchive,
+    interval: Interval,
+    base: u64,
+    set: Arc<SegSet, Global>,
+) -> Result<(), AllocError>
+    requires { has_rows made.old.tracker.marks interval ≡ true }
+    ensures fills { OnOk result (made.new.tracker.fills ≡ made.old.tracker.fills ++ noted.Done interval base ∷ []) }
+    ensures marks { OnOk result (KeepsMarks made.old.tracker made.new.tracker) }
+    ensures sets { OnOk result (fillings_in made.new.sets.filled
+        ≡ with_filling (fillings_in made.old.sets.filled) interval (fill_over base (arc_value set))) }
+    ensures rest { (made.new.head ≡ made.old.head) × (made.new.history ≡ made.old.history) }
+{
+    made.tracker.reserve()?;
+    made.sets.reserve()?;
+    made.tracker.finish(interval, base);
+    made.sets.put(interval, base, set);
+    Ok(())
+}
+
+/// The set of a fill, or none where its octets are no set of the interval.
+fn read_set(
+    alloc: Global,
+    interval: Interval,
+    octets: Octets,
+    head: &Head,
+) -> Result<Option<SegSet>, AllocError>
+    ensures { IfOk result (IsSetRead head.now interval octets) }
+{
+    match SegSet::from_octets(alloc, interval, octets, &head.mdb) {
+        Ok(set) => Ok(Some(set)),
+        Err(NotASegment::Malformed) => Ok(None),
+        Err(NotASegment::OutOfMemory) => Err(AllocError),
+    }
+}
+
+/// Whether a fill may follow; then it does.
+fn admit_fill(
+    alloc: Global,
+    made: &mut PartialArchive,
+    interval: Interval,
+    base: u64,
+    octets: Octets,
+) -> Result<bool, AllocError>
+    requires entry { IsArchiveEntry (entries.Fill interval base octets) }
+    requires marks { HasMarks (Some made.old) }
+    ensures yes { IfOk result (λ ok. ok ≡ true →
+        Applies (Some (filled_made made.old)) (entries.Fill interval base octets) (filled_made made.new)) }
+    ensures no { IfOk result (λ ok. ok ≡ false → IsFillable (filled_made made.old) interval base octets → ⊥) }
+    ensures rest { (made.new.head ≡ made.old.head) × (made.new.history ≡ made.old.history) }
+    ensures marks { IfOk result (λ ok. ok ≡ true → HasMarks (Some made.new)) }
+{
+    if !may_fill(made, interval, base) {
+        return Ok(false);
+    }
+    let found = read_set(alloc, interval, octets, &made.head)?;
+    let Some(set) = found else {
+        return Ok(false);
+    };
+    let shared = Arc::new(alloc, set)?;
+    note_fill(made, interval, base, shared)?;
+    Ok(true)
+}
+
+/// Whether a fill may follow what entries have made; then it does.
+fn take_fill(
+    alloc: Global,
+    made: &mut Option<PartialArchive>,
+    interval: Interval,
+    base: u64,
+    octets: Octets,
+) -> Result<bool, AllocError>
+    requires entry { IsArchiveEntry (entries.Fill interval base octets) }
+    requires tables { HasTables made.old }
+    requires marks { HasMarks made.old }
+    ensures yes { IfOk result (λ ok. ok ≡ true → (after : FilledArchive) × (archive_made made.new ≡ Some after)
+        × Applies (archive_made made.old) (entries.Fill interval base octets) after) }
+    ensures no { IfOk result (λ ok. ok ≡ false → (after : FilledArchive) →
+        Applies (archive_made made.old) (entries.Fill interval base octets) after → ⊥) }
+    ensures tables { HasTables made.new }
+    ensures marks { IfOk result (λ ok. ok ≡ true → HasMarks made.new) }
+{
+    match made {
+        Some(made) => admit_fill(alloc, made, interval, base, octets),
+        None => Ok(false),
+    }
 }
 
 /// Whether an entry with these octets may follow; then it does.
@@ -74,10 +220,13 @@ fn take_in(
     body: &Octets,
 ) -> Result<bool, AllocError>
     requires tables { HasTables made.old }
-    ensures yes { IfOk result (λ ok. ok ≡ true → (entry : AnEntry) × (body.now ≡ entry_octets entry) ×
-        (after : Archive) × (archive_made made.new ≡ Some after) × Applies (archive_made made.old) entry after) }
+    requires marks { HasMarks made.old }
+    ensures yes { IfOk result (λ ok. ok ≡ true → (entry : AnEntry) × (body.now ≡ entry_octets entry)
+        × (after : FilledArchive) × (archive_made made.new ≡ Some after)
+        × Applies (archive_made made.old) entry after) }
     ensures no { IfOk result (λ ok. ok ≡ false → Breaks (archive_made made.old) body.now) }
     ensures tables { HasTables made.new }
+    ensures marks { IfOk result (λ ok. ok ≡ true → HasMarks made.new) }
 {
     match read_shared(alloc, body) {
         Err(NotAnEntry::OutOfMemory) => Err(AllocError),
@@ -86,17 +235,21 @@ fn take_in(
             if made.is_some() {
                 return Ok(false);
             }
-            let history = History::new(alloc, tables.as_slice().len())?;
-            *made = Some(PartialArchive {
-                head: Head { tables, mdb },
-                history,
-            });
+            let begun = of_head(alloc, Head { tables, mdb })?;
+            *made = Some(begun);
             Ok(true)
         }
         Ok(Entry::Rows(rows)) => match made {
             Some(made) => admit(made, rows),
             None => Ok(false),
         },
+        Ok(
+            Entry::Fill {
+                interval,
+                base,
+                set,
+            },
+        ) => take_fill(alloc, made, interval, base, set),
     }
 }
 

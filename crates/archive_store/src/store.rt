@@ -21,12 +21,13 @@ use arch_types::refusal::Refusal;
 use archive_history::history::History;
 use disk_journal::{Frame, Journal, JournalFault, Opening};
 use field_codec::write_head;
-use history_items::FillList;
+use fill_tracker::FillTracker;
 use mdb_model::Mdb;
 use std::alloc::{AllocError, Global};
 use std::marker::Model;
 use std::snapshot::Snapshot;
 use std::sync::Arc;
+use store_fills::FilledSets;
 
 /// An archive on a disk, and its history in memory.
 #[derive(Drop)]
@@ -38,7 +39,10 @@ pub struct Store<D: Disk> {
     /// The head's database, which plans share.
     pub(crate) mdb: Arc<Mdb, Global>,
     pub(crate) history: History,
-    pub(crate) fills: FillList,
+    /// What happened to fills, with the late marks of the history.
+    pub(crate) tracker: FillTracker,
+    /// The last fill of each interval.
+    pub(crate) sets: FilledSets,
     /// The disk's count of faults at the first failed write that isn't healed.
     pub(crate) pending_fault: Option<u64>,
 }
@@ -46,16 +50,21 @@ pub struct Store<D: Disk> {
 impl<D: Disk> Model for Store<D> {
     ghost use Rattle.std.specs.Prelude.{◌≡◌, length};
     ghost use Rattle.std.specs.Arc.{arc_value};
+    ghost use Rattle.fill_tracker.specs.FillTracker.{AreMarksOf};
     ghost use Rattle.archive_store.specs.StoreView.{StoreView};
-    ghost use Rattle.archive_store.specs.Inside.{view_of, StoreInvariant};
+    ghost use Rattle.archive_store.specs.Inside.{view_of, HoldsFills, StoreInvariant};
 
     ghost Value = { StoreView D };
 
-    ghost view = { λ s. view_of s.disk s.opened.value s.journal s.head s.history.items s.fills.items };
+    ghost view = { λ s. view_of s.disk s.opened.value s.journal s.head s.history.items s.tracker.fills
+        s.sets.filled };
 
     ghost invariant = { λ s.
-        StoreInvariant D.device s.disk s.opened.value s.journal s.head s.history.items s.fills.items s.pending_fault
-        × (s.history.tables ≡ length s.head.tables) × (arc_value s.mdb ≡ s.head.mdb) };
+        StoreInvariant D.device s.disk s.opened.value s.journal s.head s.history.items s.tracker.fills s.sets.filled
+        s.pending_fault
+        × (s.history.tables ≡ length s.head.tables) × (arc_value s.mdb ≡ s.head.mdb)
+        × AreMarksOf 22 s.history.items s.tracker.fills s.tracker.marks
+        × HoldsFills s.head s.tracker.fills s.sets.filled };
 }
 
 /// A record with this head.
@@ -110,7 +119,9 @@ fn prepare_new(alloc: Global, head: Head) -> Result<NewArchive, AllocError>
 }
 
 impl<D: Disk> Store<D> {
-    ghost use Rattle.archive_store.specs.StoreView.{CrashInvariant, FaultInvariant};
+    ghost use Rattle.archive_store.specs.Entries.{IsSoundArchive};
+    ghost use Rattle.archive_store.specs.Stands.{IsSoundImage};
+    ghost use Rattle.archive_store.specs.StoreView.{CrashInvariant, FaultInvariant, filled_of};
     ghost use Rattle.disk_journal.specs.Calls.{BeginsOpen, CountsNeverFall};
     ghost use Rattle.archive_store.specs.Calls.{CrashLeavesHead, IsDecidedByImage, IsStoreCreated, IsStoreCreateRefusal, IsStoreOpened, IsStoreOpenRefusal, disk_of, opened_disk_of};
 
@@ -147,6 +158,8 @@ impl<D: Disk> Store<D> {
         match Journal::create(alloc, &mut disk, 0, &frame) {
             Ok(journal) => {
                 let opened = Snapshot::of(&disk);
+                let tracker = FillTracker::new(alloc);
+                let sets = FilledSets::new(alloc);
                 Ok(Store {
                     disk,
                     opened,
@@ -154,7 +167,8 @@ impl<D: Disk> Store<D> {
                     head,
                     mdb,
                     history,
-                    fills: FillList::new(alloc),
+                    tracker,
+                    sets,
                     pending_fault: None,
                 })
             }
@@ -189,7 +203,12 @@ impl<D: Disk> Store<D> {
             Ok(found) => found,
             Err(refusal) => return Err((disk, refusal)),
         };
-        let PartialArchive { head, history } = made;
+        let PartialArchive {
+            head,
+            history,
+            tracker,
+            sets,
+        } = made;
         let Ok(mdb) = shared(alloc, &head.mdb) else {
             return Err((disk, Refusal::OutOfMemory));
         };
@@ -200,7 +219,8 @@ impl<D: Disk> Store<D> {
             head,
             mdb,
             history,
-            fills: FillList::new(alloc),
+            tracker,
+            sets,
             pending_fault: None,
         })
     }
@@ -218,7 +238,8 @@ impl<D: Disk> Store<D> {
             head: _,
             mdb: _,
             history: _,
-            fills: _,
+            tracker: _,
+            sets: _,
             pending_fault: _,
         } = self;
         disk
@@ -231,6 +252,10 @@ impl<D: Disk> Store<D> {
         ensures rows { AllByRecursion (IsArchivedRow self.now.head) (rows_in self.now.history) }
         ensures images { IsTrue D.device.is_transparent → CrashInvariant D.device self.now }
         ensures faults { FaultInvariant D.device self.now }
+
+        // Its fills are sound if those of the disk were when it was opened.
+        ensures sound { IsTrue D.device.is_transparent → IsSoundImage (D.device.reads self.now.opened) →
+            IsSoundArchive (filled_of self.now) }
     {
         self.history.len() as u64
     }

@@ -11,6 +11,8 @@ mod faults;
 #[cfg(test)]
 mod images;
 #[cfg(test)]
+mod late;
+#[cfg(test)]
 mod limits;
 #[cfg(test)]
 mod parts;

@@ -5,6 +5,7 @@ use arch_types::row::{Row, Rows};
 use archive_history::partitioned_table::PartitionedTable;
 use partitions::bounds::Bounds;
 use partitions::lists::PnameList;
+use partitions::partition::Partition;
 use std::alloc::{AllocError, Global};
 use std::test::Fail;
 
@@ -26,6 +27,9 @@ const ROWS: &[(i64, u16)] = &[
     (MINUTE + 9, 2),
     (MINUTE + 11, 2),
     (20, 3),
+    (2 * MINUTE + 1, 3),
+    (MINUTE + 6, 0),
+    (MINUTE + 6, 0),
 ];
 
 /// They are a function, so that they stand in no goal of its callers.
@@ -73,7 +77,7 @@ const ASKED: &[Asked] = &[
     (MINUTE, 2 * MINUTE, None, 9, &[2, 1, 3, 8]),
     // two of the names: six rows are looked at, of ten steps
     (MINUTE, 2 * MINUTE, Some(&[1, 2]), 12, &[2, 1, 8, 9, 10]),
-    // one name of two rows, where the minute has six
+    // one name of three rows, where the minute has six
     (MINUTE, 2 * MINUTE, Some(&[3]), 12, &[3]),
     (MINUTE, 2 * MINUTE, Some(&[3]), 3, &[]),
     // a range that ends at a day's first millisecond, and one millisecond later
@@ -90,6 +94,10 @@ const ASKED: &[Asked] = &[
         12,
         &[0, 11, 2, 1, 3, 8, 9, 10, 4, 5, 6, 7],
     ),
+    // by partitions: a row behind the range, and one behind the front; by keys: a name that isn't asked for
+    (0, 2 * MINUTE, Some(&[3]), 13, &[11, 3]),
+    (0, 2 * MINUTE + 2, Some(&[3]), 12, &[11, 3]),
+    (MINUTE, 2 * MINUTE, Some(&[1, 2]), 14, &[2, 1, 8, 9, 10]),
 ];
 
 /// A function, as above.
@@ -127,6 +135,41 @@ fn other_rows(
         place = place.saturating_add(1);
     }
     Ok(None)
+}
+
+/// The places of the rows of a partition.
+fn part_places(
+    alloc: Global,
+    table: &PartitionedTable,
+    part: Partition,
+) -> Result<Vec<u32>, AllocError> {
+    places(alloc, &table.partition_rows(alloc, &part, 15)?)
+}
+
+#[test]
+fn rows_of_one_time_in_a_partition(rt: HostRuntime) -> Result<(), Fail> {
+    let table = table(rt.alloc())?;
+    let part = Partition { day: 0, pname: 0 };
+    let places = part_places(rt.alloc(), &table, part)?;
+    assert_eq!(rt; places.as_slice(), [13, 14].as_slice());
+    Ok(())
+}
+
+/// How many spans of time a packet name has, and how many rows are in them.
+fn span_counts(table: &PartitionedTable, pname: u16) -> Result<(usize, u64), AllocError> {
+    let spans = table.spans(pname)?;
+    let mut rows = 0u64;
+    for span in spans.as_slice() {
+        rows = rows.saturating_add(span.count);
+    }
+    Ok((spans.len(), rows))
+}
+
+#[test]
+fn spans_of_a_name(rt: HostRuntime) -> Result<(), Fail> {
+    let table = table(rt.alloc())?;
+    assert_eq!(rt; span_counts(&table, 0)?, (1, 2));
+    Ok(())
 }
 
 #[test]

@@ -5,15 +5,19 @@ use crate::parts::{
 use crate::replays::{Asked, gives, gives_across, has_parts, replay_answer};
 use arch_disk::Disk;
 use arch_types::inserted::Inserted;
+use arch_types::interval::Interval;
 use arch_types::name::Names;
 use arch_types::row::Row;
-use archive_store::{Head, Ingested, Store};
+use archive_store::{FillTask, Head, Ingested, Store};
 use param_segments::{Part, Plan};
 use std::alloc::Global;
 use std::test::Fail;
 
 /// The packets of an interval.
 pub type IntervalPackets = (i64, &'static [u64]);
+
+/// The interval, the base and the packets of a fill.
+pub type Task = (i64, u64, &'static [u64]);
 
 /// A call of a store, and what it answers.
 pub enum Step {
@@ -39,6 +43,14 @@ pub enum Step {
     ReplayAcross(Asked, &'static [u64], Incoming, &'static [u64]),
     /// How many partitions with `from <= time < to` a table has, and how many spans of time the packet name has in it.
     Parts(u8, i64, i64, usize, usize),
+    /// Whether an interval is late.
+    Late(i64, bool),
+    /// A fill that begins, where there is one.
+    Begin(Option<Task>),
+    /// A fill that begins and is given up.
+    GiveUp(Task),
+    /// Each flight ends.
+    Settle,
 }
 
 /// What an ingest gives, or why it is refused. Each call of a store is made in one function, since its clauses stand in the goals of each that makes it.
@@ -190,6 +202,43 @@ pub(crate) fn shows<D: Disk>(
     }
 }
 
+/// The fill that begins, where there is one.
+fn begun<D: Disk>(alloc: Global, store: &mut Store<D>) -> Result<Option<FillTask>, Fail> {
+    Ok(store.begin(alloc)?)
+}
+
+/// Whether a fill is this one.
+fn is_task(alloc: Global, task: &FillTask, expected: &Task) -> Result<bool, Fail> {
+    let (interval, base, packets) = *expected;
+    Ok(
+        task.interval.0 == interval
+            && task.base == base
+            && are_packets(alloc, task.rows.as_slice(), packets)?,
+    )
+}
+
+/// Whether this fill begins, or none.
+fn begins<D: Disk>(
+    alloc: Global,
+    store: &mut Store<D>,
+    expected: &Option<Task>,
+) -> Result<bool, Fail> {
+    match (begun(alloc, store)?, expected) {
+        (Some(task), Some(expected)) => is_task(alloc, &task, expected),
+        (task, expected) => Ok(task.is_none() && expected.is_none()),
+    }
+}
+
+/// Whether this fill begins; it is given up.
+fn gives_up<D: Disk>(alloc: Global, store: &mut Store<D>, expected: &Task) -> Result<bool, Fail> {
+    let Some(task) = begun(alloc, store)? else {
+        return Ok(false);
+    };
+    let is_expected = is_task(alloc, &task, expected)?;
+    store.abandon(task);
+    Ok(is_expected)
+}
+
 /// Whether a call is answered as it is to be.
 fn is_answered<D: Disk>(alloc: Global, store: &mut Store<D>, step: &Step) -> Result<bool, Fail> {
     match step {
@@ -209,6 +258,13 @@ fn is_answered<D: Disk>(alloc: Global, store: &mut Store<D>, step: &Step) -> Res
         }
         Step::Parts(table, from, to, parts, spans) => {
             has_parts(store, *table, *from, *to, *parts, *spans)
+        }
+        Step::Late(interval, late) => Ok(store.is_late(Interval(*interval)) == *late),
+        Step::Begin(task) => begins(alloc, store, task),
+        Step::GiveUp(task) => gives_up(alloc, store, task),
+        Step::Settle => {
+            store.settle();
+            Ok(true)
         }
     }
 }

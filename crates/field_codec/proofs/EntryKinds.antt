@@ -1,6 +1,7 @@
 -- The kind of an entry, and what stands behind it.
-use Rattle.std.proofs.Common.{◌≡◌, ℕ, ◌<◌, ◌^◌, List, [], ◌∷◌, ◌++◌, Option, Some, None, Err, refl, sym, ap, subst, ◌∙◌, append-nil, arith}
+use Rattle.std.proofs.Common.{◌≡◌, ℕ, ℤ, ◌<◌, ◌^◌, List, [], ◌∷◌, ◌++◌, Option, Some, None, Err, refl, sym, ap, subst, ◌∙◌, append-nil, arith}
 use Rattle.std.specs.Int.{w8}
+use Rattle.arch_types.specs.declared.interval.Interval.{Interval}
 use Rattle.arch_types.specs.declared.row.Row.{Row}
 use Rattle.mdb_items.specs.Database.{Database, IsDatabase}
 use Rattle.mdb_octets.specs.Spelling.{database_octets}
@@ -10,24 +11,26 @@ use Rattle.octet_fields.specs.declared.fault.DecodeError.{DecodeError}
 use Rattle.octet_fields.specs.declared.fault.DecodeError.TheVariants as fields
 use Rattle.octet_fields.specs.Answers.{Fails}
 use Rattle.octet_fields.specs.Exact.{IsOctets, IsExact}
-use Rattle.octet_fields.specs.Reading.{Reader, number_at}
+use Rattle.octet_fields.specs.Reading.{Reader, number_at, whole}
 use Rattle.octet_fields.specs.Spelling.{number}
-use Rattle.octet_fields.proofs.Exact.{one_form, some_is}
+use Rattle.octet_fields.proofs.Exact.{one_form, some_is, whole_again}
 use Rattle.octet_fields.proofs.Numbers.{exact8}
 use Rattle.field_codec.specs.declared.entry.Entry.{Entry}
-use Rattle.field_codec.specs.declared.entry.Entry.TheVariants.{Head, Rows}
+use Rattle.field_codec.specs.declared.entry.Entry.TheVariants.{Head, Rows, Fill}
 use Rattle.field_codec.specs.declared.fault.NotAnEntry.{NotAnEntry}
 use Rattle.field_codec.specs.declared.fault.NotAnEntry.TheVariants.{OutOfMemory}
-use Rattle.field_codec.specs.Entries.{AreStored, AreTables, IsArchiveEntry}
+use Rattle.field_codec.specs.Entries.{AreStored, AreTables, FillFields, IsArchiveEntry, IsFill}
 use Rattle.field_codec.specs.Faults.{fault_of}
-use Rattle.field_codec.specs.Reading.{IsHead, head_of, opening_at}
-use Rattle.field_codec.specs.Spelling.{body_octets, entry_octets, head_octets, kind_of, opening_octets, rows_octets}
+use Rattle.field_codec.specs.Reading.{IsHead, fill_at, head_of, opening_at}
+use Rattle.field_codec.specs.Spelling.{body_octets, entry_octets, head_octets, fill_fields_octets, kind_of, opening_octets, rows_octets}
+use Rattle.field_codec.proofs.FillSpelling.{fill_exact}
 use Rattle.field_codec.proofs.Openings.{opening_exact}
 use Rattle.field_codec.proofs.RowFields.{rows_exact}
 
 kind_small : (a : Entry) → kind_of a < 2 ^ 8
 kind_small (Head tables mdb) = omega arith
 kind_small (Rows rows) = omega arith
+kind_small (Fill interval base set) = omega arith
 
 -- ---- one spelling
 
@@ -43,12 +46,28 @@ head_once s t d e fs ft fd fe is =
     let p = one_form opening_exact s t (database_octets d) (database_octets e) fs ft is in
     (p.0, once database_exact d e (database_fits d fd) (database_fits e fe) p.1)
 
+-- the interval of a number
+abbrev interval_numbered : ℤ → Interval
+interval_numbered n = record { 0 = n }
+
+-- the entry of a fill's fields
+abbrev pub entry_of_fields : FillFields → Entry
+entry_of_fields f = Fill (interval_numbered f.0) f.1.0 f.1.1
+
+fill_once : (f g : FillFields) → IsFill f → IsFill g → fill_fields_octets f ≡ fill_fields_octets g → f ≡ g
+fill_once f g ff fg is = some_is f g (sym (whole_again fill_exact f refl ff) ∙ ap (whole fill_at) is ∙ whole_again fill_exact g refl fg)
+
 pub one_spelling : (a b : Entry) → IsArchiveEntry a → IsArchiveEntry b → entry_octets a ≡ entry_octets b → a ≡ b
 one_spelling (Head s d) (Head t e) fa fb is =
     let p = head_once s t d e fa.0 fb.0 fa.1 fb.1 (parts (Head s d) (Head t e) is).1 in
     ap (λ x. Head x d) p.0 ∙ ap (λ x. Head t x) p.1
 one_spelling (Head s d) (Rows rows) fa fb is = let kind : 1 ≡ 2 = (parts (Head s d) (Rows rows) is).0 in absurd (omega (arith, kind))
 one_spelling (Rows rows) (Head t e) fa fb is = let kind : 2 ≡ 1 = (parts (Rows rows) (Head t e) is).0 in absurd (omega (arith, kind))
+one_spelling (Head s d) (Fill i base set) fa fb is = let kind : 1 ≡ 3 = (parts (Head s d) (Fill i base set) is).0 in absurd (omega (arith, kind))
+one_spelling (Fill i base set) (Head t e) fa fb is = let kind : 3 ≡ 1 = (parts (Fill i base set) (Head t e) is).0 in absurd (omega (arith, kind))
+one_spelling (Rows rows) (Fill i base set) fa fb is = let kind : 2 ≡ 3 = (parts (Rows rows) (Fill i base set) is).0 in absurd (omega (arith, kind))
+one_spelling (Fill i base set) (Rows rows) fa fb is = let kind : 3 ≡ 2 = (parts (Fill i base set) (Rows rows) is).0 in absurd (omega (arith, kind))
+one_spelling (Fill i a s) (Fill j b t) fa fb is = ap entry_of_fields (fill_once (i.0, (a, s)) (j.0, (b, t)) fa fb (parts (Fill i a s) (Fill j b t) is).1)
 one_spelling (Rows r) (Rows s) fa fb is = ap Rows (once rows_exact r s fa fb (parts (Rows r) (Rows s) is).1)
 
 -- ---- a head whose opening was read
@@ -86,9 +105,10 @@ pub no_kind : (octets : List ℕ) (a : Entry) → number_at w8 octets ≡ None �
 no_kind octets a e is = absurd (cc (sym e ∙ ap (number_at w8) is ∙ exact8.again (kind_of a) (body_octets a) tt (kind_small a)))
 
 -- there is no other kind
-pub no_other : (a : Entry) (kind : ℕ) → kind ≡ kind_of a → (kind ≡ 1 → ⊥) → (kind ≡ 2 → ⊥) → ⊥
-no_other (Head tables mdb) kind e one two = one e
-no_other (Rows rows) kind e one two = two e
+pub no_other : (a : Entry) (kind : ℕ) → kind ≡ kind_of a → (kind ≡ 1 → ⊥) → (kind ≡ 2 → ⊥) → (kind ≡ 3 → ⊥) → ⊥
+no_other (Head tables mdb) kind e one two three = one e
+no_other (Rows rows) kind e one two three = two e
+no_other (Fill interval base set) kind e one two three = three e
 
 -- the octets behind a kind, and it
 behind_kind : (octets rest : List ℕ) (kind : ℕ) (body : List ℕ) → IsOctets octets → number_at w8 octets ≡ Some (kind, rest) → rest ≡ body → octets ≡ number w8 kind ++ body
@@ -102,16 +122,34 @@ head_entry octets rest kind tables mdb are e one h = (h.0, behind_kind octets re
 
 pub rows_read : (rest : List ℕ) (rows : List Row) (a : Entry) → ((r : List Row) → AreStored r → rest ≡ rows_octets r → rows ≡ r) → IsArchiveEntry a → 2 ≡ kind_of a → rest ≡ body_octets a → Rows rows ≡ a
 rows_read rest rows (Head tables mdb) each fits kind is = absurd (omega (arith, kind))
+rows_read rest rows (Fill i base set) each fits kind is = absurd (omega (arith, kind))
 rows_read rest rows (Rows r) each fits kind is = ap Rows (each r fits is)
 
 pub rows_memory : (rest : List ℕ) (f : DecodeError) (a : Entry) → ((r : List Row) → AreStored r → rest ≡ rows_octets r → f ≡ fields.Memory) → IsArchiveEntry a → 2 ≡ kind_of a → rest ≡ body_octets a → fault_of f ≡ OutOfMemory
 rows_memory rest f (Head tables mdb) each fits kind is = absurd (omega (arith, kind))
+rows_memory rest f (Fill i base set) each fits kind is = absurd (omega (arith, kind))
 rows_memory rest f (Rows r) each fits kind is = ap fault_of (each r fits is)
 
 pub head_read : (rest : List ℕ) (tables : List (List ℕ)) (mdb : Database) (a : Entry) → ((h : List (List ℕ) × Database) → IsHead h → rest ≡ head_of h → (tables, mdb) ≡ h) → IsArchiveEntry a → 1 ≡ kind_of a → rest ≡ body_octets a → Head tables mdb ≡ a
 head_read rest tables mdb (Head t d) each fits kind is = ap (λ (h : List (List ℕ) × Database). Head h.0 h.1) (each (t, d) fits is)
+head_read rest tables mdb (Fill i base set) each fits kind is = absurd (omega (arith, kind))
 head_read rest tables mdb (Rows r) each fits kind is = absurd (omega (arith, kind))
 
 pub head_memory : (rest : List ℕ) (f : NotAnEntry) (a : Entry) → ((h : List (List ℕ) × Database) → IsHead h → rest ≡ head_of h → f ≡ OutOfMemory) → IsArchiveEntry a → 1 ≡ kind_of a → rest ≡ body_octets a → f ≡ OutOfMemory
 head_memory rest f (Head t d) each fits kind is = each (t, d) fits is
+head_memory rest f (Fill i base set) each fits kind is = absurd (omega (arith, kind))
 head_memory rest f (Rows r) each fits kind is = absurd (omega (arith, kind))
+
+pub fill_entry : (octets rest : List ℕ) (kind : ℕ) (f : FillFields) → IsOctets octets → number_at w8 octets ≡ Some (kind, rest) → kind ≡ 3 → IsFill f × (rest ≡ fill_fields_octets f)
+    → IsArchiveEntry (entry_of_fields f) × (octets ≡ entry_octets (entry_of_fields f))
+fill_entry octets rest kind f are e three h = (h.0, behind_kind octets rest kind (fill_fields_octets f) are e h.1 ∙ ap (λ (n : ℕ). number w8 n ++ fill_fields_octets f) three)
+
+pub fill_read : (rest : List ℕ) (f : FillFields) (a : Entry) → ((g : FillFields) → IsFill g → rest ≡ fill_fields_octets g → f ≡ g) → IsArchiveEntry a → 3 ≡ kind_of a → rest ≡ body_octets a → entry_of_fields f ≡ a
+fill_read rest f (Head tables mdb) each fits kind is = absurd (omega (arith, kind))
+fill_read rest f (Rows r) each fits kind is = absurd (omega (arith, kind))
+fill_read rest f (Fill i base set) each fits kind is = ap entry_of_fields (each (i.0, (base, set)) fits is)
+
+pub fill_memory : (rest : List ℕ) (f : DecodeError) (a : Entry) → ((g : FillFields) → IsFill g → rest ≡ fill_fields_octets g → f ≡ fields.Memory) → IsArchiveEntry a → 3 ≡ kind_of a → rest ≡ body_octets a → fault_of f ≡ OutOfMemory
+fill_memory rest f (Head tables mdb) each fits kind is = absurd (omega (arith, kind))
+fill_memory rest f (Rows r) each fits kind is = absurd (omega (arith, kind))
+fill_memory rest f (Fill i base set) each fits kind is = ap fault_of (each (i.0, (base, set)) fits is)

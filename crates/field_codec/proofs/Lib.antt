@@ -1,4 +1,5 @@
 pub mod Ends
+pub mod FillSpelling
 pub mod RowFields
 pub mod Openings
 pub mod EntryKinds

@@ -1,7 +1,10 @@
 -- How long the spelling of an entry is.
-use Rattle.std.proofs.Common.{◌≡◌, ℕ, true, ◌+◌, ◌*◌, ◌<◌, ◌≤◌, ◌^◌, List, [], ◌∷◌, ◌++◌, length, length-append, arith}
+use Rattle.std.proofs.Common.{◌≡◌, ℕ, true, ◌+◌, ◌*◌, ◌<◌, ◌≤◌, ◌^◌, List, [], ◌∷◌, ◌++◌, length, length-append, Result, Ok, Err, ap, subst, arith}
+use Rattle.std.specs.Prelude.{IfOk}
+use Rattle.std.specs.Global.{Vec}
 use Rattle.std.specs.Int.{w8, w64}
 use Rattle.std.specs.List.{AllByRecursion, flat_map}
+use Rattle.arch_types.specs.declared.interval.Interval.{Interval}
 use Rattle.arch_types.specs.declared.row.Row.{Row}
 use Rattle.text_forms.specs.Names.{is_name}
 use Rattle.arch_types.specs.Packet.{IsPacket}
@@ -10,11 +13,12 @@ use Rattle.mdb_octets.specs.Spelling.{database_octets}
 use Rattle.octet_fields.specs.Exact.{IsOctets}
 use Rattle.octet_fields.specs.Spelling.{counted, name, number, signed}
 use Rattle.field_codec.specs.declared.entry.Entry.{Entry}
-use Rattle.field_codec.specs.declared.entry.Entry.TheVariants.{Head, Rows}
+use Rattle.field_codec.specs.declared.entry.Entry.TheVariants.{Head, Rows, Fill}
 use Rattle.field_codec.specs.Entries.{AreTables, IsArchiveEntry, IsStored}
-use Rattle.field_codec.specs.Laws.{HasOctets}
-use Rattle.field_codec.specs.Spelling.{entry_octets, head_octets, opening_octets, row_octets, rows_octets}
+use Rattle.field_codec.specs.Laws.{HasOctets, HasShortSet}
+use Rattle.field_codec.specs.Spelling.{entry_octets, fill_octets, head_octets, opening_octets, row_octets, rows_octets}
 use Rattle.field_codec.proofs.DatabaseSizes.{database_short}
+use Rattle.field_codec.proofs.FillSpelling.{fill_size}
 use Rattle.field_codec.proofs.Lengths.{counted_8, counted_16, each_most}
 
 -- ---- rows
@@ -57,6 +61,15 @@ pub head_short : (tables : List (List ℕ)) (mdb : Database) → AreTables table
 unfolding number
 head_short tables mdb are is = omega (arith, length-append (opening_octets tables) (database_octets mdb), opening_short tables are, database_short mdb is)
 
-pub short : (entry : Entry) → IsArchiveEntry entry → HasOctets entry → length (entry_octets entry) < 2 ^ 30
-short (Head tables mdb) is octets = head_short tables mdb is.0 is.1
-short (Rows rows) stored octets = let few = stored.few in omega (arith, few, rows_size rows, rows_short rows stored.each octets)
+pub short : (entry : Entry) → IsArchiveEntry entry → HasOctets entry → HasShortSet entry → length (entry_octets entry) < 2 ^ 30
+short (Head tables mdb) is octets few = head_short tables mdb is.0 is.1
+short (Fill interval base set) is octets few = omega (arith, few, fill_size interval base set)
+short (Rows rows) stored octets small = let few = stored.few in omega (arith, few, rows_size rows, rows_short rows stored.each octets)
+
+-- the octets of a fill that were written
+pub fill_out_short : {E : Type 0} (entry : Entry) (interval : Interval) (base : ℕ) (set given : List ℕ) (r : Result (Vec ℕ) E) → entry ≡ Fill interval base set → given ≡ set
+    → IfOk r (λ out. out.items ≡ number w8 3 ++ fill_octets interval base given) → IfOk r (λ out. HasShortSet entry → length out.items < 2 ^ 30)
+fill_out_short entry interval base set given (Ok out) is same out_is = λ few.
+    let small : 17 + length set < 2 ^ 30 = subst HasShortSet is few in
+    omega (arith, small, ap length same, fill_size interval base given, ap length out_is)
+fill_out_short entry interval base set given (Err e) is same out_is = tt

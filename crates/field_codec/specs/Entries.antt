@@ -1,5 +1,7 @@
 -- Which entries the format of the archive's journal admits, whatever stands beside them.
 use Rattle.std.specs.Prelude.{◌≡◌, ◌≢◌, ℕ, ℤ, pos, ◌<◌, ◌≤◌, ◌^◌, ◌≤ℤ◌, List, [], ◌∷◌, length, slice_get, Some, true, false, codes}
+use Rattle.std.specs.Int.{w64}
+use Rattle.std.specs.Int.RustNames.{FitsSigned}
 use Rattle.std.specs.List.{AllByRecursion}
 use Rattle.arch_types.specs.declared.row.Row.{Row}
 use Rattle.arch_types.specs.GenerationTime.{key_of}
@@ -8,7 +10,8 @@ use Rattle.text_forms.specs.ClockTime.{IsClockTime}
 use Rattle.arch_types.specs.Packet.{IsPacket, is_idle}
 use Rattle.mdb_items.specs.Database.{IsDatabase}
 use Rattle.field_codec.specs.declared.entry.Entry.{Entry}
-use Rattle.field_codec.specs.declared.entry.Entry.TheVariants.{Head, Rows}
+use Rattle.octet_fields.specs.Exact.{IsOctets}
+use Rattle.field_codec.specs.declared.entry.Entry.TheVariants.{Head, Rows, Fill}
 
 -- ---- heads
 
@@ -46,9 +49,20 @@ pub record AreStored (rows : List Row) : Type 0 where
   pub few : length rows ≤ 1024
   pub each : AllByRecursion IsStored rows
 
+-- ---- fills
+
+-- the number of an interval, a base, and the octets of a set
+abbrev pub FillFields : Type 0
+FillFields = ℤ × (ℕ × List ℕ)
+
+-- an interval and a base of 64 bits; the octets of the set may be any: what reads them says whether they are one
+abbrev pub IsFill : FillFields → Type 0
+IsFill f = FitsSigned w64 f.0 × ((f.1.0 < 2 ^ 64) × IsOctets f.1.1)
+
 -- ---- entries
 
 -- what the format admits by itself: that tables and packet names exist, and that keys are new, is asked beside the archive
 abbrev pub IsArchiveEntry : Entry → Type 0
 IsArchiveEntry (Head tables mdb) = AreTables tables × IsDatabase mdb
 IsArchiveEntry (Rows rows) = AreStored rows
+IsArchiveEntry (Fill interval base set) = IsFill (interval.0, (base, set))

@@ -1,9 +1,9 @@
 -- What holds of the spellings of entries.
-use Rattle.std.specs.Prelude.{◌≡◌, ◌<◌, ◌^◌, length}
+use Rattle.std.specs.Prelude.{◌≡◌, ◌+◌, ◌<◌, ◌^◌, length}
 use Rattle.std.specs.List.{AllByRecursion}
 use Rattle.octet_fields.specs.Exact.{IsOctets}
 use Rattle.field_codec.specs.declared.entry.Entry.{Entry}
-use Rattle.field_codec.specs.declared.entry.Entry.TheVariants.{Head, Rows}
+use Rattle.field_codec.specs.declared.entry.Entry.TheVariants.{Head, Rows, Fill}
 use Rattle.field_codec.specs.Entries.{IsArchiveEntry}
 use Rattle.field_codec.specs.Spelling.{entry_octets}
 
@@ -15,7 +15,15 @@ SpellingsAreOne = (a b : Entry) → IsArchiveEntry a → IsArchiveEntry b → en
 abbrev pub HasOctets : Entry → Type 0
 HasOctets (Head tables mdb) = Unit {0}
 HasOctets (Rows rows) = AllByRecursion (λ row. IsOctets row.packet) rows
+HasOctets (Fill interval base set) = IsOctets set
+
+-- the set of a fill is short enough for a record
+abbrev pub HasShortSet : Entry → Type 0
+HasShortSet (Head tables mdb) = Unit {0}
+HasShortSet (Rows rows) = Unit {0}
+HasShortSet (Fill interval base set) = 17 + length set < 2 ^ 30
 
 -- a spelling is short enough for a record of the journal
 abbrev pub SpellingsAreShort : Type 0
-SpellingsAreShort = (entry : Entry) → IsArchiveEntry entry → HasOctets entry → length (entry_octets entry) < 2 ^ 30
+SpellingsAreShort = (entry : Entry) → IsArchiveEntry entry → HasOctets entry → HasShortSet entry →
+    length (entry_octets entry) < 2 ^ 30

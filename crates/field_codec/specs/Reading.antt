@@ -8,10 +8,10 @@ use Rattle.arch_types.specs.GenerationTime.{key_of}
 use Rattle.text_forms.specs.Names.{is_name}
 use Rattle.text_forms.specs.ClockTime.{is_clock_time}
 use Rattle.arch_types.specs.Packet.{packet_length, is_idle}
-use Rattle.octet_fields.specs.Reading.{Reader, both_at, counted_at, mapped_at, name_at, number_at, signed_at, tested_at, times_at}
+use Rattle.octet_fields.specs.Reading.{Reader, both_at, counted_at, mapped_at, name_at, number_at, rest_at, signed_at, tested_at, times_at}
 use Rattle.field_codec.specs.declared.rows.Fields.{Fields as StoredFields}
 use Rattle.mdb_items.specs.Database.{Database, IsDatabase}
-use Rattle.field_codec.specs.Entries.{tm, AreTables}
+use Rattle.field_codec.specs.Entries.{tm, AreTables, FillFields}
 use Rattle.field_codec.specs.Spelling.{head_octets}
 
 -- ---- the opening of a head
@@ -95,6 +95,12 @@ is_count n = nat_le 1 n && nat_le n 1024
 -- reads the rows of a record, after their count
 unfoldable pub rows_at : Reader (List Row)
 rows_at = mapped_at (λ p. p.1) (both_at (tested_at is_count (number_at w16)) (λ n. times_at row_at n))
+
+-- ---- fills
+
+-- reads a fill: the interval, the base, and all octets behind them
+unfoldable pub fill_at : Reader FillFields
+fill_at = both_at (signed_at w64) (λ _. both_at (number_at w64) (λ _. rest_at))
 
 -- ---- places
 

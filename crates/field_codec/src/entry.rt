@@ -1,6 +1,8 @@
 //! What a record of the archive's journal holds.
 
+use arch_types::interval::Interval;
 use arch_types::name::Names;
+use arch_types::octets::Octets;
 use arch_types::row::Rows;
 use mdb_model::Mdb;
 
@@ -8,7 +10,17 @@ use mdb_model::Mdb;
 #[derive(Drop)]
 pub enum Entry {
     /// The first entry of an archive, and no other: its tables and its mission database.
-    Head { tables: Names, mdb: Mdb },
+    Head {
+        tables: Names,
+        mdb: Mdb,
+    },
     /// Rows in the order in which they came to the history.
     Rows(Rows),
+    /// The fill of an interval over the first `base` rows of the history. What reads the octets of its set says whether
+    /// they are one.
+    Fill {
+        interval: Interval,
+        base: u64,
+        set: Octets,
+    },
 }

@@ -15,6 +15,7 @@
 
 mod entry;
 mod fault;
+mod fills;
 mod head;
 pub mod laws;
 mod opening;
@@ -24,6 +25,7 @@ mod writing;
 
 pub use entry::Entry;
 pub use fault::NotAnEntry;
+pub use fills::{fill_entry_len, put_fill};
 pub use head::write_head;
 pub use reading::{read_entry, read_shared};
 pub use rows::{put_rows, rows_entry_len};

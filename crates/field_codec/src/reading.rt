@@ -8,6 +8,7 @@ ghost use Rattle.field_codec.specs.Spelling.{entry_octets};
 
 use crate::entry::Entry;
 use crate::fault::NotAnEntry;
+use crate::fills::read_fill;
 use crate::head::read_head;
 use crate::rows::read_rows;
 use arch_types::octets::Octets;
@@ -44,6 +45,14 @@ fn entry_of(alloc: Global, block: &Octets, octets: &[u8]) -> Result<Entry, NotAn
             Ok(Entry::Head { tables, mdb })
         }
         2 => Ok(Entry::Rows(read_rows(alloc, block, rest)?)),
+        3 => {
+            let (interval, base, set) = read_fill(block, rest)?;
+            Ok(Entry::Fill {
+                interval,
+                base,
+                set,
+            })
+        }
         _ => Err(NotAnEntry::Malformed),
     }
 }

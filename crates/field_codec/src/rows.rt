@@ -70,7 +70,7 @@ fn fields_at(octets: &[u8]) -> Result<(Fields, &[u8], &[u8]), Short>
 }
 
 /// The octets of a block that stand before these last ones, as a part of it.
-fn part_before(block: &Octets, octets: &[u8], rest: &[u8]) -> Result<Octets, AllocError>
+pub(crate) fn part_before(block: &Octets, octets: &[u8], rest: &[u8]) -> Result<Octets, AllocError>
     requires { IsEndOf (octets.now ++ rest.now) block.now }
     ensures { IfOk result (λ part. part ≡ octets.now) }
 {

@@ -2,9 +2,11 @@
 
 ghost use Rattle.std.specs.Prelude.{◌≡◌, ◌<◌, ◌^◌, length, IfOk};
 ghost use Rattle.field_codec.specs.Entries.{IsArchiveEntry};
+ghost use Rattle.field_codec.specs.Laws.{HasShortSet};
 ghost use Rattle.field_codec.specs.Spelling.{entry_octets};
 
 use crate::entry::Entry;
+use crate::fills::write_fill;
 use crate::head::write_head;
 use crate::rows::write_rows;
 use arch_types::octets::Octets;
@@ -14,11 +16,16 @@ use std::alloc::{AllocError, Global};
 fn octets_of(alloc: Global, entry: &Entry) -> Result<Vec<u8>, AllocError>
     requires { IsArchiveEntry entry.now }
     ensures octets { IfOk result (λ out. out.items ≡ entry_octets entry.now) }
-    ensures short { IfOk result (λ out. length out.items < 2 ^ 30) }
+    ensures short { IfOk result (λ out. HasShortSet entry.now → length out.items < 2 ^ 30) }
 {
     match entry {
         Entry::Head { tables, mdb } => write_head(alloc, tables.as_slice(), mdb),
         Entry::Rows(rows) => write_rows(alloc, rows.as_slice()),
+        Entry::Fill {
+            interval,
+            base,
+            set,
+        } => write_fill(alloc, *interval, *base, set.as_slice()),
     }
 }
 
@@ -26,7 +33,7 @@ fn octets_of(alloc: Global, entry: &Entry) -> Result<Vec<u8>, AllocError>
 pub fn write_entry(alloc: Global, entry: &Entry) -> Result<Octets, AllocError>
     requires { IsArchiveEntry entry.now }
     ensures octets { IfOk result (λ octets. octets ≡ entry_octets entry.now) }
-    ensures short { IfOk result (λ octets. length octets < 2 ^ 30) }
+    ensures short { IfOk result (λ octets. HasShortSet entry.now → length octets < 2 ^ 30) }
 {
     let out = octets_of(alloc, entry)?;
     Octets::from_vec(alloc, out)

@@ -2,6 +2,7 @@
 
 use arch_types::octets::Octets;
 use field_codec::{Entry, NotAnEntry, read_entry, read_shared, write_entry};
+use std::alloc::{AllocError, Global};
 use std::test::*;
 
 /// Tables `tm` and `copy`, and a database of the parameter `apid` (uint of 11 bits) in the container `A`, from bit 5 on.
@@ -24,9 +25,28 @@ const ROWS: [u8; 47] = [
     0x00, 0x65, 0xC0, 1, 0, 0, 7, // a packet
 ];
 
+/// They are functions, as each table below is, so that no octets stand in a goal of their callers.
+fn head() -> &'static [u8] {
+    &HEAD
+}
+
+/// The head behind its tables.
+fn behind_tables() -> &'static [u8] {
+    &HEAD[12..]
+}
+
+fn two_rows() -> &'static [u8] {
+    &ROWS
+}
+
+/// The packet of the last row.
+fn last_packet() -> &'static [u8] {
+    &ROWS[40..]
+}
+
 #[test]
 fn worked_head(rt: HostRuntime) -> Result<(), Fail> {
-    let Ok(Entry::Head { tables, mdb }) = read_entry(rt.alloc(), &HEAD) else {
+    let Ok(Entry::Head { tables, mdb }) = read_entry(rt.alloc(), head()) else {
         return Err(Fail::from("a head"));
     };
     let [_, copy] = tables.as_slice() else {
@@ -40,7 +60,7 @@ fn worked_head(rt: HostRuntime) -> Result<(), Fail> {
 #[test]
 fn worked_rows(rt: HostRuntime) -> Result<(), Fail> {
     let alloc = rt.alloc();
-    let Ok(Entry::Rows(rows)) = read_shared(alloc, &Octets::from_slice(alloc, &ROWS)?) else {
+    let Ok(Entry::Rows(rows)) = read_shared(alloc, &Octets::from_slice(alloc, two_rows())?) else {
         return Err(Fail::from("rows"));
     };
     let [first, last] = rows.as_slice() else {
@@ -50,7 +70,7 @@ fn worked_rows(rt: HostRuntime) -> Result<(), Fail> {
     assert_eq!(rt; (last.key.time, last.key.seq), (9000, 6_668_289));
     assert_eq!(rt; (last.table, last.rectime), (1, 9000));
     assert_eq!(rt; (last.link, last.pname), (255, 258));
-    assert_eq!(rt; last.packet.as_slice(), &ROWS[40..]);
+    assert_eq!(rt; last.packet.as_slice(), last_packet());
     Ok(())
 }
 
@@ -77,7 +97,82 @@ fn each_counts(rt: &HostRuntime, octets: &[u8]) -> Result<bool, Fail> {
 
 #[test]
 fn each_octet_counts(rt: HostRuntime) -> Result<(), Fail> {
-    assert!(rt; each_counts(&rt, &HEAD)?);
-    assert!(rt; each_counts(&rt, &ROWS)?);
+    assert!(rt; each_counts(&rt, head())?);
+    assert!(rt; each_counts(&rt, two_rows())?);
+    Ok(())
+}
+
+/// The octets of a head before its tables.
+const OPENING: &[u8] = &[1, 1, 22, 2];
+
+fn opening() -> &'static [u8] {
+    OPENING
+}
+
+/// A head as above, with these octets for its tables.
+fn head_of(alloc: Global, tables: &[u8]) -> Result<Vec<u8>, AllocError> {
+    let mut head = Vec::from_slice(alloc, opening())?;
+    head.extend_from_slice(tables)?;
+    head.extend_from_slice(behind_tables())?;
+    Ok(head)
+}
+
+/// Two tables, each behind its length, and whether a head may have them.
+const TABLES: &[(&[u8], bool)] = &[
+    (b"\x02tm\x02hk", true),
+    (b"\x02hk\x02tm", false),
+    (b"\x02um\x02hk", false),
+    (b"\x02tm\x02tm", false),
+];
+
+fn tables() -> &'static [(&'static [u8], bool)] {
+    TABLES
+}
+
+/// Whether octets are an entry.
+fn is_entry(alloc: Global, octets: &[u8]) -> bool {
+    read_entry(alloc, octets).is_ok()
+}
+
+#[test]
+fn first_table_is_tm_and_none_comes_twice(rt: HostRuntime) -> Result<(), Fail> {
+    for (octets, is_read) in tables() {
+        let head = head_of(rt.alloc(), octets)?;
+        assert_eq!(rt; is_entry(rt.alloc(), head.as_slice()), *is_read);
+    }
+    Ok(())
+}
+
+/// One row of table 0, of the link 1 and the packet name 2, up to its packet.
+const FIELDS: &[u8] = &[2, 0, 1, 0, 0, 0, 0, 0, 0, 0, 0x23, 0x28, 1, 0, 2];
+
+fn fields() -> &'static [u8] {
+    FIELDS
+}
+
+/// That row with a packet.
+fn row_of(alloc: Global, packet: &[u8]) -> Result<Vec<u8>, AllocError> {
+    let mut row = Vec::from_slice(alloc, fields())?;
+    row.extend_from_slice(packet)?;
+    Ok(row)
+}
+
+/// What stands behind the fields of a row, and whether a row ends so: a packet, an idle one, and an octet too many.
+const PACKETS: &[(&[u8], bool)] = &[
+    (&[0x00, 0x65, 0xC0, 1, 0, 0, 7], true),
+    (&[0x07, 0xFF, 0xC0, 1, 0, 0, 7], false),
+    (&[0x00, 0x65, 0xC0, 1, 0, 0, 7, 0], false),
+];
+
+fn packets() -> &'static [(&'static [u8], bool)] {
+    PACKETS
+}
+
+#[test]
+fn rows_end_with_packets_that_are_not_idle(rt: HostRuntime) -> Result<(), Fail> {
+    for (packet, is_read) in packets() {
+        let row = row_of(rt.alloc(), packet)?;
+        assert_eq!(rt; is_entry(rt.alloc(), row.as_slice()), *is_read);
+    }
     Ok(())
 }

@@ -1,6 +1,6 @@
 -- Marks that are those of a history and a fill list.
 use Rattle.std.proofs.Common.{◌≡◌, ℕ, ◌+◌, ◌<◌, ◌≤◌, List, [], ◌∷◌, ◌++◌, length, take, drop, Bool, true, false, true≢false, eqb, Option, Some, None, refl, sym, ap, subst, ◌∙◌, arith}
-use Rattle.std.specs.Prelude.{◌≢◌, ◌&&◌, ◌↔◌, max, IfSome}
+use Rattle.std.specs.Prelude.{◌≢◌, ◌&&◌, ◌↔◌, ◌≤ℤ◌, max, IfSome, IsSome}
 use Rattle.std.specs.Option.{is_some, option_map_or, option_map}
 use Rattle.std.specs.Ordering.{int_eq}
 use Rattle.std.proofs.lemmas.Bool.{and_parts}
@@ -57,6 +57,14 @@ last_of_mark : (o b : Option ℕ) (taken : Bool) → option_map (λ (m : Mark). 
 last_of_mark None b taken = refl
 last_of_mark (Some last) b taken = refl
 
+row_of_mark : (o b : Option ℕ) (taken : Bool) → is_some (mark_by o b taken) ≡ true → IsSome o
+row_of_mark None b taken has = absurd cc
+row_of_mark (Some last) b taken has = refl
+
+mark_of_row : (o b : Option ℕ) (taken : Bool) → IsSome o → is_some (mark_by o b taken) ≡ true
+mark_of_row None b taken has = absurd cc
+mark_of_row (Some last) b taken has = refl
+
 pub mapped_is_some : (m : Option Mark) → is_some (option_map (λ (k : Mark). k.last) m) ≡ is_some m
 mapped_is_some None = refl
 mapped_is_some (Some m) = refl
@@ -94,6 +102,16 @@ module _ (e : ℕ) (history : List Item) (fills : List Fill) (marks : Marks) (ar
 
   pub last_is : (i : Interval) → last_position marks i ≡ last_in e i history
   last_is i = ap (option_map (λ (m : Mark). m.last)) (are.each i) ∙ last_of_mark (last_in e i history) (base_in i fills) (is_some (in_flight i fills))
+
+  marked_has_row : (i : Interval) → has_rows marks i ≡ true → IsSome (last_in e i history)
+  marked_has_row i has = row_of_mark (last_in e i history) (base_in i fills) (is_some (in_flight i fills)) (sym (ap is_some (are.each i)) ∙ has)
+
+  row_has_mark : (i : Interval) → IsSome (last_in e i history) → has_rows marks i ≡ true
+  row_has_mark i has = ap is_some (are.each i) ∙ mark_of_row (last_in e i history) (base_in i fills) (is_some (in_flight i fills)) has
+
+  pub touched_is : (from : Interval) (result : Option Interval) → IsLeast (λ i. (from.0 ≤ℤ i.0) × (has_rows marks i ≡ true)) result → IsLeast (λ i. (from.0 ≤ℤ i.0) × IsSome (last_in e i history)) result
+  touched_is from None none = λ i p. none i (p.0, row_has_mark i p.1)
+  touched_is from (Some i) least = ((least.0.0, marked_has_row i least.0.1), λ j p. least.1 j (p.0, row_has_mark j p.1))
 
   -- an interval that has a mark has a row
   has_last : (i : Interval) → has_rows marks i ≡ true → (last : ℕ) × (last_in e i history ≡ Some last)

@@ -1,6 +1,6 @@
 //! What happened to fills, and which intervals are late.
 
-ghost use Rattle.std.specs.Prelude.{◌≡◌, ◌+◌, ◌<◌, ◌≤◌, ◌^◌, ◌↔◌, true, OnOk, IfSome};
+ghost use Rattle.std.specs.Prelude.{◌≡◌, ◌+◌, ◌<◌, ◌≤◌, ◌≤ℤ◌, ◌^◌, ◌↔◌, true, OnOk, IfSome, IsSome};
 ghost use Rattle.std.specs.Prelude.{List, [], ◌∷◌, ◌++◌, length, slice_get};
 ghost use Rattle.std.specs.Option.{is_some};
 ghost use Rattle.arch_types.specs.Interval.{interval_of};
@@ -12,7 +12,7 @@ ghost use Rattle.history_items.specs.Fills.{reopened};
 ghost use Rattle.history_items.specs.Late.{IsLate, last_in};
 ghost use Rattle.fill_tracker.specs.FillTracker.{AreMarksOf, KeepsMarks};
 ghost use Rattle.interval_fills.specs.Steps.{IsNextToFill, all_freed, freed, state_of};
-ghost use Rattle.late_marks.specs.Marks.{has_rows, is_late_free};
+ghost use Rattle.late_marks.specs.Marks.{IsLeast, has_rows, is_late_free, late_of};
 
 use crate::flights::{is_among, take_out};
 use arch_types::interval::Interval;
@@ -87,7 +87,8 @@ impl FillTracker {
     pub fn reserve_rows(&mut self, rows: u64) -> Result<(), AllocError>
         ensures room { OnOk result (rows ≤ self.new.marks.room) }
         ensures fills { self.new.fills ≡ self.old.fills }
-        ensures same { (self.new.room ≡ self.old.room) × (self.new.flight_room ≡ self.old.flight_room) }
+        ensures same { (self.new.room ≡ self.old.room) × (self.new.flight_room ≡ self.old.flight_room)
+            × (self.new.marks.marks ≡ self.old.marks.marks) }
         ensures marks { KeepsMarks self.old self.new }
     {
         self.marks.reserve(rows)
@@ -117,6 +118,22 @@ impl FillTracker {
         ensures rows { is_some result ≡ has_rows self.now.marks interval }
     {
         self.marks.last(interval)
+    }
+
+    /// The least interval that has rows and isn't below this one.
+    pub fn next_touched(&self, from: Interval) -> Option<Interval>
+        ensures touched { (history : List Item) → AreMarksOf 22 history self.now.fills self.now.marks →
+            IsLeast (λ i. (from.0 ≤ℤ i.0) × IsSome (last_in 22 i history)) result }
+        ensures marks { IsLeast (λ i. (from.0 ≤ℤ i.0) × (has_rows self.now.marks i ≡ true)) result }
+    {
+        self.marks.next_touched(from)
+    }
+
+    /// How many intervals are late. Walks over all that have rows.
+    pub fn late(&self) -> u64
+        ensures { result ≡ late_of self.now.marks }
+    {
+        self.marks.late()
     }
 
     /// Notes that a fill of an interval began. Takes no memory.

@@ -12,8 +12,8 @@ use std::test::*;
 /// What is noted.
 #[derive(Clone, Copy)]
 enum Deed {
-    /// A row of `tm` with this time, at this position.
-    Row(i64, u32),
+    /// Two rows of `tm` with this time, the first of them at this position.
+    Rows(i64, u32),
     /// A fill of the next interval begins.
     Begin(u64),
     /// A fill of an interval is there.
@@ -22,21 +22,37 @@ enum Deed {
     Free(i64),
     /// All fills are given up.
     Settle,
+    /// A call answers that the disk failed.
+    Fault,
 }
 
 /// Deeds, and the interval that is next to fill after each. An interval has 4,194,304 milliseconds.
-fn course() -> [(Deed, Option<Interval>); 10] {
+fn course() -> [(Deed, Option<Interval>); 11] {
     [
         (Deed::Begin(0), None),
-        (Deed::Row(5_000_000, 0), Some(Interval(1))),
-        (Deed::Row(1500, 1), Some(Interval(0))),
-        (Deed::Begin(2), Some(Interval(1))),
-        (Deed::Begin(2), None),
-        (Deed::Row(1600, 2), None),
-        (Deed::Finish(1, 2), None),
+        (Deed::Rows(5_000_000, 0), Some(Interval(1))),
+        (Deed::Rows(1500, 2), Some(Interval(0))),
+        (Deed::Begin(4), Some(Interval(1))),
+        (Deed::Begin(4), None),
+        (Deed::Rows(1600, 4), None),
+        // an interval that isn't in flight
+        (Deed::Free(-1), None),
+        (Deed::Finish(1, 4), None),
         (Deed::Free(0), Some(Interval(0))),
-        (Deed::Begin(3), None),
+        (Deed::Begin(6), None),
         (Deed::Settle, Some(Interval(0))),
+    ]
+}
+
+/// Two flights behind a fault, and their ends.
+fn flights_behind_a_fault() -> [Deed; 6] {
+    [
+        Deed::Rows(5_000_000, 0),
+        Deed::Rows(1500, 2),
+        Deed::Fault,
+        Deed::Begin(4),
+        Deed::Begin(4),
+        Deed::Settle,
     ]
 }
 
@@ -52,16 +68,16 @@ fn row(alloc: Global, time: i64) -> Result<Row, AllocError> {
     })
 }
 
-/// Notes that a row with this time came, at this position.
+/// Notes that two rows with this time came, the first of them at this position.
 fn touch(
     alloc: Global,
     tracker: &mut FillTracker,
     time: i64,
     position: u32,
 ) -> Result<(), AllocError> {
-    let row = row(alloc, time)?;
-    tracker.reserve_rows(1)?;
-    tracker.touch(&[row], u64::from(position));
+    let rows = [row(alloc, time)?, row(alloc, time)?];
+    tracker.reserve_rows(2)?;
+    tracker.touch(&rows, u64::from(position));
     Ok(())
 }
 
@@ -83,9 +99,16 @@ fn finish(tracker: &mut FillTracker, interval: Interval, base: u64) -> Result<()
     Ok(())
 }
 
+/// Notes a fault of a write that would have added nothing.
+fn fail(tracker: &mut FillTracker) -> Result<(), AllocError> {
+    tracker.reserve()?;
+    tracker.note_fault(7, true, Addition::Nothing);
+    Ok(())
+}
+
 fn play(alloc: Global, tracker: &mut FillTracker, deed: Deed) -> Result<(), AllocError> {
     match deed {
-        Deed::Row(time, position) => touch(alloc, tracker, time, position),
+        Deed::Rows(time, position) => touch(alloc, tracker, time, position),
         Deed::Begin(base) => begin(tracker, base),
         Deed::Finish(interval, base) => finish(tracker, Interval(interval), base),
         Deed::Free(interval) => {
@@ -96,7 +119,17 @@ fn play(alloc: Global, tracker: &mut FillTracker, deed: Deed) -> Result<(), Allo
             tracker.settle();
             Ok(())
         }
+        Deed::Fault => fail(tracker),
     }
+}
+
+/// The intervals with rows from each of these on.
+fn steps_of(tracker: &FillTracker) -> [Option<Interval>; 3] {
+    [
+        tracker.next_touched(Interval(-1)),
+        tracker.next_touched(Interval(1)),
+        tracker.next_touched(Interval(2)),
+    ]
 }
 
 #[test]
@@ -107,18 +140,31 @@ fn a_row_comes_to_a_flight(rt: HostRuntime) -> Result<(), Fail> {
         play(alloc, &mut tracker, deed)?;
         assert!(rt; tracker.next() == next);
     }
-    assert!(rt; tracker.last(Interval(0)) == Some(2));
+    assert!(rt; matches!(tracker.as_slice(), [Fill::Begun { base: 4, .. }, ..]));
+    assert!(rt; tracker.last(Interval(0)) == Some(5));
     assert!(rt; tracker.is_late(Interval(0)));
     assert!(rt; !tracker.is_late(Interval(1)));
     assert_eq!(rt; tracker.as_slice().len(), 6);
+    assert!(rt; steps_of(&tracker) == [Some(Interval(0)), Some(Interval(1)), None]);
+    assert_eq!(rt; tracker.late(), 1);
+    Ok(())
+}
+
+#[test]
+fn flights_behind_a_fault_end(rt: HostRuntime) -> Result<(), Fail> {
+    let alloc = rt.alloc();
+    let mut tracker = FillTracker::new(alloc);
+    for deed in flights_behind_a_fault() {
+        play(alloc, &mut tracker, deed)?;
+    }
+    assert_eq!(rt; tracker.as_slice().len(), 5);
     Ok(())
 }
 
 #[test]
 fn a_fault_is_noted_and_cleared(rt: HostRuntime) -> Result<(), Fail> {
     let mut tracker = FillTracker::new(rt.alloc());
-    tracker.reserve()?;
-    tracker.note_fault(7, true, Addition::Nothing);
+    fail(&mut tracker)?;
     assert!(rt;
         matches!(
             tracker.as_slice(),

@@ -1,5 +1,8 @@
 use Rattle.std.proofs.Common.{◌≡◌, ◌++◌, [], ◌∷◌, List, sym, ◌∙◌, ap, subst}
+use Rattle.std.specs.List.{AllByRecursion}
 use Rattle.std.proofs.lemmas.List.{append-nil}
+use Rattle.block_map.proofs.Rising.{all_append}
+use Rattle.octet_fields.specs.Exact.{IsOctets}
 use Rattle.arch_types.specs.declared.inserted.Inserted.{Inserted}
 use Rattle.arch_types.specs.declared.inserted.Inserted.TheVariants.{New, Duplicate}
 use Rattle.arch_types.specs.declared.key.Key.{Key}
@@ -24,6 +27,7 @@ returns-in-Duplicate c rows s =
       outcomes = c.in_ok-push.ensures.ok ∙ ap (λ (o : Inserted). old.outcomes ++ o ∷ []) c.in-Duplicate.is ∙ ap (λ (l : List Inserted). l ++ Duplicate c.in-Duplicate.field-0 ∷ []) s.outcomes ∙ sym outcomes;
       fresh = s.fresh ∙ sym (append-nil (fresh_of items rows)) ∙ sym fresh;
       last = s.last;
+      octets = s.octets;
     }
 
 pub returns-in_ok-row-in-New : goal.returns-in_ok-row-in-New
@@ -40,5 +44,7 @@ returns-in_ok-row-in-New c rows s =
       outcomes = c.keep.ensures.outcomes ∙ c.in_ok-push.ensures.ok ∙ ap (λ (o : Inserted). old.outcomes ++ o ∷ []) c.in-New.is ∙ ap (λ (l : List Inserted). l ++ New n ∷ []) s.outcomes ∙ sym outcomes;
       fresh = is ∙ ap (λ (r : Row). old.fresh ++ r ∷ []) c.in_ok-row-in-New.ensures ∙ ap (λ (l : List Row). l ++ row ∷ []) s.fresh ∙ sym fresh;
       last = last;
+      octets = subst (AllByRecursion (λ r. IsOctets r.packet)) (sym (is ∙ ap (λ (r : Row). old.fresh ++ r ∷ []) c.in_ok-row-in-New.ensures))
+          (all_append (λ r. IsOctets r.packet) old.fresh (row ∷ []) s.octets (c.packet_is_octets.ensures, tt));
     })
     c.keep.ensures.fresh c.keep.ensures.last

@@ -11,7 +11,7 @@ use Rattle.field_codec.specs.Spelling.{entry_octets}
 use Rattle.archive_store.specs.Entries.{HasArchivedRows, Replays}
 use Rattle.archive_store.specs.PartialArchive.{archive_made, IsArchiveRead, IsArchiveReadRefusal}
 use Rattle.archive_store.proofs.Archived.{applied_archived}
-use Rattle.archive_store.proofs.Archives.{no_entries, opens_some, damaged_short, damaged_wrong, found_is, rows_found, tables_found}
+use Rattle.archive_store.proofs.Archives.{no_entries, opens_some, damaged_short, damaged_wrong, found_is, marks_found, rows_found, tables_found}
 use Rattle.archive_store.proofs.Refusals.{next_refused, only_refusal}
 use Rattle.archive_store.proofs.PendingFaults.{replays_next, bodies_more}
 use Rattle.archive_history.proofs.Steps.{if_ok}
@@ -58,6 +58,7 @@ returns-in-Ok-None-clause-read g c =
       in_file = p.1.file ∙ c.next.ensures.file ∙ inv.file;
       no_pending_fault = p.1.no_pending_fault;
       tables = tables_found c.entries.made f p.0 inv.tables;
+      marks = marks_found c.entries.made f p.0 inv.marks;
       rows = rows_found c.entries.made f p.0 inv.rows;
     })
     c.finished.ensures.ok
@@ -123,6 +124,7 @@ entries-preserved g c =
     record {
       file = c.next.ensures.file ∙ inv.file;
       tables = c.take_in.ensures.tables;
+      marks = c.in-Ok-true.ensures.marks c.in-Ok-true.field-0-test;
       rows = subst HasArchivedRows (sym y.3) (applied_archived (archive_made c.entries.made) y.0 y.2 inv.rows y.4);
       looked = looked_on device c.args.disk.now c.entries.disk c.next.new.disk inv.looked c.next.ensures.looked;
       so_far = λ transparent.

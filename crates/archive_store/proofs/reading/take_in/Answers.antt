@@ -6,37 +6,45 @@ use Rattle.field_codec.specs.declared.entry.Entry.{Entry}
 use Rattle.field_codec.specs.declared.entry.Entry.TheVariants as kinds
 use Rattle.field_codec.specs.Entries.{IsArchiveEntry}
 use Rattle.field_codec.specs.Spelling.{entry_octets}
+use Rattle.store_fills.specs.FilledSets.{FilledIntervals, fillings_in}
+use Rattle.store_fills.specs.Sound.{no_fillings}
 use Rattle.archive_store.specs.declared.head.Head.{Head}
 use Rattle.archive_store.specs.declared.reading.PartialArchive.{PartialArchive}
-use Rattle.archive_store.specs.Entries.{Archive, archive, Applies, AreAdmitted}
-use Rattle.archive_store.specs.PartialArchive.{archive_made}
-use Rattle.archive_history.specs.TableSet.{HistoryView}
+use Rattle.archive_store.specs.Entries.{FilledArchive, archive, filled_archive, Applies, AreAdmitted}
+use Rattle.archive_store.specs.PartialArchive.{archive_made, filled_made}
+use Rattle.archive_store.specs.Stands.{Breaks}
 use Rattle.archive_store.proofs.Admitting.{breaks_entry}
 use Rattle.archive_history.proofs.Steps.{if_ok}
 use Rattle.archive_store.proofs.reading.take_in.Goals as goal
 
 -- the octets are an entry that makes this of what was there
-abbrev IsTaken : Option PartialArchive → List ℕ → Head → List Item → Type 0
-IsTaken was body head items = (entry : Entry) × (body ≡ entry_octets entry) × (after : Archive) × (Some (archive head items) ≡ Some after) × Applies (archive_made was) entry after
+abbrev IsTaken : Option PartialArchive → List ℕ → Option PartialArchive → Type 0
+IsTaken was body made = (entry : Entry) × (body ≡ entry_octets entry) × (after : FilledArchive) × (archive_made made ≡ Some after) × Applies (archive_made was) entry after
 
 -- a first head
-takes_head : (was : Option PartialArchive) (head : Head) (items : List Item) → is_some was ≡ false → IsArchiveEntry (kinds.Head head.tables head.mdb) → items ≡ [] → Applies (archive_made was) (kinds.Head head.tables head.mdb) (archive head items)
-takes_head None head items none fits empty = (fits, ap (archive head) empty)
-takes_head (Some made) head items none fits empty = absurd (true≢false none)
+takes_head : (was : Option PartialArchive) (head : Head) (begun : PartialArchive) → is_some was ≡ false → IsArchiveEntry (kinds.Head head.tables head.mdb) → filled_made begun ≡ filled_archive head [] no_fillings
+    → Applies (archive_made was) (kinds.Head head.tables head.mdb) (filled_made begun)
+takes_head None head begun none fits made = (fits, made)
+takes_head (Some before) head begun none fits made = absurd (true≢false none)
 
 -- rows that are admitted
-takes_rows : (was : Option PartialArchive) (made : PartialArchive) (rows : List Row) (body : List ℕ) (head : Head) (items : List Item) → was ≡ Some made → body ≡ entry_octets (kinds.Rows rows) → head ≡ made.head → AreAdmitted (archive made.head made.history.items) rows × (items ≡ made.history.items ++ rows) → IsTaken was body head items
-takes_rows was made rows body head items is spelled same ok = (
+takes_rows : (was : Option PartialArchive) (made now : PartialArchive) (rows : List Row) (body : List ℕ) → was ≡ Some made → body ≡ entry_octets (kinds.Rows rows) → (now.head ≡ made.head) × (now.sets.filled ≡ made.sets.filled)
+    → AreAdmitted (archive made.head made.history.items) rows × (now.history.items ≡ made.history.items ++ rows) → IsTaken was body (Some now)
+takes_rows was made now rows body is spelled same ok = (
   kinds.Rows rows,
   spelled,
-  archive head items,
+  filled_made now,
   refl,
-  subst (λ (o : Option PartialArchive). Applies (archive_made o) (kinds.Rows rows) (archive head items)) (sym is)
-      (ok.0, ap (λ (h : Head). archive h items) same ∙ ap (archive made.head) ok.1),
+  subst (λ (o : Option PartialArchive). Applies (archive_made o) (kinds.Rows rows) (filled_made now)) (sym is) (
+    ok.0,
+    ap (λ (h : Head). filled_archive h now.history.items (fillings_in now.sets.filled)) same.0
+        ∙ ap (λ (l : List Item). filled_archive made.head l (fillings_in now.sets.filled)) ok.1
+        ∙ ap (λ (f : FilledIntervals). filled_archive made.head (made.history.items ++ rows) (fillings_in f)) same.1,
+  ),
 )
 
 -- a second head
-no_second : (was : Option PartialArchive) (head : Head) (after : Archive) → is_some was ≡ true → Applies (archive_made was) (kinds.Head head.tables head.mdb) after → ⊥
+no_second : (was : Option PartialArchive) (head : Head) (after : FilledArchive) → is_some was ≡ true → Applies (archive_made was) (kinds.Head head.tables head.mdb) after → ⊥
 no_second None head after some takes = absurd (true≢false (sym some))
 no_second (Some made) head after some takes = takes
 
@@ -47,17 +55,16 @@ returns-then-is_some-clause-no c refused =
     breaks_entry (archive_made c.args.made.now) (kinds.Head head.tables head.mdb) c.args.body.now spelled.0 spelled.1
     (λ after. no_second c.args.made.now head after (sym c.if-is_some.ensures))
 
-pub returns-in_ok-history-in-Ok-Head-clause-yes : goal.returns-in_ok-history-in-Ok-Head-clause-yes
-returns-in_ok-history-in-Ok-Head-clause-yes c ok =
+pub returns-in_ok-begun-in-Ok-Head-clause-yes : goal.returns-in_ok-begun-in-Ok-Head-clause-yes
+returns-in_ok-begun-in-Ok-Head-clause-yes c ok =
     let head : Head = record { tables = c.in-Ok-Head.tables; mdb = c.in-Ok-Head.mdb } in
-    let items = c.in_ok-history-in-Ok-Head.history.items in
-    let spelled = rw c.in-Ok-Head.field-0-is at c.in-Ok-Head.ensures.spelled in
-    let empty : items ≡ [] = ap (λ (h : HistoryView). h.items) c.in_ok-history-in-Ok-Head.ensures in (
+    let begun : PartialArchive = c.in_ok-begun-in-Ok-Head.begun in
+    let spelled = rw c.in-Ok-Head.field-0-is at c.in-Ok-Head.ensures.spelled in (
       kinds.Head head.tables head.mdb,
       spelled.1,
-      archive head items,
+      filled_made begun,
       refl,
-      takes_head c.args.made.now head items (sym c.if-is_some.ensures) spelled.0 empty,
+      takes_head c.args.made.now head begun (sym c.if-is_some.ensures) spelled.0 c.in_ok-begun-in-Ok-Head.ensures.made,
     )
 
 pub returns-in-Some-clause-yes : goal.returns-in-Some-clause-yes
@@ -65,8 +72,28 @@ returns-in-Some-clause-yes c =
     let made : PartialArchive = c.in-Some.made in
     let rows : List Row = c.in-Ok-Rows.rows in
     let body : List ℕ = c.args.body.now in
-    let now = c.admit.new.made in
+    let now : PartialArchive = c.admit.new.made in
     let spelled = rw c.in-Ok-Rows.field-0-is at c.in-Ok-Rows.ensures.spelled in
-    if_ok c.admit.result (λ ok. ok ≡ true → AreAdmitted (archive made.head made.history.items) rows × (now.history.items ≡ made.history.items ++ rows)) (λ ok. ok ≡ true → IsTaken c.args.made.now body now.head now.history.items)
-    (λ ok p is. takes_rows c.args.made.now made rows body now.head now.history.items c.in-Some.is spelled.1 c.admit.ensures.head (p is))
+    if_ok c.admit.result (λ ok. ok ≡ true → AreAdmitted (archive made.head made.history.items) rows × (now.history.items ≡ made.history.items ++ rows)) (λ ok. ok ≡ true → IsTaken c.args.made.now body (Some now))
+    (λ ok p is. takes_rows c.args.made.now made now rows body c.in-Some.is spelled.1 c.admit.ensures.head (p is))
     c.admit.ensures.yes
+
+-- ---- a fill
+
+pub take_fill-requires-clause-entry : goal.take_fill-requires-clause-entry
+take_fill-requires-clause-entry c = let spelled = rw c.in-Ok-Fill.field-0-is at c.in-Ok-Fill.ensures.spelled in spelled.0
+
+pub returns-in-Ok-Fill-clause-yes : goal.returns-in-Ok-Fill-clause-yes
+returns-in-Ok-Fill-clause-yes c =
+    let entry = kinds.Fill c.in-Ok-Fill.interval c.in-Ok-Fill.base c.in-Ok-Fill.set in
+    let now = c.take_fill.new.made in
+    let spelled = rw c.in-Ok-Fill.field-0-is at c.in-Ok-Fill.ensures.spelled in
+    if_ok c.take_fill.result (λ ok. ok ≡ true → (after : FilledArchive) × (archive_made now ≡ Some after) × Applies (archive_made c.args.made.now) entry after) (λ ok. ok ≡ true → IsTaken c.args.made.now c.args.body.now now)
+    (λ ok p is. let t = p is in (entry, spelled.1, t.0, t.1, t.2)) c.take_fill.ensures.yes
+
+pub returns-in-Ok-Fill-clause-no : goal.returns-in-Ok-Fill-clause-no
+returns-in-Ok-Fill-clause-no c =
+    let entry = kinds.Fill c.in-Ok-Fill.interval c.in-Ok-Fill.base c.in-Ok-Fill.set in
+    let spelled = rw c.in-Ok-Fill.field-0-is at c.in-Ok-Fill.ensures.spelled in
+    if_ok c.take_fill.result (λ ok. ok ≡ false → (after : FilledArchive) → Applies (archive_made c.args.made.now) entry after → ⊥) (λ ok. ok ≡ false → Breaks (archive_made c.args.made.now) c.args.body.now)
+    (λ ok p is. breaks_entry (archive_made c.args.made.now) entry c.args.body.now spelled.0 spelled.1 (p is)) c.take_fill.ensures.no

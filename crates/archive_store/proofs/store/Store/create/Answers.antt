@@ -6,10 +6,14 @@ use Rattle.history_items.specs.declared.fills.Fill.{Fill}
 use Rattle.history_items.specs.Items.{Item}
 use Rattle.disk_journal.specs.Format.{HasRecords, HoldsNone}
 use Rattle.disk_journal.specs.State.{HasOnDisk as JournalHasOnDisk}
+use Rattle.fill_tracker.specs.FillTracker.{AreMarksOf}
 use Rattle.archive_store.specs.declared.head.Head.{Head}
 use Rattle.archive_store.specs.Inside.{StoreInvariant}
 use Rattle.archive_store.specs.Calls.{IsStoreCreateRefusal}
-use Rattle.archive_store.proofs.Opened.{kept_made, making}
+use Rattle.archive_store.specs.Stands.{IsSoundImage}
+use Rattle.store_fills.proofs.Bases.{none_filled}
+use Rattle.archive_store.proofs.Fillable.{holds_none}
+use Rattle.archive_store.proofs.Opened.{kept_made, made_sound, making}
 use Rattle.archive_store.proofs.Refusals.{making_refused}
 use Rattle.archive_store.proofs.store.Store.create.Goals as goal
 
@@ -21,13 +25,15 @@ invariant_of-result g c =
     let f = c.in-Ok.new_archive in
     let e = c.in-Ok.ensures in
     let keeps = λ (transparent : IsTrue device.is_transparent). subst (λ (b : List ℕ). JournalHasOnDisk device j (b ∷ []) [] disk) e.0 (c.in-Ok-create.ensures.created.records transparent) in
-    let done = kept_made device disk j c.args.head c.requires.head c.in-Ok-create.ensures.created.no_pending_fault c.in-Ok-create.ensures.created.in_file keeps in (
-      subst (λ o. StoreInvariant device disk o j f.head f.history.items c.new.result.items None) (sym c.of-opened.ensures)
-          (subst (λ (l : List Fill). StoreInvariant device disk disk j f.head f.history.items l None) (sym c.new.ensures.items)
-          (subst (λ (l : List Item). StoreInvariant device disk disk j f.head l [] None) (sym e.3)
-          (subst (λ (h : Head). StoreInvariant device disk disk j h [] [] None) (sym e.1) done))),
+    let done = kept_made device disk j c.args.head c.new-sets.result.filled (none_filled c.new-sets.result.filled c.new-sets.ensures) c.requires.head c.in-Ok-create.ensures.created.no_pending_fault c.in-Ok-create.ensures.created.in_file keeps in (
+      subst (λ o. StoreInvariant device disk o j f.head f.history.items c.new-tracker.result.fills c.new-sets.result.filled None) (sym c.of-opened.ensures)
+          (subst (λ (l : List Fill). StoreInvariant device disk disk j f.head f.history.items l c.new-sets.result.filled None) (sym c.new-tracker.ensures.fills)
+          (subst (λ (l : List Item). StoreInvariant device disk disk j f.head l [] c.new-sets.result.filled None) (sym e.3)
+          (subst (λ (h : Head). StoreInvariant device disk disk j h [] [] c.new-sets.result.filled None) (sym e.1) done))),
       subst (λ (h : Head). f.history.tables ≡ length h.tables) (sym e.1) e.4,
       subst (λ (h : Head). arc_value f.mdb ≡ h.mdb) (sym e.1) e.2,
+      subst (λ (l : List Item). AreMarksOf 22 l c.new-tracker.result.fills c.new-tracker.result.marks) (sym e.3) c.new-tracker.ensures.marks,
+      holds_none f.head c.new-tracker.result.fills c.new-sets.result.filled c.new-tracker.ensures.fills (none_filled c.new-sets.result.filled c.new-sets.ensures),
     )
 
 pub returns-in-Ok-create-clause-crash : goal.returns-in-Ok-create-clause-crash
@@ -53,3 +59,24 @@ returns-in_default-clause-crash g c transparent none = started g.D.Disk.device c
 pub returns-clause-refused : goal.returns-clause-refused
 returns-clause-refused g c =
     subst (IsStoreCreateRefusal g.D.Disk.device c.args.disk c.create.new.disk) (sym c.refusal_of_create.ensures) (making_refused g.D.Disk.device c.args.disk c.create.new.disk c.in-Err.fault c.in-Err.ensures.refused)
+
+pub returns-in-Ok-create-clause-created : goal.returns-in-Ok-create-clause-created
+returns-in-Ok-create-clause-created g c =
+    let device = g.D.Disk.device in
+    let disk = c.create.new.disk in
+    let j = c.in-Ok-create.journal in
+    let e = c.in-Ok.ensures in
+    let created = c.in-Ok-create.ensures.created in
+    record {
+      none = created.none;
+      history = e.3;
+      fills = c.new-tracker.ensures.fills;
+      filled = none_filled c.new-sets.result.filled c.new-sets.ensures;
+      sound = λ transparent. subst (λ (d : g.row.D.Denot). IsSoundImage (device.reads d)) (sym c.of-opened.ensures)
+          (made_sound device disk j c.args.head c.requires.head created.no_pending_fault created.in_file
+          (subst (λ (b : List ℕ). JournalHasOnDisk device j (b ∷ []) [] disk) e.0 (created.records transparent)));
+      head_is = e.1;
+      records = created.count;
+      opened = c.of-opened.ensures;
+      no_failed_write = created.no_failed_write;
+    }

@@ -1,16 +1,24 @@
 use Rattle.std.proofs.Common.{subst}
 use Rattle.std.specs.List.{AllByRecursion}
 use Rattle.history_items.specs.Items.{rows_in}
-use Rattle.archive_store.specs.Entries.{IsArchivedRow}
-use Rattle.archive_store.specs.StoreView.{StoreView, CrashInvariant}
-use Rattle.archive_store.proofs.PlainLog.{crash_of}
+use Rattle.archive_store.specs.Entries.{IsArchivedRow, IsSoundArchive}
+use Rattle.archive_store.specs.Stands.{IsSoundImage}
+use Rattle.archive_store.specs.StoreView.{StoreView, CrashInvariant, filled_of}
+use Rattle.archive_store.proofs.PlainLog.{crash_of, sound_of}
 use Rattle.archive_store.proofs.store.Store.front.Goals as goal
 
 pub returns-clause-images : goal.returns-clause-images
 returns-clause-images g c transparent =
     let device = g.D.Disk.device in
     let s = c.self.inside in
-    subst (λ (x : StoreView g.row.D.Denot). CrashInvariant device x) c.self.view_is (crash_of device s.disk s.opened.value s.journal s.head s.history.items s.fills.items s.pending_fault c.self.invariant.0 transparent)
+    subst (λ (x : StoreView g.row.D.Denot). CrashInvariant device x) c.self.view_is (crash_of device s.disk s.opened.value s.journal s.head s.history.items s.tracker.fills s.sets.filled s.pending_fault c.self.invariant.0 transparent)
 
 pub returns-clause-rows : goal.returns-clause-rows
 returns-clause-rows g c = subst (λ (x : StoreView g.row.D.Denot). AllByRecursion (IsArchivedRow x.head) (rows_in x.history)) c.self.view_is c.self.invariant.0.rows
+
+pub returns-clause-sound : goal.returns-clause-sound
+returns-clause-sound g c transparent =
+    let device = g.D.Disk.device in
+    let s = c.self.inside in
+    subst (λ (x : StoreView g.row.D.Denot). IsSoundImage (device.reads x.opened) → IsSoundArchive (filled_of x)) c.self.view_is
+    (sound_of device s.disk s.opened.value s.journal s.head s.history.items s.tracker.fills s.sets.filled s.pending_fault c.self.invariant.0 transparent)

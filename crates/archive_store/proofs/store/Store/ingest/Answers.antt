@@ -1,6 +1,8 @@
 use Rattle.std.proofs.Common.{◌≡◌, ◌≢◌, ◌⊎◌, inl, ◌≤◌, ◌++◌, List, [], length, None, refl, sym, ◌∙◌, ap, subst, arith}
 use Rattle.arch_disk.specs.Disk.{LeavesOnly}
 use Rattle.arch_types.specs.declared.row.Row.{Row}
+use Rattle.std.specs.List.{AllByRecursion}
+use Rattle.octet_fields.specs.Exact.{IsOctets}
 use Rattle.history_items.specs.Fills.{pending_fault_of}
 use Rattle.history_items.specs.Items.{Item}
 use Rattle.history_items.specs.Outcomes.{outcomes_of, fresh_of}
@@ -33,7 +35,8 @@ append-requires-clause-admitted g c =
     let within_now : IsWithin 22 (now.history ++ classified.fresh) = subst (λ (l : List Row). IsWithin 22 (now.history ++ l)) c.as_slice.ensures c.in_default-limit_passed.ensures.none.0 in
     let within : IsWithin 22 (s.history.items ++ fresh_of s.history.items rows) =
     subst (λ (l : List Row). IsWithin 22 (s.history.items ++ l)) c.in-Ok.ensures.fresh (subst (λ (x : StoreView g.row.D.Denot). IsWithin 22 (x.history ++ classified.fresh)) (sym c.self.view_is) within_now) in
-    let done = admitted s.head s.history.items c.args.batch.now c.self.invariant.0.head_is (omega (arith, c.containers-names.ensures, c.containers-names.type_inv)) fits some within in
+    let octets = subst (AllByRecursion (λ row. IsOctets row.packet)) c.in-Ok.ensures.fresh c.in-Ok.ensures.octets in
+    let done = admitted s.head s.history.items c.args.batch.now c.self.invariant.0.head_is (omega (arith, c.containers-names.ensures, c.containers-names.type_inv)) fits some within octets in
     subst (λ (x : StoreView g.row.D.Denot). AreAdmitted (archive x.head x.history) classified.fresh) c.self.view_is
     (subst (AreAdmitted (archive s.head s.history.items)) (sym c.in-Ok.ensures.fresh) done)
 
@@ -55,19 +58,19 @@ pub returns-in_default-clause-crash : goal.returns-in_default-clause-crash
 returns-in_default-clause-crash g c no_failed_write transparent =
     let device = g.D.Disk.device in
     let s = c.self.inside in
-    stands_now device c.args.self.now _ (subst (λ (x : StoreView g.row.D.Denot). CrashInvariant device x) c.self.view_is (crash_of device s.disk s.opened.value s.journal s.head s.history.items s.fills.items s.pending_fault c.self.invariant.0 transparent)) no_failed_write (λ c' stands. inl stands)
+    stands_now device c.args.self.now _ (subst (λ (x : StoreView g.row.D.Denot). CrashInvariant device x) c.self.view_is (crash_of device s.disk s.opened.value s.journal s.head s.history.items s.tracker.fills s.sets.filled s.pending_fault c.self.invariant.0 transparent)) no_failed_write (λ c' stands. inl stands)
 
 pub returns-then-len-eq0-clause-crash : goal.returns-then-len-eq0-clause-crash
 returns-then-len-eq0-clause-crash g c no_failed_write transparent =
     let device = g.D.Disk.device in
     let s = c.self.inside in
-    stands_now device c.args.self.now _ (subst (λ (x : StoreView g.row.D.Denot). CrashInvariant device x) c.self.view_is (crash_of device s.disk s.opened.value s.journal s.head s.history.items s.fills.items s.pending_fault c.self.invariant.0 transparent)) no_failed_write (λ c' stands. inl stands)
+    stands_now device c.args.self.now _ (subst (λ (x : StoreView g.row.D.Denot). CrashInvariant device x) c.self.view_is (crash_of device s.disk s.opened.value s.journal s.head s.history.items s.tracker.fills s.sets.filled s.pending_fault c.self.invariant.0 transparent)) no_failed_write (λ c' stands. inl stands)
 
 pub returns-in-Some-limit_passed-clause-crash : goal.returns-in-Some-limit_passed-clause-crash
 returns-in-Some-limit_passed-clause-crash g c no_failed_write transparent =
     let device = g.D.Disk.device in
     let s = c.self.inside in
-    stands_now device c.args.self.now _ (subst (λ (x : StoreView g.row.D.Denot). CrashInvariant device x) c.self.view_is (crash_of device s.disk s.opened.value s.journal s.head s.history.items s.fills.items s.pending_fault c.self.invariant.0 transparent)) no_failed_write (λ c' stands. inl stands)
+    stands_now device c.args.self.now _ (subst (λ (x : StoreView g.row.D.Denot). CrashInvariant device x) c.self.view_is (crash_of device s.disk s.opened.value s.journal s.head s.history.items s.tracker.fills s.sets.filled s.pending_fault c.self.invariant.0 transparent)) no_failed_write (λ c' stands. inl stands)
 
 pub returns-then-len-eq0-clause-ingested : goal.returns-then-len-eq0-clause-ingested
 returns-then-len-eq0-clause-ingested g c =
@@ -83,6 +86,7 @@ returns-then-len-eq0-clause-ingested g c =
       outcomes_are = c.in-Ok.ensures.outcomes;
       history = nothing_added items rows classified.fresh c.in-Ok.ensures.fresh zero;
       fills = refl;
+      filled = refl;
       one_record = λ some. absurd (some (none_new items rows classified.fresh c.in-Ok.ensures.fresh zero));
       no_call = λ none. refl;
       no_failed_write = refl;
@@ -134,6 +138,7 @@ returns-clause-ingested g c =
       outcomes_are = outcomes;
       history = appended.history ∙ added now.history rows c.in-Ok.classified.fresh fresh;
       fills = appended.fills;
+      filled = appended.filled;
       one_record = λ some. appended.records;
       no_call = λ nothing. absurd (some_new nothing);
       no_failed_write = appended.no_failed_write;

@@ -1,11 +1,11 @@
-use Rattle.std.proofs.Common.{List, None, sym, subst, ap, ◌∙◌, length, map}
+use Rattle.std.proofs.Common.{None, refl, sym, subst, ap, ◌∙◌, length, map}
+use Rattle.std.specs.Prelude.{IsTrue}
 use Rattle.arch_disk.specs.Image.{Image}
-use Rattle.history_items.specs.declared.fills.Fill.{Fill}
 use Rattle.disk_journal.specs.Format.{HasRecords}
 use Rattle.disk_journal.proofs.Bodies.{length-extents}
 use Rattle.field_codec.specs.Spelling.{entry_octets}
 use Rattle.archive_store.specs.Calls.{IsStoreOpenRefusal}
-use Rattle.archive_store.specs.Entries.{archive}
+use Rattle.archive_store.specs.PartialArchive.{filled_made}
 use Rattle.archive_store.specs.Inside.{StoreInvariant}
 use Rattle.archive_store.proofs.Calls.{decided_refused, decided_opened}
 use Rattle.archive_store.proofs.Opened.{kept_open, stands_found}
@@ -43,11 +43,12 @@ invariant_of-result g c =
     let mid = c.begin.new.disk in
     let f = c.in-Ok-read_archive.found in
     let r = c.in-Ok-read_archive.ensures.read in
-    let done = kept_open device disk mid f.journal f.made.head f.made.history.items r.tables.1 r.rows r.archive_is r.no_pending_fault r.in_file c.in-Ok.ensures.begun.durable c.read_archive.ensures.looked in (
-      subst (λ o. StoreInvariant device disk o f.journal f.made.head f.made.history.items c.new.result.items None) (sym c.of-opened.ensures)
-          (subst (λ (l : List Fill). StoreInvariant device disk mid f.journal f.made.head f.made.history.items l None) (sym c.new.ensures.items) done),
+    let done = kept_open device disk mid f.journal f.made.head f.made.history.items f.made.tracker.fills f.made.sets.filled r.tables.1 r.rows r.archive_is r.marks.0 r.no_pending_fault r.in_file c.in-Ok.ensures.begun.durable c.read_archive.ensures.looked in (
+      subst (λ o. StoreInvariant device disk o f.journal f.made.head f.made.history.items f.made.tracker.fills f.made.sets.filled None) (sym c.of-opened.ensures) done,
       r.tables.0,
       c.in-Ok-shared.ensures,
+      r.marks.1,
+      r.marks.2,
     )
 
 pub returns-clause-opened : goal.returns-clause-opened
@@ -57,10 +58,12 @@ returns-clause-opened g c =
     let same = c.begin.ensures.untouched.reads_same in
     let made = c.in-Ok-read_archive.found.made in
     let found = c.in-Ok-read_archive.ensures.read.archive_is in
+    let stands = λ (transparent : IsTrue device.is_transparent). stands_found reads (device.reads c.begin.new.disk 0) c.in-Ok-read_archive.found.journal (filled_made made) (ap (λ (x : Image). x 0) (sym same)) (found transparent) in
     record {
-      stands = λ transparent. stands_found reads (device.reads c.begin.new.disk 0) c.in-Ok-read_archive.found.journal (archive made.head made.history.items) (ap (λ (x : Image). x 0) (sym same)) (found transparent);
+      stands = λ transparent. record { filled = filled_made made; plain_is = refl; stands = stands transparent };
       records = λ transparent. let f = found transparent in (map entry_octets f.entries, subst (λ (x : Image). HasRecords (x 0) (map entry_octets f.entries)) same f.has, ap length f.extents ∙ length-extents 0 (map entry_octets f.entries));
-      fills = c.new.ensures.items;
+      fills = c.in-Ok-read_archive.ensures.read.marks.0;
+      filled = stands;
       opening = ap device.reads c.of-opened.ensures ∙ same;
       no_failed_write = c.read_archive.ensures.looked.no_write ∙ c.in-Ok.ensures.begun.no_failed_write;
     }
@@ -70,5 +73,5 @@ returns-clause-decided g c transparent =
     let device = g.D.Disk.device in
     let reads = device.reads c.args.disk in
     let made = c.in-Ok-read_archive.found.made in
-    decided_opened device reads _
-    (stands_found reads (device.reads c.begin.new.disk 0) c.in-Ok-read_archive.found.journal (archive made.head made.history.items) (ap (λ (x : Image). x 0) (sym c.begin.ensures.untouched.reads_same)) (c.in-Ok-read_archive.ensures.read.archive_is transparent))
+    let stands = stands_found reads (device.reads c.begin.new.disk 0) c.in-Ok-read_archive.found.journal (filled_made made) (ap (λ (x : Image). x 0) (sym c.begin.ensures.untouched.reads_same)) (c.in-Ok-read_archive.ensures.read.archive_is transparent) in
+    decided_opened device reads _ (record { filled = filled_made made; plain_is = refl; stands = stands })

@@ -1,6 +1,10 @@
-use Rattle.std.proofs.Common.{◌≡◌, ℤ, List, length, sym, ◌∙◌, subst}
-use Rattle.std.specs.Prelude.{Result, IfOk}
+use Rattle.std.proofs.Common.{◌≡◌, ◌≤ℤ◌, ℤ, List, length, map, true, true≢false, sym, ◌∙◌, ap, subst, arith}
+use Rattle.std.specs.Prelude.{Result, IfOk, IfErr, OnOk}
+use Rattle.std.proofs.lemmas.Int.{ints}
 use Rattle.std.specs.Arc.{arc_value}
+use Rattle.std.specs.Option.{is_some}
+use Rattle.mdb_items.specs.Texts.{place_of}
+use Rattle.arch_types.specs.declared.ask.Request.{Request}
 use Rattle.std.specs.List.{AllByRecursion}
 use Rattle.arch_types.specs.declared.refusal.Refusal.{Refusal}
 use Rattle.arch_types.specs.declared.row.Row.{Row}
@@ -11,7 +15,7 @@ use Rattle.param_segments.specs.declared.plan.Plan.{Plan}
 use Rattle.param_segments.specs.Plans.{rows_of_parts}
 use Rattle.archive_store.specs.declared.head.Head.{Head}
 use Rattle.archive_store.specs.Entries.{IsArchivedRow}
-use Rattle.archive_store.specs.Plans.{AreRisingIntervals, IsPlan, IsPlanOver, IsPlanPart}
+use Rattle.archive_store.specs.Plans.{AreRisingIntervals, IsPlan, IsPlanOver, IsPlanPart, IsPlanRefusal, IsPlannable}
 use Rattle.archive_store.specs.StoreView.{StoreView}
 use Rattle.archive_store.proofs.Archived.{range_archived}
 use Rattle.archive_store.proofs.Planning.{planned_over}
@@ -56,5 +60,33 @@ returns-clause-over g c =
           let is = plan_is s.head (arc_value s.mdb) s.history.items from to w.in-Ok.plan w.in-Ok.ensures k.2 k.0.rows in
           let over = planned_over s.head s.history.items from to w.in-Ok.plan is in
           subst Answers (sym w.result-is) (subst (λ (x : StoreView g.row.D.Denot). IsPlanOver x.head x.history from to w.in-Ok.plan) c.self.view_is over)
+      | in-Err w ↦ subst Answers (sym w.result-is) tt
+    ]
+
+-- the database has the name, and the range doesn't end before it begins
+is_plannable : (head : Head) (request : Request) → is_some (place_of request.parameter (map (λ p. p.name) head.mdb.parameters)) ≡ true → request.from ≤ℤ request.to → IsPlannable head request
+is_plannable head request some within = (λ lacks. true≢false (sym some ∙ ap is_some lacks), within)
+
+pub returns-clause-refused : goal.returns-clause-refused
+returns-clause-refused g c =
+    let s = c.self.inside in
+    let request = c.args.request.now in
+    let may = is_plannable s.head request (sym c.has_parameter.ensures ∙ c.if-not-has_parameter.false) (omega (arith, ints, c.if-request.false)) in
+    let here : IsPlannable c.args.self.now.head request = subst (λ (x : StoreView g.row.D.Denot). IsPlannable x.head request) c.self.view_is may in
+    let Answers = λ (r : Result Plan Refusal). IfErr r (IsPlanRefusal c.args.self.now.head request) in
+    elim c.match-planned.branch [
+      | in-Ok w ↦ subst Answers (sym w.result-is) tt
+      | in-Err w ↦ subst Answers (sym w.result-is) here
+    ]
+
+pub returns-clause-plannable : goal.returns-clause-plannable
+returns-clause-plannable g c =
+    let s = c.self.inside in
+    let request = c.args.request.now in
+    let may = is_plannable s.head request (sym c.has_parameter.ensures ∙ c.if-not-has_parameter.false) (omega (arith, ints, c.if-request.false)) in
+    let here : IsPlannable c.args.self.now.head request = subst (λ (x : StoreView g.row.D.Denot). IsPlannable x.head request) c.self.view_is may in
+    let Answers = λ (r : Result Plan Refusal). OnOk r (IsPlannable c.args.self.now.head request) in
+    elim c.match-planned.branch [
+      | in-Ok w ↦ subst Answers (sym w.result-is) here
       | in-Err w ↦ subst Answers (sym w.result-is) tt
     ]

@@ -1,0 +1,68 @@
+use Rattle.std.proofs.Common.{[], List, None, Some, sym, ◌∙◌, ap, subst}
+use Rattle.std.specs.Arc.{arc_value}
+use Rattle.std.specs.List.{AllByRecursion}
+use Rattle.history_items.specs.declared.fills.Fill.TheVariants.{Done}
+use Rattle.store_fills.specs.Faults.{IsDone}
+use Rattle.store_fills.proofs.Faults.{all_done}
+use Rattle.archive_history.specs.TableSet.{HistoryView}
+use Rattle.fill_tracker.specs.FillTracker.{AreMarksOf}
+use Rattle.param_segments.specs.Extracted.{IsSetOf}
+use Rattle.param_segments.specs.Octets.{rows_in_octets, set_octets}
+use Rattle.param_segments.specs.Rows.{SetRow}
+use Rattle.store_fills.specs.FilledSets.{fill_over, fillings_in}
+use Rattle.store_fills.specs.Sound.{with_filling}
+use Rattle.archive_store.specs.declared.head.Head.{Head}
+use Rattle.archive_store.specs.Entries.{filled_archive}
+use Rattle.archive_store.specs.Inside.{HoldsFills}
+use Rattle.archive_store.specs.PartialArchive.{IsSetRead}
+use Rattle.archive_store.proofs.Fillable.{holds_done}
+use Rattle.archive_store.proofs.reading.admit_fill.Goals as goal
+
+pub note_fill-requires : goal.note_fill-requires
+note_fill-requires c = c.may_fill.ensures.rows c.if-not-may_fill.false
+
+pub returns-then-not-may_fill-clause-no : goal.returns-then-not-may_fill-clause-no
+returns-then-not-may_fill-clause-no c refused fillable = c.may_fill.ensures.no c.if-not-may_fill.true fillable.based
+
+pub returns-in_default-clause-no : goal.returns-in_default-clause-no
+returns-in_default-clause-no c refused fillable =
+    let none : IsSetRead c.args.made.now.head c.args.interval c.args.octets None = subst (IsSetRead c.args.made.now.head c.args.interval c.args.octets) c.in_default.is c.in_ok-found.ensures in
+    none (rows_in_octets c.args.octets) fillable.set fillable.spelled
+
+pub returns-clause-yes : goal.returns-clause-yes
+returns-clause-yes c ok =
+    let made = c.args.made.now in
+    let new = c.note_fill.new.made in
+    let i = c.args.interval in
+    let base = c.args.base in
+    let octets = c.args.octets in
+    let read : IsSetRead made.head i octets (Some c.in-Some.set) = subst (IsSetRead made.head i octets) c.in-Some.is c.in_ok-found.ensures in
+    let rest = c.note_fill.ensures.rest in (
+      record {
+        fits = c.requires.entry;
+        based = c.may_fill.ensures.yes c.if-not-may_fill.false;
+        set = subst (IsSetOf made.head.mdb 22 i.0) read.2 read.0;
+        spelled = read.1 ∙ ap set_octets read.2;
+      },
+      ap (λ (h : Head). filled_archive h new.history.items (fillings_in new.sets.filled)) rest.0
+          ∙ ap (λ (h : HistoryView). filled_archive made.head h.items (fillings_in new.sets.filled)) rest.1
+          ∙ ap (filled_archive made.head made.history.items)
+          (c.in_ok-note_fill.ensures.sets ∙ ap (λ (s : List SetRow). with_filling (fillings_in made.sets.filled) i (fill_over base s)) (c.in_ok-shared.ensures.ok ∙ read.2)),
+    )
+
+pub returns-clause-marks : goal.returns-clause-marks
+returns-clause-marks c ok =
+    let made = c.args.made.now in
+    let new = c.note_fill.new.made in
+    let i = c.args.interval in
+    let base = c.args.base in
+    let octets = c.args.octets in
+    let read : IsSetRead made.head i octets (Some c.in-Some.set) = subst (IsSetRead made.head i octets) c.in-Some.is c.in_ok-found.ensures in
+    let rest = c.note_fill.ensures.rest in
+    let fills = c.in_ok-note_fill.ensures.fills in
+    let is : IsSetOf made.head.mdb 22 i.0 (arc_value c.in_ok-shared.shared) = subst (IsSetOf made.head.mdb 22 i.0) (sym c.in_ok-shared.ensures.ok) read.0 in (
+      subst (AllByRecursion IsDone) (sym fills) (all_done made.tracker.fills (Done i base) c.requires.marks.0 tt),
+      subst (λ (h : HistoryView). AreMarksOf 22 h.items new.tracker.fills new.tracker.marks) (sym rest.1) (c.in_ok-note_fill.ensures.marks made.history.items c.requires.marks.1),
+      subst (λ (h : Head). HoldsFills h new.tracker.fills new.sets.filled) (sym rest.0)
+          (holds_done made.head made.tracker.fills new.tracker.fills made.sets.filled new.sets.filled i base (arc_value c.in_ok-shared.shared) c.requires.marks.2 fills c.in_ok-note_fill.ensures.sets is),
+    )

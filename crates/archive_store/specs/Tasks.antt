@@ -1,0 +1,28 @@
+-- How a fill begins.
+use Rattle.std.specs.Prelude.{◌≡◌, ℤ, Option, Some, None}
+use Rattle.std.specs.Arc.{arc_value}
+use Rattle.arch_types.specs.declared.interval.Interval.{Interval}
+use Rattle.arch_types.specs.Interval.{interval_of}
+use Rattle.text_forms.specs.ClockTime.{IsClockTime}
+use Rattle.interval_fills.specs.Steps.{MachineState, AllLateInFlight, BeginsFill, state_of}
+use Rattle.archive_store.specs.declared.task.FillTask.{FillTask}
+use Rattle.archive_store.specs.StoreView.{StoreView}
+
+-- a moment of the clock is in the interval
+abbrev pub HasClockTime : Interval → Type 0
+HasClockTime interval = (time : ℤ) × IsClockTime time × (interval_of 22 time ≡ interval.0)
+
+-- a store as a state of the plain machine
+abbrev pub machine_state : {D : Type 0} → StoreView D → MachineState
+machine_state store = state_of store.history store.fills
+
+-- a fill began as this task says, under the head's database, and nothing else changed
+pub record BeginsTask {D : Type 0} (old new : StoreView D) (task : FillTask) : Type 0 where
+  pub step : BeginsFill 22 (machine_state old) task.interval task.base task.rows (machine_state new)
+  pub mdb : arc_value task.mdb ≡ old.head.mdb
+  pub same : new ≡ record old { fills = new.fills }
+
+-- the fill of the next interval began, or none, since each late interval is in flight
+abbrev pub IsFillBegun : {D : Type 0} → StoreView D → StoreView D → Option FillTask → Type 0
+IsFillBegun old new None = AllLateInFlight 22 (machine_state old) × (new ≡ old)
+IsFillBegun old new (Some task) = BeginsTask old new task

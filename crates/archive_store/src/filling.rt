@@ -1,0 +1,132 @@
+//! Late intervals and their fills.
+
+ghost use Rattle.std.specs.Prelude.{◌≡◌, ◌↔◌, ◌<◌, ◌≤◌, length, true, IfOk, IfErr, OnOk};
+ghost use Rattle.std.specs.Arc.{arc_value};
+ghost use Rattle.arch_types.specs.declared.refusal.Refusal.TheVariants.{OutOfMemory};
+ghost use Rattle.history_items.specs.Late.{IsLate};
+ghost use Rattle.interval_fills.specs.Intervals.{interval_end, interval_start, rows_of_interval};
+ghost use Rattle.interval_fills.specs.Steps.{all_freed, freed};
+ghost use Rattle.archive_store.specs.Tasks.{HasClockTime};
+
+use crate::store::Store;
+use crate::task::FillTask;
+use arch_disk::Disk;
+use arch_types::interval::Interval;
+use arch_types::refusal::Refusal;
+use arch_types::row::Rows;
+use archive_history::history::History;
+use fill_tracker::FillTracker;
+use mdb_model::Mdb;
+use std::alloc::{AllocError, Global};
+use std::sync::Arc;
+use yarch_table::rows::TableRows;
+
+/// The number of milliseconds of an interval.
+const INTERVAL_SIZE: i64 = 1 << 22;
+
+/// The first time of an interval, in milliseconds.
+fn start_of(interval: Interval) -> i64
+    requires { HasClockTime interval }
+    ensures { result ≡ interval_start 22 interval }
+{
+    interval.0 * INTERVAL_SIZE
+}
+
+/// The first time after an interval, in milliseconds.
+fn end_of(interval: Interval) -> i64
+    requires { HasClockTime interval }
+    ensures { result ≡ interval_end 22 interval }
+{
+    (interval.0 + 1) * INTERVAL_SIZE
+}
+
+/// Copies of rows, which share their packets.
+fn copies_of(alloc: Global, rows: TableRows<'_>) -> Result<Rows, AllocError>
+    ensures { IfOk result (λ copies. copies ≡ rows.entry) }
+{
+    let mut copies = Rows::new(alloc);
+    for row in rows {
+        copies.push(row.copy()?)?;
+    }
+    Ok(copies)
+}
+
+/// The rows of table `tm` in an interval, in the order of their keys.
+fn rows_of(alloc: Global, history: &History, interval: Interval) -> Result<Rows, AllocError>
+    requires tables { 0 < history.now.tables }
+    requires interval { HasClockTime interval }
+    ensures { IfOk result (λ rows. rows ≡ rows_of_interval 22 interval history.now.items) }
+{
+    copies_of(alloc, history.range(start_of(interval), end_of(interval)))
+}
+
+/// Takes all memory that a fill of an interval over a history needs to begin and to end, and makes its task.
+fn prepare_task(
+    alloc: Global,
+    history: &History,
+    mdb: &Arc<Mdb, Global>,
+    tracker: &mut FillTracker,
+    interval: Interval,
+) -> Result<FillTask, AllocError>
+    requires tables { 0 < history.now.tables }
+    requires interval { HasClockTime interval }
+    ensures at { IfOk result (λ task. (task.interval ≡ interval) × (task.base ≡ length history.now.items)) }
+    ensures rows { IfOk result (λ task. task.rows ≡ rows_of_interval 22 interval history.now.items) }
+    ensures mdb { IfOk result (λ task. arc_value task.mdb ≡ arc_value mdb.now) }
+    ensures room { OnOk result ((2 ≤ tracker.new.room) × (1 ≤ tracker.new.flight_room)) }
+    ensures same { (tracker.new.fills ≡ tracker.old.fills) × (tracker.new.marks ≡ tracker.old.marks) }
+{
+    tracker.reserve_flight()?;
+    Ok(FillTask {
+        interval,
+        base: history.len() as u64,
+        rows: rows_of(alloc, history, interval)?,
+        mdb: Arc::try_clone(mdb)?,
+    })
+}
+
+impl<D: Disk> Store<D> {
+    ghost use Rattle.archive_store.specs.StoreView.{OnlyAppends};
+    ghost use Rattle.archive_store.specs.Tasks.{IsFillBegun};
+
+    /// Whether an interval has rows that no fill has seen. Takes no memory.
+    pub fn is_late(&self, interval: Interval) -> bool
+        ensures { (result ≡ true) ↔ IsLate 22 interval self.now.history self.now.fills }
+    {
+        self.tracker.is_late(interval)
+    }
+
+    /// Begins a fill of the least late interval that isn't in flight. A place for the flight's end is kept from here on.
+    pub fn begin(&mut self, alloc: Global) -> Result<Option<FillTask>, Refusal>
+        // Ok: the task of that interval, over the whole history; none, where each late interval is in flight.
+        ensures begun { IfOk result (IsFillBegun self.old self.new) }
+
+        // Refused, for want of memory alone, all is as it was.
+        ensures refused { IfErr result (λ e. (e ≡ OutOfMemory) × (self.new ≡ self.old)) }
+        ensures grows { OnlyAppends self.old self.new }
+    {
+        let Some(interval) = self.tracker.next() else {
+            return Ok(None);
+        };
+        let prepared = prepare_task(alloc, &self.history, &self.mdb, &mut self.tracker, interval);
+        let Ok(task) = prepared else {
+            return Err(Refusal::OutOfMemory);
+        };
+        self.tracker.begin(interval, task.base);
+        Ok(Some(task))
+    }
+
+    /// Gives a task up: the flight of its interval ends without a fill, where it is in flight. Takes no memory.
+    pub fn abandon(&mut self, task: FillTask)
+        ensures { self.new ≡ record self.old { fills = freed task.interval self.old.fills } }
+    {
+        self.tracker.free(task.interval);
+    }
+
+    /// Ends each flight without a fill. Takes no memory.
+    pub fn settle(&mut self)
+        ensures { self.new ≡ record self.old { fills = all_freed self.old.fills } }
+    {
+        self.tracker.settle();
+    }
+}

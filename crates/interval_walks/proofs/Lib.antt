@@ -1,0 +1,4 @@
+pub mod Counts
+pub mod Covering
+pub mod Rising
+pub mod Turns

@@ -1,0 +1,4 @@
+pub mod Bases
+pub mod Faults
+pub mod SlotPlaces
+pub mod Soundness

@@ -1,0 +1,5 @@
+pub mod Sound
+pub mod FilledSets
+pub mod Filled
+pub mod Faults
+pub mod Laws

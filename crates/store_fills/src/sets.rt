@@ -1,0 +1,85 @@
+//! The sets of the intervals that were filled.
+
+ghost use Rattle.std.specs.Prelude.{◌≡◌, ◌≤◌, [], Some, None, OnOk, IfSome, IfNone};
+ghost use Rattle.std.specs.Arc.{arc_value};
+ghost use Rattle.store_fills.specs.Sound.{with_filling};
+ghost use Rattle.store_fills.specs.FilledSets.{fill_over, fillings_in, filling_of};
+
+use arch_types::interval::Interval;
+use block_map::index::Index;
+use param_segments::SegSet;
+use std::alloc::{AllocError, Global};
+use std::marker::Model;
+use std::sync::Arc;
+
+/// The last fill of an interval: its base and its set.
+#[derive(Drop)]
+pub struct FilledSlot {
+    pub base: u64,
+    pub set: Arc<SegSet, Global>,
+}
+
+/// The last fill of each interval that has one.
+#[derive(Drop)]
+pub struct FilledSets {
+    /// Where the fill of an interval stands.
+    places: Index<Interval, usize>,
+    slots: Vec<FilledSlot>,
+}
+
+impl Model for FilledSets {
+    ghost use Rattle.store_fills.specs.FilledSets.{FilledSetsView, ArePlaced, filled_sets_of};
+
+    ghost Value = { FilledSetsView };
+
+    ghost view = { λ s. filled_sets_of s.places s.slots };
+
+    ghost invariant = { λ s. ArePlaced s.places.entries s.slots.items };
+}
+
+impl FilledSets {
+    /// No fill. Takes no memory.
+    pub fn new(alloc: Global) -> Self
+        ensures { result.filled.entries ≡ [] }
+    {
+        FilledSets {
+            places: Index::new(alloc),
+            slots: Vec::new(alloc),
+        }
+    }
+
+    /// Makes room for one more. Refused, all but room is as before.
+    pub fn reserve(&mut self) -> Result<(), AllocError>
+        ensures ok { OnOk result (1 ≤ self.new.room) }
+        ensures same { self.new.filled ≡ self.old.filled }
+    {
+        self.slots.reserve(1)?;
+        self.places.reserve(1)
+    }
+
+    /// The fill of an interval is this one from now on. Takes no memory.
+    pub fn put(&mut self, interval: Interval, base: u64, set: Arc<SegSet, Global>)
+        requires { 1 ≤ self.old.room }
+        ensures { fillings_in self.new.filled ≡ with_filling (fillings_in self.old.filled) interval
+            (fill_over base (arc_value set)) }
+    {
+        let slot = FilledSlot { base, set };
+        match self.places.get(interval) {
+            Some(at) => self.slots[at] = slot,
+            None => {
+                let at = self.slots.len();
+                self.places.insert(interval, at);
+                self.slots.push_reserved(slot);
+            }
+        }
+    }
+
+    /// The fill of an interval.
+    pub fn get(&self, interval: Interval) -> Option<&FilledSlot>
+        ensures some { IfSome result (λ slot. fillings_in self.now.filled interval ≡ Some (filling_of slot.now)) }
+        ensures none { IfNone result (fillings_in self.now.filled interval ≡ None) }
+    {
+        let at = self.places.get(interval)?;
+        Some(&self.slots[at])
+    }
+}
