@@ -9,6 +9,7 @@ use Rattle.arch_types.specs.declared.ask.Request.{Request}
 use Rattle.arch_types.specs.declared.cell.Cell.{Cell}
 use Rattle.arch_types.specs.declared.row.Row.{Row}
 use Rattle.arch_types.specs.Table.{is_in_time_range, range_of}
+use Rattle.history_items.specs.Items.{rows_in}
 use Rattle.mdb_items.specs.Database.{Database}
 use Rattle.container_extract.specs.declared.values.ParameterValue.{ParameterValue}
 use Rattle.container_extract.specs.Extraction.{cell_at, cell_of, extraction}
@@ -17,6 +18,7 @@ use Rattle.param_segments.specs.declared.plan.Part.{Part}
 use Rattle.param_segments.specs.declared.plan.Part.TheVariants.{Rows, Set}
 use Rattle.param_segments.specs.Plans.{ArePartsOver, IsPartOver}
 use Rattle.retrieval.specs.AnswerText.{answered, as_asked}
+use Rattle.retrieval.specs.Laws.{PlannedIsAnswered}
 use Rattle.retrieval.specs.Parameter.{number_named}
 use Rattle.retrieval.specs.PartCells.{answer_over_parts, answer_over_rows, cells_of_part, cells_of_rows, is_cell_in_range, number_asked}
 
@@ -80,6 +82,11 @@ pub answer_of_history : (db : Database) (q : ℕ) (request : Request) (rows hist
 answer_of_history db q request rows history named in_range =
     ap (λ (number : Option ℕ). as_asked request (cells_of_rows db (unwrap_or number 0) request.from request.to rows)) named
     ∙ ap (λ (timely : List Row). as_asked request (filter_map (cell_of db q) timely)) in_range
+
+-- the answer over a plan is that over the history
+pub planned : PlannedIsAnswered
+planned head history request number plan named is =
+    answer_over head.mdb request plan.parts is.rows is.over ∙ answer_of_history head.mdb number request is.rows (rows_in history) named is.in_range
 
 -- the cells of an answer by one name of them or another
 pub same_cells : (r : Result Answer AllocError) (these those : List Cell) → these ≡ those → IfOk r (λ answer. answer.cells ≡ these) → IfOk r (λ answer. answer.cells ≡ those)

@@ -5,3 +5,4 @@ pub mod AnswerText
 pub mod ReplayText
 pub mod AskText
 pub mod PartCells
+pub mod Laws

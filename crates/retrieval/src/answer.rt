@@ -1,9 +1,9 @@
 //! The answer to a request, over the parts of a plan, and over a store.
 
-ghost use Rattle.std.specs.Prelude.{◌≡◌, ◌+◌, ◌≤◌, IfOk, IsSome, List, None, Some, length};
+ghost use Rattle.std.specs.Prelude.{◌≡◌, ◌+◌, ◌≤◌, IfOk, IsSome, List, None, Some, filter, length};
 ghost use Rattle.std.specs.List.{AllByRecursion, filter_map};
 ghost use Rattle.arch_types.specs.declared.row.Row.{Row};
-ghost use Rattle.arch_types.specs.Table.{range_of};
+ghost use Rattle.arch_types.specs.Table.{is_in_time_range, range_of};
 ghost use Rattle.history_items.specs.Items.{rows_in};
 ghost use Rattle.container_extract.specs.Extraction.{cell_of};
 ghost use Rattle.param_segments.specs.Plans.{ArePartsOver, HasValuesOf, rows_of_parts};
@@ -38,7 +38,8 @@ pub struct ParameterAnswer {
 }
 
 /// The answer to a request over the parts of a plan. The database has the parameter, and the sets' values are of it. A
-/// set's cells are read from its columns and take no step; neither a set nor a row behind the limit is read.
+/// set's cells are read from its columns and take no step, and a row outside the range takes none; neither a set nor a
+/// row behind the limit is read.
 pub fn answer<L: Ledger>(
     alloc: Global,
     plan: Plan,
@@ -54,7 +55,8 @@ pub fn answer<L: Ledger>(
     // So it is the answer over any rows that the parts are over.
     ensures over { (rows : List Row) → ArePartsOver mdb.now plan.parts rows →
         IfOk result (λ answer. answer.cells ≡ answer_over_rows mdb.now request.now rows) }
-    ensures steps { steps.new ≤ steps.old + length (rows_of_parts plan.parts) }
+    ensures steps { steps.new ≤ steps.old + length (filter (is_in_time_range request.now.from request.now.to)
+        (rows_of_parts plan.parts)) }
 {
     let Some(number) = number_of(mdb, &request.parameter) else {
         unreachable!();

@@ -15,6 +15,7 @@ pub mod answer;
 pub mod answer_text;
 pub mod cell_text;
 pub mod cells;
+pub mod laws;
 mod packet_text;
 pub mod parameter;
 mod part_cells;

@@ -1,6 +1,6 @@
 //! The cells that the parts of a plan have of a parameter, in the order and up to the limit that are asked.
 
-ghost use Rattle.std.specs.Prelude.{◌≡◌, ◌+◌, ◌≤◌, ◌++◌, OnOk, IfOk, flat_map, length, reverse};
+ghost use Rattle.std.specs.Prelude.{◌≡◌, ◌+◌, ◌≤◌, ◌++◌, ◌∷◌, [], OnOk, IfOk, filter, flat_map, length, reverse};
 ghost use Rattle.std.specs.List.{AllByRecursion, filter_map};
 ghost use Rattle.arch_types.specs.Table.{is_in_time_range};
 ghost use Rattle.param_segments.specs.Plans.{HasValuesOf, rows_of_part, rows_of_parts};
@@ -31,7 +31,8 @@ pub(crate) fn cells_over_parts<L: Ledger>(
     requires { AllByRecursion (HasValuesOf mdb.now) parts.now }
     ensures cells { IfOk result (λ cells. cells.items ≡ as_asked request.now
         (flat_map (cells_of_part mdb.now number request.now.from request.now.to) parts.now)) }
-    ensures steps { steps.new ≤ steps.old + length (rows_of_parts parts.now) }
+    ensures steps { steps.new ≤ steps.old + length (filter (is_in_time_range request.now.from request.now.to)
+        (rows_of_parts parts.now)) }
 {
     if request.descending {
         return last_part_cells(alloc, mdb, number, request, parts, steps);
@@ -51,7 +52,8 @@ fn first_part_cells<L: Ledger>(
     requires { AllByRecursion (HasValuesOf mdb.now) parts.now }
     ensures cells { IfOk result (λ cells. cells.items ≡ truncated request.now.limit
         (flat_map (cells_of_part mdb.now number request.now.from request.now.to) parts.now)) }
-    ensures steps { steps.new ≤ steps.old + length (rows_of_parts parts.now) }
+    ensures steps { steps.new ≤ steps.old + length (filter (is_in_time_range request.now.from request.now.to)
+        (rows_of_parts parts.now)) }
 {
     let mut cells = Vec::new(alloc);
     for part in parts {
@@ -75,7 +77,8 @@ fn last_part_cells<L: Ledger>(
     requires { AllByRecursion (HasValuesOf mdb.now) parts.now }
     ensures cells { IfOk result (λ cells. cells.items ≡ truncated request.now.limit
         (reverse (flat_map (cells_of_part mdb.now number request.now.from request.now.to) parts.now))) }
-    ensures steps { steps.new ≤ steps.old + length (rows_of_parts parts.now) }
+    ensures steps { steps.new ≤ steps.old + length (filter (is_in_time_range request.now.from request.now.to)
+        (rows_of_parts parts.now)) }
 {
     let mut cells = Vec::new(alloc);
     for part in parts.iter().rev() {
@@ -102,7 +105,8 @@ fn add_part_cells<L: Ledger>(
     requires within { truncated request.now.limit cells.old.items ≡ cells.old.items }
     ensures cells { OnOk result (cells.new.items ≡ truncated request.now.limit (cells.old.items ++
         cells_of_part mdb.now number request.now.from request.now.to part.now)) }
-    ensures steps { steps.new ≤ steps.old + length (rows_of_part part.now) }
+    ensures steps { steps.new ≤ steps.old + length (filter (is_in_time_range request.now.from request.now.to)
+        (rows_of_part part.now)) }
 {
     match part {
         Part::Set { set, .. } => {
@@ -130,7 +134,8 @@ fn add_last_part_cells<L: Ledger>(
     requires within { truncated request.now.limit cells.old.items ≡ cells.old.items }
     ensures cells { OnOk result (cells.new.items ≡ truncated request.now.limit (cells.old.items ++
         reverse (cells_of_part mdb.now number request.now.from request.now.to part.now))) }
-    ensures steps { steps.new ≤ steps.old + length (rows_of_part part.now) }
+    ensures steps { steps.new ≤ steps.old + length (filter (is_in_time_range request.now.from request.now.to)
+        (rows_of_part part.now)) }
 {
     match part {
         Part::Set { set, .. } => {
@@ -184,7 +189,8 @@ fn add_row_cells<L: Ledger>(
     requires { truncated request.now.limit cells.old.items ≡ cells.old.items }
     ensures cells { OnOk result (cells.new.items ≡ truncated request.now.limit (cells.old.items ++
         filter_map (cell_in_range mdb.now number request.now.from request.now.to) rows.now)) }
-    ensures steps { steps.new ≤ steps.old + length rows.now }
+    ensures steps { steps.new ≤ steps.old + length (filter (is_in_time_range request.now.from request.now.to)
+        rows.now) }
 {
     let mut extractor = Extractor::new(alloc)?;
     for row in rows {
@@ -209,7 +215,8 @@ fn add_last_row_cells<L: Ledger>(
     requires { truncated request.now.limit cells.old.items ≡ cells.old.items }
     ensures cells { OnOk result (cells.new.items ≡ truncated request.now.limit (cells.old.items ++
         filter_map (cell_in_range mdb.now number request.now.from request.now.to) (reverse rows.now))) }
-    ensures steps { steps.new ≤ steps.old + length rows.now }
+    ensures steps { steps.new ≤ steps.old + length (filter (is_in_time_range request.now.from request.now.to)
+        rows.now) }
 {
     let mut extractor = Extractor::new(alloc)?;
     for row in rows.iter().rev() {
@@ -233,7 +240,8 @@ fn add_row_cell<L: Ledger>(
 ) -> Result<(), AllocError>
     ensures cell { OnOk result (cells.new.items ≡ cells.old.items ++
         cell_list (cell_in_range mdb.now number request.now.from request.now.to row.now)) }
-    ensures steps { steps.new ≤ steps.old + 1 }
+    ensures steps { steps.new ≤ steps.old + length (filter (is_in_time_range request.now.from request.now.to)
+        (row.now ∷ [])) }
 {
     if !is_in_range(request, row) {
         return Ok(());

@@ -1,6 +1,7 @@
 // Answers over three intervals, each as a set or as rows.
-ghost use Rattle.std.specs.Prelude.{◌≡◌, ◌+◌, ◌<◌, ◌≤◌, IfOk, length};
+ghost use Rattle.std.specs.Prelude.{◌≡◌, ◌+◌, ◌<◌, ◌≤◌, IfOk, filter, length};
 ghost use Rattle.std.specs.List.{AllByRecursion};
+ghost use Rattle.arch_types.specs.Table.{is_in_time_range};
 ghost use Rattle.param_segments.specs.Plans.{HasValuesOf, rows_of_parts};
 
 use crate::parts::{Asked, FLIGHT, database, part, request, row};
@@ -145,7 +146,7 @@ fn answered<L: Ledger>(
     counted(alloc, parts, mdb, request, &mut Steps::new(book, share))
 }
 
-/// The same, with a step for each row of the parts that aren't sets at most.
+/// The same, with a step at most for each row in the range of the parts that aren't sets.
 fn counted<L: Ledger>(
     alloc: Global,
     parts: Parts,
@@ -154,7 +155,8 @@ fn counted<L: Ledger>(
     steps: &mut Steps<L>,
 ) -> Result<Answer, Fail>
     requires values { AllByRecursion (HasValuesOf mdb.now) parts }
-    ensures steps { steps.new ≤ steps.old + length (rows_of_parts parts) }
+    ensures steps { steps.new ≤ steps.old + length (filter (is_in_time_range request.now.from request.now.to)
+        (rows_of_parts parts)) }
 {
     if number_of(mdb, &request.parameter).is_none() {
         return Err(Fail::from("a parameter"));

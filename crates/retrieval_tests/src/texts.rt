@@ -1,6 +1,7 @@
 // The worked row, as a set and as rows, and texts of answers.
-ghost use Rattle.std.specs.Prelude.{◌≡◌, ◌+◌, ◌<◌, ◌≤◌, length};
-ghost use Rattle.param_segments.specs.Plans.{HasValuesOf, rows_of_part};
+ghost use Rattle.std.specs.Prelude.{◌≡◌, ◌+◌, ◌<◌, ◌≤◌, [], ◌∷◌, filter, length};
+ghost use Rattle.arch_types.specs.Table.{is_in_time_range};
+ghost use Rattle.param_segments.specs.Plans.{HasValuesOf, rows_of_parts};
 
 use crate::parts::{FLIGHT, Sheets, database, part, request, row};
 use arch_types::ask::{Answer, Request};
@@ -47,7 +48,8 @@ const LABELLED_LINES: &str = "cell -5 6 1 ON\ncell -5 6 1 UNDEF\ncell -5 6 1 1\n
 /// Those by the second's, which has none.
 const UNLABELLED_LINES: &str = "cell -5 6 1 UNDEF\ncell -5 6 1 UNDEF\ncell -5 6 1 1\n";
 
-/// The answer over one part, in a step for each row that it has still to extract at most: in none over a set.
+/// The answer over one part, in a step at most for each row in the range that it has still to extract: in none over a
+/// set.
 fn over_part<L: Ledger>(
     alloc: Global,
     part: Part,
@@ -56,7 +58,8 @@ fn over_part<L: Ledger>(
     steps: &mut Steps<L>,
 ) -> Result<Answer, Fail>
     requires { HasValuesOf mdb.now part }
-    ensures { steps.new ≤ steps.old + length (rows_of_part part) }
+    ensures { steps.new ≤ steps.old + length (filter (is_in_time_range request.now.from request.now.to)
+        (rows_of_parts (part ∷ []))) }
 {
     if number_of(mdb, &request.parameter).is_none() {
         return Err(Fail::from("a parameter"));

@@ -1,6 +1,7 @@
 use Rattle.std.proofs.Common.{◌≡◌, ◌∙◌, ℕ, Option, length, ap, arith, refl, sym, subst}
 use Rattle.std.specs.Prelude.{IsSome}
 use Rattle.std.specs.List.{AllByRecursion}
+use Rattle.arch_types.specs.Table.{is_in_time_range}
 use Rattle.history_items.specs.Items.{rows_in}
 use Rattle.archive_store.specs.declared.head.Head.{Head}
 use Rattle.archive_store.specs.StoreView.{StoreView}
@@ -9,6 +10,7 @@ use Rattle.param_segments.specs.Plans.{ArePartsOver, HasValuesOf}
 use Rattle.retrieval.specs.AnswerText.{answered}
 use Rattle.retrieval.specs.Parameter.{number_named}
 use Rattle.retrieval.specs.PartCells.{answer_over_rows}
+use Rattle.retrieval.proofs.Counted.{extracted_few}
 use Rattle.retrieval.proofs.OverRows.{answer_of_history, same_cells, same_front}
 use Rattle.retrieval.proofs.answer.planned_answer.Goals as goal
 
@@ -39,5 +41,8 @@ returns-in-Ok-clause-cells g c =
 
 pub returns-in-Ok-clause-steps : goal.returns-in-Ok-clause-steps
 returns-in-Ok-clause-steps g c =
-    let rows = ap length c.in-Ok.ensures.planned.rows in
-    omega (arith, c.answer.ensures.steps, rows)
+    let request = c.args.request.now in
+    let is = c.in-Ok.ensures.over in
+    let few = extracted_few (is_in_time_range request.from request.to) c.args.store.now.head.mdb c.in-Ok.plan.parts is.rows is.over in
+    let rows = ap length is.in_range in
+    omega (arith, c.answer.ensures.steps, few, rows)

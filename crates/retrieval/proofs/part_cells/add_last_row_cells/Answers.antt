@@ -1,17 +1,20 @@
 use Rattle.std.proofs.Common.{◌≡◌, ◌∙◌, ◌+◌, ◌++◌, arith, length, reverse, true, false, sym}
+use Rattle.std.specs.Prelude.{filter}
 use Rattle.std.specs.Iterator.Adapters.{rev_source}
 use Rattle.std.specs.List.{filter_map}
 use Rattle.std.specs.Slice.Iter.{iter_rest}
+use Rattle.arch_types.specs.Table.{is_in_time_range}
 use Rattle.replay_merge.specs.Replay.{truncated}
 use Rattle.retrieval.specs.AnswerText.{is_full}
 use Rattle.retrieval.specs.PartCells.{cell_in_range}
-use Rattle.retrieval.proofs.Counted.{last_row}
+use Rattle.retrieval.proofs.Counted.{last_in_range}
 use Rattle.retrieval.proofs.Limited.{full, items_done, next_last}
 use Rattle.retrieval.proofs.part_cells.add_last_row_cells.Goals as goal
 
 pub loop-row-preserved : goal.loop-row-preserved
 loop-row-preserved g c =
     let request = c.args.request.now in
+    let test = is_in_time_range request.from request.to in
     let f = cell_in_range c.args.mdb.now c.args.number request.from request.to in
     let cells = c.loop-row.cells.items in
     let rest = iter_rest (rev_source c.loop-row.row-iterator) in
@@ -22,14 +25,15 @@ loop-row-preserved g c =
     record {
       all = next.0;
       within = next.1;
-      steps = last_row rest left c.in-Some.row.now c.loop-row.steps c.add_row_cell.new.steps (c.args.steps.now + length c.args.rows.now) c.in-Some.ensures.steps c.loop-row.invariant.steps c.add_row_cell.ensures.steps;
+      steps = last_in_range test rest left c.in-Some.row.now c.loop-row.steps c.add_row_cell.new.steps (c.args.steps.now + length (filter test c.args.rows.now)) c.in-Some.ensures.steps c.loop-row.invariant.steps c.add_row_cell.ensures.steps;
     }
 
 pub returns-in_err-add_row_cell-clause-steps : goal.returns-in_err-add_row_cell-clause-steps
 returns-in_err-add_row_cell-clause-steps g c =
+    let test = is_in_time_range c.args.request.now.from c.args.request.now.to in
     let rest = iter_rest (rev_source c.loop-row.row-iterator) in
     let left = iter_rest (rev_source c.next.new.self) in
-    omega (arith, last_row rest left c.in-Some.row.now c.loop-row.steps c.add_row_cell.new.steps (c.args.steps.now + length c.args.rows.now) c.in-Some.ensures.steps c.loop-row.invariant.steps c.add_row_cell.ensures.steps)
+    omega (arith, last_in_range test rest left c.in-Some.row.now c.loop-row.steps c.add_row_cell.new.steps (c.args.steps.now + length (filter test c.args.rows.now)) c.in-Some.ensures.steps c.loop-row.invariant.steps c.add_row_cell.ensures.steps)
 
 pub returns-then-is_full-clause-cells : goal.returns-then-is_full-clause-cells
 returns-then-is_full-clause-cells g c =

@@ -1,5 +1,7 @@
-use Rattle.std.proofs.Common.{◌≡◌, ◌++◌, ◌+◌, ◌≤◌, drop}
+use Rattle.std.proofs.Common.{◌≡◌, ◌++◌, ◌+◌, ◌≤◌, drop, length}
+use Rattle.std.specs.Prelude.{filter}
 use Rattle.std.specs.List.{filter_map}
+use Rattle.arch_types.specs.Table.{is_in_time_range}
 use Rattle.replay_merge.specs.Replay.{truncated}
 use Rattle.retrieval.specs.PartCells.{cell_in_range}
 use Rattle.retrieval.proofs.part_cells.add_row_cells.Given as goal
@@ -9,5 +11,5 @@ invariant-loop-row g l = record {
   all : truncated l.request.limit (l.cells.items ++ filter_map (cell_in_range l.mdb l.number l.request.from l.request.to) (drop l.row-index l.rows))
       ≡ truncated l.request.limit (l.initial.cells.items ++ filter_map (cell_in_range l.mdb l.number l.request.from l.request.to) l.rows);
   within : truncated l.request.limit l.cells.items ≡ l.cells.items;
-  steps : l.steps ≤ l.initial.steps + l.row-index;
+  steps : l.steps + length (filter (is_in_time_range l.request.from l.request.to) (drop l.row-index l.rows)) ≤ l.initial.steps + length (filter (is_in_time_range l.request.from l.request.to) l.rows);
 }

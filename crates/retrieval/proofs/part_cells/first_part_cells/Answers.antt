@@ -1,7 +1,8 @@
 use Rattle.std.proofs.Common.{◌≡◌, ◌∙◌, ◌+◌, ◌∷◌, arith, drop, length, true, sym, ap, subst}
-use Rattle.std.specs.Prelude.{flat_map}
+use Rattle.std.specs.Prelude.{filter, flat_map}
 use Rattle.std.specs.List.{AllByRecursion}
 use Rattle.std.proofs.lemmas.List.{drop_more}
+use Rattle.arch_types.specs.Table.{is_in_time_range}
 use Rattle.param_segments.specs.declared.plan.Part.{Part}
 use Rattle.param_segments.specs.Plans.{HasValuesOf, rows_of_parts}
 use Rattle.replay_merge.specs.Replay.{truncated}
@@ -22,6 +23,7 @@ add_part_cells-requires-clause-values g c =
 pub loop-part-preserved : goal.loop-part-preserved
 loop-part-preserved g c =
     let request = c.args.request.now in
+    let test = is_in_time_range request.from request.to in
     let parts = c.args.parts.now in
     let f = cells_of_part c.args.mdb.now c.args.number request.from request.to in
     let i = c.loop-part.part-index in
@@ -34,17 +36,18 @@ loop-part-preserved g c =
       all = next.0;
       within = next.1;
       values = (subst (AllByRecursion (HasValuesOf c.args.mdb.now)) step c.loop-part.invariant.values).1;
-      steps = first_part (drop i parts) left part c.loop-part.steps c.add_part_cells.new.steps (c.args.steps.now + length (rows_of_parts parts)) step c.loop-part.invariant.steps c.add_part_cells.ensures.steps;
+      steps = first_part test (drop i parts) left part c.loop-part.steps c.add_part_cells.new.steps (c.args.steps.now + length (filter test (rows_of_parts parts))) step c.loop-part.invariant.steps c.add_part_cells.ensures.steps;
     }
 
 pub returns-in_err-add_part_cells-clause-steps : goal.returns-in_err-add_part_cells-clause-steps
 returns-in_err-add_part_cells-clause-steps g c =
+    let test = is_in_time_range c.args.request.now.from c.args.request.now.to in
     let parts = c.args.parts.now in
     let i = c.loop-part.part-index in
     let part = c.part-item.result in
     let left = drop (i + 1) parts in
     let step : drop i parts ≡ part ∷ left = drop_more parts i part c.loop-part-test.true ∙ ap (λ (p : Part). p ∷ left) (sym c.part-item.is) in
-    omega (arith, first_part (drop i parts) left part c.loop-part.steps c.add_part_cells.new.steps (c.args.steps.now + length (rows_of_parts parts)) step c.loop-part.invariant.steps c.add_part_cells.ensures.steps)
+    omega (arith, first_part test (drop i parts) left part c.loop-part.steps c.add_part_cells.new.steps (c.args.steps.now + length (filter test (rows_of_parts parts))) step c.loop-part.invariant.steps c.add_part_cells.ensures.steps)
 
 pub returns-then-is_full-clause-cells : goal.returns-then-is_full-clause-cells
 returns-then-is_full-clause-cells g c =

@@ -1,8 +1,9 @@
 use Rattle.std.proofs.Common.{◌≡◌, ◌∙◌, ◌+◌, ◌++◌, [], ◌∷◌, List, arith, length, reverse, true, sym, subst}
-use Rattle.std.specs.Prelude.{flat_map}
+use Rattle.std.specs.Prelude.{filter, flat_map}
 use Rattle.std.specs.Iterator.Adapters.{rev_source}
 use Rattle.std.specs.List.{AllByRecursion}
 use Rattle.std.specs.Slice.Iter.{iter_rest}
+use Rattle.arch_types.specs.Table.{is_in_time_range}
 use Rattle.param_segments.specs.declared.plan.Part.{Part}
 use Rattle.param_segments.specs.Plans.{HasValuesOf, rows_of_parts}
 use Rattle.replay_merge.specs.Replay.{truncated}
@@ -29,6 +30,7 @@ add_last_part_cells-requires-clause-values g c =
 pub loop-part-preserved : goal.loop-part-preserved
 loop-part-preserved g c =
     let request = c.args.request.now in
+    let test = is_in_time_range request.from request.to in
     let parts = c.args.parts.now in
     let f = cells_of_part c.args.mdb.now c.args.number request.from request.to in
     let part = c.in-Some.part.now in
@@ -41,15 +43,16 @@ loop-part-preserved g c =
       all = next.0;
       within = next.1;
       values = (all_but_last (HasValuesOf c.args.mdb.now) left part values).0;
-      steps = last_part rest left part c.loop-part.steps c.add_last_part_cells.new.steps (c.args.steps.now + length (rows_of_parts parts)) c.in-Some.ensures.steps c.loop-part.invariant.steps c.add_last_part_cells.ensures.steps;
+      steps = last_part test rest left part c.loop-part.steps c.add_last_part_cells.new.steps (c.args.steps.now + length (filter test (rows_of_parts parts))) c.in-Some.ensures.steps c.loop-part.invariant.steps c.add_last_part_cells.ensures.steps;
     }
 
 pub returns-in_err-add_last_part_cells-clause-steps : goal.returns-in_err-add_last_part_cells-clause-steps
 returns-in_err-add_last_part_cells-clause-steps g c =
+    let test = is_in_time_range c.args.request.now.from c.args.request.now.to in
     let parts = c.args.parts.now in
     let rest = iter_rest (rev_source c.loop-part.part-iterator) in
     let left = iter_rest (rev_source c.next.new.self) in
-    omega (arith, last_part rest left c.in-Some.part.now c.loop-part.steps c.add_last_part_cells.new.steps (c.args.steps.now + length (rows_of_parts parts)) c.in-Some.ensures.steps c.loop-part.invariant.steps c.add_last_part_cells.ensures.steps)
+    omega (arith, last_part test rest left c.in-Some.part.now c.loop-part.steps c.add_last_part_cells.new.steps (c.args.steps.now + length (filter test (rows_of_parts parts))) c.in-Some.ensures.steps c.loop-part.invariant.steps c.add_last_part_cells.ensures.steps)
 
 pub returns-then-is_full-clause-cells : goal.returns-then-is_full-clause-cells
 returns-then-is_full-clause-cells g c =

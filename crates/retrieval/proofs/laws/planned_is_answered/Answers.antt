@@ -1,0 +1,5 @@
+use Rattle.retrieval.proofs.OverRows.{planned}
+use Rattle.retrieval.proofs.laws.planned_is_answered.Goals as goal
+
+pub returns : goal.returns
+returns c = planned

@@ -1,0 +1,16 @@
+-- What the definitions come to.
+use Rattle.std.specs.Prelude.{◌≡◌, ℕ, List, Some}
+use Rattle.arch_types.specs.declared.ask.Request.{Request}
+use Rattle.history_items.specs.Items.{Item, rows_in}
+use Rattle.param_segments.specs.declared.plan.Plan.{Plan}
+use Rattle.archive_store.specs.declared.head.Head.{Head}
+use Rattle.archive_store.specs.Plans.{IsPlanOver}
+use Rattle.retrieval.specs.AnswerText.{answered}
+use Rattle.retrieval.specs.Parameter.{number_named}
+use Rattle.retrieval.specs.PartCells.{answer_over_parts}
+
+-- what is answered over the parts of a store's plan is the answer over its whole history
+abbrev pub PlannedIsAnswered : Type 0
+PlannedIsAnswered = (head : Head) (history : List Item) (request : Request) (number : ℕ) (plan : Plan) →
+    number_named head.mdb request.parameter ≡ Some number → IsPlanOver head history request.from request.to plan →
+    answer_over_parts head.mdb request plan.parts ≡ answered head.mdb number request (rows_in history)
