@@ -17,9 +17,9 @@ _cudrakh() {
   case $command in
     scan) files=1 ;;
     values) files=4 ;;
-    create) files=3 ;;
-    load) files=1 options='--ask --link' ;;
-    query) options=--ask ;;
+    create) files=4 ;;
+    load) files=1 options='--route --ask --link' ;;
+    query) options='--sql --ask' ;;
   esac
 
   # what the words before the cursor are; bash makes three words of --name=value
@@ -34,13 +34,15 @@ _cudrakh() {
       ended=yes
     elif [ "${word#--}" != "$word" ] && [[ " $options " = *" $word "* ]]; then
       due=$word options=${options/"$word"/}
+      # a script or a sheet of asks
+      [ "$command" = query ] && options=''
     elif [ "${word#-}" = "$word" ]; then
       words+=("$word")
     fi
   done
 
   if [ "$due" ]; then
-    [ "$due" = --ask ] && compopt -o default
+    [ "$due" != --link ] && compopt -o default
   elif [ ! "$ended" ] && { [ "${current#-}" != "$current" ] || [ "$command" = query ]; }; then
     mapfile -t COMPREPLY < <(compgen -W "$options" -- "$current")
   elif [ ${#words[@]} -lt "$files" ]; then

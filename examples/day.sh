@@ -10,3 +10,8 @@ export YARCH_HOME=$folder/archive
 ../cudrakh load --link 2 link-2.dump
 ../cudrakh query --ask asks.csv
 ../cudrakh recover
+
+# another archive of the first dump, whose packets of two kinds have tables of their own
+export YARCH_HOME=$folder/routed
+../cudrakh create parameters.csv calibrations.csv containers.csv tables.sql
+../cudrakh load --route route.sql --link 1 link-1.dump

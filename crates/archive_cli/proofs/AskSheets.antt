@@ -29,6 +29,38 @@ use Rattle.archive_cli.specs.Command.{Progress, Effects, EndedAt, HasEffects, Ra
 use Rattle.archive_cli.specs.Report.{unopened}
 use Rattle.archive_cli.proofs.OverInputs.{ran_unread}
 
+-- ---- an input is read before all else
+
+-- it was read, and what followed ran
+module _ {D : Type 0} (device : Device D) (e : Effects D) {X : Type 0} (plan : ℕ → CommandPlan ℕ X) (next : X → CommandPlan Progress ⊥) (a m b : InputsState) where
+  pub ran_behind : (x : X) → WasRead plan x 1 a m → RanOver device (next x) e m b → RanOver device (and_then (map_done nothing_done (plan 0)) (λ (x : X). map_done (with_sources 1) (next x))) e a b
+  ran_behind x read went = behind went.ran.way went.ran.allows went.ran.did went.inputs
+    where
+      allowed : (way : Way Progress ⊥) → Allows (next x) way → Allows (and_then (map_done nothing_done (plan 0)) (λ (x : X). map_done (with_sources 1) (next x))) (way_map_done (with_sources 1) way)
+      allowed way allows =
+          gave (map_done nothing_done (plan 0)) (λ (x : X). map_done (with_sources 1) (next x)) x (way_map_done (with_sources 1) way)
+          (allows_map_done nothing_done (plan 0) (Returned x) (read.allows 0)) (allows_map_done (with_sources 1) (next x) way allows)
+
+      behind : (way : Way Progress ⊥) → Allows (next x) way → HasEffects device e way → UsedInputs m b (sources_at way) (failed_at way OfInputs) →
+          RanOver device (and_then (map_done nothing_done (plan 0)) (λ (x : X). map_done (with_sources 1) (next x))) e a b
+      behind (Returned x) allows did used = absurd x
+      behind (Stopped s refusal) allows did used = record {
+        ran = record {
+          way = Stopped (with_sources 1 s) refusal;
+          allows = allowed (Stopped s refusal) allows;
+          did = record { report = did.report; printed = did.printed; output = did.output; disk = did.disk };
+        };
+        inputs = used_inputs_then a m b 1 s.sources (s.failed OfInputs) read.used used;
+      }
+      behind (Interrupted s fault) allows did used = record {
+        ran = record {
+          way = Interrupted (with_sources 1 s) fault;
+          allows = allowed (Interrupted s fault) allows;
+          did = record { report = did.report; printed = did.printed; output = did.output; disk = did.disk };
+        };
+        inputs = used_inputs_then a m b 1 s.sources (failed_at (Interrupted s fault) OfInputs) read.used used;
+      }
+
 -- ---- the sheet is read
 
 module _ {D : Type 0} (device : Device D) (e : Effects D) (files : Option Files) (next : Result (List Ask) Refusal → CommandPlan Progress ⊥) (a : InputsState) where
@@ -39,32 +71,7 @@ module _ {D : Type 0} (device : Device D) (e : Effects D) (files : Option Files)
   module _ (m b : InputsState) (asked : Option (List ℕ)) (name : List ℕ) (is : asked ≡ Some name) where
     -- it was read, and what followed ran
     pub ran_asked : (sheet : Result (List Ask) Refusal) → WasRead (ask_sheet_plan files name) sheet 1 a m → RanOver device (next sheet) e m b → RanOver device (asked_plan files asked next) e a b
-    ran_asked sheet read went = rw is (behind went.ran.way went.ran.allows went.ran.did went.inputs)
-      where
-        allowed : (way : Way Progress ⊥) → Allows (next sheet) way → Allows (asked_plan files (Some name) next) (way_map_done (with_sources 1) way)
-        allowed way allows =
-            gave (map_done nothing_done (ask_sheet_plan files name 0)) (λ asks. map_done (with_sources 1) (next asks)) sheet (way_map_done (with_sources 1) way)
-            (allows_map_done nothing_done (ask_sheet_plan files name 0) (Returned sheet) (read.allows 0)) (allows_map_done (with_sources 1) (next sheet) way allows)
-
-        behind : (way : Way Progress ⊥) → Allows (next sheet) way → HasEffects device e way → UsedInputs m b (sources_at way) (failed_at way OfInputs) →
-            RanOver device (asked_plan files (Some name) next) e a b
-        behind (Returned x) allows did used = absurd x
-        behind (Stopped s refusal) allows did used = record {
-          ran = record {
-            way = Stopped (with_sources 1 s) refusal;
-            allows = allowed (Stopped s refusal) allows;
-            did = record { report = did.report; printed = did.printed; output = did.output; disk = did.disk };
-          };
-          inputs = used_inputs_then a m b 1 s.sources (s.failed OfInputs) read.used used;
-        }
-        behind (Interrupted s fault) allows did used = record {
-          ran = record {
-            way = Interrupted (with_sources 1 s) fault;
-            allows = allowed (Interrupted s fault) allows;
-            did = record { report = did.report; printed = did.printed; output = did.output; disk = did.disk };
-          };
-          inputs = used_inputs_then a m b 1 s.sources (failed_at (Interrupted s fault) OfInputs) read.used used;
-        }
+    ran_asked sheet read went = rw is (ran_behind device e (ask_sheet_plan files name) next a m b sheet read went)
 
   -- it wasn't read
   pub ran_unread_sheet : (b : InputsState) (asked : Option (List ℕ)) (name : List ℕ) → asked ≡ Some name → (refusal : Refusal) →

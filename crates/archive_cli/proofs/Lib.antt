@@ -10,7 +10,9 @@ pub mod AskSheets
 pub mod ArchiveLine
 pub mod create_command
 pub mod query_command
+pub mod sql_command
 pub mod load_command
 pub mod DiskWrites
 pub mod RunPlan
 pub mod Openings
+pub mod ScriptAnswers

@@ -1,12 +1,13 @@
 -- The disk of a call that asks an archive.
-use Rattle.std.proofs.Common.{◌≡◌, inl, inr, false, List, [], ◌∷◌, ◌++◌, length, None, sym, ◌∙◌, ap, subst, arith, append-nil, length-append}
+use Rattle.std.proofs.Common.{◌≡◌, inl, inr, false, List, [], ◌∷◌, ◌++◌, length, Option, None, sym, ◌∙◌, ap, subst, arith, append-nil, length-append}
 use Rattle.std.specs.Prelude.{IsTrue}
 use mathlib.Core.List.{IsPrefix}
 use Rattle.arch_disk.specs.Image.{Image}
 use Rattle.arch_disk.specs.Disk.{Device, LeavesOnly}
 use Rattle.arch_disk.proofs.Moments.{weakens}
-use Rattle.history_items.specs.declared.fills.Fill.{Fill}
 use Rattle.history_items.specs.Fills.{rows_of_faults, unacknowledged_rows}
+use Rattle.store_fills.specs.Faults.{faults_in}
+use Rattle.store_fills.proofs.Faults.{faults_in-done, rows_of_faults-in, unacknowledged_rows-in}
 use Rattle.history_items.specs.Items.{Item}
 use Rattle.archive_store.specs.declared.head.Head.{Head}
 use Rattle.archive_store.specs.Entries.{Archive, archive}
@@ -35,16 +36,16 @@ only_since head history c i =
 
 -- a store that was opened, and to which nothing was done
 pub read_only_store : {D : Type 0} (device : Device D) (disk : D) (s : StoreView D) → StandsFor (device.reads disk) (archive_of s) → device.reads s.disk ≡ device.reads disk →
-    device.reads s.opened ≡ device.reads disk → s.fills ≡ [] → LeavesOnly device disk s.opened (device.images disk) → CrashInvariant device s → IsReadOnly device disk s.disk (archive_of s)
+    device.reads s.opened ≡ device.reads disk → faults_in s.fills ≡ [] → LeavesOnly device disk s.opened (device.images disk) → CrashInvariant device s → IsReadOnly device disk s.disk (archive_of s)
 read_only_store device disk s stands same opening fills handed_in keeps =
     let began : StandsFor (device.reads disk) (archive s.head keeps.before) = subst (λ (image : Image). StandsFor image (archive s.head keeps.before)) opening keeps.opening in
     let before : keeps.before ≡ s.history = ap (λ (a : Archive). a.history) (stands_once (device.reads disk) (archive s.head keeps.before) (archive s.head s.history) began stands) in
     let no_failed_write : LeavesOnly device s.opened s.disk (IsSince s.head keeps.before s.history []) =
-    subst (λ (f : List Fill). LeavesOnly device s.opened s.disk (IsSince s.head keeps.before s.history (rows_of_faults f))) fills keeps.since in
+    subst (λ (l : List (List Item)). LeavesOnly device s.opened s.disk (IsSince s.head keeps.before s.history l)) (rows_of_faults-in s.fills ∙ ap rows_of_faults fills) keeps.since in
     let since : LeavesOnly device s.opened s.disk (IsSince s.head s.history s.history []) =
     subst (λ (h : List Item). LeavesOnly device s.opened s.disk (IsSince s.head h s.history [])) before no_failed_write in
     let now : (c : Image) → device.images s.disk c → IsNow s.head s.history None c =
-    subst (λ (f : List Fill). (c : Image) → device.images s.disk c → IsNow s.head s.history (unacknowledged_rows f) c) fills keeps.now in record {
+    subst (λ (o : Option (List Item)). (c : Image) → device.images s.disk c → IsNow s.head s.history o c) (unacknowledged_rows-in s.fills ∙ ap unacknowledged_rows fills) keeps.now in record {
       stands = stands;
       reads = same;
       images = record {
@@ -63,5 +64,5 @@ opened_outcome device disk s opened reads handed_in counts keeps faults =
     let first = counts.faults in
     let later = faults.later in (
       record { faults = omega (arith, first, later); writes = (0, omega arith, omega arith, opened.no_failed_write) },
-      λ known. read_only_store device disk s (opened.stands known) reads opened.opening opened.fills handed_in (keeps known),
+      λ known. read_only_store device disk s (opened.stands known) reads opened.opening (faults_in-done s.fills opened.fills) handed_in (keeps known),
     )

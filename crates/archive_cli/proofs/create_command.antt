@@ -1,3 +1,4 @@
 pub mod CreatePlan
+pub mod NewTables
 pub mod Created
 pub mod ArchiveOrNone

@@ -6,6 +6,7 @@ pub mod recover_command
 pub mod create_command
 pub mod query_command
 pub mod scan_command
+pub mod sql_command
 pub mod values_command
 pub mod verify_command
 pub mod ReadDump
@@ -16,3 +17,4 @@ pub mod Asks
 pub mod DumpRest
 pub mod Report
 pub mod Run
+pub mod Scripts

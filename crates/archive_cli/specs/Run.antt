@@ -4,13 +4,14 @@ use Rattle.arch_disk.specs.Disk.{Device}
 use Rattle.arch_types.specs.declared.refusal.Refusal.TheVariants.{Usage}
 use Rattle.outer_traits.specs.Outside.{Files}
 use Rattle.command_plans.specs.Plan.{OfMemory, CommandPlan, Stop, May, Question}
-use Rattle.command_words.specs.Job.{Job, Scan, Values, Create, Load, Query, Recover, Verify, job_of}
+use Rattle.command_words.specs.Job.{Job, Scan, Values, Create, Load, Query, Sql, Recover, Verify, job_of}
 use Rattle.archive_cli.specs.Command.{Progress, nothing_done}
 use Rattle.archive_cli.specs.create_command.Create.{create_plan}
 use Rattle.archive_cli.specs.load_command.Load.{load_plan}
 use Rattle.archive_cli.specs.query_command.Query.{query_plan}
 use Rattle.archive_cli.specs.recover_command.Recover.{recover_plan}
 use Rattle.archive_cli.specs.scan_command.Scan.{scan_plan}
+use Rattle.archive_cli.specs.sql_command.Sql.{sql_plan}
 use Rattle.archive_cli.specs.values_command.Values.{values_plan}
 use Rattle.archive_cli.specs.verify_command.Verify.{verify_plan}
 
@@ -21,6 +22,7 @@ job_plan device disk files next (Values words) = values_plan files next words
 job_plan device disk files next (Create words) = create_plan device disk files words
 job_plan device disk files next (Load words) = load_plan device disk files next words
 job_plan device disk files next (Query name) = query_plan device disk files name
+job_plan device disk files next (Sql name) = sql_plan device disk files name
 job_plan device disk files next Recover = recover_plan device disk
 job_plan device disk files next Verify = verify_plan device disk
 

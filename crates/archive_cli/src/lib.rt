@@ -6,9 +6,13 @@
 //! a line of `job_plan`; one that only prints a line about the archive gives that line alone (`ArchiveLine` in src/archive_line.rt), as `recover` and
 //! `verify` do.
 //!
+//! The way of a script, for `create` and `load`: src/read.rt reads its octets, and src/scripts.rt says what they stand for, or why they are refused.
+//!
 //! The way of a dump: for `scan` and `values` `read_scan_input` takes it in, and dump_lines keeps its rows; for `load` load_session hands its packets to
 //! the archive's store. The way of an ask, for `query` and `load`: mdb_sheets reads it; retrieval says whether it can be answered (src/asks.rt),
-//! and extracts the cells of the store's plan or goes on with its replay, and prints them.
+//! and extracts the cells of the store's plan or goes on with its replay, and prints them. The way of a script: ssql_parse reads it
+//! once the archive is open, ssql_types types it over the archive's names, and ssql_select answers its statements out of the rows in
+//! memory (src/statements.rt).
 //!
 //! The one idea of the proofs: an archive that was opened is the one that the disk stands for. Where each question of a plan has one answer, a way that
 //! the plan allows is the one that it has to go, so the answer is the one that is due (`is_due` in proofs/Commands.antt).
@@ -25,6 +29,9 @@ pub mod report;
 pub mod run;
 mod scan;
 mod scan_input;
+mod scripts;
+mod sql;
+mod statements;
 mod values;
 mod verify;
 

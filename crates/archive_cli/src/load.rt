@@ -1,6 +1,6 @@
 //! The command `load`: the packets of a dump, ingested into an archive.
 
-ghost use Rattle.std.specs.Prelude.{◌≡◌, ◌<◌, ◌≤◌, ◌+◌, ◌-◌, ◌++◌, [], IsSome, IsTrue, IfOk, IfErr, IfSome, MatchResult, OnOk, None, Some, length};
+ghost use Rattle.std.specs.Prelude.{◌≡◌, ◌<◌, ◌≤◌, ◌+◌, ◌-◌, ◌++◌, [], IsSome, IsTrue, IfOk, IfErr, IfSome, MatchResult, OnOk, None, Some, length, option_map};
 ghost use Rattle.outer_traits.specs.Outside.{Stays};
 ghost use Rattle.outer_ledgers.specs.Ledger.{UsedClock};
 ghost use Rattle.text_forms.specs.ClockTime.{IsClockTime};
@@ -11,22 +11,26 @@ ghost use Rattle.dump_lines.specs.Output.{WritesCounted};
 ghost use Rattle.retrieval.specs.AskText.{asks_refusal, asks_text};
 ghost use Rattle.archive_cli.specs.Asks.{ArePrinted};
 ghost use Rattle.archive_cli.specs.Command.{RanOver, effects_of};
+ghost use Rattle.store_fills.specs.Faults.{faults_in};
+ghost use Rattle.load_session.specs.Receiving.{receiving, IsRouteOver};
 ghost use Rattle.load_session.specs.Session.{OneOrTwo};
-ghost use Rattle.archive_cli.specs.load_command.Load.{archive_load_plan, load_plan};
+ghost use Rattle.archive_cli.specs.Scripts.{OrNoMemory};
+ghost use Rattle.archive_cli.specs.load_command.Load.{archive_load_plan, load_plan, routed_load_plan};
 ghost use Rattle.archive_cli.specs.load_command.LoadLine.{load_line};
-ghost use Rattle.archive_cli.specs.load_command.Loading.{printed_report, link_refusal, IsLoadRun, IsDumpRefusal, IsDumpRefusalFor, IsNotReceived, IsReady};
+ghost use Rattle.archive_cli.specs.load_command.Loading.{printed_report, link_refusal, IsLoadRun, IsDumpRefusal, IsDumpRefusalFor, IsNotReceived, IsReady, IsRouteAnswer};
 ghost use Rattle.archive_cli.specs.ReadDump.{dump_limit, ending_of};
 ghost use Rattle.archive_cli.specs.Report.{disk_of_work, loaded, read_only, report_of_work, status_at};
 
 use crate::asks::{check_asks, print_asks, print_refusal};
-use crate::read::refusal_of_opening;
+use crate::read::{read_limited, refusal_of_opening};
 use crate::report::{Ended, LoadCounts, Report};
 use crate::scan_input::bad_packet;
+use crate::scripts::typed_text;
 use arch_disk::Disk;
 use arch_types::ask::{Ask, Asks};
 use arch_types::octets::Octets;
 use arch_types::refusal::{BadKind, Refusal, Which};
-use archive_store::{Head, Store};
+use archive_store::Store;
 use command_words::job::LoadWords;
 use dump_lines::line_buffer::LineBuffer;
 use load_session::{DumpSummary, run_session};
@@ -37,14 +41,18 @@ use outer_traits::sink::Sink;
 use outer_traits::source::Source;
 use outer_traits::whole::{ReadFault, read_whole};
 use space_packet::dump::Why;
+use ssql_types::place::ScriptPlace;
 use std::alloc::Global;
+use stream_graph::graph::Graph;
 
-/// Opens a dump and the archive of a disk, ingests the dump's packets in batches of 64, answers the asks of a sheet, where one is given, over the
-/// history after them, and prints what became of the packets. Room for the line is taken before.
+/// Opens a dump and the archive of a disk, ingests the dump's packets in batches of 64 into the tables that a route names, or where none is given into
+/// `tm`, answers the asks of a sheet, where one is given, over the history after them, and prints what became of the packets. Room for the line is taken
+/// before.
 ///
-/// Refuses, in this order: by `Missing`, `ReadFault` or `Limit` SheetOctets of the sheet; by `Missing` or `ReadFault` where the dump isn't opened; by
-/// `DiskFault`, `NoArchive` or `Damaged`; by `Limit` Links; by `BadSheet`; by `Limit` Asks; each ask in turn by `UnknownParameter` or `UnknownTable`, then by
-/// `BadRange`; by `ReadFault` or `Limit` DumpOctets; batch by batch by a `Limit` of the history or by `DiskFault`; by `BadPacket`; by `WriteFault`.
+/// Refuses, in this order: by `Missing`, `ReadFault` or `Limit` ScriptOctets of the route; by `Missing`, `ReadFault` or `Limit` SheetOctets of the sheet; by
+/// `Missing` or `ReadFault` where the dump isn't opened; by `DiskFault`, `NoArchive` or `Damaged`; by `Limit` Links; by `BadSql` of rule 1 or 2; by `Limit`
+/// Statements or SqlDepth; at the first token with which something is wrong by `BadSql` or `UnknownTable`; by `BadSheet`; by `Limit` Asks; each ask in turn
+/// by `UnknownParameter` or `UnknownTable`, then by `BadRange`; by `ReadFault` or `Limit` DumpOctets; batch by batch by a `Limit` of the history or by `DiskFault`; by `BadPacket`; by `WriteFault`.
 /// `OutOfMemory` may come anywhere before the line, but behind the session only where there are asks.
 ///
 /// Where a call of the disk failed in a batch, the write is taken back before it ends, as far as the disk lets it.
@@ -78,7 +86,7 @@ pub fn load<D: Disk, I: Inputs, K: Sink, C: Clock>(
     Ended::of_work(work(alloc, words, disk, inputs, sink, clock))
 }
 
-/// Does the command: reads the sheet of asks, where one is given, and then loads the dump.
+/// Does the command: reads the script of a route, where one is given, and then loads the dump.
 fn work<D: Disk, I: Inputs, K: Sink, C: Clock>(
     alloc: Global,
     words: LoadWords<'_>,
@@ -94,9 +102,40 @@ fn work<D: Disk, I: Inputs, K: Sink, C: Clock>(
         (I.state inputs.old) (I.state inputs.new) }
     ensures clock { UsedClock (C.state clock.old) (C.state clock.new) }
 {
+    match words.route {
+        None => load_routed(alloc, None, words, disk, inputs, sink, clock),
+        Some(name) => match read_limited(alloc, inputs, name, Which::ScriptOctets) {
+            Ok(text) => {
+                let text = Some(text.as_slice());
+                load_routed(alloc, text, words, disk, inputs, sink, clock)
+            }
+            Err(refusal) => Err((disk, refusal)),
+        },
+    }
+}
+
+/// Reads the sheet of asks, where one is given, and loads the dump by the route of a text.
+fn load_routed<D: Disk, I: Inputs, K: Sink, C: Clock>(
+    alloc: Global,
+    text: Option<&[u8]>,
+    words: LoadWords<'_>,
+    disk: D,
+    inputs: &mut I,
+    sink: &mut K,
+    clock: &mut C,
+) -> Result<(D, Report), (D, Refusal)>
+    requires link { 1 ≤ words.link }
+    ensures ran { RanOver D.device
+        (routed_load_plan D.device disk (I.state inputs.old).files (C.state clock.old).next (load_words_of words.entry)
+        (option_map (λ text. text.now) text.entry))
+        (effects_of disk (disk_of_work result) (K.state sink.old) (K.state sink.new) (report_of_work result))
+        (I.state inputs.old) (I.state inputs.new) }
+    ensures clock { UsedClock (C.state clock.old) (C.state clock.new) }
+{
     match words.asks {
         None => load_archive(
             alloc,
+            text,
             Ok(Asks::new(alloc)),
             words,
             disk,
@@ -105,15 +144,16 @@ fn work<D: Disk, I: Inputs, K: Sink, C: Clock>(
             clock,
         ),
         Some(name) => match read_asks(alloc, inputs, name) {
-            Ok(sheet) => load_archive(alloc, sheet, words, disk, inputs, sink, clock),
+            Ok(sheet) => load_archive(alloc, text, sheet, words, disk, inputs, sink, clock),
             Err(refusal) => Err((disk, refusal)),
         },
     }
 }
 
-/// Opens a dump and the archive of a disk, and loads the dump, behind which the asks of a sheet are answered.
+/// Opens a dump and the archive of a disk, and loads the dump by the route of a text, behind which the asks of a sheet are answered.
 fn load_archive<D: Disk, I: Inputs, K: Sink, C: Clock>(
     alloc: Global,
+    text: Option<&[u8]>,
     sheet: Result<Asks, Refusal>,
     words: LoadWords<'_>,
     disk: D,
@@ -124,7 +164,7 @@ fn load_archive<D: Disk, I: Inputs, K: Sink, C: Clock>(
     requires link { 1 ≤ words.link }
     ensures ran { RanOver D.device
         (archive_load_plan D.device disk (I.state inputs.old).files (C.state clock.old).next (load_words_of words.entry)
-        sheet) (effects_of disk (disk_of_work result) (K.state sink.old) (K.state sink.new) (report_of_work result))
+        (option_map (λ text. text.now) text.entry) sheet) (effects_of disk (disk_of_work result) (K.state sink.old) (K.state sink.new) (report_of_work result))
         (I.state inputs.old) (I.state inputs.new) }
     ensures clock { UsedClock (C.state clock.old) (C.state clock.new) }
 {
@@ -142,7 +182,7 @@ fn load_archive<D: Disk, I: Inputs, K: Sink, C: Clock>(
             return Err(refused);
         }
     };
-    let received = receive(alloc, store.head(), sheet, &mut source, words.link);
+    let received = receive(alloc, &store, text, sheet, &mut source, words.link);
     inputs.close(source);
     let report = match received {
         Ok(received) => {
@@ -154,11 +194,12 @@ fn load_archive<D: Disk, I: Inputs, K: Sink, C: Clock>(
     Ok((store.into_disk(), report))
 }
 
-/// A dump that was read to its end, the link that it came by, and the asks that are answered behind it.
+/// A dump that was read to its end, the link that it came by, the route of its packets, and the asks that are answered behind it.
 #[derive(Drop)]
 struct LoadInput {
     link: u16,
     asks: Asks,
+    graph: Graph,
     dump: Octets,
 }
 
@@ -170,29 +211,84 @@ struct DumpRefusal {
     link: Option<u16>,
 }
 
-/// Reads a dump to its end, where there's a link of its number and an archive's head can answer the asks of a sheet.
-fn receive<S: Source>(
+/// Reads a dump to its end, where there's a link of its number, the text of its route is none that is refused, and an archive's head can answer the asks
+/// of a sheet.
+fn receive<D: Disk, S: Source>(
     alloc: Global,
-    head: &Head,
+    store: &Store<D>,
+    text: Option<&[u8]>,
     sheet: Result<Asks, Refusal>,
     source: &mut S,
     link: u64,
 ) -> Result<LoadInput, DumpRefusal>
-    ensures ready { IfOk result (λ received. IsReady head.now sheet link received.asks) }
+    ensures ready { IfOk result (λ received. IsReady store.now.head (option_map (λ text. text.now) text.entry) sheet link
+        received.graph received.asks) }
     ensures link { IfOk result (λ received. (received.link ≡ link) × (received.link ≤ 255)) }
+    ensures route { IfOk result (λ received. IsRouteOver store.now.head received.graph) }
     ensures whole { IfOk result (λ received. IfSome (S.state source.old).left (λ left. left ≡ received.dump)) }
     ensures short { IfOk result (λ received. length received.dump ≤ dump_limit) }
-    ensures unread { IfErr result (λ unread. IsNotReceived head.now sheet link (S.state source.old).left
-        (S.state source.old).faults (S.state source.new).faults unread.refusal unread.link) }
+    ensures unread { IfErr result (λ unread. IsNotReceived store.now.head (option_map (λ text. text.now) text.entry) sheet
+        link (S.state source.old).left (S.state source.old).faults (S.state source.new).faults unread.refusal
+        unread.link) }
     ensures no_fault { OnOk result (Stays (S.state source.old).faults (S.state source.new).faults) }
     ensures later { (S.state source.old).faults ≤ (S.state source.new).faults }
     ensures reliable { (S.state source.old).never_fails →
         Stays (S.state source.old).faults (S.state source.new).faults }
 {
     let link = link_numbered(link)?;
-    let asks = check_asks(head, sheet)?;
+    let graph = route_of_load(alloc, store, text)?;
+    let asks = check_asks(store.head(), sheet)?;
     let dump = read_dump(alloc, source, link)?;
-    Ok(LoadInput { link, asks, dump })
+    Ok(LoadInput {
+        link,
+        asks,
+        graph,
+        dump,
+    })
+}
+
+/// The route of a load: that of a text, or where none is given the one of every packet into `tm`.
+fn route_of_load<D: Disk>(
+    alloc: Global,
+    store: &Store<D>,
+    text: Option<&[u8]>,
+) -> Result<Graph, Refusal>
+    ensures answer { OrNoMemory (IsRouteAnswer store.now.head (option_map (λ text. text.now) text.entry)) result }
+    ensures over { IfOk result (IsRouteOver store.now.head) }
+{
+    match text {
+        None => every_packet(alloc, store),
+        Some(text) => scripted_route(alloc, store, text),
+    }
+}
+
+/// The route of a load that is given none.
+fn every_packet<D: Disk>(alloc: Global, store: &Store<D>) -> Result<Graph, Refusal>
+    ensures answer { OrNoMemory (IsRouteAnswer store.now.head None) result }
+    ensures over { IfOk result (IsRouteOver store.now.head) }
+{
+    // This tells the proof that the archive has a first table.
+    store.head();
+    match Graph::every_packet(alloc) {
+        Ok(graph) => Ok(graph),
+        Err(_) => Err(Refusal::OutOfMemory),
+    }
+}
+
+/// The route of a script's text over the tables and packet names of an archive.
+fn scripted_route<D: Disk>(alloc: Global, store: &Store<D>, text: &[u8]) -> Result<Graph, Refusal>
+    ensures answer { OrNoMemory (IsRouteAnswer store.now.head (Some text.now)) result }
+    ensures over { IfOk result (IsRouteOver store.now.head) }
+{
+    let names = store.names(alloc)?;
+    let head = store.head();
+    // It tells the proof how many packet names there may be.
+    head.mdb.containers();
+    let script = typed_text(alloc, text, ScriptPlace::Route, &head.tables, &names)?;
+    match Graph::of(alloc, &script) {
+        Ok(graph) => Ok(graph),
+        Err(_) => Err(Refusal::OutOfMemory),
+    }
 }
 
 /// The link with a number.
@@ -281,19 +377,27 @@ fn load_dump<D: Disk, K: Sink>(
     requires short { length received.now.dump ≤ dump_limit }
     requires link { (1 ≤ received.now.link) × (received.now.link ≤ 255) }
     requires answerable { asks_refusal store.old.head received.now.asks ≡ None }
+    requires route { IsRouteOver store.old.head received.now.graph }
     requires moment { IsClockTime moment }
     requires empty { line_buffer ≡ [] }
-    requires no_fault { store.old.fills ≡ [] }
-    requires few_records { IsTrue D.device.is_transparent → store.old.records ≤ 1 + length store.old.history }
-    ensures session { IsLoadRun D.device store.old store.new received.now.asks received.now.dump received.now.link
-        moment (K.state sink.old).written (K.state sink.new).written result }
+    requires no_fault { faults_in store.old.fills ≡ [] }
+    ensures session { IsLoadRun D.device store.old store.new received.now.asks received.now.dump
+        (receiving store.old.head received.now.graph received.now.link moment) (K.state sink.old).written
+        (K.state sink.new).written result }
     ensures writes_counted { WritesCounted result.refusal (K.state sink.old).faults (K.state sink.new).faults }
     ensures writes_later { (K.state sink.old).faults ≤ (K.state sink.new).faults }
     ensures disk_writes { OneOrTwo result.refusal (D.device.failed_writes store.old.disk)
         (D.device.failed_writes store.new.disk) }
 {
     let before = store.front();
-    match run_session(alloc, store, &received.dump, received.link, moment) {
+    match run_session(
+        alloc,
+        store,
+        &received.graph,
+        &received.dump,
+        received.link,
+        moment,
+    ) {
         Ok(whole) => match refusal_of_rest(&whole) {
             None => print(
                 alloc,
@@ -343,12 +447,13 @@ fn print<D: Disk, K: Sink>(
     requires answerable { asks_refusal store.old.head asks.now ≡ None }
     requires empty { line_buffer ≡ [] }
     requires grown { before ≤ length store.old.history }
-    requires counts { whole.idle + length store.old.history ≤ whole.packets + before }
+    requires counts { length store.old.history ≤ whole.routed + before }
     ensures printed { ArePrinted asks.now result.refusal (K.state sink.old).written (K.state sink.new).written
         (asks_text store.old.head store.old.history 1 asks.now ++ load_line whole.packets
-        (length store.old.history - before) (whole.packets - whole.idle - (length store.old.history - before)) whole.idle
+        (length store.old.history - before) (whole.routed - (length store.old.history - before)) whole.idle
         (length store.old.history)) }
-    ensures report { result ≡ printed_report result.refusal before (length store.old.history) whole.packets whole.idle }
+    ensures report { result ≡ printed_report result.refusal before (length store.old.history) whole.packets whole.routed
+        whole.idle }
     ensures writes_counted { WritesCounted result.refusal (K.state sink.old).faults (K.state sink.new).faults }
     ensures writes_later { (K.state sink.old).faults ≤ (K.state sink.new).faults }
     ensures same { store.new ≡ store.old }
@@ -357,7 +462,7 @@ fn print<D: Disk, K: Sink>(
     let after = store.front();
     let counts = LoadCounts {
         packets: whole.packets,
-        duplicates: whole.packets - whole.idle - (after - before),
+        duplicates: whole.routed - (after - before),
         idle: whole.idle,
     };
     match print_asks(alloc, asks, store, &mut line_buffer, sink) {

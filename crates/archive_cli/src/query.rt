@@ -1,4 +1,4 @@
-//! The command `query`: the answers of an archive to a sheet of asks.
+//! The command `query --ask`: the answers of an archive to a sheet of asks.
 
 ghost use Rattle.std.specs.Prelude.{◌≡◌, ◌≤◌, [], IsSome, IsTrue, None};
 ghost use Rattle.retrieval.specs.AskText.{asks_refusal, asks_text};

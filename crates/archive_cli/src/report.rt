@@ -78,7 +78,7 @@ impl<D> Ended<D> {
 pub struct LoadCounts {
     /// All packets, idle ones counted too.
     pub packets: u64,
-    /// Rows that were there.
+    /// Rows that were there, one for each packet and table.
     pub duplicates: u64,
     pub idle: u64,
 }

@@ -16,6 +16,7 @@ use crate::query::query;
 use crate::recover::Recovered;
 use crate::report::Ended;
 use crate::scan::scan;
+use crate::sql::query_sql;
 use crate::values::values;
 use crate::verify::Verified;
 use arch_disk::Disk;
@@ -86,6 +87,7 @@ fn run_job<D: Disk, I: Inputs, K: Sink, C: Clock>(
         Job::Create(words) => create(alloc, words, disk, inputs, sink),
         Job::Load(words) => load(alloc, words, disk, inputs, sink, clock),
         Job::Query { asks } => query(alloc, asks, disk, inputs, sink),
+        Job::Sql { script } => query_sql(alloc, script, disk, inputs, sink),
         Job::Recover => print_archive_line::<Recovered, D, K>(alloc, disk, sink),
         Job::Verify => print_archive_line::<Verified, D, K>(alloc, disk, sink),
     }

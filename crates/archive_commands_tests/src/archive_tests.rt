@@ -25,7 +25,7 @@ const NAMED: &[u8] =
 const BROKEN: &[u8] =
     b"\x08\x64\xC0\x00\x00\x06\x00\x00\x00\x01\x80\x00\x2A\x07\xFF\xC0\x00\x00\x00\x00\x28";
 
-/// Two parameters in one container or in three, sheets of asks, and dumps.
+/// Two parameters in one container or in three, sheets of asks, a script, and dumps.
 const TEXTS: &[(&str, &[u8])] = &[
     (
         "parameters",
@@ -57,6 +57,48 @@ const TEXTS: &[(&str, &[u8])] = &[
         "three",
         b"container,parent,condition,archive,entry,position\nHDR,,,,apid,5\nA,HDR,apid==100,yes,v,96\nB,HDR,apid==101,yes,v,96\n",
     ),
+    ("copy", b"CREATE TABLE copy LIKE tm;"),
+    ("nothing", b"-- no statement\n"),
+    (
+        "fifteen",
+        b"create table a like tm; create table b like tm; create table c like tm; create table d like tm; create table e like tm; create table f like tm; create table g like tm; create table h like tm; create table i like tm; create table j like tm; create table k like tm; create table l like tm; create table m like tm; create table n like tm; create table o like tm",
+    ),
+    (
+        "sixteen",
+        b"create table a like tm; create table b like tm; create table c like tm; create table d like tm; create table e like tm; create table f like tm; create table g like tm; create table h like tm; create table i like tm; create table j like tm; create table k like tm; create table l like tm; create table m like tm; create table n like tm; create table o like tm; create table p like tm",
+    ),
+    ("taken", b"CREATE TABLE tm LIKE tm;"),
+    ("again", b"CREATE TABLE a LIKE tm; CREATE TABLE a LIKE tm;"),
+    ("unlike", b"CREATE TABLE a LIKE a;"),
+    ("all", b"INSERT INTO tm SELECT * FROM tm_in;"),
+    ("cut", b"CREATE TABLE a LIKE"),
+    ("script", b"SELECT seqNum FROM tm;"),
+    (
+        "routes",
+        b"INSERT INTO tm SELECT * FROM tm_in; INSERT INTO copy SELECT * FROM tm_in WHERE apid = 100;",
+    ),
+    (
+        "named_a",
+        b"CREATE STREAM s AS SELECT * FROM tm_in WHERE pname = 'A'; INSERT INTO tm SELECT * FROM s; INSERT INTO tm SELECT * FROM tm_in WHERE apid = 100;",
+    ),
+    ("other", b"INSERT INTO other SELECT * FROM tm_in"),
+    (
+        "merged",
+        b"SELECT gentime, seqNum, pname FROM MERGE(tm, copy) LIMIT 3;",
+    ),
+    (
+        "no_row",
+        b"SELECT gentime, seqNum, pname FROM MERGE(tm, copy) WHERE gentime < '1970-01-01T00:00:01.500' LIMIT 3;",
+    ),
+    ("none_of_copy", b"SELECT * FROM copy LIMIT 0"),
+    (
+        "both",
+        b"kind,name,from,to,order,limit,names\nvalues,v,0,2000,desc,1,\nreplay,tm,0,2000,,,B\n",
+    ),
+    (
+        "of_copy",
+        b"kind,name,from,to,order,limit,names\nreplay,copy,0,2000,,,\n",
+    ),
     ("named", NAMED),
     ("twice", TWICE),
     ("broken", BROKEN),
@@ -76,10 +118,10 @@ fn files_of(alloc: Global) -> Result<Vec<File>, AllocError> {
 }
 
 /// A line of words, and how its call has to end.
-type Call = (&'static str, Wanted);
+pub(crate) type Call = (&'static str, Wanted);
 
 /// The first of these calls that ends otherwise, and the disk.
-fn other_call<D: Disk + Drop>(
+pub(crate) fn other_call<D: Disk + Drop>(
     alloc: Global,
     disk: D,
     calls: &[Call],
@@ -112,6 +154,8 @@ const A_DAY: &[Call] = &[
     ("recover", (1, "", "no archive", None)),
     ("verify", (1, "", "no archive", None)),
     ("query --ask asks", (1, "", "no archive", None)),
+    ("query --sql bad", (1, "", "no archive", None)),
+    ("query --sql x", (1, "", "no input x", None)),
     ("load --link 256 twice", (1, "", "no archive", None)),
     (CREATE, (0, CREATED, "", Some((0, 0)))),
     (
@@ -123,6 +167,7 @@ const A_DAY: &[Call] = &[
         "query --ask asks",
         (0, "ask 1 front 0\nend 0\n", "", Some((0, 0))),
     ),
+    ("query --sql script", (0, "select 0\n", "", Some((0, 0)))),
     (
         "load --link 256 twice",
         (2, "", "limit Links 255", Some((0, 0))),
@@ -198,6 +243,286 @@ fn sheet_of(alloc: Global, rows: &str) -> Result<Vec<File>, AllocError> {
     let mut files = Vec::new(alloc);
     files.push(file_of(alloc, "sheet", sheet.as_slice())?)?;
     Ok(files)
+}
+
+/// Calls that make an archive with a script, each on a disk of its own: what is made, and what refuses it, in the order of the refusals.
+const CREATIONS: &[Call] = &[
+    (
+        "create parameters calibrations three copy",
+        (
+            0,
+            "created tables 2 parameters 2 containers 3\n",
+            "",
+            Some((0, 0)),
+        ),
+    ),
+    (
+        "create parameters calibrations containers nothing",
+        (0, CREATED, "", Some((0, 0))),
+    ),
+    (
+        "create parameters calibrations containers fifteen",
+        (
+            0,
+            "created tables 16 parameters 2 containers 1\n",
+            "",
+            Some((0, 0)),
+        ),
+    ),
+    (
+        "create x calibrations containers y",
+        (1, "", "no input x", None),
+    ),
+    (
+        "create parameters calibrations bad y",
+        (1, "", "no input y", None),
+    ),
+    (
+        "create parameters calibrations bad taken",
+        (2, "", "bad sheet containers row 1 rule 1", None),
+    ),
+    (
+        "create parameters calibrations containers named",
+        (1, "", "bad sql at 0 rule 1", None),
+    ),
+    (
+        "create parameters calibrations containers cut",
+        (1, "", "bad sql at 19 rule 2", None),
+    ),
+    (
+        "create parameters calibrations containers all",
+        (1, "", "bad sql at 0 rule 3", None),
+    ),
+    (
+        "create parameters calibrations containers taken",
+        (1, "", "bad sql at 13 rule 5", None),
+    ),
+    (
+        "create parameters calibrations containers again",
+        (1, "", "bad sql at 37 rule 5", None),
+    ),
+    (
+        "create parameters calibrations containers unlike",
+        (1, "", "bad sql at 20 rule 7", None),
+    ),
+    (
+        "create parameters calibrations containers sixteen",
+        (2, "", "limit Tables 16", None),
+    ),
+    ("create parameters calibrations containers copy copy", USAGE),
+];
+
+fn creations() -> &'static [Call] {
+    CREATIONS
+}
+
+/// The first of these calls that ends otherwise, each on a new disk.
+fn other_alone(alloc: Global, calls: &[Call]) -> Result<Option<&'static str>, Fail> {
+    for (line, want) in calls {
+        if !ends_so(alloc, MemDisk::new(alloc), line, want)? {
+            return Ok(Some(*line));
+        }
+    }
+    Ok(None)
+}
+
+#[test]
+fn creates_tables(rt: HostRuntime) -> Result<(), Fail> {
+    assert_eq!(rt; other_alone(rt.alloc(), creations())?, None);
+    Ok(())
+}
+
+/// A script is looked at before the disk.
+const ON_AN_ARCHIVE: &[Call] = &[
+    (CREATE, (0, CREATED, "", Some((0, 0)))),
+    (
+        "create parameters calibrations containers taken",
+        (1, "", "bad sql at 13 rule 5", None),
+    ),
+    (
+        "create parameters calibrations containers copy",
+        (1, "", "archive exists", None),
+    ),
+];
+
+fn on_an_archive() -> &'static [Call] {
+    ON_AN_ARCHIVE
+}
+
+#[test]
+fn creates_tables_where_an_archive_is(rt: HostRuntime) -> Result<(), Fail> {
+    assert_eq!(rt; other_of_new(rt.alloc(), on_an_archive())?, None);
+    Ok(())
+}
+
+const WITH_COPY: &str = "create parameters calibrations three copy";
+
+const CREATED_COPY: &str = "created tables 2 parameters 2 containers 3\n";
+
+/// Loads by a route: into two tables, into none, again, and without one.
+const ROUTED: &[Call] = &[
+    (WITH_COPY, (0, CREATED_COPY, "", Some((0, 0)))),
+    (
+        "load --route nothing named",
+        (
+            0,
+            "load packets 2 new 0 duplicates 0 idle 0 rows 0\n",
+            "",
+            Some((0, 0)),
+        ),
+    ),
+    (
+        "load --route routes named",
+        (
+            0,
+            "load packets 2 new 3 duplicates 0 idle 0 rows 3\n",
+            "",
+            Some((0, 3)),
+        ),
+    ),
+    (
+        "load named --route=routes",
+        (
+            0,
+            "load packets 2 new 0 duplicates 3 idle 0 rows 3\n",
+            "",
+            Some((3, 3)),
+        ),
+    ),
+    (
+        "load named",
+        (
+            0,
+            "load packets 2 new 0 duplicates 2 idle 0 rows 3\n",
+            "",
+            Some((3, 3)),
+        ),
+    ),
+    (
+        "query --ask both",
+        (
+            0,
+            "ask 1 front 3\ncell 1500 140886016 7 7\nend 1\nask 2 front 3\npacket tm 1500 140886016 1 B 13\nend 1\n",
+            "",
+            Some((3, 3)),
+        ),
+    ),
+    (
+        "query --ask of_copy",
+        (
+            0,
+            "ask 1 front 3\npacket copy 1500 140820480 1 A 14\nend 1\n",
+            "",
+            Some((3, 3)),
+        ),
+    ),
+    (
+        "query --sql merged",
+        (
+            0,
+            "1970-01-01T00:00:01.500 140820480 A\n1970-01-01T00:00:01.500 140820480 A\n1970-01-01T00:00:01.500 140886016 B\nselect 3\n",
+            "",
+            Some((3, 3)),
+        ),
+    ),
+    ("query --sql no_row", (0, "select 0\n", "", Some((3, 3)))),
+    (
+        "query --sql none_of_copy",
+        (0, "select 0\n", "", Some((3, 3))),
+    ),
+    (
+        "recover",
+        (0, "recovered rows 3 filled 0\n", "", Some((3, 3))),
+    ),
+];
+
+fn routed() -> &'static [Call] {
+    ROUTED
+}
+
+#[test]
+fn loads_by_a_route(rt: HostRuntime) -> Result<(), Fail> {
+    assert_eq!(rt; other_of_new(rt.alloc(), routed())?, None);
+    Ok(())
+}
+
+/// A table that two INSERTs reach has a packet once, and one that none reaches hasn't.
+const REACHED_TWICE: &[Call] = &[
+    (WITH_COPY, (0, CREATED_COPY, "", Some((0, 0)))),
+    (
+        "load --route named_a named",
+        (
+            0,
+            "load packets 2 new 1 duplicates 0 idle 0 rows 1\n",
+            "",
+            Some((0, 1)),
+        ),
+    ),
+];
+
+fn reached_twice() -> &'static [Call] {
+    REACHED_TWICE
+}
+
+#[test]
+fn loads_once_by_two_inserts(rt: HostRuntime) -> Result<(), Fail> {
+    assert_eq!(rt; other_of_new(rt.alloc(), reached_twice())?, None);
+    Ok(())
+}
+
+/// What refuses a load by a route, in the order of the refusals.
+const ROUTES_REFUSED: &[Call] = &[
+    ("load --ask x --route y z", (1, "", "no input y", None)),
+    ("load --route taken --ask x z", (1, "", "no input x", None)),
+    (
+        "load --route taken --ask bad z",
+        (1, "", "no input z", None),
+    ),
+    (
+        "load --route taken --ask bad named",
+        (1, "", "no archive", None),
+    ),
+    (CREATE, (0, CREATED, "", Some((0, 0)))),
+    (
+        "load --route taken --ask bad --link 256 named",
+        (2, "", "limit Links 255", Some((0, 0))),
+    ),
+    (
+        "load --route taken --ask bad named",
+        (1, "", "bad sql at 0 rule 3", Some((0, 0))),
+    ),
+    (
+        "load --route cut --ask bad named",
+        (1, "", "bad sql at 19 rule 2", Some((0, 0))),
+    ),
+    (
+        "load --route named --ask bad named",
+        (1, "", "bad sql at 0 rule 1", Some((0, 0))),
+    ),
+    (
+        "load --route other --ask bad broken",
+        (1, "", "unknown table other", Some((0, 0))),
+    ),
+    (
+        "load --route routes broken",
+        (1, "", "unknown table copy", Some((0, 0))),
+    ),
+    (
+        "load --route all --ask bad broken",
+        (2, "", "bad sheet asks row 1 rule 1", Some((0, 0))),
+    ),
+    ("load named --route", USAGE),
+    ("load --route all --route all named", USAGE),
+];
+
+fn routes_refused() -> &'static [Call] {
+    ROUTES_REFUSED
+}
+
+#[test]
+fn refuses_routes(rt: HostRuntime) -> Result<(), Fail> {
+    assert_eq!(rt; other_of_new(rt.alloc(), routes_refused())?, None);
+    Ok(())
 }
 
 /// Rows of a sheet, and how the query of the archive of two named packets has to end.
@@ -326,7 +651,7 @@ const NAMED_LOAD: &[Call] = &[
     ),
 ];
 
-fn named_load() -> &'static [Call] {
+pub(crate) fn named_load() -> &'static [Call] {
     NAMED_LOAD
 }
 
@@ -434,6 +759,9 @@ const WORDS_OF_A_LOAD: &[Call] = &[
     ("recover x", USAGE),
     ("verify x", USAGE),
     ("query", USAGE),
+    ("query --sql script --ask asks", USAGE),
+    ("query --sql script --sql script", USAGE),
+    ("query script", USAGE),
 ];
 
 fn load_words() -> &'static [Call] {
@@ -452,6 +780,7 @@ const UNWRITTEN: &[Call] = &[
     ("load twice", (4, "", "write fault", Some((0, 2)))),
     ("query --ask asks", (4, "", "write fault", Some((2, 2)))),
     ("query --ask replayed", (4, "", "write fault", Some((2, 2)))),
+    ("query --sql script", (4, "", "write fault", Some((2, 2)))),
     (
         "load --ask asks twice",
         (4, "", "write fault", Some((2, 2))),
@@ -498,6 +827,8 @@ const UNREAD: &[Unread] = &[
     ("load twice", 0, (3, "", "read fault", None)),
     ("load twice", 1, (1, "", "no archive", None)),
     ("query --ask asks", 1, (3, "", "read fault", None)),
+    ("query --sql script", 0, (3, "", "read fault", None)),
+    ("query --sql script", 1, (3, "", "read fault", None)),
     ("load --ask asks twice", 0, (3, "", "read fault", None)),
     ("load --ask asks twice", 1, (3, "", "read fault", None)),
     (CREATE, 9, (0, CREATED, "", Some((0, 0)))),
@@ -560,12 +891,14 @@ const NO_ARCHIVE: &[Call] = &[
     ("recover", (1, "", "no archive", None)),
     ("load twice", (1, "", "no archive", None)),
     ("query --ask bad", (1, "", "no archive", None)),
+    ("query --sql bad", (1, "", "no archive", None)),
 ];
 
 const DAMAGED: &[Call] = &[
     ("recover", (6, "", "damaged file 0 at 0", None)),
     ("load twice", (6, "", "damaged file 0 at 0", None)),
     ("query --ask bad", (6, "", "damaged file 0 at 0", None)),
+    ("query --sql bad", (6, "", "damaged file 0 at 0", None)),
 ];
 
 fn no_archive() -> &'static [Call] {
@@ -612,6 +945,7 @@ const FAULTS: &[Call] = &[
     ("recover", (5, "", "disk fault", None)),
     ("load twice", (5, "", "disk fault", None)),
     ("query --ask bad", (5, "", "disk fault", None)),
+    ("query --sql bad", (5, "", "disk fault", None)),
 ];
 
 fn faults() -> &'static [Call] {
@@ -790,6 +1124,21 @@ fn calls_of_a_load<D: Crashing>(alloc: Global, disk: D) -> Result<u64, Fail> {
     Ok(disk.calls())
 }
 
+/// How many calls a command makes on a disk that holds no archive.
+fn calls_of<D: Crashing>(alloc: Global, line: &str, disk: D) -> Result<u64, Fail> {
+    let (_, _, disk) = call(alloc, line, disk)?;
+    Ok(disk.calls())
+}
+
+#[test]
+fn sheets_are_read_before_the_disk(rt: HostRuntime) -> Result<(), Fail> {
+    let alloc = rt.alloc();
+    for line in ["create x calibrations containers", "query --ask x"] {
+        assert_eq!(rt; calls_of(alloc, line, MemDisk::new(alloc))?, 0);
+    }
+    Ok(())
+}
+
 /// What a load of two batches answers, whether what each crash leaves then holds 64 rows, and what a `recover` and a second load answer.
 fn answers_of_a_load<D: Crashing>(alloc: Global, disk: D) -> Result<([(u8, u64); 3], bool), Fail> {
     let (_, _, disk) = call(alloc, CREATE, disk)?;
@@ -810,5 +1159,63 @@ fn a_load_whose_last_sync_fails(rt: HostRuntime) -> Result<(), Fail> {
     let (answers, are_kept) = answers_of_a_load(alloc, disk)?;
     assert_eq!(rt; answers, [(5, 64), (0, 64), (0, 66)]);
     assert!(rt; are_kept);
+    Ok(())
+}
+
+#[test]
+fn a_failed_write_is_taken_back_in_one_try(rt: HostRuntime) -> Result<(), Fail> {
+    let alloc = rt.alloc();
+    let last = calls_of_a_load(alloc, MemDisk::new(alloc))?;
+    let disk = MemDisk::failing(
+        alloc,
+        Vec::from_slice(alloc, &[last, last.saturating_add(1)])?,
+    );
+    assert_eq!(rt; calls_of_a_load(alloc, disk)?, last.saturating_add(1));
+    Ok(())
+}
+
+const LONGEST_FRONT: &[u8] = &[8, 0x64, 0xC0, 0, 0xFF, 0xFF];
+
+fn longest_front() -> &'static [u8] {
+    LONGEST_FRONT
+}
+
+/// A packet of the greatest length that there is.
+fn longest_packet(alloc: Global) -> Result<Vec<u8>, AllocError> {
+    let mut packet = Vec::from_slice(alloc, longest_front())?;
+    packet.extend_from_slice(vec![in alloc; 0u8; 65_536]?.as_slice())?;
+    Ok(packet)
+}
+
+const LONGEST_LOAD: Wanted = (
+    0,
+    "load packets 1 new 1 duplicates 0 idle 0 rows 1\n",
+    "",
+    Some((0, 1)),
+);
+
+fn longest_load() -> Wanted {
+    LONGEST_LOAD
+}
+
+/// A file `longest` of that packet.
+fn longest_file(alloc: Global) -> Result<Vec<File>, AllocError> {
+    let mut files = Vec::new(alloc);
+    files.push(file_of(alloc, "longest", longest_packet(alloc)?.as_slice())?)?;
+    Ok(files)
+}
+
+/// Whether an archive takes the longest packet.
+fn takes_the_longest<D: Disk + Drop>(alloc: Global, disk: D) -> Result<bool, Fail> {
+    let (_, _, disk) = call(alloc, CREATE, disk)?;
+    let inputs = MemInputs::new(alloc, longest_file(alloc)?);
+    let sink = MemSink::new(alloc);
+    let (is_so, _disk) = called(alloc, "load longest", disk, inputs, sink, &longest_load())?;
+    Ok(is_so)
+}
+
+#[test]
+fn the_longest_packet_is_loaded(rt: HostRuntime) -> Result<(), Fail> {
+    assert!(rt; takes_the_longest(rt.alloc(), MemDisk::new(rt.alloc()))?);
     Ok(())
 }

@@ -3,3 +3,5 @@
 
 #[cfg(test)]
 mod archive_tests;
+#[cfg(test)]
+mod sql_tests;

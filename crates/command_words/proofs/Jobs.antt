@@ -1,5 +1,5 @@
 -- The job of what clap finds in words.
-use Rattle.std.proofs.Common.{◌≡◌, ◌≤◌, ℕ, List, [], ◌∷◌, Bool, true, false, Option, Some, None, ap, refl, subst, leb-true, ◌∙◌, arith}
+use Rattle.std.proofs.Common.{◌≡◌, ◌≤◌, ◌⊎◌, inl, inr, ℕ, List, [], ◌∷◌, Bool, true, false, Option, Some, None, ap, refl, subst, leb-true, ◌∙◌, arith}
 use Rattle.std.specs.Prelude.{option_map, option_and_then, codes, nat_le, if◌then◌else◌}
 use Rattle.arch_types.specs.declared.refusal.Refusal.{Refusal}
 use Rattle.arch_types.specs.declared.refusal.Refusal.TheVariants.{Usage, OutOfMemory}
@@ -7,8 +7,9 @@ use Rattle.clap.specs.Walk.{Row, first_of}
 use Rattle.text_forms.specs.Digits.{digits_at_most}
 use Rattle.command_words.specs.declared.job.CommandName.{CommandName}
 use Rattle.command_words.specs.declared.job.CommandName.TheVariants as name
-use Rattle.command_words.specs.Job.{Job, Scan, Values, Create, Load, Query, Recover, Verify, values_words, sheet_words, load_words, link_of, from_one, command_named, app_of_command, job_in, command_job, job_of, HasLink, IsNoJob}
+use Rattle.command_words.specs.Job.{Job, Scan, Values, Create, Load, Recover, Verify, values_words, create_words, load_words, query_words, link_of, from_one, command_named, app_of_command, job_in, command_job, job_of, HasLink, IsNoJob}
 use Rattle.command_words.specs.Words.{rows_of_words, IsNotFound}
+use Rattle.command_words.specs.Given.{one_of_two}
 
 -- where nothing was found there is no job
 pub no_rows : (of : List Row → Option Job) (found : Option (List Row)) (refusal : Refusal) → IsNotFound found refusal → IsNoJob (option_and_then of found) refusal
@@ -33,18 +34,22 @@ this_job made job e h = let same : made ≡ job = cc in subst HasLink same h
 no_job : (job : Job) → ◌≡◌ {A = Option Job} None (Some job) → HasLink job
 no_job job e = absurd (cc (e))
 
-named_link : (make : List ℕ → Job) (name : Option (List ℕ)) (job : Job) → ((n : List ℕ) → HasLink (make n)) → option_map make name ≡ Some job → HasLink job
+named_link : {A : Type 0} (make : A → Job) (name : Option A) (job : Job) → ((n : A) → HasLink (make n)) → option_map make name ≡ Some job → HasLink job
 named_link make None job h e = no_job job e
 named_link make (Some n) job h e = this_job (make n) job e (h n)
+
+query_link : (given : List ℕ ⊎ List ℕ) → HasLink (query_words given)
+query_link (inl script) = tt
+query_link (inr asks) = tt
 
 values_link : (a b c d e : Option (List ℕ)) (job : Job) → values_words a b c d e ≡ Some job → HasLink job
 values_link (Some p) (Some q) (Some r) (Some s) (Some t) job is =
     this_job (Values (record { parameters = p; calibrations = q; containers = r; dump = s; name = t })) job is tt
 values_link a b c d e job is = no_job job is
 
-sheets_link : (a b c : Option (List ℕ)) (job : Job) → sheet_words a b c ≡ Some job → HasLink job
-sheets_link (Some p) (Some q) (Some r) job is = this_job (Create (record { parameters = p; calibrations = q; containers = r })) job is tt
-sheets_link a b c job is = no_job job is
+create_link : (a b c script : Option (List ℕ)) (job : Job) → create_words a b c script ≡ Some job → HasLink job
+create_link (Some p) (Some q) (Some r) script job is = this_job (Create (record { parameters = p; calibrations = q; containers = r; script = script })) job is tt
+create_link a b c script job is = no_job job is
 
 one_where : (b : Bool) (n m : ℕ) → nat_le 1 n ≡ b → ◌≡◌ {A = Option ℕ} (if b then Some n else None) (Some m) → 1 ≤ m
 one_where true n m is e = let same : n ≡ m = cc in subst (λ (k : ℕ). 1 ≤ k) same (leb-true 1 n is)
@@ -58,18 +63,19 @@ link_from_one : (word : Option (List ℕ)) (m : ℕ) → link_of word ≡ Some m
 link_from_one None m e = let same : 1 ≡ m = cc in omega (arith, same)
 link_from_one (Some word) m e = digits_link (digits_at_most 19 word) m e
 
-load_link : (dump : Option (List ℕ)) (link : Option ℕ) (asks : Option (List ℕ)) (job : Job) → ((n : ℕ) → link ≡ Some n → 1 ≤ n) → load_words dump link asks ≡ Some job → HasLink job
-load_link (Some d) (Some n) asks job h is = this_job (Load (record { dump = d; link = n; asks = asks })) job is (h n refl)
-load_link dump link asks job h is = no_job job is
+load_link : (dump : Option (List ℕ)) (link : Option ℕ) (asks route : Option (List ℕ)) (job : Job) → ((n : ℕ) → link ≡ Some n → 1 ≤ n) → load_words dump link asks route ≡ Some job → HasLink job
+load_link (Some d) (Some n) asks route job h is = this_job (Load (record { dump = d; link = n; asks = asks; route = route })) job is (h n refl)
+load_link dump link asks route job h is = no_job job is
 
 found_link : (command : CommandName) (rows : List Row) (job : Job) → job_in command rows ≡ Some job → HasLink job
 found_link name.Scan rows job = named_link Scan (first_of (codes "dump") rows) job (λ n. tt)
 found_link name.Values rows job =
     values_link (first_of (codes "parameters") rows) (first_of (codes "calibrations") rows) (first_of (codes "containers") rows) (first_of (codes "dump") rows) (first_of (codes "name") rows) job
-found_link name.Create rows job = sheets_link (first_of (codes "parameters") rows) (first_of (codes "calibrations") rows) (first_of (codes "containers") rows) job
+found_link name.Create rows job =
+    create_link (first_of (codes "parameters") rows) (first_of (codes "calibrations") rows) (first_of (codes "containers") rows) (first_of (codes "script") rows) job
 found_link name.Load rows job =
-    load_link (first_of (codes "dump") rows) (link_of (first_of (codes "link") rows)) (first_of (codes "ask") rows) job (link_from_one (first_of (codes "link") rows))
-found_link name.Query rows job = named_link Query (first_of (codes "ask") rows) job (λ n. tt)
+    load_link (first_of (codes "dump") rows) (link_of (first_of (codes "link") rows)) (first_of (codes "ask") rows) (first_of (codes "route") rows) job (link_from_one (first_of (codes "link") rows))
+found_link name.Query rows job = named_link query_words (one_of_two (first_of (codes "sql") rows) (first_of (codes "ask") rows)) job query_link
 found_link name.Recover rows job = λ is. this_job Recover job is tt
 found_link name.Verify rows job = λ is. this_job Verify job is tt
 

@@ -11,6 +11,10 @@ use Rattle.command_words.specs.Words.{plain_app}
 abbrev pub word_rule : Text → Rule
 word_rule id = record (new_rule id) { action = Some Set; required = true }
 
+-- a word that may come
+abbrev pub optional_word_rule : Text → Rule
+optional_word_rule id = record (new_rule id) { action = Some Set }
+
 -- one word or more
 abbrev pub repeated_rule : Text → Rule
 repeated_rule id = record (new_rule id) { action = Some Append; required = true }
@@ -22,6 +26,7 @@ option_rule id required = record (new_rule id) { action = Some Set; long = Some 
 -- an argument
 abbrev pub argument_rule : Argument → Rule
 argument_rule (arguments.Word id) = word_rule id.now
+argument_rule (arguments.Optional id) = optional_word_rule id.now
 argument_rule (arguments.Repeated id) = repeated_rule id.now
 argument_rule (arguments.Option id required) = option_rule id.now required
 

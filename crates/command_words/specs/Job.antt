@@ -1,6 +1,7 @@
 -- What the words of a command line ask.
-use Rattle.std.specs.Prelude.{◌≡◌, ◌≤◌, ℕ, true, false, List, [], ◌∷◌, Option, Some, None, option_map, option_and_then, codes, nat_le, if◌then◌else◌}
+use Rattle.std.specs.Prelude.{◌≡◌, ◌≤◌, ◌⊎◌, ℕ, false, List, [], ◌∷◌, Option, Some, None, option_map, option_and_then, codes, nat_le, if◌then◌else◌}
 use Rattle.std.specs.Str.{bytes_eq}
+use mathlib.Core.Logic.{inl, inr}
 use Rattle.arch_types.specs.declared.refusal.Refusal.{Refusal}
 use Rattle.arch_types.specs.declared.refusal.Refusal.TheVariants.{Usage, OutOfMemory}
 use Rattle.clap.specs.Walk.{Row, first_of}
@@ -9,7 +10,8 @@ use Rattle.text_forms.specs.Digits.{digits_at_most}
 use Rattle.command_words.specs.declared.job.CommandName.{CommandName}
 use Rattle.command_words.specs.declared.job.CommandName.TheVariants as name
 use Rattle.command_words.specs.Words.{rows_of_words}
-use Rattle.command_words.specs.Arguments.{command_app, option_rule, word_rule}
+use Rattle.command_words.specs.Given.{one_of_two}
+use Rattle.command_words.specs.Arguments.{command_app, option_rule, optional_word_rule, word_rule}
 
 -- the names of three sheets and of a dump, and the name of a parameter
 pub record ValuesWords : Type 0 where
@@ -19,26 +21,30 @@ pub record ValuesWords : Type 0 where
   pub dump : List ℕ
   pub name : List ℕ
 
--- the names of three sheets
-pub record SheetWords : Type 0 where
+-- the names of three sheets, and of a script that creates tables, where one is given
+pub record CreateWords : Type 0 where
   pub parameters : List ℕ
   pub calibrations : List ℕ
   pub containers : List ℕ
+  pub script : Option (List ℕ)
 
--- the name of a dump, the number of the link that it came by, and the name of a sheet of asks, where one is given
+-- the name of a dump, the number of the link that it came by, and the names of a sheet of asks and of a script that routes, where they are given
 pub record LoadWords : Type 0 where
   pub dump : List ℕ
   pub link : ℕ
   pub asks : Option (List ℕ)
+  pub route : Option (List ℕ)
 
 -- a job of the archive's program, with the words that it was given
 pub data Job : Type 0 where
   Scan : List ℕ → Job
   Values : ValuesWords → Job
-  Create : SheetWords → Job
+  Create : CreateWords → Job
   Load : LoadWords → Job
   -- by the name of a sheet of asks
   Query : List ℕ → Job
+  -- by the name of a script
+  Sql : List ℕ → Job
   Recover : Job
   Verify : Job
 
@@ -50,10 +56,11 @@ values_words (Some parameters) (Some calibrations) (Some containers) (Some dump)
     Some (Values (record { parameters = parameters; calibrations = calibrations; containers = containers; dump = dump; name = name }))
 values_words parameters calibrations containers dump name = None
 
--- the job of `create`, where each of its words is there
-abbrev pub sheet_words : Option (List ℕ) → Option (List ℕ) → Option (List ℕ) → Option Job
-sheet_words (Some parameters) (Some calibrations) (Some containers) = Some (Create (record { parameters = parameters; calibrations = calibrations; containers = containers }))
-sheet_words parameters calibrations containers = None
+-- the job of `create`, where the sheets are there; there may be a script
+abbrev pub create_words : Option (List ℕ) → Option (List ℕ) → Option (List ℕ) → Option (List ℕ) → Option Job
+create_words (Some parameters) (Some calibrations) (Some containers) script =
+    Some (Create (record { parameters = parameters; calibrations = calibrations; containers = containers; script = script }))
+create_words parameters calibrations containers script = None
 
 -- the numbers from 1 on
 abbrev pub from_one : ℕ → Option ℕ
@@ -64,10 +71,15 @@ abbrev pub link_of : Option (List ℕ) → Option ℕ
 link_of None = Some 1
 link_of (Some word) = option_and_then from_one (digits_at_most 19 word)
 
--- the job of `load`, where there are a dump and a link; there may be a sheet of asks
-abbrev pub load_words : Option (List ℕ) → Option ℕ → Option (List ℕ) → Option Job
-load_words (Some dump) (Some link) asks = Some (Load (record { dump = dump; link = link; asks = asks }))
-load_words dump link asks = None
+-- the job of `load`, where there are a dump and a link; there may be a sheet of asks, and a script that routes
+abbrev pub load_words : Option (List ℕ) → Option ℕ → Option (List ℕ) → Option (List ℕ) → Option Job
+load_words (Some dump) (Some link) asks route = Some (Load (record { dump = dump; link = link; asks = asks; route = route }))
+load_words dump link asks route = None
+
+-- the job of `query`, by the name of a script or of a sheet of asks
+abbrev pub query_words : List ℕ ⊎ List ℕ → Job
+query_words (inl script) = Sql script
+query_words (inr asks) = Query asks
 
 -- ---- the commands
 
@@ -83,16 +95,18 @@ command_named word =
     else if bytes_eq word (codes "verify") then Some name.Verify
     else None
 
--- the words that a command takes: `scan DUMP`, `values PARAMETERS CALIBRATIONS CONTAINERS DUMP NAME`, `create PARAMETERS CALIBRATIONS CONTAINERS`,
--- `load [--ask FILE] [--link N] DUMP`, `query --ask FILE`, `recover`, `verify`
+-- the words that a command takes: `scan DUMP`, `values PARAMETERS CALIBRATIONS CONTAINERS DUMP NAME`, `create PARAMETERS CALIBRATIONS CONTAINERS [SCRIPT]`,
+-- `load [--route FILE] [--ask FILE] [--link N] DUMP`, `query --sql FILE` or `query --ask FILE`, `recover`, `verify`
 abbrev pub app_of_command : CommandName → App
 app_of_command name.Scan = command_app (codes "scan") (word_rule (codes "dump") ∷ [])
 app_of_command name.Values =
     command_app (codes "values")
     (word_rule (codes "parameters") ∷ word_rule (codes "calibrations") ∷ word_rule (codes "containers") ∷ word_rule (codes "dump") ∷ word_rule (codes "name") ∷ [])
-app_of_command name.Create = command_app (codes "create") (word_rule (codes "parameters") ∷ word_rule (codes "calibrations") ∷ word_rule (codes "containers") ∷ [])
-app_of_command name.Load = command_app (codes "load") (word_rule (codes "dump") ∷ option_rule (codes "link") false ∷ option_rule (codes "ask") false ∷ [])
-app_of_command name.Query = command_app (codes "query") (option_rule (codes "ask") true ∷ [])
+app_of_command name.Create =
+    command_app (codes "create") (word_rule (codes "parameters") ∷ word_rule (codes "calibrations") ∷ word_rule (codes "containers") ∷ optional_word_rule (codes "script") ∷ [])
+app_of_command name.Load =
+    command_app (codes "load") (word_rule (codes "dump") ∷ option_rule (codes "link") false ∷ option_rule (codes "ask") false ∷ option_rule (codes "route") false ∷ [])
+app_of_command name.Query = command_app (codes "query") (option_rule (codes "sql") false ∷ option_rule (codes "ask") false ∷ [])
 app_of_command name.Recover = command_app (codes "recover") []
 app_of_command name.Verify = command_app (codes "verify") []
 
@@ -101,9 +115,10 @@ abbrev pub job_in : CommandName → List Row → Option Job
 job_in name.Scan rows = option_map Scan (first_of (codes "dump") rows)
 job_in name.Values rows =
     values_words (first_of (codes "parameters") rows) (first_of (codes "calibrations") rows) (first_of (codes "containers") rows) (first_of (codes "dump") rows) (first_of (codes "name") rows)
-job_in name.Create rows = sheet_words (first_of (codes "parameters") rows) (first_of (codes "calibrations") rows) (first_of (codes "containers") rows)
-job_in name.Load rows = load_words (first_of (codes "dump") rows) (link_of (first_of (codes "link") rows)) (first_of (codes "ask") rows)
-job_in name.Query rows = option_map Query (first_of (codes "ask") rows)
+job_in name.Create rows =
+    create_words (first_of (codes "parameters") rows) (first_of (codes "calibrations") rows) (first_of (codes "containers") rows) (first_of (codes "script") rows)
+job_in name.Load rows = load_words (first_of (codes "dump") rows) (link_of (first_of (codes "link") rows)) (first_of (codes "ask") rows) (first_of (codes "route") rows)
+job_in name.Query rows = option_map query_words (one_of_two (first_of (codes "sql") rows) (first_of (codes "ask") rows))
 job_in name.Recover rows = Some Recover
 job_in name.Verify rows = Some Verify
 

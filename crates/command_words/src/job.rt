@@ -6,7 +6,7 @@ ghost use Rattle.command_words.specs.Job.{job_of, command_named, command_job, ap
 ghost use Rattle.command_words.specs.JobView.{job_view};
 ghost use Rattle.command_words.specs.Words.{rows_of_words, IsNotFound};
 
-use crate::words::{Argument, given_word, read_arguments};
+use crate::words::{Argument, OneOfTwo, given_word, one_of_two, read_arguments};
 use arch_types::refusal::Refusal;
 use clap::ArgMatches;
 use std::alloc::Global;
@@ -22,20 +22,22 @@ pub struct ValuesWords<'a> {
     pub name: &'a str,
 }
 
-/// The names of three sheets.
+/// The names of three sheets, and of a script that creates tables, where one is given.
 #[derive(Clone, Copy, Debug)]
-pub struct SheetWords<'a> {
+pub struct CreateWords<'a> {
     pub parameters: &'a str,
     pub calibrations: &'a str,
     pub containers: &'a str,
+    pub script: Option<&'a str>,
 }
 
-/// The name of a dump, the number of the link that it came by, and the name of a sheet of asks, where one is given.
+/// The name of a dump, the number of the link that it came by, and the names of a sheet of asks and of a script that routes, where they are given.
 #[derive(Clone, Copy, Debug)]
 pub struct LoadWords<'a> {
     pub dump: &'a str,
     pub link: u64,
     pub asks: Option<&'a str>,
+    pub route: Option<&'a str>,
 }
 
 /// A job, with the words that it was given.
@@ -45,12 +47,14 @@ pub enum Job<'a> {
     Scan { dump: &'a str },
     /// The cells of a parameter over a dump, printed in key order.
     Values(ValuesWords<'a>),
-    /// A new archive with the database of three sheets.
-    Create(SheetWords<'a>),
+    /// A new archive with the database of three sheets, and the tables of a script.
+    Create(CreateWords<'a>),
     /// The packets of a dump, ingested into the archive.
     Load(LoadWords<'a>),
     /// The answers to a sheet of asks.
     Query { asks: &'a str },
+    /// The answers to a script.
+    Sql { script: &'a str },
     /// How many rows the archive has.
     Recover,
     /// Whether what is stored of intervals is what their rows give.
@@ -156,6 +160,7 @@ fn found_words<'a>(
                 Argument::Word("parameters"),
                 Argument::Word("calibrations"),
                 Argument::Word("containers"),
+                Argument::Optional("script"),
             ];
             read_arguments(alloc, "create", &arguments, words)
         }
@@ -168,14 +173,23 @@ fn found_words<'a>(
                 id: "ask",
                 required: false,
             };
-            read_arguments(alloc, "load", &[Argument::Word("dump"), link, asks], words)
+            let route = Argument::Option {
+                id: "route",
+                required: false,
+            };
+            let arguments = [Argument::Word("dump"), link, asks, route];
+            read_arguments(alloc, "load", &arguments, words)
         }
         CommandName::Query => {
+            let script = Argument::Option {
+                id: "sql",
+                required: false,
+            };
             let asks = Argument::Option {
                 id: "ask",
-                required: true,
+                required: false,
             };
-            read_arguments(alloc, "query", &[asks], words)
+            read_arguments(alloc, "query", &[script, asks], words)
         }
         CommandName::Recover => read_arguments(alloc, "recover", &[], words),
         CommandName::Verify => read_arguments(alloc, "verify", &[], words),
@@ -230,10 +244,12 @@ fn create_in<'a>(found: &ArgMatches<'a>) -> Option<Job<'a>>
     let parameters = given_word(found, "parameters")?;
     let calibrations = given_word(found, "calibrations")?;
     let containers = given_word(found, "containers")?;
-    Some(Job::Create(SheetWords {
+    let script = given_word(found, "script");
+    Some(Job::Create(CreateWords {
         parameters,
         calibrations,
         containers,
+        script,
     }))
 }
 
@@ -244,15 +260,26 @@ fn load_in<'a>(found: &ArgMatches<'a>) -> Option<Job<'a>>
     let dump = given_word(found, "dump")?;
     let link = link_of(given_word(found, "link"))?;
     let asks = given_word(found, "ask");
-    Some(Job::Load(LoadWords { dump, link, asks }))
+    let route = given_word(found, "route");
+    Some(Job::Load(LoadWords {
+        dump,
+        link,
+        asks,
+        route,
+    }))
 }
 
-/// The job of `query`.
+/// The job of `query`, which takes a script or a sheet of asks.
 fn query_in<'a>(found: &ArgMatches<'a>) -> Option<Job<'a>>
     ensures { option_map (λ job. job_view job) result ≡ job_in CommandName.Query (rows_of (found_of found.now)) }
 {
-    let asks = given_word(found, "ask")?;
-    Some(Job::Query { asks })
+    let script = given_word(found, "sql");
+    let asks = given_word(found, "ask");
+    match one_of_two(script, asks) {
+        Ok(OneOfTwo::First(script)) => Some(Job::Sql { script }),
+        Ok(OneOfTwo::Second(asks)) => Some(Job::Query { asks }),
+        Err(_) => None,
+    }
 }
 
 /// The number of a link: the one that a word spells, or 1 where there is none.

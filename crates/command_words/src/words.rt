@@ -20,6 +20,8 @@ use std::alloc::{AllocError, Global};
 pub enum Argument<'a> {
     /// A word that has to come.
     Word(&'a str),
+    /// A word that may come. It stands behind every `Word`.
+    Optional(&'a str),
     /// One word or more. It stands behind every `Word`.
     Repeated(&'a str),
     /// An option `--id value` or `--id=value`, which may have to come.
@@ -78,6 +80,7 @@ fn arg_of<'a>(alloc: Global, argument: Argument<'a>) -> Arg<'a>
 {
     match argument {
         Argument::Word(id) => Arg::new(alloc, id).action(ArgAction::Set).required(true),
+        Argument::Optional(id) => Arg::new(alloc, id).action(ArgAction::Set),
         Argument::Repeated(id) => Arg::new(alloc, id).action(ArgAction::Append).required(true),
         Argument::Option { id, required } => Arg::new(alloc, id)
             .long(id)

@@ -1,4 +1,4 @@
-// Tests of command_words: the forms of arguments that no command has yet.
+// Tests of command_words: words that are repeated, and the one of two options of `query`.
 #![tactic(auto)]
 
 #[cfg(test)]

@@ -1,10 +1,9 @@
-//! Words that may be repeated, and one of two options; which words the commands take is tried by `run`.
+//! Words that may be repeated, which no command has yet, and one of two options; which words the commands take is tried by `run`.
 
 use arch_types::refusal::Refusal;
 use clap::ArgMatches;
-use command_words::words::{
-    Argument, OneOfTwo, given_word, one_of_two, read_arguments, repeated_words,
-};
+use command_words::job::{Job, job_of};
+use command_words::words::{Argument, given_word, read_arguments, repeated_words};
 use std::alloc::{AllocError, Global};
 use std::test::Fail;
 
@@ -29,17 +28,10 @@ fn dumps_of<'a>(alloc: Global, words: &'a [String]) -> Result<ArgMatches<'a>, Re
     read_arguments(alloc, "load", &[Argument::Repeated("dump"), link], words)
 }
 
-/// What is found behind a command that takes a file by one of two options.
-fn file_of<'a>(alloc: Global, words: &'a [String]) -> Result<ArgMatches<'a>, Refusal> {
-    let sql = Argument::Option {
-        id: "sql",
-        required: false,
-    };
-    let ask = Argument::Option {
-        id: "ask",
-        required: false,
-    };
-    read_arguments(alloc, "query", &[sql, ask], words)
+/// What is found behind a command that takes a sheet, and a script or none.
+fn script_of<'a>(alloc: Global, words: &'a [String]) -> Result<ArgMatches<'a>, Refusal> {
+    let arguments = [Argument::Word("sheet"), Argument::Optional("script")];
+    read_arguments(alloc, "create", &arguments, words)
 }
 
 /// The dumps of a line, one behind the other with a blank between them, or `usage`.
@@ -83,34 +75,58 @@ fn reads_repeated_words(rt: HostRuntime) -> Result<(), Fail> {
     Ok(())
 }
 
-/// The file of a line, behind the name of its option, or `usage`.
+/// The file of a query, behind the name of its option, or `usage`.
 fn file_text(alloc: Global, line: &str) -> Result<String, AllocError> {
     let words = words_of(alloc, line)?;
-    let Ok(found) = file_of(alloc, words.as_slice()) else {
-        return String::from_str(alloc, "usage");
-    };
-    match one_of_two(given_word(&found, "sql"), given_word(&found, "ask")) {
-        Ok(OneOfTwo::First(name)) => format!(in alloc; "sql {name}"),
-        Ok(OneOfTwo::Second(name)) => format!(in alloc; "ask {name}"),
-        Err(_) => String::from_str(alloc, "usage"),
+    match job_of(alloc, words.as_slice()) {
+        Ok(Job::Sql { script }) => format!(in alloc; "sql {script}"),
+        Ok(Job::Query { asks }) => format!(in alloc; "ask {asks}"),
+        _ => String::from_str(alloc, "usage"),
     }
 }
 
 #[test]
 fn reads_one_of_two(rt: HostRuntime) -> Result<(), Fail> {
     for (line, want) in [
-        ("--sql f", "sql f"),
-        ("--ask f", "ask f"),
-        ("--ask=f", "ask f"),
-        ("", "usage"),
-        ("--sql f --ask g", "usage"),
-        ("--ask g --sql f", "usage"),
-        ("--ask f --ask g", "usage"),
-        ("--sql", "usage"),
-        ("--sql=", "usage"),
-        ("f", "usage"),
+        ("query --sql f", "sql f"),
+        ("query --ask f", "ask f"),
+        ("query --sql=f", "sql f"),
+        ("query --ask=f", "ask f"),
+        ("query", "usage"),
+        ("query --sql f --ask g", "usage"),
+        ("query --ask g --sql f", "usage"),
+        ("query --ask f --ask g", "usage"),
+        ("query --sql f --sql f", "usage"),
+        ("query --sql", "usage"),
+        ("query --sql=", "usage"),
+        ("query --sql f g", "usage"),
+        ("query f", "usage"),
     ] {
         assert_eq!(rt; file_text(rt.alloc(), line)?.as_str(), want, "{line}");
+    }
+    Ok(())
+}
+
+/// The script of a line, `none` where there is none, or `usage`.
+fn script_text(alloc: Global, line: &str) -> Result<String, AllocError> {
+    let words = words_of(alloc, line)?;
+    let Ok(found) = script_of(alloc, words.as_slice()) else {
+        return String::from_str(alloc, "usage");
+    };
+    String::from_str(alloc, given_word(&found, "script").unwrap_or("none"))
+}
+
+#[test]
+fn reads_an_optional_word(rt: HostRuntime) -> Result<(), Fail> {
+    for (line, want) in [
+        ("a", "none"),
+        ("a b", "b"),
+        ("a -- -b", "-b"),
+        ("", "usage"),
+        ("a b c", "usage"),
+        ("a --script b", "usage"),
+    ] {
+        assert_eq!(rt; script_text(rt.alloc(), line)?.as_str(), want, "{line}");
     }
     Ok(())
 }

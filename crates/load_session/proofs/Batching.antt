@@ -1,5 +1,5 @@
 -- The batches of a dump, one after the other.
-use Rattle.std.proofs.Common.{Some, ◌≡◌, ◌⊎◌, inl, inr, ℕ, ℤ, ◌+◌, ◌-◌, ◌<◌, ◌≤◌, true, false, Bool, List, [], ◌∷◌, ◌++◌, length, take, drop, refl, sym, ap, subst, ◌∙◌, arith, append-nil, append_assoc, length-append, ltb}
+use Rattle.std.proofs.Common.{Some, ◌≡◌, ◌⊎◌, inl, inr, ℕ, ◌+◌, ◌-◌, ◌<◌, ◌≤◌, true, false, Bool, List, [], ◌∷◌, ◌++◌, length, take, drop, refl, sym, ap, subst, ◌∙◌, arith, append-nil, append_assoc, length-append, ltb}
 use Rattle.std.specs.Prelude.{◌≢◌, slice_range}
 use Rattle.std.proofs.Math.Seq.{take-append_seam, drop-append_seam}
 use Rattle.std.proofs.lemmas.Bool.{ltb-true, ltb-false}
@@ -17,42 +17,43 @@ use Rattle.history_items.specs.declared.fills.Addition.TheVariants.{Rows}
 use Rattle.history_items.specs.declared.fills.Fill.{Fill}
 use Rattle.history_items.specs.declared.fills.Fill.TheVariants.{Fault}
 use Rattle.history_items.specs.Fills.{pending_fault_of}
+use Rattle.store_fills.specs.Faults.{faults_in}
+use Rattle.store_fills.proofs.Faults.{faults_in-append, pending_fault_of-in}
 use Rattle.history_items.specs.Items.{Item}
 use Rattle.history_items.specs.Outcomes.{fresh_of}
 use Rattle.history_items.proofs.Outcomes.{fresh_added, ingested-append}
 use Rattle.text_forms.specs.ClockTime.{IsClockTime}
-use Rattle.mdb_items.specs.Database.{IsDatabase}
 use Rattle.space_packet.specs.declared.dump.Why.{Why}
 use Rattle.space_packet.specs.Cut.{IsCut, IsPart}
 use Rattle.space_packet.specs.Rest.{why_of}
 use Rattle.space_packet.proofs.Cuts.{cut_whole}
-use Rattle.archive_store.specs.declared.head.Head.{Head}
 use Rattle.archive_store.specs.Calls.{IsIngestRefusal}
 use Rattle.archive_store.specs.Batches.{batch_rows}
 use Rattle.archive_history.specs.Limits.{IsLimit}
 use Rattle.archive_store.specs.StoreView.{AddsFault, StoreView}
 use Rattle.load_session.specs.declared.batches.NextBatch.{NextBatch}
-use Rattle.load_session.specs.Batches.{ExactlyOne, arrivals_with, arrived, batch_at, rows_of_link, IsNextBatch, HasIngested, IsIngested, IsStoppedAt, IsRefusedFor}
-use Rattle.load_session.proofs.Arrived.{batch_none, batch_more, rows-append, arrived-append, few_arrived}
+use Rattle.load_session.specs.Receiving.{Receiving, arrived, rows_received}
+use Rattle.load_session.specs.Batches.{ExactlyOne, arrivals_with, batch_at, IsNextBatch, HasIngested, IsIngested, IsStoppedAt, IsRefusedFor}
+use Rattle.load_session.proofs.Arrived.{CanReceive, batch_none, batch_more, rows-append, arrived-append, few_arrived}
 use Rattle.load_session.proofs.Taking.{run_none, run_more, completes}
 
 -- ---- one batch
 
 -- no packet was taken yet
-pub taken_none : (dump : List ℕ) (at : ℕ) (head : Head) (link : ℕ) (moment : ℤ) (taken : NextBatch) → taken.packets ≡ 0 → taken.batch.rectime ≡ moment → taken.batch.arrivals ≡ [] → IsClockTime moment → IsNextBatch dump at at head link moment taken
-taken_none dump at head link moment taken count received none time = record {
+pub taken_none : (dump : List ℕ) (at : ℕ) (r : Receiving) (taken : NextBatch) → taken.packets ≡ 0 → taken.batch.rectime ≡ r.moment → taken.batch.arrivals ≡ [] → IsClockTime r.moment → IsNextBatch dump at at r taken
+taken_none dump at r taken count received none time = record {
   packets = [];
   run = run_none dump at;
   count = count;
   few = omega arith;
-  batch = batch_none head link moment taken.batch received none time;
+  batch = batch_none r taken.batch received none time;
 }
 
 -- one packet more
-pub taken_more : (dump : List ℕ) (start mid end : ℕ) (head : Head) (link : ℕ) (moment : ℤ) (old new : NextBatch) → IsDatabase head.mdb → 1 ≤ link → link ≤ 255 → old.packets < 64
-    → IsNextBatch dump start mid head link moment old → IsPart dump mid end → new.packets ≡ old.packets + 1 → new.batch.rectime ≡ old.batch.rectime
-    → new.batch.arrivals ≡ arrivals_with head link old.batch.arrivals (slice_range dump mid end) → IsNextBatch dump start end head link moment new
-taken_more dump start mid end head link moment old new is low high left t part count received grown =
+pub taken_more : (dump : List ℕ) (start mid end : ℕ) (r : Receiving) (old new : NextBatch) → CanReceive r → old.packets < 64
+    → IsNextBatch dump start mid r old → IsPart dump mid end → new.packets ≡ old.packets + 1 → new.batch.rectime ≡ old.batch.rectime
+    → new.batch.arrivals ≡ arrivals_with r old.batch.arrivals (slice_range dump mid end) → IsNextBatch dump start end r new
+taken_more dump start mid end r old new can left t part count received grown =
     let packet = slice_range dump mid end in
     let had = t.count in
     let more = length-append t.packets (packet ∷ []) in record {
@@ -60,7 +61,7 @@ taken_more dump start mid end head link moment old new is low high left t part c
       run = run_more dump start t.packets mid end t.run part;
       count = omega (arith, had, count, more);
       few = omega (arith, had, left, more);
-      batch = batch_more head link moment t.packets packet old.batch new.batch is low high (omega (arith, had, left)) part.packet t.batch received grown;
+      batch = batch_more r t.packets packet old.batch new.batch can (omega (arith, had, left)) part.packet t.batch received grown;
     }
 
 -- ---- all batches
@@ -82,18 +83,19 @@ records_more {D = D} mid new rows history some none = go (fresh_of mid.history r
         omega (arith, some (not_none row more e), longer, ap length e)
 
 -- the packets of a dump before an octet were ingested
-pub record IsSoFar {D : Type 0} (old new : StoreView D) (dump : List ℕ) (link : ℕ) (moment : ℤ) (at packets idle : ℕ) : Type 0 where
+pub record IsSoFar {D : Type 0} (old new : StoreView D) (dump : List ℕ) (r : Receiving) (at packets idle routed : ℕ) : Type 0 where
   pub so_far : List (List ℕ)
   pub cut : IsCut dump so_far at
   pub few : length so_far ≤ at
-  pub done : HasIngested old new link moment so_far
-  pub fills : new.fills ≡ []
+  pub done : HasIngested old new r so_far
+  pub fills : faults_in new.fills ≡ []
   pub of_packets : packets ≡ length so_far
   pub of_idle : idle + arrived so_far ≡ length so_far
+  pub of_routed : routed ≡ length (rows_received r so_far)
 
-module _ {D : Type 0} (old : StoreView D) (dump : List ℕ) (link : ℕ) (moment : ℤ) where
+module _ {D : Type 0} (old : StoreView D) (dump : List ℕ) (r : Receiving) where
   -- no batch yet
-  pub so_far_none : old.fills ≡ [] → IsSoFar old old dump link moment 0 0 0
+  pub so_far_none : faults_in old.fills ≡ [] → IsSoFar old old dump r 0 0 0 0
   so_far_none no_failed_write = record {
     so_far = [];
     cut = record { within = omega arith; joined = refl; each = All-nil IsPacket };
@@ -102,14 +104,15 @@ module _ {D : Type 0} (old : StoreView D) (dump : List ℕ) (link : ℕ) (moment
     fills = no_failed_write;
     of_packets = refl;
     of_idle = refl;
+    of_routed = refl;
   }
 
   -- one batch more
-  pub so_far_more : (mid new : StoreView D) (start end packets idle : ℕ) (taken : NextBatch) → IsSoFar old mid dump link moment start packets idle → IsNextBatch dump start end mid.head link moment taken
+  pub so_far_more : (mid new : StoreView D) (start end packets idle routed : ℕ) (taken : NextBatch) → IsSoFar old mid dump r start packets idle routed → IsNextBatch dump start end r taken
       → new.history ≡ ingested mid.history (batch_rows taken.batch) → new.fills ≡ mid.fills → new.head ≡ mid.head → new.opened ≡ mid.opened
       → (fresh_of mid.history (batch_rows taken.batch) ≢ [] → new.records ≡ mid.records + 1) → (fresh_of mid.history (batch_rows taken.batch) ≡ [] → new ≡ mid)
-      → IsSoFar old new dump link moment end (packets + taken.packets) (idle + (taken.packets - length taken.batch.arrivals))
-  so_far_more mid new start end packets idle taken s t history fills head opened some none =
+      → IsSoFar old new dump r end (packets + taken.packets) (idle + (taken.packets - length taken.batch.arrivals)) (routed + length (batch_rows taken.batch))
+  so_far_more mid new start end packets idle routed taken s t history fills head opened some none =
       let few = s.few in let rising = t.run.rising in let of_packets = s.of_packets in let of_idle = s.of_idle in let count = t.count in let arrivals = t.batch.count in
       let less = few_arrived t.packets in
       let more = length-append s.so_far t.packets in
@@ -120,24 +123,29 @@ module _ {D : Type 0} (old : StoreView D) (dump : List ℕ) (link : ℕ) (moment
         done = record {
           history =
               history
-              ∙ ap (ingested mid.history) (t.batch.rows ∙ ap (λ (h : Head). rows_of_link h link moment t.packets) s.done.head)
-              ∙ ap (λ (l : List Item). ingested l (rows_of_link old.head link moment t.packets)) s.done.history
-              ∙ sym (ingested-append old.history (rows_of_link old.head link moment s.so_far) (rows_of_link old.head link moment t.packets))
-              ∙ ap (ingested old.history) (sym (rows-append old.head link moment s.so_far t.packets));
+              ∙ ap (ingested mid.history) t.batch.rows
+              ∙ ap (λ (l : List Item). ingested l (rows_received r t.packets)) s.done.history
+              ∙ sym (ingested-append old.history (rows_received r s.so_far) (rows_received r t.packets))
+              ∙ ap (ingested old.history) (sym (rows-append r s.so_far t.packets));
           head = head ∙ s.done.head;
           opened = opened ∙ s.done.opened;
           records = λ no_failed_write. omega (arith, s.done.records s.fills, records_more mid new (batch_rows taken.batch) history some none);
         };
-        fills = fills ∙ s.fills;
+        fills = ap faults_in fills ∙ s.fills;
         of_packets = omega (arith, of_packets, count, more);
         of_idle = omega (arith, of_idle, count, arrivals, less, more, more_arrived);
+        of_routed =
+            ap (λ (n : ℕ). n + length (batch_rows taken.batch)) s.of_routed
+            ∙ ap (λ (l : List Row). length (rows_received r s.so_far) + length l) t.batch.rows
+            ∙ sym (length-append (rows_received r s.so_far) (rows_received r t.packets))
+            ∙ ap length (sym (rows-append r s.so_far t.packets));
       }
 
   -- no packets follow
-  pub so_far_end : (new : StoreView D) (start end packets idle : ℕ) (taken : NextBatch) (why : Why) → IsSoFar old new dump link moment start packets idle → IsNextBatch dump start end new.head link moment taken
+  pub so_far_end : (new : StoreView D) (start end packets idle routed : ℕ) (taken : NextBatch) (why : Why) → IsSoFar old new dump r start packets idle routed → IsNextBatch dump start end r taken
       → taken.packets ≡ 0 → (taken.packets < 64 → BeginsWithNoPacket (drop end dump)) → why ≡ why_of (drop end dump)
-      → IsIngested old new dump link moment (record { packets = packets; idle = idle; at = end; why = why })
-  so_far_end new start end packets idle taken why s t none last why_is =
+      → IsIngested old new dump r (record { packets = packets; idle = idle; routed = routed; at = end; why = why })
+  so_far_end new start end packets idle routed taken why s t none last why_is =
       let cut = no_more t.packets (let count = t.count in omega (arith, count, none)) (t.run.follows s.so_far s.cut) in record {
         packets = s.so_far;
         within = cut.within;
@@ -147,6 +155,7 @@ module _ {D : Type 0} (old : StoreView D) (dump : List ℕ) (link : ℕ) (moment
         fills = s.fills;
         of_packets = s.of_packets;
         of_idle = s.of_idle;
+        of_routed = s.of_routed;
       }
     where
       no_more : (ps : List (List ℕ)) → length ps ≡ 0 → IsCut dump (s.so_far ++ ps) end → IsCut dump s.so_far end
@@ -154,8 +163,8 @@ module _ {D : Type 0} (old : StoreView D) (dump : List ℕ) (link : ℕ) (moment
       no_more (p ∷ ps) e cut = absurd (omega (arith, e))
 
   -- want of memory before a batch
-  pub so_far_memory : (new : StoreView D) (at packets idle : ℕ) → IsSoFar old new dump link moment at packets idle → IsStoppedAt old new dump link moment OutOfMemory
-  so_far_memory new at packets idle s =
+  pub so_far_memory : (new : StoreView D) (at packets idle routed : ℕ) → IsSoFar old new dump r at packets idle routed → IsStoppedAt old new dump r OutOfMemory
+  so_far_memory new at packets idle routed s =
       let all = completes dump s.so_far at s.cut in
       let more = length-append s.so_far all.0 in record {
         packets = s.so_far ++ all.0;
@@ -163,7 +172,7 @@ module _ {D : Type 0} (old : StoreView D) (dump : List ℕ) (link : ℕ) (moment
         place = length s.so_far;
         parts = all.2;
         within = omega (arith, more);
-        done = subst (λ (l : List (List ℕ)). HasIngested old new link moment l) (sym (take-append_seam s.so_far all.0)) s.done;
+        done = subst (λ (l : List (List ℕ)). HasIngested old new r l) (sym (take-append_seam s.so_far all.0)) s.done;
         cause = s.fills;
       }
 
@@ -175,16 +184,16 @@ module _ {D : Type 0} (old : StoreView D) (dump : List ℕ) (link : ℕ) (moment
       ap (take 64) (ap (drop (length first)) (append_assoc first batch more) ∙ drop-append_seam first (batch ++ more) ∙ ap (λ (l : List (List ℕ)). batch ++ l) none ∙ append-nil batch) ∙ take_all 64 batch few
 
   -- a batch was refused
-  stopped_at : (mid new : StoreView D) (start end packets idle : ℕ) (taken : NextBatch) (refusal : Refusal) (more : List (List ℕ)) (rest : List ℕ) → (s : IsSoFar old mid dump link moment start packets idle)
-      → (t : IsNextBatch dump start end mid.head link moment taken) → IsDump dump ((s.so_far ++ t.packets) ++ more) rest → (length t.packets ≡ 64) ⊎ (more ≡ [])
-      → new.history ≡ mid.history → new.head ≡ mid.head → new.opened ≡ mid.opened → (new.fills ≡ [] → new.records ≡ mid.records) → IsRefusedFor new (batch_rows taken.batch) refusal
-      → IsStoppedAt old new dump link moment refusal
-  stopped_at mid new start end packets idle taken refusal more rest s t parts full history head opened still cause =
+  stopped_at : (mid new : StoreView D) (start end packets idle routed : ℕ) (taken : NextBatch) (refusal : Refusal) (more : List (List ℕ)) (rest : List ℕ) → (s : IsSoFar old mid dump r start packets idle routed)
+      → (t : IsNextBatch dump start end r taken) → IsDump dump ((s.so_far ++ t.packets) ++ more) rest → (length t.packets ≡ 64) ⊎ (more ≡ [])
+      → new.history ≡ mid.history → new.head ≡ mid.head → new.opened ≡ mid.opened → (faults_in new.fills ≡ [] → new.records ≡ mid.records) → IsRefusedFor new (batch_rows taken.batch) refusal
+      → IsStoppedAt old new dump r refusal
+  stopped_at mid new start end packets idle routed taken refusal more rest s t parts full history head opened still cause =
       let a = length-append (s.so_far ++ t.packets) more in
       let b = length-append s.so_far t.packets in
       let first : take (length s.so_far) ((s.so_far ++ t.packets) ++ more) ≡ s.so_far = ap (take (length s.so_far)) (append_assoc s.so_far t.packets more) ∙ take-append_seam s.so_far (t.packets ++ more) in
-      let rows : batch_rows taken.batch ≡ rows_of_link old.head link moment (batch_at (length s.so_far) ((s.so_far ++ t.packets) ++ more)) =
-      t.batch.rows ∙ ap (λ (h : Head). rows_of_link h link moment t.packets) s.done.head ∙ ap (rows_of_link old.head link moment) (sym (batch_is s.so_far t.packets more t.few full)) in
+      let rows : batch_rows taken.batch ≡ rows_received r (batch_at (length s.so_far) ((s.so_far ++ t.packets) ++ more)) =
+      t.batch.rows ∙ ap (rows_received r) (sym (batch_is s.so_far t.packets more t.few full)) in
       record {
         packets = (s.so_far ++ t.packets) ++ more;
         rest = rest;
@@ -192,7 +201,7 @@ module _ {D : Type 0} (old : StoreView D) (dump : List ℕ) (link : ℕ) (moment
         parts = parts;
         within = omega (arith, a, b);
         done = record {
-          history = history ∙ s.done.history ∙ ap (λ (l : List (List ℕ)). ingested old.history (rows_of_link old.head link moment l)) (sym first);
+          history = history ∙ s.done.history ∙ ap (λ (l : List (List ℕ)). ingested old.history (rows_received r l)) (sym first);
           head = head ∙ s.done.head;
           opened = opened ∙ s.done.opened;
           records = λ no_failed_write. omega (arith, s.done.records s.fills, still no_failed_write, ap length history);
@@ -200,35 +209,35 @@ module _ {D : Type 0} (old : StoreView D) (dump : List ℕ) (link : ℕ) (moment
         cause = subst (λ (l : List Row). IsRefusedFor new l refusal) rows cause;
       }
 
-  pub so_far_refused : (mid new : StoreView D) (start end packets idle : ℕ) (taken : NextBatch) (refusal : Refusal) → IsSoFar old mid dump link moment start packets idle
-      → IsNextBatch dump start end mid.head link moment taken → (taken.packets < 64 → BeginsWithNoPacket (drop end dump))
-      → new.history ≡ mid.history → new.head ≡ mid.head → new.opened ≡ mid.opened → (new.fills ≡ [] → new.records ≡ mid.records) → IsRefusedFor new (batch_rows taken.batch) refusal
-      → IsStoppedAt old new dump link moment refusal
-  so_far_refused mid new start end packets idle taken refusal s t last history head opened still cause = go (ltb taken.packets 64) refl
+  pub so_far_refused : (mid new : StoreView D) (start end packets idle routed : ℕ) (taken : NextBatch) (refusal : Refusal) → IsSoFar old mid dump r start packets idle routed
+      → IsNextBatch dump start end r taken → (taken.packets < 64 → BeginsWithNoPacket (drop end dump))
+      → new.history ≡ mid.history → new.head ≡ mid.head → new.opened ≡ mid.opened → (faults_in new.fills ≡ [] → new.records ≡ mid.records) → IsRefusedFor new (batch_rows taken.batch) refusal
+      → IsStoppedAt old new dump r refusal
+  so_far_refused mid new start end packets idle routed taken refusal s t last history head opened still cause = go (ltb taken.packets 64) refl
     where
-      go : (b : Bool) → ltb taken.packets 64 ≡ b → IsStoppedAt old new dump link moment refusal
+      go : (b : Bool) → ltb taken.packets 64 ≡ b → IsStoppedAt old new dump r refusal
       go true less =
           let whole = cut_whole dump (s.so_far ++ t.packets) end (t.run.follows s.so_far s.cut) (last (ltb-true taken.packets 64 less)) in
-          stopped_at mid new start end packets idle taken refusal [] (drop end dump) s t
+          stopped_at mid new start end packets idle routed taken refusal [] (drop end dump) s t
           (subst (λ (l : List (List ℕ)). IsDump dump l (drop end dump)) (sym (append-nil (s.so_far ++ t.packets))) whole) (inr refl) history head opened still cause
       go false full =
           let all = completes dump (s.so_far ++ t.packets) end (t.run.follows s.so_far s.cut) in
           let least = ltb-false taken.packets 64 full in
           let count = t.count in
           let few = t.few in
-          stopped_at mid new start end packets idle taken refusal all.0 all.1 s t all.2 (inl (omega (arith, least, count, few))) history head opened still cause
+          stopped_at mid new start end packets idle routed taken refusal all.0 all.1 s t all.2 (inl (omega (arith, least, count, few))) history head opened still cause
 
 -- why a store refused a batch
-pub refused_for : {D : Type 0} (device : Device D) (mid new : StoreView D) (rows : List Row) (refusal : Refusal) → mid.fills ≡ [] → IsIngestRefusal device mid new rows refusal → IsRefusedFor new rows refusal
+pub refused_for : {D : Type 0} (device : Device D) (mid new : StoreView D) (rows : List Row) (refusal : Refusal) → faults_in mid.fills ≡ [] → IsIngestRefusal device mid new rows refusal → IsRefusedFor new rows refusal
 refused_for {D = D} device mid new rows (Limit which number) none refused =
-    subst (λ (s : StoreView D). (s.fills ≡ []) × (number ≡ limit_of which) × IsLimit 22 which s.records (ingested s.history rows)) (sym refused.1) (none, refused.0.number_is, refused.0.first)
+    subst (λ (s : StoreView D). (faults_in s.fills ≡ []) × (number ≡ limit_of which) × IsLimit 22 which s.records (ingested s.history rows)) (sym refused.1) (none, refused.0.number_is, refused.0.first)
 refused_for device mid new rows DiskFault none refused =
     let f = refused.fault in (
       f.count,
-      f.fills ∙ ap (λ (l : List Fill). l ++ Fault f.count true (Rows (fresh_of mid.history rows)) ∷ []) none ∙ ap (λ (h : List Item). Fault f.count true (Rows (fresh_of h rows)) ∷ []) (sym f.history),
+      ap faults_in f.fills ∙ faults_in-append mid.fills (Fault f.count true (Rows (fresh_of mid.history rows)) ∷ []) ∙ ap (λ (l : List Fill). l ++ Fault f.count true (Rows (fresh_of mid.history rows)) ∷ []) none ∙ ap (λ (h : List Item). Fault f.count true (Rows (fresh_of h rows)) ∷ []) (sym f.history),
     )
-refused_for {D = D} device mid new rows OutOfMemory none refused = ap (λ (s : StoreView D). s.fills) refused.1 ∙ none
-refused_for device mid new rows (NeedsReopen faults) none refused = absurd (let calm = ap pending_fault_of none in cc (refused.0, calm))
+refused_for {D = D} device mid new rows OutOfMemory none refused = ap (λ (s : StoreView D). faults_in s.fills) refused.1 ∙ none
+refused_for device mid new rows (NeedsReopen faults) none refused = absurd (let calm = pending_fault_of-in mid.fills ∙ ap pending_fault_of none in cc (refused.0, calm))
 refused_for device mid new rows other none refused = absurd refused
 
 -- ---- writes of the disk that failed

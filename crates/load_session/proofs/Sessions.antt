@@ -1,5 +1,5 @@
 -- What a session came to, by how its batches went.
-use Rattle.std.proofs.Common.{◌≡◌, ◌⊎◌, inl, inr, ℕ, ℤ, ◌+◌, ◌≤◌, Bool, true, false, List, [], ◌∷◌, length, take, drop, Option, Some, None, refl, sym, ap, subst, ◌∙◌, arith, length-append}
+use Rattle.std.proofs.Common.{◌≡◌, ◌⊎◌, inl, inr, ℕ, ◌+◌, ◌≤◌, Bool, true, false, List, [], ◌∷◌, length, take, drop, Option, Some, None, refl, sym, ap, subst, ◌∙◌, arith, length-append}
 use Rattle.std.specs.Prelude.{◌≢◌, Ok, Err}
 use Rattle.std.proofs.lemmas.List.{take_all}
 use Rattle.arch_disk.specs.Disk.{Device, raised}
@@ -11,23 +11,25 @@ use Rattle.history_items.specs.declared.fills.Addition.TheVariants.{Rows}
 use Rattle.history_items.specs.declared.fills.Fill.{Fill}
 use Rattle.history_items.specs.declared.fills.Fill.TheVariants.{Fault}
 use Rattle.history_items.specs.Fills.{Rising, above, reopened}
+use Rattle.store_fills.specs.Faults.{faults_in}
+use Rattle.store_fills.proofs.Faults.{Rising-in, faults_in-reopened}
 use Rattle.history_items.specs.Outcomes.{fresh_of}
 use Rattle.history_items.proofs.Outcomes.{fresh_added, length-ingested}
-use Rattle.archive_store.specs.Entries.{Archive}
-use Rattle.archive_store.specs.StoreView.{StoreView, FaultInvariant, archive_of}
+use Rattle.history_items.specs.Items.{Item}
+use Rattle.archive_store.specs.StoreView.{StoreView, FaultInvariant}
 use Rattle.load_session.specs.declared.batches.DumpSummary.{DumpSummary}
-use Rattle.load_session.specs.Batches.{ExactlyOne, IsIngested, IsStoppedAt, arrived, rows_of_link}
+use Rattle.load_session.specs.Receiving.{Receiving, rows_received}
+use Rattle.load_session.specs.Batches.{ExactlyOne, IsIngested, IsStoppedAt}
 use Rattle.load_session.specs.Healing.{IsReopened}
-use Rattle.load_session.specs.Session.{HoldsFailedWrite, IsKnown, IsLimitOf, IsSession, IsSessionEnd, IsSessionRun, OneAtMost, OneOrTwo, SessionResult, next_fresh_rows, next_rows}
-use Rattle.load_session.proofs.Arrived.{few_rows}
+use Rattle.load_session.specs.Session.{HoldsFailedWrite, IsLimitOf, IsSession, IsSessionEnd, IsSessionRun, OneAtMost, OneOrTwo, SessionResult, next_fresh_rows, next_rows}
 
 -- ---- counts of faults
 
 -- a store that holds a fault has more faults than at its opening
 pub more_faults : {D : Type 0} (device : Device D) (store : StoreView D) (count : ℕ) (wrote : Bool) (rows : List Row) → FaultInvariant device store
-    → store.fills ≡ Fault count wrote (Rows rows) ∷ [] → raised (device.fault_count store.opened) ≤ device.fault_count store.disk
+    → faults_in store.fills ≡ Fault count wrote (Rows rows) ∷ [] → raised (device.fault_count store.opened) ≤ device.fault_count store.disk
 more_faults device store count wrote rows keeps one =
-    let rising = subst (λ (fills : List Fill). Rising (above (device.fault_count store.opened)) (device.fault_count store.disk) fills) one keeps.rising in
+    let rising = subst (λ (fills : List Fill). Rising (above (device.fault_count store.opened)) (device.fault_count store.disk) fills) one (Rising-in store.fills (above (device.fault_count store.opened)) (device.fault_count store.disk) keeps.rising) in
     let low = rising.0 in
     let high = rising.1 in
     let later = keeps.later in
@@ -38,36 +40,36 @@ twice first then last once again = omega (arith, once, again)
 
 -- ---- the answer of a session
 
-module _ {D : Type 0} (device : Device D) (old new : StoreView D) (dump : List ℕ) (link : ℕ) (moment : ℤ) where
+module _ {D : Type 0} (device : Device D) (old new : StoreView D) (dump : List ℕ) (r : Receiving) where
   -- all packets were ingested
-  pub whole_run : (whole : DumpSummary) → IsIngested old new dump link moment whole → IsSessionRun device old new dump link moment (Ok whole)
+  pub whole_run : (whole : DumpSummary) → IsIngested old new dump r whole → IsSessionRun device old new dump r (Ok whole)
   whole_run whole i = record {
     came_to = record { packets = i.packets; rest = drop whole.at dump; place = length i.packets; reached = new.history; refusal = None };
     session = record {
       parts = i.parts;
       within = omega arith;
       reached_is = i.done.history
-          ∙ ap (λ (l : List (List ℕ)). ingested old.history (rows_of_link old.head link moment l)) (sym (take_all (length i.packets) i.packets (omega arith)));
+          ∙ ap (λ (l : List (List ℕ)). ingested old.history (rows_received r l)) (sym (take_all (length i.packets) i.packets (omega arith)));
       cause = refl;
     };
     reached = record { history = refl; head = i.done.head; opened = i.done.opened; failed_write = i.fills; records = i.done.records };
     limit = tt;
     answer_is = refl;
-    summary = record { within = i.within; rest = refl; why = i.why; of_packets = i.of_packets; of_idle = i.of_idle };
+    summary = record { within = i.within; rest = refl; why = i.why; of_packets = i.of_packets; of_idle = i.of_idle; of_routed = i.of_routed };
   }
 
   -- a batch was refused
-  abbrev stopped_result : (refusal : Refusal) → IsStoppedAt old new dump link moment refusal → SessionResult
+  abbrev stopped_result : (refusal : Refusal) → IsStoppedAt old new dump r refusal → SessionResult
   stopped_result refusal s = record { packets = s.packets; rest = s.rest; place = s.place; reached = new.history; refusal = Some refusal }
 
-  is_stopped : (refusal : Refusal) (s : IsStoppedAt old new dump link moment refusal) → IsSessionEnd (IsKnown device old) (archive_of old) link moment (stopped_result refusal s) (Some refusal)
-      → IsSession (IsKnown device old) (archive_of old) dump link moment (stopped_result refusal s)
+  is_stopped : (refusal : Refusal) (s : IsStoppedAt old new dump r refusal) → IsSessionEnd (λ n. n ≡ old.records) old.history r (stopped_result refusal s) (Some refusal)
+      → IsSession (λ n. n ≡ old.records) old.history dump r (stopped_result refusal s)
   is_stopped refusal s cause = record { parts = s.parts; within = s.within; reached_is = s.done.history; cause = cause }
 
   -- and no call of the disk failed
-  still_run : (refusal : Refusal) (s : IsStoppedAt old new dump link moment refusal) → IsSessionEnd (IsKnown device old) (archive_of old) link moment (stopped_result refusal s) (Some refusal)
-      → HoldsFailedWrite device new (next_fresh_rows (archive_of old) link moment (stopped_result refusal s)) (Some refusal)
-      → IsLimitOf new (next_rows (archive_of old) link moment (stopped_result refusal s)) (Some refusal) → IsSessionRun device old new dump link moment (Err refusal)
+  still_run : (refusal : Refusal) (s : IsStoppedAt old new dump r refusal) → IsSessionEnd (λ n. n ≡ old.records) old.history r (stopped_result refusal s) (Some refusal)
+      → HoldsFailedWrite device new (next_fresh_rows r (stopped_result refusal s)) (Some refusal)
+      → IsLimitOf new (next_rows r (stopped_result refusal s)) (Some refusal) → IsSessionRun device old new dump r (Err refusal)
   still_run refusal s cause holds limit = record {
     came_to = stopped_result refusal s;
     session = is_stopped refusal s cause;
@@ -77,13 +79,9 @@ module _ {D : Type 0} (device : Device D) (old new : StoreView D) (dump : List �
     summary = tt;
   }
 
-  -- each record but the head's has a row
-  few_now : new.records + length old.history ≤ old.records + length new.history → IsKnown device old → new.records ≤ 1 + length new.history
-  few_now grown known = let few = known.1 in omega (arith, grown, few)
-
   module _ (last : StoreView D) where
     -- one failed: the write was taken back, or one failed again
-    failed_run : (s : IsStoppedAt old new dump link moment DiskFault) → IsReopened device new last → IsSessionRun device old last dump link moment (Err DiskFault)
+    failed_run : (s : IsStoppedAt old new dump r DiskFault) → IsReopened device new last → IsSessionRun device old last dump r (Err DiskFault)
     failed_run s again = record {
       came_to = stopped_result DiskFault s;
       session = is_stopped DiskFault s tt;
@@ -92,8 +90,8 @@ module _ {D : Type 0} (device : Device D) (old new : StoreView D) (dump : List �
         head = again.head ∙ s.done.head;
         opened = again.opened ∙ s.done.opened;
         failed_write = elim again.healed [
-          | inl healed ↦ (s.cause.0, false, healed ∙ ap reopened s.cause.1, inl refl)
-          | inr failed ↦ (s.cause.0, true, failed.0 ∙ s.cause.1, inr (rose failed.1))
+          | inl healed ↦ (s.cause.0, false, ap faults_in healed ∙ faults_in-reopened new.fills ∙ ap reopened s.cause.1, inl refl)
+          | inr failed ↦ (s.cause.0, true, ap faults_in failed.0 ∙ s.cause.1, inr (rose failed.1))
         ];
         records = λ none. absurd (holds_one none again.healed);
       };
@@ -102,60 +100,58 @@ module _ {D : Type 0} (device : Device D) (old new : StoreView D) (dump : List �
       summary = tt;
     }
       where
-        holds_one : last.fills ≡ [] → (last.fills ≡ reopened new.fills) ⊎ ((last.fills ≡ new.fills) × (raised (device.fault_count new.disk) ≤ device.fault_count last.disk)) → ⊥
-        holds_one none (inl healed) = let same = sym none ∙ healed ∙ ap reopened s.cause.1 in cc
-        holds_one none (inr failed) = let same = sym none ∙ failed.0 ∙ s.cause.1 in cc
+        holds_one : faults_in last.fills ≡ [] → (last.fills ≡ reopened new.fills) ⊎ ((last.fills ≡ new.fills) × (raised (device.fault_count new.disk) ≤ device.fault_count last.disk)) → ⊥
+        holds_one none (inl healed) = let same = sym none ∙ ap faults_in healed ∙ faults_in-reopened new.fills ∙ ap reopened s.cause.1 in cc
+        holds_one none (inr failed) = let same = sym none ∙ ap faults_in failed.0 ∙ s.cause.1 in cc
 
         rose : raised (device.fault_count new.disk) ≤ device.fault_count last.disk → raised (raised (device.fault_count last.opened)) ≤ device.fault_count last.disk
         rose failed =
-            let once = more_faults device new s.cause.0 true (next_fresh_rows (archive_of old) link moment (stopped_result DiskFault s)) again.counted s.cause.1 in
+            let once = more_faults device new s.cause.0 true (next_fresh_rows r (stopped_result DiskFault s)) again.counted s.cause.1 in
             subst (λ (d : D). raised (raised (device.fault_count d)) ≤ device.fault_count last.disk) (sym again.opened)
             (twice (device.fault_count new.opened) (device.fault_count new.disk) (device.fault_count last.disk) once failed)
 
-    pub stopped_run : (refusal : Refusal) → IsStoppedAt old new dump link moment refusal → (refusal ≢ DiskFault → last ≡ new) → (refusal ≡ DiskFault → IsReopened device new last) → IsSessionRun device old last dump link moment (Err refusal)
+    pub stopped_run : (refusal : Refusal) → IsStoppedAt old new dump r refusal → (refusal ≢ DiskFault → last ≡ new) → (refusal ≡ DiskFault → IsReopened device new last) → IsSessionRun device old last dump r (Err refusal)
     stopped_run DiskFault s same again = failed_run s (again refl)
     stopped_run OutOfMemory s same again =
-        subst (λ (x : StoreView D). IsSessionRun device old x dump link moment (Err OutOfMemory)) (sym (same (λ e. cc))) (still_run OutOfMemory s tt s.cause tt)
+        subst (λ (x : StoreView D). IsSessionRun device old x dump r (Err OutOfMemory)) (sym (same (λ e. cc))) (still_run OutOfMemory s tt s.cause tt)
     stopped_run (Limit which number) s same again =
-        subst (λ (x : StoreView D). IsSessionRun device old x dump link moment (Err (Limit which number))) (sym (same (λ e. cc)))
-        (still_run (Limit which number) s (s.cause.1, (new.records, few_now (s.done.records s.cause.0), s.cause.2)) s.cause.0 s.cause.2)
+        subst (λ (x : StoreView D). IsSessionRun device old x dump r (Err (Limit which number))) (sym (same (λ e. cc)))
+        (still_run (Limit which number) s (s.cause.1, (old.records, new.records, refl, s.done.records s.cause.0, s.cause.2)) s.cause.0 s.cause.2)
     stopped_run other s same again = absurd s.cause
 
--- ---- what is known
+-- ---- the records at the beginning
 
--- what a session came to where each record has a row as far as the disk is known
-pub known_session : (known few : Type 0) (before : Archive) (dump : List ℕ) (link : ℕ) (moment : ℤ) (s : SessionResult) → (known → few) → IsSession (known × few) before dump link moment s
-    → IsSession known before dump link moment s
-known_session known few before dump link moment s first is = record { parts = is.parts; within = is.within; reached_is = is.reached_is; cause = ended s.refusal is.cause }
+-- what a session came to, where less is said of the records at its beginning
+pub session_from : (Began Less : ℕ → Type 0) (before : List Item) (dump : List ℕ) (r : Receiving) (s : SessionResult) → ((n : ℕ) → Began n → Less n) → IsSession Began before dump r s → IsSession Less before dump r s
+session_from Began Less before dump r s says is = record { parts = is.parts; within = is.within; reached_is = is.reached_is; cause = ended s.refusal is.cause }
   where
-    ended : (refusal : Option Refusal) → IsSessionEnd (known × few) before link moment s refusal → IsSessionEnd known before link moment s refusal
+    ended : (refusal : Option Refusal) → IsSessionEnd Began before r s refusal → IsSessionEnd Less before r s refusal
     ended None e = e
-    ended (Some (Limit which number)) e = (e.0, (e.1.0, (λ k. e.1.1 (k, first k)), e.1.2))
+    ended (Some (Limit which number)) e = (e.0, (e.1.0, e.1.1, says e.1.0 e.1.2, e.1.3, e.1.4))
     ended (Some DiskFault) e = e
     ended (Some OutOfMemory) e = e
     ended (Some other) e = absurd e
 
 -- ---- the history that was reached
 
-module _ (known : Type 0) (before : Archive) (dump : List ℕ) (link : ℕ) (moment : ℤ) (s : SessionResult) (is : IsSession known before dump link moment s) where
+module _ (Began : ℕ → Type 0) (before : List Item) (dump : List ℕ) (r : Receiving) (s : SessionResult) (is : IsSession Began before dump r s) where
   -- it only grows,
-  pub session_grew : length before.history ≤ length s.reached
+  pub session_grew : length before ≤ length s.reached
   session_grew =
-      let rows = rows_of_link before.head link moment (take s.place s.packets) in
-      let longer = ap length (is.reached_is ∙ fresh_added before.history rows) in
-      let more = length-append before.history (fresh_of before.history rows) in
+      let rows = rows_received r (take s.place s.packets) in
+      let longer = ap length (is.reached_is ∙ fresh_added before rows) in
+      let more = length-append before (fresh_of before rows) in
       omega (arith, longer, more)
 
-  -- and by no more rows than a whole dump has packets that aren't idle
-  pub session_added : s.refusal ≡ None → length s.reached ≤ length before.history + arrived s.packets
+  -- and by no more rows than the packets of a whole dump are
+  pub session_added : s.refusal ≡ None → length s.reached ≤ length before + length (rows_received r s.packets)
   session_added whole =
-      let all : s.place ≡ length s.packets = subst (IsSessionEnd known before link moment s) whole is.cause in
+      let all : s.place ≡ length s.packets = subst (IsSessionEnd Began before r s) whole is.cause in
       let taken : take s.place s.packets ≡ s.packets = take_all s.place s.packets (omega (arith, all)) in
-      let rows = rows_of_link before.head link moment s.packets in
-      let longer = ap length (is.reached_is ∙ ap (λ (l : List (List ℕ)). ingested before.history (rows_of_link before.head link moment l)) taken) in
-      let most = length-ingested before.history rows in
-      let few = few_rows before.head link moment s.packets in
-      omega (arith, longer, most, few)
+      let rows = rows_received r s.packets in
+      let longer = ap length (is.reached_is ∙ ap (λ (l : List (List ℕ)). ingested before (rows_received r l)) taken) in
+      let most = length-ingested before rows in
+      omega (arith, longer, most)
 
 -- ---- writes of the disk that failed
 

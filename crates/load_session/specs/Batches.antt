@@ -1,15 +1,15 @@
 -- The packets of a dump, ingested in batches.
-use Rattle.std.specs.Prelude.{◌≡◌, ℕ, ℤ, ◌+◌, ◌≤◌, true, Option, Some, List, [], ◌∷◌, ◌++◌, length, take, drop, if◌then◌else◌}
+use Rattle.std.specs.Prelude.{◌≡◌, ℕ, ◌+◌, ◌≤◌, true, Option, Some, List, [], ◌∷◌, ◌++◌, length, take, drop, if◌then◌else◌}
 use Rattle.arch_disk.specs.Disk.{raised}
 use Rattle.arch_types.specs.declared.refusal.Refusal.{Refusal}
 use Rattle.arch_types.specs.declared.refusal.Refusal.TheVariants.{DiskFault, Limit, OutOfMemory}
 use Rattle.arch_types.specs.declared.row.Row.{Row}
-use Rattle.arch_types.specs.Arrivals.{arrivals, kept}
 use Rattle.arch_types.specs.Dump.{IsDump}
 use Rattle.arch_types.specs.Packet.{is_idle}
 use Rattle.arch_types.specs.Limits.{limit_of}
 use Rattle.history_items.specs.declared.fills.Addition.TheVariants.{Rows}
 use Rattle.history_items.specs.declared.fills.Fill.TheVariants.{Fault}
+use Rattle.store_fills.specs.Faults.{faults_in}
 use Rattle.history_items.specs.Items.{after_rows}
 use Rattle.history_items.specs.Outcomes.{fresh_of}
 use Rattle.container_extract.specs.Chain.{packet_name_of}
@@ -17,26 +17,12 @@ use Rattle.space_packet.specs.Cut.{IsCut}
 use Rattle.space_packet.specs.Rest.{why_of}
 use Rattle.archive_store.specs.declared.batch.Arrival.{Arrival}
 use Rattle.archive_store.specs.declared.batch.Batch.{Batch}
-use Rattle.archive_store.specs.declared.head.Head.{Head}
 use Rattle.archive_store.specs.Batches.{batch_rows, IsBatch}
 use Rattle.archive_history.specs.Limits.{IsLimit}
 use Rattle.archive_store.specs.StoreView.{StoreView}
 use Rattle.load_session.specs.declared.batches.NextBatch.{NextBatch}
 use Rattle.load_session.specs.declared.batches.DumpSummary.{DumpSummary}
-
--- the table that packets go into: the first, `tm`, which each archive has
-abbrev pub first_table : List (List ℕ) → List ℕ
-first_table [] = []
-first_table (table ∷ tables) = 0 ∷ []
-
--- the rows of packets of a link in an archive, with the packet names that its database gives them
-abbrev pub rows_of_link : Head → ℕ → ℤ → List (List ℕ) → List Row
-rows_of_link head link moment packets =
-    arrivals link moment (packet_name_of head.mdb) (λ p. first_table head.tables) packets
-
--- how many packets aren't idle
-abbrev pub arrived : List (List ℕ) → ℕ
-arrived packets = length (kept packets)
+use Rattle.load_session.specs.Receiving.{Receiving, arrived, rows_received, tables_of_packet}
 
 -- the packets of a batch: at most 64 successive ones from a place on
 abbrev pub batch_at : ℕ → List (List ℕ) → List (List ℕ)
@@ -44,14 +30,14 @@ batch_at place packets = take 64 (drop place packets)
 
 -- ---- one batch
 
--- the arrival of a packet of a link
-abbrev pub arrival_from : Head → ℕ → List ℕ → Arrival
-arrival_from head link packet =
-    record { link = link; pname = packet_name_of head.mdb packet; packet = packet; tables = first_table head.tables }
+-- the arrival of a packet
+abbrev pub arrival_from : Receiving → List ℕ → Arrival
+arrival_from r packet =
+    record { link = r.link; pname = packet_name_of r.head.mdb packet; packet = packet; tables = tables_of_packet r packet }
 
 -- arrivals, and that of one packet more where it isn't idle
-abbrev pub arrivals_with : Head → ℕ → List Arrival → List ℕ → List Arrival
-arrivals_with head link before packet = if is_idle packet then before else before ++ arrival_from head link packet ∷ []
+abbrev pub arrivals_with : Receiving → List Arrival → List ℕ → List Arrival
+arrivals_with r before packet = if is_idle packet then before else before ++ arrival_from r packet ∷ []
 
 -- the octets of a dump from one place to another are these packets joined
 pub record IsRun (dump : List ℕ) (start : ℕ) (packets : List (List ℕ)) (end : ℕ) : Type 0 where
@@ -59,63 +45,62 @@ pub record IsRun (dump : List ℕ) (start : ℕ) (packets : List (List ℕ)) (en
   pub follows : (before : List (List ℕ)) → IsCut dump before start → IsCut dump (before ++ packets) end
 
 -- the batch of packets: those that aren't idle, in their order
-pub record IsBatchOf (head : Head) (link : ℕ) (moment : ℤ) (packets : List (List ℕ)) (batch : Batch) : Type 0 where
-  pub received : batch.rectime ≡ moment
-  pub takes : IsBatch head batch
-  pub rows : batch_rows batch ≡ rows_of_link head link moment packets
+pub record IsBatchOf (r : Receiving) (packets : List (List ℕ)) (batch : Batch) : Type 0 where
+  pub received : batch.rectime ≡ r.moment
+  pub takes : IsBatch r.head batch
+  pub rows : batch_rows batch ≡ rows_received r packets
   pub count : length batch.arrivals ≡ arrived packets
 
 -- packets that were taken from a dump for a batch
-pub record IsNextBatch (dump : List ℕ) (start end : ℕ) (head : Head) (link : ℕ) (moment : ℤ)
-    (taken : NextBatch) : Type 0 where
+pub record IsNextBatch (dump : List ℕ) (start end : ℕ) (r : Receiving) (taken : NextBatch) : Type 0 where
   pub packets : List (List ℕ)
   pub run : IsRun dump start packets end
   pub count : taken.packets ≡ length packets
   pub few : length packets ≤ 64
-  pub batch : IsBatchOf head link moment packets taken.batch
+  pub batch : IsBatchOf r packets taken.batch
 
 -- ---- all batches
 
--- packets of a link were ingested; where no fault is held each record that was appended has a new row
-pub record HasIngested {D : Type 0} (old new : StoreView D) (link : ℕ) (moment : ℤ)
-    (packets : List (List ℕ)) : Type 0 where
-  pub history : new.history ≡ after_rows old.history (rows_of_link old.head link moment packets)
+-- packets were ingested; where no fault is held each record that was appended has a new row
+pub record HasIngested {D : Type 0} (old new : StoreView D) (r : Receiving) (packets : List (List ℕ)) : Type 0 where
+  pub history : new.history ≡ after_rows old.history (rows_received r packets)
   pub head : new.head ≡ old.head
   pub opened : new.opened ≡ old.opened
-  pub records : new.fills ≡ [] → new.records + length old.history ≤ old.records + length new.history
+  pub records : faults_in new.fills ≡ [] → new.records + length old.history ≤ old.records + length new.history
 
 -- all packets of a dump were
-pub record IsIngested {D : Type 0} (old new : StoreView D) (dump : List ℕ) (link : ℕ) (moment : ℤ)
+pub record IsIngested {D : Type 0} (old new : StoreView D) (dump : List ℕ) (r : Receiving)
     (whole : DumpSummary) : Type 0 where
   pub packets : List (List ℕ)
   pub within : whole.at ≤ length dump
   pub parts : IsDump dump packets (drop whole.at dump)
   pub why : whole.why ≡ why_of (drop whole.at dump)
-  pub done : HasIngested old new link moment packets
-  pub fills : new.fills ≡ []
+  pub done : HasIngested old new r packets
+  pub fills : faults_in new.fills ≡ []
   pub of_packets : whole.packets ≡ length packets
   pub of_idle : whole.idle + arrived packets ≡ length packets
+  pub of_routed : whole.routed ≡ length (rows_received r packets)
 
 -- why the rows of a batch were refused: they pass a limit; or the disk failed, and a fault holds the new ones; or
 -- memory was wanting
 abbrev pub IsRefusedFor : {D : Type 0} → StoreView D → List Row → Refusal → Type 0
 IsRefusedFor store rows (Limit which number) =
-    (store.fills ≡ []) × (number ≡ limit_of which) × IsLimit 22 which store.records (after_rows store.history rows)
+    (faults_in store.fills ≡ []) × (number ≡ limit_of which) × IsLimit 22 which store.records (after_rows store.history rows)
 IsRefusedFor store rows DiskFault =
-    (count : ℕ) × (store.fills ≡ Fault count true (Rows (fresh_of store.history rows)) ∷ [])
-IsRefusedFor store rows OutOfMemory = store.fills ≡ []
+    (count : ℕ) × (faults_in store.fills ≡ Fault count true (Rows (fresh_of store.history rows)) ∷ [])
+IsRefusedFor store rows OutOfMemory = faults_in store.fills ≡ []
 IsRefusedFor store rows other = ⊥
 
 -- the packets of a dump before a place were ingested, and the batch from there on was refused
-pub record IsStoppedAt {D : Type 0} (old new : StoreView D) (dump : List ℕ) (link : ℕ) (moment : ℤ)
+pub record IsStoppedAt {D : Type 0} (old new : StoreView D) (dump : List ℕ) (r : Receiving)
     (refusal : Refusal) : Type 0 where
   pub packets : List (List ℕ)
   pub rest : List ℕ
   pub place : ℕ
   pub parts : IsDump dump packets rest
   pub within : place ≤ length packets
-  pub done : HasIngested old new link moment (take place packets)
-  pub cause : IsRefusedFor new (rows_of_link old.head link moment (batch_at place packets)) refusal
+  pub done : HasIngested old new r (take place packets)
+  pub cause : IsRefusedFor new (rows_received r (batch_at place packets)) refusal
 
 -- ---- writes of the disk that failed
 

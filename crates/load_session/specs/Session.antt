@@ -1,5 +1,5 @@
 -- A session that ingests the packets of a dump into an archive: what comes of it, and what it leaves of the store.
-use Rattle.std.specs.Prelude.{◌≡◌, ◌⊎◌, ◌≤◌, ◌+◌, ℕ, ℤ, List, [], ◌∷◌, length, take, drop, Bool, false, IsTrue, IfOk, Option, Some, None, Result}
+use Rattle.std.specs.Prelude.{◌≡◌, ◌⊎◌, ◌≤◌, ◌+◌, ℕ, List, [], ◌∷◌, length, take, drop, Bool, false, IfOk, Option, Some, None, Result}
 use Rattle.std.specs.Result.{result_err}
 use Rattle.arch_disk.specs.Disk.{Device, raised}
 use Rattle.arch_types.specs.declared.refusal.Refusal.{Refusal}
@@ -9,14 +9,15 @@ use Rattle.arch_types.specs.Dump.{IsDump}
 use Rattle.arch_types.specs.Limits.{limit_of}
 use Rattle.history_items.specs.declared.fills.Addition.TheVariants.{Rows}
 use Rattle.history_items.specs.declared.fills.Fill.TheVariants.{Fault}
+use Rattle.store_fills.specs.Faults.{faults_in}
 use Rattle.history_items.specs.Items.{Item, after_rows}
 use Rattle.history_items.specs.Outcomes.{fresh_of}
 use Rattle.archive_history.specs.Limits.{IsLimit}
 use Rattle.space_packet.specs.Rest.{why_of}
-use Rattle.archive_store.specs.Entries.{Archive}
-use Rattle.archive_store.specs.StoreView.{StoreView, archive_of}
+use Rattle.archive_store.specs.StoreView.{StoreView}
 use Rattle.load_session.specs.declared.batches.DumpSummary.{DumpSummary}
-use Rattle.load_session.specs.Batches.{arrived, batch_at, rows_of_link}
+use Rattle.load_session.specs.Batches.{batch_at}
+use Rattle.load_session.specs.Receiving.{Receiving, arrived, rows_received}
 
 -- ---- what comes of it
 
@@ -30,30 +31,31 @@ pub record SessionResult : Type 0 where
   pub refusal : Option Refusal
 
 -- the rows of the batch from the place on
-abbrev pub next_rows : Archive → ℕ → ℤ → SessionResult → List Row
-next_rows before link moment s = rows_of_link before.head link moment (batch_at s.place s.packets)
+abbrev pub next_rows : Receiving → SessionResult → List Row
+next_rows r s = rows_received r (batch_at s.place s.packets)
 
 -- those of them that are new
-abbrev pub next_fresh_rows : Archive → ℕ → ℤ → SessionResult → List Row
-next_fresh_rows before link moment s = fresh_of s.reached (next_rows before link moment s)
+abbrev pub next_fresh_rows : Receiving → SessionResult → List Row
+next_fresh_rows r s = fresh_of s.reached (next_rows r s)
 
--- Why a session ended: all packets were ingested; or the next batch passes a limit, the disk failed, or there was no memory. Where it is known what the
--- disk held, the journal had one record for the head, and each further one has a row.
-abbrev pub IsSessionEnd : Type 0 → Archive → ℕ → ℤ → SessionResult → Option Refusal → Type 0
-IsSessionEnd known before link moment s None = s.place ≡ length s.packets
-IsSessionEnd known before link moment s (Some (Limit which number)) =
+-- Why a session ended: all packets were ingested; or the next batch passes a limit, the disk failed, or there was no memory. `Began` says what is known of
+-- the number of the journal's records at the beginning: the records since then are no more than the rows.
+abbrev pub IsSessionEnd : (ℕ → Type 0) → List Item → Receiving → SessionResult → Option Refusal → Type 0
+IsSessionEnd Began before r s None = s.place ≡ length s.packets
+IsSessionEnd Began before r s (Some (Limit which number)) =
     (number ≡ limit_of which)
-    × ((records : ℕ) × (known → records ≤ 1 + length s.reached) × IsLimit 22 which records (after_rows s.reached (next_rows before link moment s)))
-IsSessionEnd known before link moment s (Some DiskFault) = Unit {0}
-IsSessionEnd known before link moment s (Some OutOfMemory) = Unit {0}
-IsSessionEnd known before link moment s (Some other) = ⊥
+    × ((began records : ℕ) × Began began × (records + length before ≤ began + length s.reached)
+    × IsLimit 22 which records (after_rows s.reached (next_rows r s)))
+IsSessionEnd Began before r s (Some DiskFault) = Unit {0}
+IsSessionEnd Began before r s (Some OutOfMemory) = Unit {0}
+IsSessionEnd Began before r s (Some other) = ⊥
 
--- The packets of a dump that came by a link were ingested, up to where the session ended.
-pub record IsSession (known : Type 0) (before : Archive) (dump : List ℕ) (link : ℕ) (moment : ℤ) (s : SessionResult) : Type 0 where
+-- The packets of a dump were ingested behind a history, up to where the session ended.
+pub record IsSession (Began : ℕ → Type 0) (before : List Item) (dump : List ℕ) (r : Receiving) (s : SessionResult) : Type 0 where
   pub parts : IsDump dump s.packets s.rest
   pub within : s.place ≤ length s.packets
-  pub reached_is : s.reached ≡ after_rows before.history (rows_of_link before.head link moment (take s.place s.packets))
-  pub cause : IsSessionEnd known before link moment s s.refusal
+  pub reached_is : s.reached ≡ after_rows before (rows_received r (take s.place s.packets))
+  pub cause : IsSessionEnd Began before r s s.refusal
 
 -- ---- the store
 
@@ -61,32 +63,29 @@ pub record IsSession (known : Type 0) (before : Archive) (dump : List ℕ) (link
 -- back, but where the disk had failed twice.
 abbrev pub HoldsFailedWrite : {D : Type 0} → Device D → StoreView D → List Row → Option Refusal → Type 0
 HoldsFailedWrite device store rows (Some DiskFault) =
-    (count : ℕ) × (wrote : Bool) × (store.fills ≡ Fault count wrote (Rows rows) ∷ [])
+    (count : ℕ) × (wrote : Bool) × (faults_in store.fills ≡ Fault count wrote (Rows rows) ∷ [])
     × ((wrote ≡ false) ⊎ (raised (raised (device.fault_count store.opened)) ≤ device.fault_count store.disk))
-HoldsFailedWrite device store rows other = store.fills ≡ []
+HoldsFailedWrite device store rows other = faults_in store.fills ≡ []
 
 -- A store holds the history that a session reached, of the same archive and since the same opening; where it holds no failed write each record more has a
 -- new row.
-pub record HasReached {D : Type 0} (device : Device D) (old new : StoreView D) (link : ℕ) (moment : ℤ) (s : SessionResult) : Type 0 where
+pub record HasReached {D : Type 0} (device : Device D) (old new : StoreView D) (r : Receiving) (s : SessionResult) : Type 0 where
   pub history : new.history ≡ s.reached
   pub head : new.head ≡ old.head
   pub opened : new.opened ≡ old.opened
-  pub failed_write : HoldsFailedWrite device new (next_fresh_rows (archive_of old) link moment s) s.refusal
-  pub records : new.fills ≡ [] → new.records + length old.history ≤ old.records + length new.history
+  pub failed_write : HoldsFailedWrite device new (next_fresh_rows r s) s.refusal
+  pub records : faults_in new.fills ≡ [] → new.records + length old.history ≤ old.records + length new.history
 
 -- ---- the answer
 
 -- what the dump of a session had, all of whose packets were ingested
-pub record IsSummary (dump : List ℕ) (s : SessionResult) (whole : DumpSummary) : Type 0 where
+pub record IsSummary (dump : List ℕ) (r : Receiving) (s : SessionResult) (whole : DumpSummary) : Type 0 where
   pub within : whole.at ≤ length dump
   pub rest : s.rest ≡ drop whole.at dump
   pub why : whole.why ≡ why_of s.rest
   pub of_packets : whole.packets ≡ length s.packets
   pub of_idle : whole.idle + arrived s.packets ≡ length s.packets
-
--- it is known what the disk holds, and each record of the journal but the head's has a row
-abbrev pub IsKnown : {D : Type 0} → Device D → StoreView D → Type 0
-IsKnown device store = IsTrue device.is_transparent × (store.records ≤ 1 + length store.history)
+  pub of_routed : whole.routed ≡ length (rows_received r s.packets)
 
 -- a limit is the first that a store passes with these rows
 abbrev pub IsLimitOf : {D : Type 0} → StoreView D → List Row → Option Refusal → Type 0
@@ -94,13 +93,13 @@ IsLimitOf store rows (Some (Limit which number)) = IsLimit 22 which store.record
 IsLimitOf store rows other = Unit {0}
 
 -- A session over an open store came to this end, and is answered by its refusal, or by what the dump had.
-pub record IsSessionRun {D : Type 0} (device : Device D) (old new : StoreView D) (dump : List ℕ) (link : ℕ) (moment : ℤ) (answer : Result DumpSummary Refusal) : Type 0 where
+pub record IsSessionRun {D : Type 0} (device : Device D) (old new : StoreView D) (dump : List ℕ) (r : Receiving) (answer : Result DumpSummary Refusal) : Type 0 where
   pub came_to : SessionResult
-  pub session : IsSession (IsKnown device old) (archive_of old) dump link moment came_to
-  pub reached : HasReached device old new link moment came_to
-  pub limit : IsLimitOf new (next_rows (archive_of old) link moment came_to) came_to.refusal
+  pub session : IsSession (λ n. n ≡ old.records) old.history dump r came_to
+  pub reached : HasReached device old new r came_to
+  pub limit : IsLimitOf new (next_rows r came_to) came_to.refusal
   pub answer_is : came_to.refusal ≡ result_err answer
-  pub summary : IfOk answer (IsSummary dump came_to)
+  pub summary : IfOk answer (IsSummary dump r came_to)
 
 -- ---- writes of the disk that failed
 

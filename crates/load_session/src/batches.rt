@@ -4,18 +4,24 @@ ghost use Rattle.std.specs.Prelude.{◌≡◌, ◌+◌, ◌<◌, ◌≤◌, [], 
 ghost use Rattle.arch_types.specs.Dump.{BeginsWithNoPacket};
 ghost use Rattle.arch_types.specs.Packet.{IsPacket};
 ghost use Rattle.text_forms.specs.ClockTime.{IsClockTime};
+ghost use Rattle.store_fills.specs.Faults.{faults_in};
 ghost use Rattle.std.specs.Result.{result_err};
-ghost use Rattle.load_session.specs.Batches.{arrival_from, arrivals_with, first_table, ExactlyOne, IsIngested, IsStoppedAt, IsNextBatch};
+ghost use Rattle.field_codec.specs.declared.entry.Entry.TheVariants as entries;
+ghost use Rattle.field_codec.specs.Entries.{IsArchiveEntry};
+ghost use Rattle.load_session.specs.Batches.{arrival_from, arrivals_with, ExactlyOne, IsIngested, IsStoppedAt, IsNextBatch};
+ghost use Rattle.load_session.specs.Receiving.{receiving, IsRouteOver};
 
 use arch_disk::Disk;
 use arch_types::octets::Octets;
 use arch_types::refusal::Refusal;
-use arch_types::tables::TableList;
+use arch_types::row::Row;
 use archive_store::{Arrival, Arrivals, Batch, Head, Store};
 use container_extract::Extractor;
 use space_packet::dump::{DumpPackets, Why};
 use space_packet::header::is_idle_packet;
+use space_packet::key::key_of;
 use std::alloc::{AllocError, Global};
+use stream_graph::graph::Graph;
 
 /// Successive packets that a batch takes, idle ones counted too.
 const BATCH: u64 = 64;
@@ -33,17 +39,20 @@ pub struct DumpSummary {
     /// All packets, idle ones counted too.
     pub packets: u64,
     pub idle: u64,
+    /// The rows that the others are: one for each packet and table.
+    pub routed: u64,
     /// The octet where the dump's rest begins.
     pub at: usize,
     /// What the rest is.
     pub why: Why,
 }
 
-/// Ingests the packets of a dump that came by a link and was received at a moment, in milliseconds since 1970. At the first batch that is refused
-/// it stops.
+/// Ingests the packets of a dump that came by a link and was received at a moment, in milliseconds since 1970, into the tables of a route. At the first
+/// batch that is refused it stops.
 pub(crate) fn ingest_dump<D: Disk>(
     alloc: Global,
     store: &mut Store<D>,
+    graph: &Graph,
     dump: &Octets,
     link: u16,
     moment: i64,
@@ -51,9 +60,12 @@ pub(crate) fn ingest_dump<D: Disk>(
     requires short { length dump.now ≤ 268435456 }
     requires link { (1 ≤ link) × (link ≤ 255) }
     requires moment { IsClockTime moment }
-    requires no_fault { store.old.fills ≡ [] }
-    ensures whole { IfOk result (IsIngested store.old store.new dump.now link moment) }
-    ensures stopped { IfErr result (IsStoppedAt store.old store.new dump.now link moment) }
+    requires route { IsRouteOver store.old.head graph.now }
+    requires no_fault { faults_in store.old.fills ≡ [] }
+    ensures whole { IfOk result (IsIngested store.old store.new dump.now
+        (receiving store.old.head graph.now link moment)) }
+    ensures stopped { IfErr result (IsStoppedAt store.old store.new dump.now
+        (receiving store.old.head graph.now link moment)) }
     ensures disk_writes { ExactlyOne (result_err result) (D.device.failed_writes store.old.disk)
         (D.device.failed_writes store.new.disk) }
 {
@@ -61,10 +73,12 @@ pub(crate) fn ingest_dump<D: Disk>(
     let mut extractor = Extractor::new(alloc)?;
     let mut packets = 0;
     let mut idle = 0;
+    let mut routed = 0;
     'batches: loop {
         let taken = next_batch(
             alloc,
             store.head(),
+            graph,
             dump,
             &mut places,
             &mut extractor,
@@ -75,13 +89,15 @@ pub(crate) fn ingest_dump<D: Disk>(
             return Ok(DumpSummary {
                 packets,
                 idle,
+                routed,
                 at: places.at(),
                 why: places.why(),
             });
         }
         packets += taken.packets;
         idle += taken.packets - taken.batch.arrivals.as_slice().len() as u64;
-        store.ingest(alloc, &taken.batch)?;
+        let ingested = store.ingest(alloc, &taken.batch)?;
+        routed += ingested.outcomes.as_slice().len() as u64;
     }
 }
 
@@ -89,6 +105,7 @@ pub(crate) fn ingest_dump<D: Disk>(
 fn next_batch(
     alloc: Global,
     head: &Head,
+    graph: &Graph,
     dump: &Octets,
     places: &mut DumpPackets<'_>,
     extractor: &mut Extractor,
@@ -98,12 +115,13 @@ fn next_batch(
     requires dump { places.old.dump ≡ dump.now }
     requires link { (1 ≤ link) × (link ≤ 255) }
     requires moment { IsClockTime moment }
+    requires head { IsArchiveEntry (entries.Head head.now.tables head.now.mdb) }
+    requires route { IsRouteOver head.now graph.now }
     ensures dump { places.new.dump ≡ places.old.dump }
-    ensures taken { IfOk result (IsNextBatch dump.now places.old.at places.new.at head.now link moment) }
+    ensures taken { IfOk result (IsNextBatch dump.now places.old.at places.new.at
+        (receiving head.now graph.now link moment)) }
     ensures last { IfOk result (λ taken. taken.packets < 64 → BeginsWithNoPacket (drop places.new.at dump.now)) }
 {
-    // This tells the proof that the database keeps the rules.
-    head.mdb.is_sound();
     let mut taken = NextBatch {
         batch: Batch {
             rectime: moment,
@@ -116,17 +134,18 @@ fn next_batch(
             return Ok(taken);
         };
         let packet = dump.part(part.start, part.end)?;
-        taken.add(alloc, head, extractor, packet, link)?;
+        taken.add(alloc, head, graph, extractor, packet, link)?;
     }
     Ok(taken)
 }
 
 impl NextBatch {
-    /// Adds a packet of a link.
+    /// Adds a packet of a link, and the tables of a route that it goes into.
     fn add(
         &mut self,
         alloc: Global,
         head: &Head,
+        graph: &Graph,
         extractor: &mut Extractor,
         packet: Octets,
         link: u16,
@@ -135,43 +154,46 @@ impl NextBatch {
         requires few { self.old.packets < 64 }
         ensures packets { OnOk result (self.new.packets ≡ self.old.packets + 1) }
         ensures received { self.new.batch.rectime ≡ self.old.batch.rectime }
-        ensures arrivals { OnOk result (self.new.batch.arrivals ≡ arrivals_with head.now link self.old.batch.arrivals
-            packet) }
+        ensures arrivals { OnOk result (self.new.batch.arrivals ≡ arrivals_with
+            (receiving head.now graph.now link self.old.batch.rectime) self.old.batch.arrivals packet) }
     {
         self.packets += 1;
         if is_idle_packet(packet.as_slice()) {
             return Ok(());
         }
-        let arrival = arrival_of(alloc, head, extractor, packet, link)?;
+        let moment = self.batch.rectime;
+        let arrival = arrival_of(alloc, head, graph, extractor, packet, link, moment)?;
         self.batch.arrivals.push(arrival)
     }
 }
 
-/// A packet of a link, and the table that it goes into.
+/// A packet of a link that is received at a moment, and the tables of a route that it goes into.
 fn arrival_of(
     alloc: Global,
     head: &Head,
+    graph: &Graph,
     extractor: &mut Extractor,
     packet: Octets,
     link: u16,
+    moment: i64,
 ) -> Result<Arrival, AllocError>
-    ensures { IfOk result (λ arrival. arrival ≡ arrival_from head.now link packet) }
+    requires { IsPacket packet }
+    ensures { IfOk result (λ arrival. arrival ≡ arrival_from (receiving head.now graph.now link moment) packet) }
 {
+    let pname = extractor.packet_name(&head.mdb, packet.as_slice());
+    let row = Row {
+        key: key_of(packet.as_slice(), moment),
+        rectime: moment,
+        packet,
+        link,
+        pname,
+        table: 0,
+    };
+    let tables = graph.route(alloc, &row)?;
     Ok(Arrival {
         link,
-        pname: extractor.packet_name(&head.mdb, packet.as_slice()),
-        packet,
-        tables: first_table(alloc, head)?,
+        pname,
+        packet: row.packet,
+        tables,
     })
-}
-
-/// The number of the table `tm`, which is the first that an archive has.
-fn first_table(alloc: Global, head: &Head) -> Result<TableList, AllocError>
-    ensures { IfOk result (λ tables. tables ≡ first_table head.now.tables) }
-{
-    let mut tables = TableList::new(alloc);
-    if !head.tables.as_slice().is_empty() {
-        tables.push(0)?;
-    }
-    Ok(tables)
 }

@@ -1,6 +1,6 @@
 //! The packets of a dump that came by one link, ingested into an open store.
 //!
-//! Stands for: a session (`IsSession`): which rows the packets of a dump are (`rows_of_link`), up to which place they were ingested, in batches of 64
+//! Stands for: a session (`IsSession`): which rows the packets of a dump are by a route (`rows_received`), up to which place they were ingested, in batches of 64
 //! packets of which idle ones are left out, which history that reached, and why it ended there; and what it leaves of the store (`HasReached`), where a
 //! write that failed was taken back. Called by the command `load`. A session of several links has for each link a result of this kind, with a refusal of its
 //! own.
@@ -10,6 +10,7 @@
 #![tactic(auto)]
 
 mod batches;
+pub mod laws;
 mod session;
 
 pub use batches::DumpSummary;

@@ -1,6 +1,6 @@
 -- How `create` ends.
-use Rattle.std.proofs.Common.{◌≡◌, ◌⊎◌, ◌≤◌, inl, inr, ℕ, List, [], ◌∷◌, ◌++◌, Option, Some, None, refl, ◌∙◌, ap, subst, ◌<◌, ◌+◌, ◌^◌, arith}
-use Rattle.std.specs.Prelude.{option_map, Ok, Err}
+use Rattle.std.proofs.Common.{◌≡◌, ◌⊎◌, ◌≤◌, inl, inr, ℕ, List, [], ◌∷◌, ◌++◌, Option, Some, None, refl, ◌∙◌, ap, subst, append_assoc, ◌<◌, ◌+◌, ◌^◌, arith}
+use Rattle.std.specs.Prelude.{option_map, Result, Ok, Err}
 use mathlib.Core.List.{IsPrefix}
 use Rattle.arch_disk.specs.Image.{Image}
 use Rattle.arch_disk.specs.Disk.{Device, LeavesOnly, raised}
@@ -24,9 +24,11 @@ use Rattle.archive_store.specs.Entries.{archive}
 use Rattle.archive_store.specs.StoreView.{StoreView, IsNow, CrashInvariant}
 use Rattle.archive_store.specs.Stands.{StandsFor}
 use Rattle.archive_cli.specs.ReadOnly.{IsReadAsBefore}
+use Rattle.archive_cli.specs.create_command.Create.{IsHeadAnswer, IsTablesAnswer}
 use Rattle.archive_cli.specs.create_command.Creation.{IsMade}
 use Rattle.retrieval.specs.Parameter.{broken_rule, passed_limit, refusal_of_sheets, sheets_refusal}
 use Rattle.archive_cli.specs.Durable.{FailedAtMostOnce}
+use Rattle.archive_cli.specs.Scripts.{OrNoMemory}
 
 -- ---- the sheets
 
@@ -47,6 +49,28 @@ unfolding sheets_refusal
 sheets_bad raw (faulted.Bad sheet row rule) h = inl (ap (by_broken raw) h)
 sheets_bad raw (faulted.Limit which number) h = inl (ap (by_broken raw) h.0 ∙ ap by_passed h.1)
 sheets_bad raw faulted.OutOfMemory h = inr refl
+
+-- ---- the head
+
+-- the sheets are refused,
+pub sheets_refused : (raw : RawMdb) (text : List ℕ) (fault : MdbFault) → IsCheckResult raw (Err fault) → OrNoMemory (IsHeadAnswer raw text) (Err (refusal_of_sheets fault))
+sheets_refused raw text fault h = elim (sheets_bad raw fault h) [ inl is ↦ inr (inl is) | inr memory ↦ inl memory ]
+
+-- or the script is,
+pub tables_refused : (raw : RawMdb) (text : List ℕ) (db : Database) → IsCheckResult raw (Ok db) → (refusal : Refusal) → OrNoMemory (IsTablesAnswer text) (Err refusal) →
+    OrNoMemory (IsHeadAnswer raw text) (Err refusal)
+tables_refused raw text db h refusal (inl memory) = inl memory
+tables_refused raw text db h refusal (inr is) = inr (inr ((sheets_good raw db h).0, is))
+
+-- or they give a head
+pub head_given : (raw : RawMdb) (text : List ℕ) (db : Database) → IsCheckResult raw (Ok db) → (tables : List (List ℕ)) → IsTablesAnswer text (Ok tables) →
+    IsHeadAnswer raw text (Ok (record { tables = tables; mdb = db }))
+head_given raw text db h tables is = let good = sheets_good raw db h in (good.0, is, good.1)
+
+-- the four pieces of its line, put one behind the other
+pub four_put : (first second third last a b c d e f g : List ℕ) → first ≡ a ++ b → second ≡ first ++ c ++ d → third ≡ second ++ e ++ f → last ≡ third ++ g →
+    last ≡ a ++ b ++ c ++ d ++ e ++ f ++ g
+four_put first second third last a b c d e f g one two three four = rw (four, three, two, one) (simp append_assoc refl)
 
 -- ---- the endings
 

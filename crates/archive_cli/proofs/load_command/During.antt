@@ -1,24 +1,19 @@
 -- The disk during a load, and after it.
-use Rattle.std.proofs.Common.{◌≡◌, ◌⊎◌, inl, inr, ℕ, ◌+◌, ◌≤◌, Bool, true, false, List, [], ◌∷◌, ◌++◌, length, map, Some, None, ap, subst, ◌∙◌, arith, length-append}
+use Rattle.std.proofs.Common.{◌≡◌, ◌⊎◌, inl, inr, ℕ, ◌+◌, ◌≤◌, Bool, true, false, List, [], ◌∷◌, ◌++◌, length, Option, ap, subst, ◌∙◌, arith}
 use Rattle.std.specs.Prelude.{Contains, IsTrue}
-use Rattle.std.proofs.lemmas.List.{length-map}
 use mathlib.Core.List.{IsPrefix}
 use Rattle.arch_disk.specs.Image.{Image}
 use Rattle.arch_disk.specs.Disk.{Device, LeavesOnly}
 use Rattle.arch_disk.proofs.Moments.{weakens}
 use Rattle.arch_types.specs.declared.row.Row.{Row}
 use Rattle.history_items.specs.declared.fills.Addition.TheVariants.{Rows}
-use Rattle.history_items.specs.declared.fills.Fill.{Fill}
 use Rattle.history_items.specs.declared.fills.Fill.TheVariants.{Fault}
 use Rattle.history_items.specs.Fills.{rows_of_faults, unacknowledged_rows}
+use Rattle.store_fills.specs.Faults.{faults_in}
+use Rattle.store_fills.proofs.Faults.{unacknowledged_rows-in}
 use Rattle.history_items.specs.Items.{Item, items_of}
 use Rattle.archive_store.specs.declared.head.Head.{Head}
-use Rattle.disk_journal.specs.Format.{HasRecords}
-use Rattle.disk_journal.proofs.Once.{records_once}
-use Rattle.field_codec.specs.declared.entry.Entry.{Entry}
-use Rattle.field_codec.specs.declared.entry.Entry.TheVariants as kinds
-use Rattle.field_codec.specs.Spelling.{entry_octets}
-use Rattle.archive_store.specs.Entries.{Archive, archive, Replays}
+use Rattle.archive_store.specs.Entries.{Archive, archive}
 use Rattle.archive_store.specs.StoreView.{StoreView, archive_of, IsNow, IsSince, CrashInvariant}
 use Rattle.archive_store.specs.Stands.{StandsFor}
 use Rattle.archive_store.proofs.Exact.{stands_once}
@@ -32,41 +27,10 @@ pub record IsOpened {D : Type 0} (device : Device D) (disk : D) (store : StoreVi
   pub reads : device.reads store.disk ≡ device.reads disk
   pub opening : device.reads store.opened ≡ device.reads disk
   pub before : LeavesOnly device disk store.opened (device.images disk)
-  pub few : store.records ≤ 1 + length store.history
-
--- ---- heads
-
--- each entry after the head has a row
-replays_few : (entries : List Entry) (first last : Archive) → Replays (Some first) entries (Some last) → length entries + length first.history ≤ length last.history
-replays_few [] first last m =
-    let same : last.history ≡ first.history = cc in
-    omega (arith, ap length same)
-replays_few (kinds.Head tables mdb ∷ entries) first last m = absurd m.1
-replays_few (kinds.Rows rows ∷ entries) first last m =
-    let some = m.1.0.spelled.some in
-    let longer = ap (λ (a : Archive). length a.history) m.1.1 ∙ length-append first.history (items_of rows) in
-    omega (arith, some, longer, replays_few entries m.0 last m.2)
-
-entries_few : (entries : List Entry) (a : Archive) → Replays None entries (Some a) → length entries ≤ 1 + length a.history
-entries_few [] a m = absurd cc
-entries_few (kinds.Rows rows ∷ entries) a m = absurd m.1
-entries_few (kinds.Head tables mdb ∷ entries) a m = omega (arith, replays_few entries m.0 a m.2)
-
--- the journal of an archive has one record for the head, and each other one has a row
-pub records_few : (image : Image) (a : Archive) (bodies : List (List ℕ)) → StandsFor image a → HasRecords (image 0) bodies → length bodies ≤ 1 + length a.history
-records_few image a bodies s h =
-    omega (arith, ap length (records_once (image 0) bodies (map entry_octets s.entries) h s.has), length-map s.entries entry_octets, entries_few s.entries a s.replays)
 
 pub opened_store : {D : Type 0} (device : Device D) (disk : D) (s : StoreView D) → StandsFor (device.reads disk) (archive_of s) → device.reads s.disk ≡ device.reads disk →
-    device.reads s.opened ≡ device.reads disk → LeavesOnly device disk s.opened (device.images disk) → (bodies : List (List ℕ)) → HasRecords (device.reads disk 0) bodies →
-    s.records ≡ length bodies → IsOpened device disk s
-opened_store device disk s stands same opening handed_in bodies has count = record {
-  stands = stands;
-  reads = same;
-  opening = opening;
-  before = handed_in;
-  few = omega (arith, count, records_few (device.reads disk) (archive_of s) bodies stands has);
-}
+    device.reads s.opened ≡ device.reads disk → LeavesOnly device disk s.opened (device.images disk) → IsOpened device disk s
+opened_store device disk s stands same opening handed_in = record { stands = stands; reads = same; opening = opening; before = handed_in }
 
 -- ---- images
 
@@ -103,22 +67,22 @@ module _ {D : Type 0} (device : Device D) (disk : D) (old new : StoreView D) (op
       }
 
 -- a crash now leaves the history of a store without faults
-pub durable : {D : Type 0} (device : Device D) (store : StoreView D) → IsTrue device.is_transparent → CrashInvariant device store → store.fills ≡ [] → IsDurableAs device store.disk store.head store.history
+pub durable : {D : Type 0} (device : Device D) (store : StoreView D) → IsTrue device.is_transparent → CrashInvariant device store → faults_in store.fills ≡ [] → IsDurableAs device store.disk store.head store.history
 durable device store is_transparent keeps none =
     let now : (c : Image) → device.images store.disk c → StandsFor c (archive store.head store.history) =
-    subst (λ (fills : List Fill). (c : Image) → device.images store.disk c → IsNow store.head store.history (unacknowledged_rows fills) c) none keeps.now in
+    subst (λ (o : Option (List Item)). (c : Image) → device.images store.disk c → IsNow store.head store.history o c) (unacknowledged_rows-in store.fills ∙ ap unacknowledged_rows none) keeps.now in
     record { reads = now (device.reads store.disk) (device.reads_as_image store.disk is_transparent); now = now }
 
 -- and after a fault whose write stands it may also leave the rows that the fault holds
-pub left : {D : Type 0} (device : Device D) (store : StoreView D) (count : ℕ) (wrote : Bool) (rows : List Row) → CrashInvariant device store → store.fills ≡ Fault count wrote (Rows rows) ∷ [] → (c : Image) → device.images store.disk c
+pub left : {D : Type 0} (device : Device D) (store : StoreView D) (count : ℕ) (wrote : Bool) (rows : List Row) → CrashInvariant device store → faults_in store.fills ≡ Fault count wrote (Rows rows) ∷ [] → (c : Image) → device.images store.disk c
     → StandsFor c (archive store.head store.history) ⊎ StandsFor c (archive store.head (store.history ++ items_of rows))
-left device store count true rows keeps one c leaves = subst (λ (fills : List Fill). IsNow store.head store.history (unacknowledged_rows fills) c) one (keeps.now c leaves)
-left device store count false rows keeps one c leaves = inl (subst (λ (fills : List Fill). IsNow store.head store.history (unacknowledged_rows fills) c) one (keeps.now c leaves))
+left device store count true rows keeps one c leaves = subst (λ (o : Option (List Item)). IsNow store.head store.history o c) (unacknowledged_rows-in store.fills ∙ ap unacknowledged_rows one) (keeps.now c leaves)
+left device store count false rows keeps one c leaves = inl (subst (λ (o : Option (List Item)). IsNow store.head store.history o c) (unacknowledged_rows-in store.fills ∙ ap unacknowledged_rows one) (keeps.now c leaves))
 
 -- but not after one whose write was healed
-pub durable_again : {D : Type 0} (device : Device D) (store : StoreView D) (count : ℕ) (rows : List Row) → IsTrue device.is_transparent → CrashInvariant device store → store.fills ≡ Fault count false (Rows rows) ∷ []
+pub durable_again : {D : Type 0} (device : Device D) (store : StoreView D) (count : ℕ) (rows : List Row) → IsTrue device.is_transparent → CrashInvariant device store → faults_in store.fills ≡ Fault count false (Rows rows) ∷ []
     → IsDurableAs device store.disk store.head store.history
 durable_again device store count rows is_transparent keeps one =
     let now : (c : Image) → device.images store.disk c → StandsFor c (archive store.head store.history) =
-    subst (λ (fills : List Fill). (c : Image) → device.images store.disk c → IsNow store.head store.history (unacknowledged_rows fills) c) one keeps.now in
+    subst (λ (o : Option (List Item)). (c : Image) → device.images store.disk c → IsNow store.head store.history o c) (unacknowledged_rows-in store.fills ∙ ap unacknowledged_rows one) keeps.now in
     record { reads = now (device.reads store.disk) (device.reads_as_image store.disk is_transparent); now = now }

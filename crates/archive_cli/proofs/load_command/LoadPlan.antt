@@ -1,6 +1,6 @@
 -- How the plan of `load` goes.
 use Rattle.std.proofs.Common.{◌≡◌, ◌≤◌, ◌<◌, ◌∙◌, inl, inr, ℕ, ℤ, Bool, true, false, List, [], ◌∷◌, length, Option, Some, None, refl, sym, ap, subst, arith}
-use Rattle.std.specs.Prelude.{Err, IfSome, IsSome, IsSomeAnd, IsTrue, Result}
+use Rattle.std.specs.Prelude.{Err, IfSome, IsSome, IsSomeAnd, IsTrue, Result, Ok}
 use Rattle.std.specs.FinMap.{get}
 use Rattle.arch_disk.specs.Disk.{Device, LeavesOnly}
 use Rattle.arch_types.specs.declared.ask.Ask.{Ask}
@@ -28,13 +28,17 @@ use Rattle.archive_cli.specs.Asks.{asks_check_plan}
 use Rattle.archive_cli.specs.Moment.{IsMomentOf}
 use Rattle.archive_cli.specs.Command.{Progress, EndedAt, HasDiskOutcome, Opened, Effects, ArchiveFound, Ran, RanOver, archive_opened, nothing_done, opening_plan}
 use Rattle.archive_cli.specs.DumpRest.{ending_of_rest}
-use Rattle.archive_cli.specs.load_command.Load.{after_dump, after_dump_found, after_link, after_packets, after_session, archive_load_plan, dump_too_long, load_plan, loading_plan, reading_plan, session_plan}
-use Rattle.archive_cli.specs.load_command.Loading.{IsDumpRefusal, IsNotReceived, IsOpeningFault, IsReady, IsUnready}
+use Rattle.archive_cli.specs.load_command.Load.{after_dump, after_dump_found, after_link, after_packets, after_route, after_session, archive_load_plan, dump_too_long, load_plan, loading_plan, reading_plan, route_plan, routed_load_plan, session_plan}
+use Rattle.archive_cli.specs.load_command.Loading.{IsDumpRefusal, IsNotReceived, IsOpeningFault, IsReady, IsRecordCount, IsRouteAnswer, IsUnready, link_refusal}
 use Rattle.archive_cli.specs.ReadDump.{dump_limit}
 use Rattle.archive_cli.specs.Report.{read_only, unopened}
+use Rattle.archive_cli.specs.Scripts.{OrNoMemory}
+use Rattle.load_session.specs.Receiving.{Receiving, receiving}
 use Rattle.load_session.specs.Session.{SessionResult}
+use Rattle.stream_graph.specs.declared.statement.RouteStatement.{RouteStatement}
 use Rattle.archive_cli.proofs.AskSheets.{asked_determined, check_determined, check_refused, checked}
 use Rattle.archive_cli.proofs.Commands.{no_text, ran_unopened, unopened_after}
+use Rattle.archive_cli.proofs.load_command.RoutePlan.{route_determined, route_read_determined}
 use Rattle.archive_cli.proofs.load_command.NotLoaded.{OnlyMissing, gives_long, gone, still_there}
 use Rattle.archive_cli.proofs.OverInputs.{HasRead}
 use Rattle.archive_cli.proofs.Openings.{opens_determined}
@@ -55,22 +59,22 @@ closed_again a m b first next gave closed reliable failed counted = record {
 -- ---- the ends of a session
 
 -- one source was given, and no call of the inputs failed
-pub session_after : (known : Type 0) (archive : Archive) (asks : List Ask) (dump : List ℕ) (link : ℕ) (moment : ℤ) → EachEnd (HasRead 1) (session_plan known archive asks dump link moment)
-session_after known archive asks dump link moment = λ s h. each s s.refusal
+pub session_after : (Began : ℕ → Type 0) (archive : Archive) (r : Receiving) (asks : List Ask) (dump : List ℕ) → EachEnd (HasRead 1) (session_plan Began archive r asks dump)
+session_after Began archive r asks dump = λ s h. each s s.refusal
   where
-    whole : (asks : List Ask) (s : SessionResult) (rest : Option Refusal) → EachEnd (HasRead 1) (after_packets archive asks link s rest)
+    whole : (asks : List Ask) (s : SessionResult) (rest : Option Refusal) → EachEnd (HasRead 1) (after_packets archive r asks s rest)
     whole [] s None = ((refl, refl), (refl, refl))
     whole (ask ∷ asks) s None = ((refl, refl), ((refl, refl), (refl, refl)))
     whole asks s (Some refusal) = (refl, refl)
 
-    each : (s : SessionResult) (refusal : Option Refusal) → EachEnd (HasRead 1) (after_session archive asks dump link moment s refusal)
+    each : (s : SessionResult) (refusal : Option Refusal) → EachEnd (HasRead 1) (after_session archive r asks dump s refusal)
     each s None = whole asks s (ending_of_rest dump s.rest)
     each s (Some refused.DiskFault) = (refl, refl)
     each s (Some other) = (refl, refl)
 
-module _ {D : Type 0} (device : Device D) (e : Effects D) (files : Option Files) (next : Option ℤ) (words : LoadWords) (sheet : Result (List Ask) Refusal) (a b : InputsState) where
+module _ {D : Type 0} (device : Device D) (e : Effects D) (files : Option Files) (next : Option ℤ) (words : LoadWords) (text : Option (List ℕ)) (sheet : Result (List Ask) Refusal) (a b : InputsState) where
   abbrev plan : CommandPlan Progress ⊥
-  plan = archive_load_plan device e.disk files next words sheet
+  plan = archive_load_plan device e.disk files next words text sheet
 
   -- ---- before the dump was opened
 
@@ -123,27 +127,35 @@ module _ {D : Type 0} (device : Device D) (e : Effects D) (files : Option Files)
   abbrev known : Type 0
   known = IsTrue device.is_transparent
 
+  abbrev Began : ℕ → Type 0
+  Began = IsRecordCount device e.disk
+
   module _ (there : IsThere files words.dump) where
     -- no archive was opened
     pub load_unarchived : (refusal : Refusal) → IsStoreOpenRefusal device e.disk e.disk' refusal → device.reads e.disk' ≡ device.reads e.disk → LeavesOnly device e.disk e.disk' (device.images e.disk)
         → CountsNeverFall device e.disk e.disk' → e.report ≡ unopened (Some refusal) → e.output' ≡ e.output → UsedInputs a b 1 false → RanOver device plan e a b
     load_unarchived refusal cause reads images counts report silent used =
-        let f = loading_plan known files next words sheet in
+        let f = loading_plan Began files next words text sheet in
         let went = ran_unopened device e f 1 refusal cause reads images counts report silent in
         let each = unopened_after device e f 1 refusal cause reads images counts report silent in
         record { ran = record { way = went.way; allows = inr (true, there, inr went.allows); did = went.did }; inputs = rw (each.0, each.1) used }
 
     module _ (archive : Archive) (stands : known → StandsFor (device.reads e.disk) archive) where
       -- an archive was
-      goes_on : (way : Way Progress ⊥) → Allows (loading_plan known files next words sheet archive) way → Allows plan way
-      goes_on way goes = inr (true, there, inr (gave (opening_plan 1 device e.disk) (loading_plan known files next words sheet) archive way (inr (inr (ArchiveFound archive, stands, refl))) goes))
+      goes_on : (way : Way Progress ⊥) → Allows (loading_plan Began files next words text sheet archive) way → Allows plan way
+      goes_on way goes = inr (true, there, inr (gave (opening_plan 1 device e.disk) (loading_plan Began files next words text sheet) archive way (inr (inr (ArchiveFound archive, stands, refl))) goes))
 
       -- the asks of a sheet that the archive can answer are checked, and the dump is read
-      reads_on : (asks : List Ask) → IsReady archive.head sheet words.link asks → (way : Way Progress ⊥) → Allows (reading_plan known files next words archive asks) way
-          → Allows (loading_plan known files next words sheet archive) way
-      reads_on asks ready way goes =
+      routes_on : (route : List RouteStatement) → link_refusal words.link ≡ None → IsRouteAnswer archive.head text (Ok route) → (way : Way Progress ⊥)
+          → Allows (after_route Began files next words sheet archive route) way → Allows (loading_plan Began files next words text sheet archive) way
+      routes_on route near is way goes =
+          (None, sym near, gave (route_plan (archive_opened 1 archive) archive.head text) (after_route Began files next words sheet archive) route way (inr (Ok route, is, refl)) goes)
+
+      reads_on : (route : List RouteStatement) (asks : List Ask) → IsReady archive.head text sheet words.link route asks → (way : Way Progress ⊥)
+          → Allows (reading_plan Began files next words archive route asks) way → Allows (loading_plan Began files next words text sheet archive) way
+      reads_on route asks ready way goes =
           let s = archive_opened 1 archive in
-          (None, sym ready.0, gave (asks_check_plan s archive.head sheet) (reading_plan known files next words archive) asks way (checked s archive.head sheet asks ready.1) goes)
+          routes_on route ready.0 ready.1 way (gave (asks_check_plan s archive.head sheet) (reading_plan Began files next words archive route) asks way (checked s archive.head sheet asks ready.2) goes)
 
       abbrev reports : Refusal → Option ℕ → Type 0
       reports refusal link = e.report ≡ record (read_only (Some refusal) (length archive.history)) { link = link }
@@ -163,13 +175,13 @@ module _ {D : Type 0} (device : Device D) (e : Effects D) (files : Option Files)
             record { report = report; printed = rw silent (no_text e.output.written); output = record { counted = rw (silent, no_output) refl }; disk = rw no_disk disk }
 
         stopped : (link : Option ℕ) (refusal : Refusal) → reports refusal link → Counted false a.faults b.faults
-            → Allows (loading_plan known files next words sheet archive) (Stopped (unloaded link) (Some refusal)) → RanOver device plan e a b
+            → Allows (loading_plan Began files next words text sheet archive) (Stopped (unloaded link) (Some refusal)) → RanOver device plan e a b
         stopped link refusal report counted goes =
             let way : Way Progress ⊥ = Stopped (unloaded link) (Some refusal) in
             record { ran = record { way = way; allows = goes_on way goes; did = left link refusal no_failed_calls refl refl report }; inputs = used false counted }
 
         cut_short : (failed : Bool) → reports (interruption_refusal (reading_fault failed)) None → Counted failed a.faults b.faults
-            → Allows (loading_plan known files next words sheet archive) (Interrupted (archive_opened 1 archive) (reading_fault failed)) → RanOver device plan e a b
+            → Allows (loading_plan Began files next words text sheet archive) (Interrupted (archive_opened 1 archive) (reading_fault failed)) → RanOver device plan e a b
         cut_short true report counted goes =
             let way : Way Progress ⊥ = Interrupted (archive_opened 1 archive) OfInputs in
             record { ran = record { way = way; allows = goes_on way goes; did = left None refused.ReadFault (with_failed_call OfInputs no_failed_calls) refl refl report }; inputs = used true counted }
@@ -177,51 +189,69 @@ module _ {D : Type 0} (device : Device D) (e : Effects D) (files : Option Files)
             let way : Way Progress ⊥ = Interrupted (archive_opened 1 archive) OfMemory in
             record { ran = record { way = way; allows = goes_on way goes; did = left None refused.OutOfMemory (with_failed_call OfMemory no_failed_calls) refl refl report }; inputs = used false counted }
 
-        -- the link was refused, or the sheet of asks
-        load_unready : (refusal : Refusal) → IsUnready archive.head sheet words.link refusal → reports refusal None → Counted false a.faults b.faults → RanOver device plan e a b
-        load_unready refusal (inl far) report counted = stopped None refusal report counted (Some refusal, sym far, refl)
-        load_unready refusal (inr near) report counted =
+        -- the route was refused
+        load_unrouted : (refusal : Refusal) → link_refusal words.link ≡ None → OrNoMemory (IsRouteAnswer archive.head text) (Err refusal) → reports refusal None → Counted false a.faults b.faults
+            → RanOver device plan e a b
+        load_unrouted refusal near (inl memory) report counted =
             let s = archive_opened 1 archive in
-            let f = reading_plan known files next words archive in
-            elim (check_refused s archive.head sheet refusal near.1) [
-              | inl ending ↦ stopped None refusal report counted (None, sym near.0, ended (asks_check_plan s archive.head sheet) f s (Some refusal) ending)
-              | inr memory ↦ cut_short false (subst (λ (r : Refusal). reports r None) memory.0 report) counted (None, sym near.0, cut (asks_check_plan s archive.head sheet) f s OfMemory memory.1)
+            cut_short false (subst (λ (r : Refusal). reports r None) memory report) counted
+            (None, sym near, cut (route_plan s archive.head text) (after_route Began files next words sheet archive) s OfMemory (inl refl))
+        load_unrouted refusal near (inr is) report counted =
+            let s = archive_opened 1 archive in
+            stopped None refusal report counted
+            (None, sym near, ended (route_plan s archive.head text) (after_route Began files next words sheet archive) s (Some refusal) (inr (Err refusal, is, refl)))
+
+        -- the link was, or the route, or the sheet of asks
+        load_unready : (refusal : Refusal) → IsUnready archive.head text sheet words.link refusal → reports refusal None → Counted false a.faults b.faults → RanOver device plan e a b
+        load_unready refusal (inl far) report counted = stopped None refusal report counted (Some refusal, sym far, refl)
+        load_unready refusal (inr (inl near)) report counted = load_unrouted refusal near.0 near.1 report counted
+        load_unready refusal (inr (inr near)) report counted =
+            let s = archive_opened 1 archive in
+            let route = near.1.0 in
+            let f = reading_plan Began files next words archive route in
+            elim (check_refused s archive.head sheet refusal near.1.2) [
+              | inl ending ↦ stopped None refusal report counted
+                  (routes_on route near.0 near.1.1 (Stopped s (Some refusal)) (ended (asks_check_plan s archive.head sheet) f s (Some refusal) ending))
+              | inr memory ↦ cut_short false (subst (λ (r : Refusal). reports r None) memory.0 report) counted
+                  (routes_on route near.0 near.1.1 (Interrupted s OfMemory) (cut (asks_check_plan s archive.head sheet) f s OfMemory memory.1))
             ]
 
         -- the dump wasn't read
-        load_unread : (left : Option (List ℕ)) (refusal : Refusal) (link : Option ℕ) (asks : List Ask) → IsLeftAtFirst files words.dump left → IsReady archive.head sheet words.link asks
+        load_unread : (left : Option (List ℕ)) (refusal : Refusal) (link : Option ℕ) (route : List RouteStatement) (asks : List Ask) → IsLeftAtFirst files words.dump left → IsReady archive.head text sheet words.link route asks
             → IsDumpRefusal left words.link refusal link → ReadsCounted (Some refusal) a.faults b.faults → reports refusal link → RanOver device plan e a b
-        load_unread left (refused.Limit DumpOctets most) link asks gives ready u counted report =
+        load_unread left (refused.Limit DumpOctets most) link route asks gives ready u counted report =
             let limit = refused.Limit DumpOctets dump_limit in
             let is : refused.Limit DumpOctets most ≡ limit = ap (λ (n : ℕ). refused.Limit DumpOctets n) u.0 in
             let long = subst (λ (n : ℕ). IfSome files (λ all. IsSomeAnd (get all words.dump) (λ octets. n < length octets))) u.0 (gives_long files words.dump left most gives u.2) in
             stopped (Some words.link) limit (named limit link (Some words.link) u.1 (subst (λ (r : Refusal). reports r link) is report)) counted
-            (reads_on asks ready (Stopped (dump_too_long words.link archive) (Some limit)) (inr (inr (OverLimit, long, refl))))
-        load_unread left refused.ReadFault link asks gives ready u counted report =
+            (reads_on route asks ready (Stopped (dump_too_long words.link archive) (Some limit)) (inr (inr (OverLimit, long, refl))))
+        load_unread left refused.ReadFault link route asks gives ready u counted report =
             cut_short true (named refused.ReadFault link None u report) (risen_counted a.faults b.faults later counted)
-            (reads_on asks ready (Interrupted (archive_opened 1 archive) OfInputs) (inr (inl refl)))
-        load_unread left refused.OutOfMemory link asks gives ready u counted report =
-            cut_short false (named refused.OutOfMemory link None u report) counted (reads_on asks ready (Interrupted (archive_opened 1 archive) OfMemory) (inl refl))
-        load_unread left other link asks gives ready u counted report = absurd u
+            (reads_on route asks ready (Interrupted (archive_opened 1 archive) OfInputs) (inr (inl refl)))
+        load_unread left refused.OutOfMemory link route asks gives ready u counted report =
+            cut_short false (named refused.OutOfMemory link None u report) counted (reads_on route asks ready (Interrupted (archive_opened 1 archive) OfMemory) (inl refl))
+        load_unread left other link route asks gives ready u counted report = absurd u
 
         -- nothing was ingested
         pub load_not_received : (left : Option (List ℕ)) (faults faults' : ℕ) (refusal : Refusal) (link : Option ℕ) → IsLeftAtFirst files words.dump left
-            → IsNotReceived archive.head sheet words.link left faults faults' refusal link → ((ending : Option Refusal) → ReadsCounted ending faults faults' → ReadsCounted ending a.faults b.faults)
+            → IsNotReceived archive.head text sheet words.link left faults faults' refusal link → ((ending : Option Refusal) → ReadsCounted ending faults faults' → ReadsCounted ending a.faults b.faults)
             → reports refusal link → RanOver device plan e a b
         load_not_received left faults faults' refusal link gives (inl unready) counts report =
             load_unready refusal unready.0 (named refusal link None unready.1 report) (counts None unready.2)
         load_not_received left faults faults' refusal link gives (inr unread) counts report =
-            load_unread left refusal link unread.0 gives unread.1 unread.2 (counts (Some refusal) unread.3) report
+            load_unread left refusal link unread.0 unread.1 gives unread.2 unread.3 (counts (Some refusal) unread.4) report
 
       -- the packets of the dump were ingested, so far
-      pub load_received : (dump : List ℕ) (moment : ℤ) (asks : List Ask) → IsReady archive.head sheet words.link asks → IsInput files words.dump dump → length dump ≤ dump_limit → IsMomentOf next moment
-          → UsedInputs a b 1 false → Ran device (session_plan known archive asks dump words.link moment) e → RanOver device plan e a b
-      load_received dump moment asks ready input short clock used went =
-          let each = end_of (HasRead 1) (session_plan known archive asks dump words.link moment) went.way (session_after known archive asks dump words.link moment) went.allows in
+      pub load_received : (dump : List ℕ) (moment : ℤ) (route : List RouteStatement) (asks : List Ask) → IsReady archive.head text sheet words.link route asks → IsInput files words.dump dump
+          → length dump ≤ dump_limit → IsMomentOf next moment → UsedInputs a b 1 false
+          → Ran device (session_plan Began archive (receiving archive.head route words.link moment) asks dump) e → RanOver device plan e a b
+      load_received dump moment route asks ready input short clock used went =
+          let r : Receiving = receiving archive.head route words.link moment in
+          let each = end_of (HasRead 1) (session_plan Began archive r asks dump) went.way (session_after Began archive r asks dump) went.allows in
           record {
             ran = record {
               way = went.way;
-              allows = goes_on went.way (reads_on asks ready went.way (inr (inr (WithinLimit dump, (dump, input, short, refl), (moment, clock, went.allows)))));
+              allows = goes_on went.way (reads_on route asks ready went.way (inr (inr (WithinLimit dump, (dump, input, short, refl), (moment, clock, went.allows)))));
               did = went.did;
             };
             inputs = rw (each.0, each.1) used;
@@ -229,40 +259,50 @@ module _ {D : Type 0} (device : Device D) (e : Effects D) (files : Option Files)
 
 -- ---- which answer is due
 
-session_determined : (is : Type 0) (archive : Archive) (asks : List Ask) (dump : List ℕ) (link : ℕ) (moment : ℤ) → IsDetermined (session_plan is archive asks dump link moment)
-session_determined is archive asks dump link moment = λ s h. each s s.refusal
+session_determined : (is : ℕ → Type 0) (archive : Archive) (r : Receiving) (asks : List Ask) (dump : List ℕ) → IsDetermined (session_plan is archive r asks dump)
+session_determined is archive r asks dump = λ s h. each s s.refusal
   where
-    whole : (asks : List Ask) (s : SessionResult) (rest : Option Refusal) → IsDetermined (after_packets archive asks link s rest)
+    whole : (asks : List Ask) (s : SessionResult) (rest : Option Refusal) → IsDetermined (after_packets archive r asks s rest)
     whole [] s None = tt
     whole (ask ∷ asks) s None = tt
     whole asks s (Some refusal) = tt
 
-    each : (s : SessionResult) (refusal : Option Refusal) → IsDetermined (after_session archive asks dump link moment s refusal)
+    each : (s : SessionResult) (refusal : Option Refusal) → IsDetermined (after_session archive r asks dump s refusal)
     each s None = whole asks s (ending_of_rest dump s.rest)
     each s (Some refused.DiskFault) = tt
     each s (Some other) = tt
 
-module _ (known : Type 0) (all : Files) (next : Option ℤ) (words : LoadWords) where
-  dump_determined : (archive : Archive) (asks : List Ask) (read : InputRead (List ℕ)) → IsDetermined (after_dump known next words.link archive asks read)
-  dump_determined archive asks OverLimit = tt
-  dump_determined archive asks (WithinLimit dump) = λ moment h. session_determined known archive asks dump words.link moment
+module _ (Began : ℕ → Type 0) (all : Files) (next : Option ℤ) (words : LoadWords) where
+  dump_determined : (archive : Archive) (route : List RouteStatement) (asks : List Ask) (read : InputRead (List ℕ)) → IsDetermined (after_dump Began next words.link archive route asks read)
+  dump_determined archive route asks OverLimit = tt
+  dump_determined archive route asks (WithinLimit dump) = λ moment h. session_determined Began archive (receiving archive.head route words.link moment) asks dump
 
-  loading_determined : IsThere (Some all) words.dump → (sheet : Result (List Ask) Refusal) (archive : Archive) → IsDetermined (loading_plan known (Some all) next words sheet archive)
-  loading_determined there sheet archive = (λ a b h k. h ∙ sym k, λ found h. each found)
+  routed_determined : IsThere (Some all) words.dump → (sheet : Result (List Ask) Refusal) (archive : Archive) (route : List RouteStatement) →
+      IsDetermined (after_route Began (Some all) next words sheet archive route)
+  routed_determined there sheet archive route =
+      determined (asks_check_plan (archive_opened 1 archive) archive.head sheet) (reading_plan Began (Some all) next words archive route) (check_determined (archive_opened 1 archive) archive.head sheet)
+      (λ asks. (((reads_determined DumpOctets (λ octets. octets) all words.dump 0).1 true there).0, λ read h. dump_determined archive route asks read))
+
+  loading_determined : IsThere (Some all) words.dump → (text : Option (List ℕ)) (sheet : Result (List Ask) Refusal) (archive : Archive) →
+      IsDetermined (loading_plan Began (Some all) next words text sheet archive)
+  loading_determined there text sheet archive = (λ a b h k. h ∙ sym k, λ found h. each found)
     where
-      each : (found : Option Refusal) → IsDetermined (after_link known (Some all) next words sheet archive found)
+      each : (found : Option Refusal) → IsDetermined (after_link Began (Some all) next words text sheet archive found)
       each None =
-          determined (asks_check_plan (archive_opened 1 archive) archive.head sheet) (reading_plan known (Some all) next words archive) (check_determined (archive_opened 1 archive) archive.head sheet)
-          (λ asks. (((reads_determined DumpOctets (λ octets. octets) all words.dump 0).1 true there).0, λ read h. dump_determined archive asks read))
+          determined (route_plan (archive_opened 1 archive) archive.head text) (after_route Began (Some all) next words sheet archive) (route_determined (archive_opened 1 archive) archive.head text)
+          (routed_determined there sheet archive)
       each (Some refusal) = tt
 
 pub load_determined : {D : Type 0} (device : Device D) (disk : D) (files : Option Files) (next : Option ℤ) (words : LoadWords) → IsTrue device.is_transparent → IsSome files
     → IsDetermined (load_plan device disk files next words)
 load_determined device disk None next words known some = absurd (cc (some))
 load_determined device disk (Some all) next words known some =
-    asked_determined all words.asks (archive_load_plan device disk (Some all) next words) (λ sheet. ((reads_determined DumpOctets (λ octets. octets) all words.dump 0).0, λ there h. each sheet there h))
+    route_read_determined all words.route (routed_load_plan device disk (Some all) next words)
+    (λ text. asked_determined all words.asks (archive_load_plan device disk (Some all) next words text)
+    (λ sheet. ((reads_determined DumpOctets (λ octets. octets) all words.dump 0).0, λ there h. each text sheet there h)))
   where
-    each : (sheet : Result (List Ask) Refusal) (there : Bool) → IsThereAs (Some all) words.dump there → IsDetermined (after_dump_found device disk (Some all) next words sheet there)
-    each sheet true h = determined (opening_plan 1 device disk) (loading_plan (IsTrue device.is_transparent) (Some all) next words sheet) (opens_determined 1 device disk known)
-        (loading_determined (IsTrue device.is_transparent) all next words h sheet)
-    each sheet false h = tt
+    each : (text : Option (List ℕ)) (sheet : Result (List Ask) Refusal) (there : Bool) → IsThereAs (Some all) words.dump there →
+        IsDetermined (after_dump_found device disk (Some all) next words text sheet there)
+    each text sheet true h = determined (opening_plan 1 device disk) (loading_plan (IsRecordCount device disk) (Some all) next words text sheet) (opens_determined 1 device disk known)
+        (loading_determined (IsRecordCount device disk) all next words h text sheet)
+    each text sheet false h = tt

@@ -1,5 +1,5 @@
 -- How the session of a load went, and what it leaves of the disk.
-use Rattle.std.proofs.Common.{◌≡◌, ◌⊎◌, inl, inr, ℕ, ℤ, ◌<◌, ◌≤◌, Bool, true, false, List, [], ◌∷◌, ◌++◌, length, Some, None, Option, refl, sym, ap, subst, arith}
+use Rattle.std.proofs.Common.{◌≡◌, ◌⊎◌, inl, inr, ℕ, ◌<◌, ◌≤◌, Bool, true, false, List, [], ◌∷◌, ◌++◌, length, Some, None, Option, refl, sym, ap, ◌∙◌, subst, arith}
 use Rattle.std.specs.Prelude.{IsTrue}
 use Rattle.arch_disk.specs.Disk.{Device, raised}
 use Rattle.arch_types.specs.declared.ask.Ask.{Ask}
@@ -9,6 +9,8 @@ use Rattle.arch_types.specs.declared.row.Row.{Row}
 use Rattle.history_items.specs.declared.fills.Addition.TheVariants.{Rows}
 use Rattle.history_items.specs.declared.fills.Fill.TheVariants.{Fault}
 use Rattle.history_items.specs.Fills.{rows_of_faults}
+use Rattle.store_fills.specs.Faults.{faults_in}
+use Rattle.store_fills.proofs.Faults.{rows_of_faults-in}
 use Rattle.history_items.specs.Items.{Item, items_of}
 use Rattle.archive_store.specs.declared.head.Head.{Head}
 use Rattle.archive_store.specs.Entries.{archive}
@@ -16,8 +18,9 @@ use Rattle.archive_store.specs.StoreView.{StoreView, archive_of, FaultInvariant,
 use Rattle.archive_store.specs.Stands.{StandsFor}
 use Rattle.command_plans.specs.Plan.{OfMemory, OfOutput, CommandPlan, Stop, May, Way, Stopped, Interrupted, Allows}
 use Rattle.dump_lines.specs.Output.{WritesCounted}
+use Rattle.load_session.specs.Receiving.{Receiving}
 use Rattle.load_session.specs.Session.{HasReached, HoldsFailedWrite, IsSession, IsSessionEnd, OneOrTwo, SessionResult, next_fresh_rows}
-use Rattle.load_session.proofs.Sessions.{more_faults}
+use Rattle.load_session.proofs.Sessions.{more_faults, session_from}
 use Rattle.outer_traits.specs.States.{OutputState}
 use Rattle.outer_ledgers.specs.Ledger.{UsedDisk}
 use Rattle.outer_ledgers.proofs.Ledgers.{risen_counted}
@@ -27,7 +30,7 @@ use Rattle.archive_cli.specs.Durable.{FailedAtMostOnce, IsDurableAs}
 use Rattle.archive_cli.specs.load_command.Extension.{IsExtended, IsExtensionFailed, batch_left}
 use Rattle.archive_cli.specs.load_command.Load.{after_packets, after_session, answering_asks_plan, extension_failed, history_extended, session_plan}
 use Rattle.archive_cli.specs.load_command.LoadLine.{load_text, whole_report}
-use Rattle.archive_cli.specs.load_command.Loading.{IsLoadRun, IsLoadOutcome}
+use Rattle.archive_cli.specs.load_command.Loading.{IsLoadRun, IsLoadOutcome, IsRecordCount}
 use Rattle.archive_cli.specs.DumpRest.{ending_of_rest}
 use Rattle.archive_cli.specs.Report.{loaded}
 use Rattle.archive_cli.proofs.Commands.{no_text}
@@ -47,23 +50,23 @@ wanting_memory : (asks : List Ask) (s : Progress) (plan : CommandPlan Progress �
 wanting_memory [] s plan some = absurd (omega (arith, some))
 wanting_memory (ask ∷ asks) s plan some = inl refl
 
-module _ {D : Type 0} (device : Device D) (disk : D) (old new : StoreView D) (link : ℕ) (moment : ℤ) (s : SessionResult) (reached : HasReached device old new link moment s)
+module _ {D : Type 0} (device : Device D) (disk : D) (old new : StoreView D) (r : Receiving) (s : SessionResult) (reached : HasReached device old new r s)
     (opened : IsTrue device.is_transparent → IsOpened device disk old) (first : device.fault_count disk ≤ device.fault_count old.opened)
     (keeps : IsTrue device.is_transparent → CrashInvariant device new) (faults : FaultInvariant device new) where
   -- ---- the disk
 
   abbrev rows : List Row
-  rows = next_fresh_rows (archive_of old) link moment s
+  rows = next_fresh_rows r s
 
   -- no call of it failed in a batch
-  extended : new.fills ≡ [] → IsTrue device.is_transparent → IsExtended device disk new.disk (archive_of old) new.history
+  extended : faults_in new.fills ≡ [] → IsTrue device.is_transparent → IsExtended device disk new.disk (archive_of old) new.history
   extended none known = record {
     stands = (opened known).stands;
-    images = load_images device disk old new (opened known) [] (ap rows_of_faults none) reached.head reached.opened (keeps known);
+    images = load_images device disk old new (opened known) [] (rows_of_faults-in new.fills ∙ ap rows_of_faults none) reached.head reached.opened (keeps known);
     durable = subst (λ (h : Head). IsDurableAs device new.disk h new.history) reached.head (durable device new known (keeps known) none);
   }
 
-  pub still : new.fills ≡ [] → device.failed_writes new.disk ≡ device.failed_writes disk → HasDiskOutcome device disk new.disk false (Extended (archive_of old) s.reached)
+  pub still : faults_in new.fills ≡ [] → device.failed_writes new.disk ≡ device.failed_writes disk → HasDiskOutcome device disk new.disk false (Extended (archive_of old) s.reached)
   still none writes =
       let later = faults.later in (
         record { faults = omega (arith, first, ap device.fault_count reached.opened, later); writes = (0, omega arith, omega arith, writes) },
@@ -71,18 +74,18 @@ module _ {D : Type 0} (device : Device D) (disk : D) (old new : StoreView D) (li
       )
 
   -- one failed in the batch that held these rows
-  stopped_by : (count : ℕ) (wrote : Bool) → new.fills ≡ Fault count wrote (Rows rows) ∷ [] → (FailedAtMostOnce device disk new.disk → wrote ≡ false) → IsTrue device.is_transparent
+  stopped_by : (count : ℕ) (wrote : Bool) → faults_in new.fills ≡ Fault count wrote (Rows rows) ∷ [] → (FailedAtMostOnce device disk new.disk → wrote ≡ false) → IsTrue device.is_transparent
       → IsExtensionFailed device disk new.disk (archive_of old) new.history rows
   stopped_by count wrote fills once known = record {
     stands = (opened known).stands;
-    images = load_images device disk old new (opened known) (batch_left rows) (ap rows_of_faults fills) reached.head reached.opened (keeps known);
+    images = load_images device disk old new (opened known) (batch_left rows) (rows_of_faults-in new.fills ∙ ap rows_of_faults fills) reached.head reached.opened (keeps known);
     now = λ c leaves. elim (left device new count wrote rows (keeps known) fills c leaves) [
       | inl stands ↦ inl (subst (λ (h : Head). StandsFor c (archive h new.history)) reached.head stands)
       | inr more ↦ inr (subst (λ (h : Head). StandsFor c (archive h (new.history ++ items_of rows))) reached.head more)
     ];
     durable = λ one.
         subst (λ (h : Head). IsDurableAs device new.disk h new.history) reached.head
-        (durable_again device new count rows known (keeps known) (subst (λ (b : Bool). new.fills ≡ Fault count b (Rows rows) ∷ []) (once one) fills));
+        (durable_again device new count rows known (keeps known) (subst (λ (b : Bool). faults_in new.fills ≡ Fault count b (Rows rows) ∷ []) (once one) fills));
   }
 
   -- the write was taken back, unless a call failed again
@@ -109,31 +112,32 @@ module _ {D : Type 0} (device : Device D) (disk : D) (old new : StoreView D) (li
 
   -- ---- the way of the plan
 
-  module _ (asks : List Ask) (dump : List ℕ) (session : IsSession (IsTrue device.is_transparent) (archive_of old) dump link moment s) (output output' : OutputState) (report : Report) where
-    abbrev known : Type 0
-    known = IsTrue device.is_transparent
+  module _ (asks : List Ask) (dump : List ℕ) (began : IsRecordCount device disk old.records) (session : IsSession (λ n. n ≡ old.records) old.history dump r s) (output output' : OutputState) (report : Report) where
+    -- the records at the beginning are those of the disk
+    counted_session : IsSession (IsRecordCount device disk) old.history dump r s
+    counted_session = session_from (λ n. n ≡ old.records) (IsRecordCount device disk) old.history dump r s (λ n is. subst (IsRecordCount device disk) (sym is) began) session
 
     abbrev went : Effects D
     went = effects_of disk new.disk output output' report
 
     -- the way goes on by why the session ended
-    goes_on : (refusal : Option Refusal) (way : Way Progress ⊥) → s.refusal ≡ refusal → Allows (after_session (archive_of old) asks dump link moment s refusal) way
-        → Allows (session_plan known (archive_of old) asks dump link moment) way
-    goes_on refusal way is allows = (s, session, subst (λ (o : Option Refusal). Allows (after_session (archive_of old) asks dump link moment s o) way) (sym is) allows)
+    goes_on : (refusal : Option Refusal) (way : Way Progress ⊥) → s.refusal ≡ refusal → Allows (after_session (archive_of old) r asks dump s refusal) way
+        → Allows (session_plan (IsRecordCount device disk) (archive_of old) r asks dump) way
+    goes_on refusal way is allows = (s, counted_session, subst (λ (o : Option Refusal). Allows (after_session (archive_of old) r asks dump s o) way) (sym is) allows)
 
     -- and by the rest of the dump
-    goes_on_whole : (rest : Option Refusal) (way : Way Progress ⊥) → s.refusal ≡ None → ending_of_rest dump s.rest ≡ rest → Allows (after_packets (archive_of old) asks link s rest) way
-        → Allows (session_plan known (archive_of old) asks dump link moment) way
-    goes_on_whole rest way is left allows = goes_on None way is (subst (λ (o : Option Refusal). Allows (after_packets (archive_of old) asks link s o) way) (sym left) allows)
+    goes_on_whole : (rest : Option Refusal) (way : Way Progress ⊥) → s.refusal ≡ None → ending_of_rest dump s.rest ≡ rest → Allows (after_packets (archive_of old) r asks s rest) way
+        → Allows (session_plan (IsRecordCount device disk) (archive_of old) r asks dump) way
+    goes_on_whole rest way is left allows = goes_on None way is (subst (λ (o : Option Refusal). Allows (after_packets (archive_of old) r asks s o) way) (sym left) allows)
 
     -- no failed write is held
     holds : (refusal : Option Refusal) → s.refusal ≡ refusal → HoldsFailedWrite device new rows refusal
     holds refusal is = subst (HoldsFailedWrite device new rows) is reached.failed_write
 
     -- a batch was refused, and no call of the disk failed
-    refused_by : (refusal : Refusal) → Allows (after_session (archive_of old) asks dump link moment s (Some refusal)) (Stopped (history_extended (archive_of old) None s) (Some refusal))
-        → new.fills ≡ [] → s.refusal ≡ Some refusal → output'.written ≡ output.written → report ≡ loaded (Some refusal) None (length old.history) (length s.reached) 0 0 0
-        → output'.faults ≡ output.faults → device.failed_writes new.disk ≡ device.failed_writes disk → Ran device (session_plan known (archive_of old) asks dump link moment) went
+    refused_by : (refusal : Refusal) → Allows (after_session (archive_of old) r asks dump s (Some refusal)) (Stopped (history_extended (archive_of old) None s) (Some refusal))
+        → faults_in new.fills ≡ [] → s.refusal ≡ Some refusal → output'.written ≡ output.written → report ≡ loaded (Some refusal) None (length old.history) (length s.reached) 0 0 0
+        → output'.faults ≡ output.faults → device.failed_writes new.disk ≡ device.failed_writes disk → Ran device (session_plan (IsRecordCount device disk) (archive_of old) r asks dump) went
     refused_by refusal allows none is silent report_is counted writes =
         let way : Way Progress ⊥ = Stopped (history_extended (archive_of old) None s) (Some refusal) in
         record {
@@ -144,22 +148,22 @@ module _ {D : Type 0} (device : Device D) (disk : D) (old new : StoreView D) (li
 
     -- all packets were ingested, and the answers and the line were being printed
     abbrev printing : Progress
-    printing = record (history_extended (archive_of old) None s) { text = load_text old.head asks (length old.history) s.reached s.packets; is_whole = false }
+    printing = record (history_extended (archive_of old) None s) { text = load_text r asks (length old.history) s.reached s.packets; is_whole = false }
 
     abbrev printed : Progress
     printed = record (history_extended (archive_of old) None s) {
-      text = load_text old.head asks (length old.history) s.reached s.packets;
-      report = whole_report (length old.history) (length s.reached) s.packets;
+      text = load_text r asks (length old.history) s.reached s.packets;
+      report = whole_report r (length old.history) (length s.reached) s.packets;
     }
 
     ends_whole : (way : Way Progress ⊥) → s.refusal ≡ None → s.rest ≡ [] → Allows (answering_asks_plan asks printing (May OfOutput printing (Stop printed None))) way
-        → Allows (session_plan known (archive_of old) asks dump link moment) way
+        → Allows (session_plan (IsRecordCount device disk) (archive_of old) r asks dump) way
     ends_whole way is rest allows = goes_on_whole None way is (no_rest dump s.rest rest) allows
 
     -- by the refusal
-    pub by_refusal : (refusal : Option Refusal) → IsLoadOutcome old.head asks (length old.history) dump link s output.written output'.written refusal report
+    pub by_refusal : (refusal : Option Refusal) → IsLoadOutcome r asks (length old.history) dump s output.written output'.written refusal report
         → OneOrTwo refusal (device.failed_writes disk) (device.failed_writes new.disk) → WritesCounted refusal output.faults output'.faults → output.faults ≤ output'.faults
-        → Ran device (session_plan known (archive_of old) asks dump link moment) went
+        → Ran device (session_plan (IsRecordCount device disk) (archive_of old) r asks dump) went
     by_refusal None w writes counted later = record {
       way = Stopped printed None;
       allows = ends_whole (Stopped printed None) w.0 w.1 (behind_answers asks printing (May OfOutput printing (Stop printed None)) (Stopped printed None) (inr refl));
@@ -182,7 +186,7 @@ module _ {D : Type 0} (device : Device D) (disk : D) (old new : StoreView D) (li
       did = record { report = report_is; printed = w.3; output = record { counted = counted }; disk = still (holds None w.1) writes };
     }
     by_refusal (Some (BadPacket at kind)) w writes counted later =
-        let way : Way Progress ⊥ = Stopped (history_extended (archive_of old) (Some link) s) (Some (BadPacket at kind)) in
+        let way : Way Progress ⊥ = Stopped (history_extended (archive_of old) (Some r.link) s) (Some (BadPacket at kind)) in
         record {
           way = way;
           allows = goes_on_whole (Some (BadPacket at kind)) way w.0 (sym (bad_ending dump s.rest at kind w.1)) refl;
@@ -194,7 +198,7 @@ module _ {D : Type 0} (device : Device D) (disk : D) (old new : StoreView D) (li
           };
         }
     by_refusal (Some DiskFault) w writes counted later =
-        let way : Way Progress ⊥ = Stopped (extension_failed (archive_of old) link moment s) (Some DiskFault) in
+        let way : Way Progress ⊥ = Stopped (extension_failed (archive_of old) r s) (Some DiskFault) in
         record {
           way = way;
           allows = goes_on (Some DiskFault) way w.0 refl;
@@ -207,13 +211,13 @@ module _ {D : Type 0} (device : Device D) (disk : D) (old new : StoreView D) (li
         }
     by_refusal (Some (Limit which number)) w writes counted later =
         refused_by (Limit which number) refl (holds (Some (Limit which number)) w.0) w.0 w.1 w.2 counted writes
-    by_refusal (Some other) w writes counted later = absurd (subst (IsSessionEnd known (archive_of old) link moment s) w.0 session.cause)
+    by_refusal (Some other) w writes counted later = absurd (subst (IsSessionEnd (λ n. n ≡ old.records) old.history r s) w.0 session.cause)
 
 -- a session ran over a store that was opened
-pub ran_session : {D : Type 0} (device : Device D) (disk : D) (old new : StoreView D) (asks : List Ask) (dump : List ℕ) (link : ℕ) (moment : ℤ) (output output' : OutputState) (report : Report)
-    → (IsTrue device.is_transparent → IsOpened device disk old) → device.fault_count disk ≤ device.fault_count old.opened → (IsTrue device.is_transparent → CrashInvariant device new)
-    → FaultInvariant device new → IsLoadRun device old new asks dump link moment output.written output'.written report
+pub ran_session : {D : Type 0} (device : Device D) (disk : D) (old new : StoreView D) (asks : List Ask) (dump : List ℕ) (r : Receiving) (output output' : OutputState) (report : Report)
+    → (IsTrue device.is_transparent → IsOpened device disk old) → IsRecordCount device disk old.records → device.fault_count disk ≤ device.fault_count old.opened → (IsTrue device.is_transparent → CrashInvariant device new)
+    → FaultInvariant device new → IsLoadRun device old new asks dump r output.written output'.written report
     → OneOrTwo report.refusal (device.failed_writes disk) (device.failed_writes new.disk) → WritesCounted report.refusal output.faults output'.faults → output.faults ≤ output'.faults
-    → Ran device (session_plan (IsTrue device.is_transparent) (archive_of old) asks dump link moment) (effects_of disk new.disk output output' report)
-ran_session device disk old new asks dump link moment output output' report opened first keeps faults run writes counted later =
-    by_refusal device disk old new link moment run.came_to run.reached opened first keeps faults asks dump run.session output output' report report.refusal run.outcome writes counted later
+    → Ran device (session_plan (IsRecordCount device disk) (archive_of old) r asks dump) (effects_of disk new.disk output output' report)
+ran_session device disk old new asks dump r output output' report opened began first keeps faults run writes counted later =
+    by_refusal device disk old new r run.came_to run.reached opened first keeps faults asks dump began run.session output output' report report.refusal run.outcome writes counted later

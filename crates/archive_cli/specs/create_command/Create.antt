@@ -1,36 +1,77 @@
 -- The command `create`.
-use Rattle.std.specs.Prelude.{◌≡◌, ℕ, ◌+◌, [], Bool, true, false, IsTrue, Option, Some, None}
+use Rattle.std.specs.Prelude.{◌≡◌, ◌⊎◌, ◌<◌, ◌≤◌, ℕ, ◌+◌, List, [], ◌∷◌, length, codes, Bool, true, false, IsTrue, Option, Some, None, Result, Ok, Err}
 use Rattle.arch_disk.specs.Image.{Image}
 use Rattle.arch_disk.specs.Disk.{Device}
 use Rattle.arch_types.specs.declared.refusal.Refusal.{Refusal}
-use Rattle.arch_types.specs.declared.refusal.Refusal.TheVariants.{Exists}
+use Rattle.arch_types.specs.declared.refusal.Refusal.TheVariants.{Exists, Limit}
+use Rattle.arch_types.specs.declared.refusal.Which.TheVariants.{Tables}
+use Rattle.arch_types.specs.Limits.{limit_of}
 use Rattle.disk_journal.specs.Calls.{BeginsOpen}
 use Rattle.disk_journal.specs.Format.{HoldsNone}
 use Rattle.mdb_items.specs.declared.sheet.RawMdb.{RawMdb}
+use Rattle.mdb_model.specs.Sheets.{sheets_database}
 use Rattle.mdb_sheets.specs.Plans.{sheets_plan}
 use Rattle.outer_traits.specs.Outside.{Files}
+use Rattle.outer_traits.specs.States.{InputsState}
+use Rattle.input_plans.specs.Inputs.{AnsweredByPlan}
 use Rattle.command_plans.specs.Plan.{OfMemory, OfDisk, no_failed_calls, CommandPlan, Return, Stop, May, Question, and_then, map_done}
-use Rattle.command_words.specs.Job.{SheetWords}
+use Rattle.command_words.specs.Job.{CreateWords}
 use Rattle.archive_store.specs.declared.head.Head.{Head}
 use Rattle.retrieval.specs.Parameter.{sheets_refusal}
+use Rattle.ssql_types.specs.declared.place.ScriptPlace.TheVariants as ScriptPlace
+use Rattle.ssql_types.specs.declared.statement.TypedStatement.{TypedStatement}
 use Rattle.archive_cli.specs.Command.{Progress, MakingFailed, Made, archive_sought, nothing_done, printing_plan}
-use Rattle.archive_cli.specs.create_command.Creation.{create_line, new_head}
+use Rattle.archive_cli.specs.create_command.Creation.{create_line, tables_with}
 use Rattle.archive_cli.specs.Report.{read_only, unopened}
+use Rattle.archive_cli.specs.Scripts.{IsScriptAnswer, after_answer, script_octets_plan}
 
 -- ---- the head
 
--- the head that the sheets give, where they are not refused
-abbrev pub after_check : ℕ → RawMdb → Option Refusal → CommandPlan ℕ Head
-after_check sources raw None = Return (new_head raw)
-after_check sources raw (Some refusal) = Stop sources (Some refusal)
+-- An answer about the text of a script: it creates these tables beside `tm`, and they are not too many; or why it is refused: as a script of `create`,
+-- or as they are too many.
+abbrev pub IsTablesAnswer : List ℕ → Result (List (List ℕ)) Refusal → Type 0
+IsTablesAnswer text (Ok tables) =
+    (script : List TypedStatement) × IsScriptAnswer ScriptPlace.Create (codes "tm" ∷ []) [] text (Ok script) × (tables ≡ tables_with script) × (length tables ≤ limit_of Tables)
+IsTablesAnswer text (Err refusal) =
+    IsScriptAnswer ScriptPlace.Create (codes "tm" ∷ []) [] text (Err refusal)
+    ⊎ ((script : List TypedStatement) × IsScriptAnswer ScriptPlace.Create (codes "tm" ∷ []) [] text (Ok script) × (limit_of Tables < length (tables_with script))
+    × (refusal ≡ Limit Tables (limit_of Tables)))
 
--- checks the sheets: BadSheet by the first rule that they break, else the first limit that they pass
-abbrev pub checking_plan : ℕ → RawMdb → CommandPlan ℕ Head
-checking_plan sources raw = May OfMemory sources (Question (λ found. found ≡ sheets_refusal raw) (after_check sources raw))
+-- An answer about the records of the sheets and the text of a script: they give this head; or why they are refused: the sheets by the first rule that
+-- they break, else by the first limit that they pass; then the script.
+abbrev pub IsHeadAnswer : RawMdb → List ℕ → Result Head Refusal → Type 0
+IsHeadAnswer raw text (Ok head) = (sheets_refusal raw ≡ None) × IsTablesAnswer text (Ok head.tables) × (head.mdb ≡ sheets_database raw)
+IsHeadAnswer raw text (Err refusal) = (sheets_refusal raw ≡ Some refusal) ⊎ ((sheets_refusal raw ≡ None) × IsTablesAnswer text (Err refusal))
 
--- reads the three sheets, and checks them
-abbrev pub head_plan : Option Files → SheetWords → ℕ → CommandPlan ℕ Head
-head_plan files words sources = and_then (sheets_plan files words.parameters words.calibrations words.containers sources) (checking_plan (sources + 3))
+-- gives the head of sheets and a script, or ends by their refusal; memory may be wanting
+abbrev pub checking_plan : ℕ → RawMdb → List ℕ → CommandPlan ℕ Head
+checking_plan sources raw text = May OfMemory sources (Question (IsHeadAnswer raw text) (after_answer sources))
+
+-- reads the script that is named; where none is its text is empty
+abbrev pub named_script_plan : Option Files → Option (List ℕ) → ℕ → CommandPlan ℕ (List ℕ)
+named_script_plan files None sources = Return []
+named_script_plan files (Some name) sources = script_octets_plan files name sources
+
+-- how many inputs are read for it
+abbrev pub named_inputs : Option (List ℕ) → ℕ
+named_inputs None = 0
+named_inputs (Some name) = 1
+
+-- the script that is named wasn't read for this refusal, by its plan, whatever had been read before it
+abbrev pub IsScriptUnread : Option Files → Option (List ℕ) → InputsState → InputsState → Refusal → Type 0
+IsScriptUnread files script old new refusal = AnsweredByPlan {X = List ℕ} 1 (named_script_plan files script) (Err refusal) old new
+
+-- reads the script behind the sheets, and checks both
+abbrev pub script_behind_plan : Option Files → Option (List ℕ) → ℕ → RawMdb → CommandPlan ℕ Head
+script_behind_plan files script sources raw = and_then (named_script_plan files script sources) (checking_plan (sources + named_inputs script) raw)
+
+-- reads the three sheets and then the script, and checks all
+abbrev pub head_plan : Option Files → CreateWords → ℕ → CommandPlan ℕ Head
+head_plan files words sources = and_then (sheets_plan files words.parameters words.calibrations words.containers sources) (script_behind_plan files words.script (sources + 3))
+
+-- how many inputs the head is read from
+abbrev pub head_inputs : CreateWords → ℕ
+head_inputs words = 3 + named_inputs words.script
 
 -- ---- the archive
 
@@ -39,25 +80,25 @@ abbrev pub HasArchiveAs : Image → Bool → Type 0
 HasArchiveAs image true = BeginsOpen (image 0)
 HasArchiveAs image false = HoldsNone (image 0)
 
--- the three sheets were read, and the making of an archive of this head failed
-abbrev pub making_failed : Head → Progress
-making_failed head = record { text = []; is_whole = true; report = unopened None; disk = MakingFailed head; sources = 3; failed = no_failed_calls }
+-- so many sources were given, and the making of an archive of this head failed
+abbrev pub making_failed : ℕ → Head → Progress
+making_failed sources head = record { text = []; is_whole = true; report = unopened None; disk = MakingFailed head; sources = sources; failed = no_failed_calls }
 
--- the three sheets were read, and an archive of this head was made
-abbrev pub made : Head → Progress
-made head = record { text = []; is_whole = true; report = read_only None 0; disk = Made head; sources = 3; failed = no_failed_calls }
+-- so many sources were given, and an archive of this head was made
+abbrev pub made : ℕ → Head → Progress
+made sources head = record { text = []; is_whole = true; report = read_only None 0; disk = Made head; sources = sources; failed = no_failed_calls }
 
 -- what a making leads to, by whether there was an archive
-abbrev pub after_making : Head → Bool → CommandPlan Progress ⊥
-after_making head true = Stop (archive_sought 3) (Some Exists)
-after_making head false = printing_plan (made head) (create_line head.mdb)
+abbrev pub after_making : ℕ → Head → Bool → CommandPlan Progress ⊥
+after_making sources head true = Stop (archive_sought sources) (Some Exists)
+after_making sources head false = printing_plan (made sources head) (create_line head)
 
--- makes the archive of a head: DiskFault; Exists, where the disk says so; and prints its line
-abbrev pub new_archive_plan : {D : Type 0} → Device D → D → Head → CommandPlan Progress ⊥
-new_archive_plan device disk head =
-    May OfMemory (nothing_done 3)
-    (May OfDisk (making_failed head) (Question (λ there. IsTrue device.is_transparent → HasArchiveAs (device.reads disk) there) (after_making head)))
+-- makes the archive of a head after so many sources were given: DiskFault; Exists, where the disk says so; and prints its line
+abbrev pub new_archive_plan : {D : Type 0} → ℕ → Device D → D → Head → CommandPlan Progress ⊥
+new_archive_plan sources device disk head =
+    May OfMemory (nothing_done sources)
+    (May OfDisk (making_failed sources head) (Question (λ there. IsTrue device.is_transparent → HasArchiveAs (device.reads disk) there) (after_making sources head)))
 
--- reads the head of the sheets, and makes its archive
-abbrev pub create_plan : {D : Type 0} → Device D → D → Option Files → SheetWords → CommandPlan Progress ⊥
-create_plan device disk files words = and_then (map_done nothing_done (head_plan files words 0)) (new_archive_plan device disk)
+-- reads the head of the sheets and a script, and makes its archive
+abbrev pub create_plan : {D : Type 0} → Device D → D → Option Files → CreateWords → CommandPlan Progress ⊥
+create_plan device disk files words = and_then (map_done nothing_done (head_plan files words 0)) (new_archive_plan (head_inputs words) device disk)

@@ -2,26 +2,26 @@
 use Rattle.std.specs.Prelude.{◌⊎◌, ℕ, List, [], ◌∷◌, ◌++◌, length, codes, decimal}
 use Rattle.arch_disk.specs.Image.{Image}
 use Rattle.arch_disk.specs.Disk.{Device, LeavesOnly}
-use Rattle.mdb_items.specs.declared.sheet.RawMdb.{RawMdb}
-use Rattle.mdb_items.specs.Database.{Database}
-use Rattle.mdb_model.specs.Sheets.{sheets_database}
 use Rattle.disk_journal.specs.Calls.{BeginsOpen}
 use Rattle.disk_journal.specs.Format.{HoldsNone}
 use Rattle.archive_store.specs.declared.head.Head.{Head}
 use Rattle.archive_store.specs.Calls.{IsCreateImage}
 use Rattle.archive_store.specs.Entries.{archive}
 use Rattle.archive_store.specs.Stands.{StandsFor}
+use Rattle.ssql_types.specs.declared.statement.TypedStatement.{TypedStatement}
+use Rattle.ssql_types.specs.CreatedTables.{created_tables}
 use Rattle.archive_cli.specs.ReadOnly.{IsReadAsBefore}
 use Rattle.archive_cli.specs.Durable.{FailedAtMostOnce}
 
--- the head of a new archive: table `tm`, and the database of the sheets
-abbrev pub new_head : RawMdb → Head
-new_head raw = record { tables = codes "tm" ∷ []; mdb = sheets_database raw }
+-- the tables of a new archive: `tm`, and those that a script creates, in its order
+abbrev pub tables_with : List TypedStatement → List (List ℕ)
+tables_with script = codes "tm" ∷ created_tables script
 
 -- the one line of `create`: how many tables, parameters and containers there are
-abbrev pub create_line : Database → List ℕ
-create_line db =
-    codes "created tables 1 parameters " ++ decimal (length db.parameters) ++ codes " containers " ++ decimal (length db.containers) ++ codes "\n"
+abbrev pub create_line : Head → List ℕ
+create_line head =
+    codes "created tables " ++ decimal (length head.tables) ++ codes " parameters " ++ decimal (length head.mdb.parameters) ++ codes " containers "
+    ++ decimal (length head.mdb.containers) ++ codes "\n"
 
 -- An archive was made where there was none: the disk stands for the head without rows, and so does each image that a crash now leaves; a crash
 -- during the call leaves no archive or the head, or what it could have left before.

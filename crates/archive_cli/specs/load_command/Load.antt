@@ -1,5 +1,5 @@
 -- The command `load`.
-use Rattle.std.specs.Prelude.{◌≡◌, ℕ, ℤ, List, [], ◌∷◌, length, Bool, true, false, IsTrue, Option, Some, None, Result}
+use Rattle.std.specs.Prelude.{◌≡◌, ℕ, ℤ, List, [], ◌∷◌, length, Bool, true, false, Option, Some, None, Result}
 use Rattle.arch_disk.specs.Disk.{Device}
 use Rattle.arch_types.specs.declared.ask.Ask.{Ask}
 use Rattle.arch_types.specs.declared.refusal.Refusal.{Refusal}
@@ -7,18 +7,22 @@ use Rattle.arch_types.specs.declared.refusal.Refusal.TheVariants.{Missing, DiskF
 use Rattle.arch_types.specs.declared.refusal.Which.TheVariants.{DumpOctets}
 use Rattle.outer_traits.specs.Outside.{Files}
 use Rattle.archive_store.specs.Entries.{Archive}
-use Rattle.command_plans.specs.Plan.{OfMemory, OfInputs, OfOutput, OfDisk, no_failed_calls, with_failed_call, CommandPlan, Stop, May, Question, Choose, and_then}
+use Rattle.command_plans.specs.Plan.{OfMemory, OfInputs, OfOutput, OfDisk, no_failed_calls, with_failed_call, CommandPlan, Stop, May, Question, Choose, and_then, map_done}
 use Rattle.command_words.specs.Job.{LoadWords}
 use Rattle.input_plans.specs.Inputs.{InputRead, OverLimit, WithinLimit, IsInputAs, IsThereAs}
-use Rattle.archive_cli.specs.Asks.{asked_plan, asks_check_plan}
+use Rattle.archive_store.specs.declared.head.Head.{Head}
+use Rattle.archive_cli.specs.Asks.{asked_plan, asks_check_plan, with_sources}
 use Rattle.archive_cli.specs.Moment.{IsMomentOf}
 use Rattle.archive_cli.specs.Command.{Progress, Extended, ExtensionFailed, archive_opened, nothing_done, opening_plan}
 use Rattle.archive_cli.specs.DumpRest.{ending_of_rest}
 use Rattle.archive_cli.specs.load_command.LoadLine.{load_text, whole_report}
-use Rattle.archive_cli.specs.load_command.Loading.{link_refusal}
+use Rattle.archive_cli.specs.load_command.Loading.{IsRecordCount, IsRouteAnswer, link_refusal}
 use Rattle.archive_cli.specs.ReadDump.{dump_limit}
 use Rattle.archive_cli.specs.Report.{loaded, read_only}
+use Rattle.archive_cli.specs.Scripts.{after_answer, script_octets_plan}
+use Rattle.load_session.specs.Receiving.{Receiving, receiving}
 use Rattle.load_session.specs.Session.{SessionResult, IsSession, next_fresh_rows}
+use Rattle.stream_graph.specs.declared.statement.RouteStatement.{RouteStatement}
 
 -- ---- what was done
 
@@ -38,12 +42,12 @@ history_extended archive link s = record {
 }
 
 -- it was, until the disk failed at the next batch
-abbrev pub extension_failed : Archive → ℕ → ℤ → SessionResult → Progress
-extension_failed archive link moment s = record {
+abbrev pub extension_failed : Archive → Receiving → SessionResult → Progress
+extension_failed archive r s = record {
   text = [];
   is_whole = true;
   report = loaded None None (length archive.history) (length s.reached) 0 0 0;
-  disk = ExtensionFailed archive s.reached (next_fresh_rows archive link moment s);
+  disk = ExtensionFailed archive s.reached (next_fresh_rows r s);
   sources = 1;
   failed = with_failed_call OfDisk no_failed_calls;
 }
@@ -56,65 +60,81 @@ answering_asks_plan [] s plan = plan
 answering_asks_plan (ask ∷ asks) s plan = May OfMemory s plan
 
 -- prints the answers to asks over the history that was reached, and then the line of a load; its counts are reported once all is printed
-abbrev pub load_printing_plan : Archive → List Ask → SessionResult → CommandPlan Progress ⊥
-load_printing_plan archive asks s =
-    let text = load_text archive.head asks (length archive.history) s.reached s.packets in
+abbrev pub load_printing_plan : Archive → Receiving → List Ask → SessionResult → CommandPlan Progress ⊥
+load_printing_plan archive r asks s =
+    let text = load_text r asks (length archive.history) s.reached s.packets in
     let printing = record (history_extended archive None s) { text = text; is_whole = false } in
     answering_asks_plan asks printing
-    (May OfOutput printing (Stop (record (history_extended archive None s) { text = text; report = whole_report (length archive.history) (length s.reached) s.packets }) None))
+    (May OfOutput printing (Stop (record (history_extended archive None s) { text = text; report = whole_report r (length archive.history) (length s.reached) s.packets }) None))
 
 -- what a whole dump leads to, by the refusal of its rest
-abbrev pub after_packets : Archive → List Ask → ℕ → SessionResult → Option Refusal → CommandPlan Progress ⊥
-after_packets archive asks link s None = load_printing_plan archive asks s
-after_packets archive asks link s (Some refusal) = Stop (history_extended archive (Some link) s) (Some refusal)
+abbrev pub after_packets : Archive → Receiving → List Ask → SessionResult → Option Refusal → CommandPlan Progress ⊥
+after_packets archive r asks s None = load_printing_plan archive r asks s
+after_packets archive r asks s (Some refusal) = Stop (history_extended archive (Some r.link) s) (Some refusal)
 
 -- what a session leads to, by why it ended
-abbrev pub after_session : Archive → List Ask → List ℕ → ℕ → ℤ → SessionResult → Option Refusal → CommandPlan Progress ⊥
-after_session archive asks dump link moment s None = after_packets archive asks link s (ending_of_rest dump s.rest)
-after_session archive asks dump link moment s (Some DiskFault) = Stop (extension_failed archive link moment s) (Some DiskFault)
-after_session archive asks dump link moment s (Some refusal) = Stop (history_extended archive None s) (Some refusal)
+abbrev pub after_session : Archive → Receiving → List Ask → List ℕ → SessionResult → Option Refusal → CommandPlan Progress ⊥
+after_session archive r asks dump s None = after_packets archive r asks s (ending_of_rest dump s.rest)
+after_session archive r asks dump s (Some DiskFault) = Stop (extension_failed archive r s) (Some DiskFault)
+after_session archive r asks dump s (Some refusal) = Stop (history_extended archive None s) (Some refusal)
 
--- ingests the packets of a dump that came by a link at a moment, and then answers: a limit of the history, or DiskFault; BadPacket; WriteFault
-abbrev pub session_plan : Type 0 → Archive → List Ask → List ℕ → ℕ → ℤ → CommandPlan Progress ⊥
-session_plan known archive asks dump link moment =
-    Choose (IsSession known archive dump link moment) (λ s. after_session archive asks dump link moment s s.refusal)
+-- ingests the packets of a dump, and then answers: a limit of the history, or DiskFault; BadPacket; WriteFault
+abbrev pub session_plan : (ℕ → Type 0) → Archive → Receiving → List Ask → List ℕ → CommandPlan Progress ⊥
+session_plan Began archive r asks dump = Choose (IsSession Began archive.history dump r) (λ s. after_session archive r asks dump s s.refusal)
 
 -- ---- the dump
 
--- what the reading of a dump leads to: it is received at the clock's moment, and ingested
-abbrev pub after_dump : Type 0 → Option ℤ → ℕ → Archive → List Ask → InputRead (List ℕ) → CommandPlan Progress ⊥
-after_dump known next link archive asks OverLimit = Stop (dump_too_long link archive) (Some (Limit DumpOctets dump_limit))
-after_dump known next link archive asks (WithinLimit dump) = Choose (IsMomentOf next) (session_plan known archive asks dump link)
+-- what the reading of a dump leads to: it is received at the clock's moment, and ingested by a route
+abbrev pub after_dump : (ℕ → Type 0) → Option ℤ → ℕ → Archive → List RouteStatement → List Ask → InputRead (List ℕ) → CommandPlan Progress ⊥
+after_dump Began next link archive route asks OverLimit = Stop (dump_too_long link archive) (Some (Limit DumpOctets dump_limit))
+after_dump Began next link archive route asks (WithinLimit dump) =
+    Choose (IsMomentOf next) (λ moment. session_plan Began archive (receiving archive.head route link moment) asks dump)
 
 -- reads a dump whose link and asks are none that is refused: ReadFault, or the limit of its octets
-abbrev pub reading_plan : Type 0 → Option Files → Option ℤ → LoadWords → Archive → List Ask → CommandPlan Progress ⊥
-reading_plan known files next words archive asks =
+abbrev pub reading_plan : (ℕ → Type 0) → Option Files → Option ℤ → LoadWords → Archive → List RouteStatement → List Ask → CommandPlan Progress ⊥
+reading_plan Began files next words archive route asks =
     May OfMemory (archive_opened 1 archive)
     (May OfInputs (archive_opened 1 archive)
-    (Question (IsInputAs files DumpOctets (λ octets. octets) words.dump) (after_dump known next words.link archive asks)))
+    (Question (IsInputAs files DumpOctets (λ octets. octets) words.dump) (after_dump Began next words.link archive route asks)))
 
--- what the number of a link leads to: the asks are checked, and the dump is read
-abbrev pub after_link : Type 0 → Option Files → Option ℤ → LoadWords → Result (List Ask) Refusal → Archive → Option Refusal → CommandPlan Progress ⊥
-after_link known files next words asks archive None =
-    and_then (asks_check_plan (archive_opened 1 archive) archive.head asks) (reading_plan known files next words archive)
-after_link known files next words asks archive (Some refusal) = Stop (archive_opened 1 archive) (Some refusal)
+-- gives the route of a load over a head: BadSql of its script's first wrong token, UnknownTable, or a limit; memory may be wanting
+abbrev pub route_plan : Progress → Head → Option (List ℕ) → CommandPlan Progress (List RouteStatement)
+route_plan s head text = May OfMemory s (Question (IsRouteAnswer head text) (after_answer s))
 
--- loads a dump that was opened into an archive that was: Limit Links; the refusal of the asks; ReadFault, or the limit of its octets
-abbrev pub loading_plan : Type 0 → Option Files → Option ℤ → LoadWords → Result (List Ask) Refusal → Archive → CommandPlan Progress ⊥
-loading_plan known files next words asks archive = Question (λ found. found ≡ link_refusal words.link) (after_link known files next words asks archive)
+-- what a route leads to: the asks are checked, and the dump is read, whose packets go by it
+abbrev pub after_route : (ℕ → Type 0) → Option Files → Option ℤ → LoadWords → Result (List Ask) Refusal → Archive → List RouteStatement → CommandPlan Progress ⊥
+after_route Began files next words asks archive route = and_then (asks_check_plan (archive_opened 1 archive) archive.head asks) (reading_plan Began files next words archive route)
+
+-- what the number of a link leads to: the text of the route is looked at
+abbrev pub after_link : (ℕ → Type 0) → Option Files → Option ℤ → LoadWords → Option (List ℕ) → Result (List Ask) Refusal → Archive → Option Refusal → CommandPlan Progress ⊥
+after_link Began files next words text asks archive None = and_then (route_plan (archive_opened 1 archive) archive.head text) (after_route Began files next words asks archive)
+after_link Began files next words text asks archive (Some refusal) = Stop (archive_opened 1 archive) (Some refusal)
+
+-- loads a dump that was opened into an archive that was: Limit Links; the refusal of the route; that of the asks; ReadFault, or the limit of its octets
+abbrev pub loading_plan : (ℕ → Type 0) → Option Files → Option ℤ → LoadWords → Option (List ℕ) → Result (List Ask) Refusal → Archive → CommandPlan Progress ⊥
+loading_plan Began files next words text asks archive = Question (λ found. found ≡ link_refusal words.link) (after_link Began files next words text asks archive)
 
 -- what it leads to whether there's an input of the dump's name: it is opened, and then the archive
-abbrev pub after_dump_found : {D : Type 0} → Device D → D → Option Files → Option ℤ → LoadWords → Result (List Ask) Refusal → Bool → CommandPlan Progress ⊥
-after_dump_found device disk files next words asks true =
-    May OfInputs (nothing_done 0) (and_then (opening_plan 1 device disk) (loading_plan (IsTrue device.is_transparent) files next words asks))
-after_dump_found device disk files next words asks false = Stop (nothing_done 0) (Some (Missing words.dump))
+abbrev pub after_dump_found : {D : Type 0} → Device D → D → Option Files → Option ℤ → LoadWords → Option (List ℕ) → Result (List Ask) Refusal → Bool → CommandPlan Progress ⊥
+after_dump_found device disk files next words text asks true =
+    May OfInputs (nothing_done 0) (and_then (opening_plan 1 device disk) (loading_plan (IsRecordCount device disk) files next words text asks))
+after_dump_found device disk files next words text asks false = Stop (nothing_done 0) (Some (Missing words.dump))
 
--- opens the dump and the archive, checks the asks of a sheet that was read, reads the dump, ingests its packets, and prints the answers and what became
--- of the packets
-abbrev pub archive_load_plan : {D : Type 0} → Device D → D → Option Files → Option ℤ → LoadWords → Result (List Ask) Refusal → CommandPlan Progress ⊥
-archive_load_plan device disk files next words asks =
-    May OfMemory (nothing_done 0) (Question (IsThereAs files words.dump) (after_dump_found device disk files next words asks))
+-- opens the dump and the archive, looks at the text of a route and checks the asks of a sheet, which were read, reads the dump, ingests its packets, and
+-- prints the answers and what became of the packets
+abbrev pub archive_load_plan : {D : Type 0} → Device D → D → Option Files → Option ℤ → LoadWords → Option (List ℕ) → Result (List Ask) Refusal → CommandPlan Progress ⊥
+archive_load_plan device disk files next words text asks =
+    May OfMemory (nothing_done 0) (Question (IsThereAs files words.dump) (after_dump_found device disk files next words text asks))
 
--- reads the sheet of asks, where one is given, and loads the dump
+-- reads the script of a route, where one is given, and goes on with its text; where none is there is none
+abbrev pub routed_plan : Option Files → Option (List ℕ) → (Option (List ℕ) → CommandPlan Progress ⊥) → CommandPlan Progress ⊥
+routed_plan files None next = next None
+routed_plan files (Some name) next = and_then (map_done nothing_done (script_octets_plan files name 0)) (λ text. map_done (with_sources 1) (next (Some text)))
+
+-- reads the sheet of asks, where one is given, and loads the dump by the route of a text
+abbrev pub routed_load_plan : {D : Type 0} → Device D → D → Option Files → Option ℤ → LoadWords → Option (List ℕ) → CommandPlan Progress ⊥
+routed_load_plan device disk files next words text = asked_plan files words.asks (archive_load_plan device disk files next words text)
+
+-- reads the script of a route, where one is given, then the sheet of asks, and loads the dump
 abbrev pub load_plan : {D : Type 0} → Device D → D → Option Files → Option ℤ → LoadWords → CommandPlan Progress ⊥
-load_plan device disk files next words = asked_plan files words.asks (archive_load_plan device disk files next words)
+load_plan device disk files next words = routed_plan files words.route (routed_load_plan device disk files next words)

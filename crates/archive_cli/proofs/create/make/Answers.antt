@@ -12,8 +12,8 @@ use Rattle.archive_cli.proofs.create_command.Created.{made_store}
 use Rattle.archive_cli.proofs.create.make.Goals as goal
 
 pub returns-in_default : goal.returns-in_default
-returns-in_default g c = record {
-  way = Interrupted (nothing_done 3) OfMemory;
+returns-in_default g c = λ sources. record {
+  way = Interrupted (nothing_done sources) OfMemory;
   allows = inl refl;
   did = record {
     report = refl;
@@ -24,7 +24,7 @@ returns-in_default g c = record {
 }
 
 pub returns-in_err-store : goal.returns-in_err-store
-returns-in_err-store g c =
+returns-in_err-store g c = λ sources.
     let device = g.D.Disk.device in
     let output = (g.K.Sink.state c.args.sink.now) in
     let e = c.in_err-store.ensures in
@@ -32,10 +32,10 @@ returns-in_err-store g c =
     let went = effects_of c.args.disk refused.0 output output (unopened (Some refused.1)) in
     let p = err_from_is_err_and c.from_residual.result c.from_residual.ensures.1 in
     rw (p.1, p.2)
-    (ran_unmade device went c.args.head refused.1 e.refused e.kept e.crash e.counts refl refl)
+    (ran_unmade sources device went c.args.head refused.1 e.refused e.kept e.crash e.counts refl refl)
 
 pub returns : goal.returns
-returns g c =
+returns g c = λ sources.
     let device = g.D.Disk.device in
     let s = c.in_ok-store.store in
     let e = c.in_ok-store.ensures in
@@ -47,13 +47,13 @@ returns g c =
     let output = (g.K.Sink.state c.args.sink.now) in
     let output' = (g.K.Sink.state c.finish-refusal.new.sink) in
     let went = effects_of c.args.disk s.disk output output' report in
-    let line : c.put_line.new.line_buffer ≡ create_line c.args.head.mdb = c.put_line.ensures in
+    let line : c.put_line.new.line_buffer ≡ create_line c.args.head = c.put_line.ensures in
     let text = subst (IsFinished refusal written written') line c.finish-refusal.ensures.finished in
     let disk : HasDiskOutcome device c.args.disk s.disk false (Made c.args.head) = (
       record { faults = e.counts.faults; writes = (0, omega arith, omega arith, m.no_failed_write) },
       λ known. made_store device c.args.disk s c.args.head (m.none known) m.history m.fills m.head_is m.opened (e.crash known (m.none known)) (c.into_disk.ensures.images known),
     ) in
-    subst (λ (d : g.row.D.Denot). Ran device (new_archive_plan device c.args.disk c.args.head) (effects_of c.args.disk d output output' report)) (sym c.into_disk.ensures.disk)
-    (ran_made device went c.args.head m.none
-    (ran_printed device went (made c.args.head) (create_line c.args.head.mdb) refusal refl refl text c.finish-refusal.ensures.later c.finish-refusal.ensures.counted
+    subst (λ (d : g.row.D.Denot). Ran device (new_archive_plan sources device c.args.disk c.args.head) (effects_of c.args.disk d output output' report)) (sym c.into_disk.ensures.disk)
+    (ran_made sources device went c.args.head m.none
+    (ran_printed device went (made sources c.args.head) (create_line c.args.head) refusal refl refl text c.finish-refusal.ensures.later c.finish-refusal.ensures.counted
     c.read_only.ensures disk))

@@ -1,4 +1,5 @@
-use Rattle.std.proofs.Common.{◌≤◌, ◌∙◌, false, refl, arith, rules, w64, SFits, Some}
+use Rattle.std.proofs.Common.{◌≡◌, ◌≤◌, ◌∙◌, ℕ, List, Bor, Option, false, refl, arith, rules, w64, SFits, Some}
+use Rattle.std.specs.Prelude.{option_map}
 use Rattle.std.proofs.lemmas.Int.{to_z-of_z}
 use Rattle.archive_store.specs.StoreView.{archive_of}
 use Rattle.command_words.specs.JobView.{load_words_of}
@@ -7,6 +8,7 @@ use Rattle.archive_cli.specs.Command.{effects_of}
 use Rattle.archive_cli.specs.load_command.Loading.{IsLoadRun}
 use Rattle.archive_cli.specs.Report.{unopened}
 use Rattle.archive_cli.proofs.SourceCounts.{reads_closed}
+use Rattle.store_fills.proofs.Faults.{faults_in-done}
 use Rattle.archive_cli.proofs.load_command.During.{opened_store}
 use Rattle.archive_cli.proofs.load_command.LoadPlan.{closed_again, load_not_received, load_received, load_unarchived, no_room, ran_unfound}
 use Rattle.archive_cli.proofs.load_command.NotLoaded.{gives_input, gives_there}
@@ -14,22 +16,22 @@ use Rattle.archive_cli.proofs.ReadOnly.{opened_outcome}
 use Rattle.archive_cli.proofs.scan_command.Scanned.{moment_of}
 use Rattle.archive_cli.proofs.load_command.Sessions.{ran_session}
 use Rattle.outer_ledgers.proofs.Ledgers.{clock_unused, inputs_unused}
+use Rattle.load_session.specs.Receiving.{Receiving, receiving}
 use Rattle.archive_cli.proofs.load.load_archive.Goals as goal
 use Rattle.archive_cli.proofs.load.load_archive.Goals.{in-Ok-received, in-Err-received}
 
--- each record of an opened journal but the head's has a row
+abbrev named : Option (Bor (List ℕ)) → Option (List ℕ)
+named = option_map (λ (text : Bor (List ℕ)). text.now)
 
-pub load_dump-report-requires-clause-few_records : goal.load_dump-report-requires-clause-few_records
-load_dump-report-requires-clause-few_records g c = λ known.
-    let e = c.in-Ok-open-2.ensures in
-    let records = e.opened.records known in
-    let opened = opened_store g.D.Disk.device c.args.disk c.in-Ok-open-2.store (e.opened.stands known) e.reads e.opened.opening e.crash records.0 records.1 records.2 in
-    opened.few
+-- an opened archive has no fault
+
+pub load_dump-report-requires-clause-no_fault : goal.load_dump-report-requires-clause-no_fault
+load_dump-report-requires-clause-no_fault g c = faults_in-done c.in-Ok-open-2.store.fills c.in-Ok-open-2.ensures.opened.fills
 
 -- and no ask is refused
 
 pub load_dump-report-requires-clause-answerable : goal.load_dump-report-requires-clause-answerable
-load_dump-report-requires-clause-answerable g c = let ready = rw c.head.ensures.head at c.in-Ok-received.ensures.ready in ready.1.1
+load_dump-report-requires-clause-answerable g c = c.in-Ok-received.ensures.ready.2.1
 
 -- the way that its plan went
 
@@ -39,7 +41,7 @@ returns-in_default-clause-ran g c =
     let state = g.I.Inputs.state in
     let output = g.K.Sink.state c.args.sink.now in
     no_room device (effects_of c.args.disk c.args.disk output output (unopened (Some OutOfMemory))) (g.I.Inputs.state c.args.inputs.now).files (g.C.Clock.state c.args.clock.now).next
-    (load_words_of c.args.words) c.args.sheet (state c.args.inputs.now) (state c.args.inputs.now) (inputs_unused (state c.args.inputs.now)) refl refl refl
+    (load_words_of c.args.words) (named c.args.text) c.args.sheet (state c.args.inputs.now) (state c.args.inputs.now) (inputs_unused (state c.args.inputs.now)) refl refl refl
 
 pub returns-in-Err-clause-ran : goal.returns-in-Err-clause-ran
 returns-in-Err-clause-ran g c =
@@ -48,7 +50,7 @@ returns-in-Err-clause-ran g c =
     let output = g.K.Sink.state c.args.sink.now in
     let e = c.in-Err.ensures in
     ran_unfound device (effects_of c.args.disk c.args.disk output output (unopened (Some c.refusal_of_opening.result))) (g.I.Inputs.state c.args.inputs.now).files (g.C.Clock.state c.args.clock.now).next
-    (load_words_of c.args.words) c.args.sheet (state c.args.inputs.now) (state c.open.new.self) _ c.in-Err.fault c.refusal_of_opening.result c.refusal_of_opening.ensures e.missing
+    (load_words_of c.args.words) (named c.args.text) c.args.sheet (state c.args.inputs.now) (state c.open.new.self) _ c.in-Err.fault c.refusal_of_opening.result c.refusal_of_opening.ensures e.missing
     (λ failed counted. record { files = e.same; closed = λ few. e.gave_none.0; gave = e.gave_none.1; counted = counted; reliable = λ sure. e.reliable sure })
     e.later e.counted refl refl refl
 
@@ -66,7 +68,7 @@ returns-in-Err-open-clause-ran g c =
     let back = c.close.ensures in
     let used = closed_again (state c.args.inputs.now) (state c.open.new.self) (state c.close.new.self) source.same back.same source.gave back.closed
     (λ sure. let one = source.reliable sure in let two = back.reliable one.0 source.fresh in (two.0, two.1 ∙ one.1)) false (back.kept source.fresh ∙ source.counted) in
-    load_unarchived device (effects_of c.args.disk refused.0 output output (unopened (Some refused.1))) files next words c.args.sheet (state c.args.inputs.now) (state c.close.new.self)
+    load_unarchived device (effects_of c.args.disk refused.0 output output (unopened (Some refused.1))) files next words (named c.args.text) c.args.sheet (state c.args.inputs.now) (state c.close.new.self)
     (gives_there files c.args.words.dump.now _ source.found) refused.1 e.refused e.reads e.crash e.counts refl refl used
 
 pub returns-clause-ran : goal.returns-clause-ran
@@ -87,22 +89,23 @@ returns-clause-ran g c =
           let last = w.load_dump-report.new.store in
           let received = w.in-Ok-received.received in
           let link = w.in-Ok-received.ensures.link in
-          let ready = rw c.head.ensures.head at w.in-Ok-received.ensures.ready in
+          let ready = w.in-Ok-received.ensures.ready in
           let report = w.load_dump-report.result in
           let moment = w.now-moment.result in
           let fits : SFits w64 moment = search rules in
           let still = rw source.fresh at w.in-Ok-received.ensures.no_fault in
           let used = closed_again (state c.args.inputs.now) (state c.open.new.self) (state c.close-2.new.self) source.same back.same source.gave back.closed
           (λ sure. let one = source.reliable sure in let two = back.reliable one.0 still in (two.0, two.1 ∙ one.1)) false (back.kept still ∙ source.counted) in
-          let session : IsLoadRun device s last received.asks received.dump words.link moment (g.K.Sink.state c.args.sink.now).written (g.K.Sink.state w.load_dump-report.new.sink).written report =
+          let r : Receiving = receiving s.head received.graph words.link moment in
+          let session : IsLoadRun device s last received.asks received.dump r (g.K.Sink.state c.args.sink.now).written (g.K.Sink.state w.load_dump-report.new.sink).written report =
           rw (to_z-of_z w64 moment fits, link.0) at w.load_dump-report.ensures.session in
           let went = effects_of c.args.disk last.disk output output' report in
-          let ran = ran_session device c.args.disk s last received.asks received.dump words.link moment output output' report
-          (λ known. let records = e.opened.records known in opened_store device c.args.disk s (e.opened.stands known) e.reads e.opened.opening e.crash records.0 records.1 records.2)
+          let ran = ran_session device c.args.disk s last received.asks received.dump r output output' report
+          (λ known. opened_store device c.args.disk s (e.opened.stands known) e.reads e.opened.opening e.crash) e.opened.records
           e.counts.faults (rw w.store-is at c.into_disk.ensures.images) (rw w.store-is at c.into_disk.ensures.faults) session (rw e.opened.no_failed_write at w.load_dump-report.ensures.disk_writes)
           w.load_dump-report.ensures.writes_counted w.load_dump-report.ensures.writes_later in
-          let over = load_received device went files next words c.args.sheet (state c.args.inputs.now) (state c.close-2.new.self) (gives_there files c.args.words.dump.now _ source.found) (archive_of s)
-          (λ known. e.opened.stands known) received.dump moment received.asks ready (gives_input files c.args.words.dump.now _ received.dump source.found w.in-Ok-received.ensures.whole)
+          let over = load_received device went files next words (named c.args.text) c.args.sheet (state c.args.inputs.now) (state c.close-2.new.self) (gives_there files c.args.words.dump.now _ source.found) (archive_of s)
+          (λ known. e.opened.stands known) received.dump moment received.graph received.asks ready (gives_input files c.args.words.dump.now _ received.dump source.found w.in-Ok-received.ensures.whole)
           w.in-Ok-received.ensures.short (moment_of next moment w.now-moment.ensures.known w.now-moment.ensures.range) used ran in
           rw (c.into_disk.ensures.disk, w.sink-is, w.report-is, w.store-is) over
       | in-Err-received w ↦
@@ -114,9 +117,9 @@ returns-clause-ran g c =
           let one : (g.I.Inputs.state c.args.inputs.now).faults ≤ (g.I.Inputs.state c.open.new.self).faults = source.later in
           let two : (g.I.Inputs.state c.open.new.self).faults ≤ (g.I.Inputs.state c.close-2.new.self).faults = back.later in
           let disk = opened_outcome device c.args.disk s e.opened e.reads e.crash e.counts (rw w.store-is at c.into_disk.ensures.images) (rw w.store-is at c.into_disk.ensures.faults) in
-          let over = load_not_received device (effects_of c.args.disk s.disk output output report) files next words c.args.sheet (state c.args.inputs.now) (state c.close-2.new.self)
+          let over = load_not_received device (effects_of c.args.disk s.disk output output report) files next words (named c.args.text) c.args.sheet (state c.args.inputs.now) (state c.close-2.new.self)
           (gives_there files c.args.words.dump.now _ source.found) (archive_of s) (λ known. e.opened.stands known) refl disk used (omega (arith, one, two)) _ 0 _ unread.refusal unread.link source.found
-          (rw (c.head.ensures.head, source.fresh) at w.in-Err-received.ensures.unread) (λ ending read. reads_closed ending (state c.args.inputs.now).faults (state c.open.new.self).faults _
+          (rw source.fresh at w.in-Err-received.ensures.unread) (λ ending read. reads_closed ending (state c.args.inputs.now).faults (state c.open.new.self).faults _
           (state c.close-2.new.self).faults source.counted read back.kept back.risen) w.nothing_loaded-report.ensures in
           rw (c.into_disk.ensures.disk, w.sink-is, w.report-is, w.store-is) over
     ]

@@ -1,9 +1,7 @@
-use Rattle.std.proofs.Common.{◌∙◌, ◌+◌, ◌≤◌, w64, length, refl, sym, ap, arith}
-use Rattle.std.specs.Prelude.{IsTrue}
+use Rattle.std.proofs.Common.{◌≡◌, ◌∙◌, w64, length, refl, sym, ap, arith}
 use Rattle.std.proofs.lemmas.Int.{to_z-of_z}
-use Rattle.archive_store.specs.StoreView.{archive_of}
-use Rattle.load_session.specs.Session.{IsKnown}
-use Rattle.load_session.proofs.Sessions.{known_session, session_grew}
+use Rattle.load_session.specs.Receiving.{receiving}
+use Rattle.load_session.proofs.Sessions.{session_grew}
 use Rattle.archive_cli.specs.declared.report.Report.{Report}
 use Rattle.archive_cli.proofs.DiskWrites.{bad_writes, printed_writes, stopped_writes}
 use Rattle.archive_cli.proofs.load_command.LoadReports.{counts_whole, session_bad, session_printed, session_stopped}
@@ -19,7 +17,8 @@ print-requires-clause-grown g c =
     let moment = to_z-of_z w64 c.args.moment c.ranges.moment in
     let front = c.front-before.ensures.front in
     let run = rw (moment, c.in-Ok.is) at c.run_session.ensures.session in
-    let more = session_grew (IsKnown g.D.Disk.device c.args.store.now) (archive_of c.args.store.now) c.args.received.now.dump c.args.received.now.link c.args.moment run.came_to run.session in
+    let more = session_grew (λ n. n ≡ c.args.store.now.records) c.args.store.now.history c.args.received.now.dump
+    (receiving c.args.store.now.head c.args.received.now.graph c.args.received.now.link c.args.moment) run.came_to run.session in
     omega (arith, front, more, ap length run.reached.history)
 
 pub print-requires-clause-counts : goal.print-requires-clause-counts
@@ -27,8 +26,8 @@ print-requires-clause-counts g c =
     let moment = to_z-of_z w64 c.args.moment c.ranges.moment in
     let front = c.front-before.ensures.front in
     let run = rw (moment, c.in-Ok.is) at c.run_session.ensures.session in
-    let counts = counts_whole c.args.store.now.head c.args.received.now.asks (length c.args.store.now.history) c.args.received.now.dump c.args.received.now.link run.came_to c.in-Ok.whole run.summary run.answer_is
-    (IsKnown g.D.Disk.device c.args.store.now) (archive_of c.args.store.now) c.args.moment run.session refl in
+    let counts = counts_whole (receiving c.args.store.now.head c.args.received.now.graph c.args.received.now.link c.args.moment) c.args.received.now.asks (length c.args.store.now.history) c.args.received.now.dump run.came_to c.in-Ok.whole run.summary run.answer_is
+    (λ n. n ≡ c.args.store.now.records) c.args.store.now.history run.session refl in
     omega (arith, front, counts, ap length run.reached.history)
 
 pub stopped-requires : goal.stopped-requires
@@ -36,7 +35,8 @@ stopped-requires g c =
     let moment = to_z-of_z w64 c.args.moment c.ranges.moment in
     let front = c.front-before.ensures.front in
     let run = rw (moment, c.in-Ok.is) at c.run_session.ensures.session in
-    let more = session_grew (IsKnown g.D.Disk.device c.args.store.now) (archive_of c.args.store.now) c.args.received.now.dump c.args.received.now.link c.args.moment run.came_to run.session in
+    let more = session_grew (λ n. n ≡ c.args.store.now.records) c.args.store.now.history c.args.received.now.dump
+    (receiving c.args.store.now.head c.args.received.now.graph c.args.received.now.link c.args.moment) run.came_to run.session in
     omega (arith, front, more, ap length run.reached.history)
 
 pub stopped-requires-in-Err : goal.stopped-requires-in-Err
@@ -44,7 +44,8 @@ stopped-requires-in-Err g c =
     let moment = to_z-of_z w64 c.args.moment c.ranges.moment in
     let front = c.front-before.ensures.front in
     let run = rw (moment, c.in-Err.is) at c.run_session.ensures.session in
-    let more = session_grew (IsKnown g.D.Disk.device c.args.store.now) (archive_of c.args.store.now) c.args.received.now.dump c.args.received.now.link c.args.moment run.came_to run.session in
+    let more = session_grew (λ n. n ≡ c.args.store.now.records) c.args.store.now.history c.args.received.now.dump
+    (receiving c.args.store.now.head c.args.received.now.graph c.args.received.now.link c.args.moment) run.came_to run.session in
     omega (arith, front, more, ap length run.reached.history)
 
 pub returns-in-None-clause-session : goal.returns-in-None-clause-session
@@ -54,12 +55,11 @@ returns-in-None-clause-session g c =
     let run = rw (moment, c.in-Ok.is) at c.run_session.ensures.session in
     rw c.print.ensures.same (record {
       came_to = run.came_to;
-      session =
-          known_session (IsTrue g.D.Disk.device.is_transparent) (c.args.store.now.records ≤ 1 + length c.args.store.now.history) (archive_of c.args.store.now) c.args.received.now.dump
-          c.args.received.now.link c.args.moment run.came_to c.requires.few_records run.session;
+      session = run.session;
       reached = run.reached;
       outcome =
-          session_printed c.args.store.now.head c.args.received.now.asks (length c.args.store.now.history) c.args.received.now.dump c.args.received.now.link run.came_to c.in-Ok.whole run.summary
+          session_printed (receiving c.args.store.now.head c.args.received.now.graph c.args.received.now.link c.args.moment)
+          c.args.received.now.asks (length c.args.store.now.history) c.args.received.now.dump run.came_to c.in-Ok.whole run.summary
           run.answer_is (g.K.Sink.state c.args.sink.now).written (g.K.Sink.state c.print.new.sink).written c.print.result (sym c.refusal_of_rest.ensures ∙ c.in-None.is)
           (rw (front, run.reached.history, run.reached.head, c.as_slice.ensures) at c.print.ensures.printed) (rw (front, run.reached.history) at c.print.ensures.report);
     })
@@ -72,12 +72,11 @@ returns-in-Some-clause-session g c =
     let rows = ap length run.reached.history in
     let written = (g.K.Sink.state c.args.sink.now).written in record {
       came_to = run.came_to;
-      session =
-          known_session (IsTrue g.D.Disk.device.is_transparent) (c.args.store.now.records ≤ 1 + length c.args.store.now.history) (archive_of c.args.store.now) c.args.received.now.dump
-          c.args.received.now.link c.args.moment run.came_to c.requires.few_records run.session;
+      session = run.session;
       reached = run.reached;
       outcome =
-          session_bad c.args.store.now.head c.args.received.now.asks (length c.args.store.now.history) c.args.received.now.dump c.args.received.now.link run.came_to c.in-Ok.whole run.summary run.answer_is written written c.in-Some.refusal
+          session_bad (receiving c.args.store.now.head c.args.received.now.graph c.args.received.now.link c.args.moment)
+          c.args.received.now.asks (length c.args.store.now.history) c.args.received.now.dump run.came_to c.in-Ok.whole run.summary run.answer_is written written c.in-Some.refusal
           c.stopped.result (sym c.refusal_of_rest.ensures ∙ c.in-Some.is) refl (rw (front, rows) at c.stopped.ensures);
     }
 
@@ -89,13 +88,11 @@ returns-in-Err-clause-session g c =
     let rows = ap length run.reached.history in
     let written = (g.K.Sink.state c.args.sink.now).written in record {
       came_to = run.came_to;
-      session =
-          known_session (IsTrue g.D.Disk.device.is_transparent) (c.args.store.now.records ≤ 1 + length c.args.store.now.history) (archive_of c.args.store.now) c.args.received.now.dump
-          c.args.received.now.link c.args.moment run.came_to c.requires.few_records run.session;
+      session = run.session;
       reached = run.reached;
       outcome =
-          session_stopped c.args.store.now.head c.args.received.now.asks (IsKnown g.D.Disk.device c.args.store.now) (archive_of c.args.store.now) c.args.moment (length c.args.store.now.history) c.args.received.now.dump c.args.received.now.link
-          run.came_to run.session written written c.in-Err.refusal c.stopped-in-Err.result run.answer_is refl (rw (front, rows) at c.stopped-in-Err.ensures);
+          session_stopped (receiving c.args.store.now.head c.args.received.now.graph c.args.received.now.link c.args.moment) c.args.received.now.asks
+          (λ n. n ≡ c.args.store.now.records) c.args.store.now.history (length c.args.store.now.history) c.args.received.now.dump run.came_to run.session written written c.in-Err.refusal c.stopped-in-Err.result run.answer_is refl (rw (front, rows) at c.stopped-in-Err.ensures);
     }
 
 -- how many writes of the disk failed

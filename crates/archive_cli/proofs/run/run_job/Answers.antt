@@ -62,6 +62,17 @@ pub returns-in-Query-clause-due : goal.returns-in-Query-clause-due
 returns-in-Query-clause-due g c = λ transparent known.
     job_due g.D.Disk.device c.args.disk (g.I.Inputs.state c.args.inputs.now).files (g.C.Clock.state c.args.clock.now).next c.args.job _ c.query.result.report.refusal c.in-Query.is (c.query.ensures.due transparent known)
 
+pub returns-in-Sql-clause-ran : goal.returns-in-Sql-clause-ran
+returns-in-Sql-clause-ran g c =
+    let state = g.I.Inputs.state in
+    let went = effects_of c.args.disk c.query_sql.result.disk (g.K.Sink.state c.args.sink.now)
+    (g.K.Sink.state c.query_sql.new.sink) c.query_sql.result.report in
+    job_ran g.D.Disk.device went (g.I.Inputs.state c.args.inputs.now).files (g.C.Clock.state c.args.clock.now).next (state c.args.inputs.now) (state c.query_sql.new.inputs) c.args.job _ c.in-Sql.is c.query_sql.ensures.ran
+
+pub returns-in-Sql-clause-due : goal.returns-in-Sql-clause-due
+returns-in-Sql-clause-due g c = λ transparent known.
+    job_due g.D.Disk.device c.args.disk (g.I.Inputs.state c.args.inputs.now).files (g.C.Clock.state c.args.clock.now).next c.args.job _ c.query_sql.result.report.refusal c.in-Sql.is (c.query_sql.ensures.due transparent known)
+
 pub returns-in-Recover-clause-ran : goal.returns-in-Recover-clause-ran
 returns-in-Recover-clause-ran g c =
     let state = g.I.Inputs.state in
@@ -89,6 +100,9 @@ returns-in-Create-clause-clock g c = clock_unused (g.C.Clock.state c.args.clock.
 
 pub returns-in-Query-clause-clock : goal.returns-in-Query-clause-clock
 returns-in-Query-clause-clock g c = clock_unused (g.C.Clock.state c.args.clock.now)
+
+pub returns-in-Sql-clause-clock : goal.returns-in-Sql-clause-clock
+returns-in-Sql-clause-clock g c = clock_unused (g.C.Clock.state c.args.clock.now)
 
 pub returns-in-Recover-clause-clock : goal.returns-in-Recover-clause-clock
 returns-in-Recover-clause-clock g c = clock_unused (g.C.Clock.state c.args.clock.now)

@@ -54,5 +54,5 @@ returns-in-Values c = rw c.in-Values.is (record { found = c.read_arguments-in-Va
 pub returns-in-Create-clause-none : goal.returns-in-Create-clause-none
 returns-in-Create-clause-none c = rw c.in-Create.is c.read_arguments-in-Create.ensures.none
 
-pub returns-in-Load-clause-none : goal.returns-in-Load-clause-none
-returns-in-Load-clause-none c = rw c.in-Load.is c.read_arguments-in-Load.ensures.none
+pub returns-in-Load : goal.returns-in-Load
+returns-in-Load c = rw c.in-Load.is (record { found = c.read_arguments-in-Load.ensures.found; none = c.read_arguments-in-Load.ensures.none })

@@ -1,0 +1,4 @@
+pub mod SqlPlan
+pub mod Replies
+pub mod HeldParts
+pub mod RisingParts

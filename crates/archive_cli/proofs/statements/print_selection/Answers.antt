@@ -1,0 +1,13 @@
+use Rattle.std.proofs.Common.{◌++◌}
+use Rattle.archive_store.specs.StoreView.{archive_of}
+use Rattle.ssql_types.specs.declared.statement.TypedStatement.TheVariants.{Select}
+use Rattle.archive_cli.specs.sql_command.Statements.{statement_text}
+use Rattle.archive_cli.proofs.sql_command.Replies.{unprinted}
+use Rattle.archive_cli.proofs.statements.print_selection.Goals as goal
+
+pub returns-in-Ok : goal.returns-in-Ok
+returns-in-Ok g c = rw (c.in-Ok.ensures.text, c.requires.names) at c.print.ensures
+
+-- no memory
+pub returns-in-Err : goal.returns-in-Err
+returns-in-Err g c = rw c.memory_fault.ensures (unprinted (g.K.Sink.state c.args.sink.now) (c.args.line_buffer.now ++ statement_text (archive_of c.args.store.now) (Select c.args.query.now)))

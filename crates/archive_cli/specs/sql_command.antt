@@ -1,0 +1,3 @@
+pub mod Sql
+pub mod Statements
+pub mod Replying
