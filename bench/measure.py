@@ -1,4 +1,4 @@
-"""Runs program and peer in turn: processor time and peak memory, least of three rounds, and whether they print the same."""
+"""Runs program and peers in turn: processor time and peak memory, least of three rounds, and whether they print the same."""
 import hashlib, os, subprocess, sys, tempfile
 
 EVER = (0, 999_999_999_999_999)
@@ -8,6 +8,11 @@ REPLAYS = {
     "replay-name-day": (*DAY, "radio"),
     "replay-name": (*EVER, "radio"),
     "replay-all": EVER,
+}
+# an APID and sources
+SELECTS = {
+    "select-apid": ("5", "tm"),
+    "select-merge": ("all", "tm", "odd"),
 }
 
 
@@ -68,12 +73,45 @@ def measure_replays(bench, folder, program, size):
         compare(f"{label} {size}", [program, "query", "--ask", asks], peer, folder)
 
 
+def script_of(apid, *tables):
+    source = tables[0] if len(tables) == 1 else f"MERGE({', '.join(tables)})"
+    condition = "" if apid == "all" else f" WHERE apid = {apid}"
+    return f"SELECT gentime, seqNum, link, pname, length FROM {source}{condition}\n"
+
+
+def sqlite_of(folder, archive):
+    """The rows of the archive as tables of SQLite, made once."""
+    database = f"{archive}.sqlite"
+    if not os.path.exists(database):
+        rows = subprocess.Popen([f"{folder}/plain", "rows", archive], stdout=subprocess.PIPE)
+        subprocess.check_call([f"{folder}/sqlite", "make", database], stdin=rows.stdout)
+    return database
+
+
+def measure_selects(bench, folder, program, size):
+    """Of an archive of the same dump, with a table more for every second APID."""
+    dump, archive = dump_of(folder, size, "days"), f"{folder}/{size}.tables"
+    os.environ["YARCH_HOME"] = archive
+    if not os.path.exists(archive):
+        subprocess.check_call([program, "create", *sheets(f"{bench}/twelve"), f"{bench}/twelve/tables.sql"], stdout=subprocess.DEVNULL)
+    subprocess.check_call([program, "load", "--route", f"{bench}/twelve/route.sql", dump], stdout=subprocess.DEVNULL)
+    for label, words in SELECTS.items():
+        script = f"{folder}/{label}.sql"
+        with open(script, "w") as text:
+            text.write(script_of(*words))
+        ours = [program, "query", "--sql", script]
+        compare(f"{label} {size}", ours, [f"{folder}/plain", "select", archive, *words], folder)
+        if os.path.exists(f"{folder}/sqlite"):
+            compare(f"{label}-sqlite {size}", ours, [f"{folder}/sqlite", "select", sqlite_of(folder, archive), *words], folder)
+
+
 def main():
     bench, folder, program, sizes = sys.argv[1], sys.argv[2], sys.argv[3], " ".join(sys.argv[4:]).split()
     print("command packets  program-cpu-s peer-cpu-s ratio  program-MB peer-MB ratio  same")
     for size in sizes:
         measure_dumps(bench, folder, program, size)
         measure_replays(bench, folder, program, size)
+        measure_selects(bench, folder, program, size)
 
 
 main()

@@ -1,6 +1,8 @@
-//! The plain peers of `scan`, `values`, and of `query` with one replay of table `tm`: `plain scan DUMP`,
-//! `plain values PARAMETERS CALIBRATIONS CONTAINERS DUMP NAME`, and `plain replay FOLDER FROM TO [NAME..]`, for an archive's folder, times in
-//! milliseconds, and packet names, of which none stand for all.
+//! The plain peers of `scan`, `values`, and of `query` with one replay of table `tm` or one select: `plain scan DUMP`,
+//! `plain values PARAMETERS CALIBRATIONS CONTAINERS DUMP NAME`, `plain replay FOLDER FROM TO [NAME..]`, for an archive's folder, times in
+//! milliseconds, and packet names, of which none stand for all, and `plain select FOLDER APID TABLE..`, which prints what
+//! `SELECT gentime, seqNum, link, pname, length FROM MERGE(TABLE, ..) WHERE apid = APID` selects, without the condition where APID is `all`.
+//! `plain rows FOLDER` prints all rows, a line each, from which `sqlite.c` makes its tables.
 
 use std::collections::btree_map::Entry;
 use std::collections::BTreeMap;
@@ -274,20 +276,28 @@ impl<'a> Reader<'a> {
     }
 }
 
-/// A row of table `tm`, whose packet stands in the journal.
+/// A row, whose packet stands in the journal.
 struct Row<'a> {
     key: (i64, u32),
+    received: i64,
     link: u8,
     pname: u16,
     packet: &'a [u8],
 }
 
-/// What a journal holds: the packet names, how many rows it has, and those of table `tm`, in key order.
+impl Row<'_> {
+    fn apid(&self) -> u64 {
+        number(&self.packet[..2]) & 2047
+    }
+}
+
+/// What a journal holds: the tables, `tm` first, the packet names, how many rows it has, and those of each table, in key order.
 #[derive(Default)]
 struct Archive<'a> {
+    tables: Vec<&'a str>,
     names: Vec<&'a str>,
     front: usize,
-    rows: Vec<Row<'a>>,
+    rows: Vec<Vec<Row<'a>>>,
 }
 
 impl<'a> Archive<'a> {
@@ -303,16 +313,19 @@ impl<'a> Archive<'a> {
                 kind => panic!("an entry of kind {kind}"),
             }
         }
-        archive.rows.sort_by_key(|row| row.key);
-        assert!(archive.rows.windows(2).all(|pair| pair[0].key < pair[1].key), "a key stands twice");
+        for rows in &mut archive.rows {
+            rows.sort_by_key(|row| row.key);
+            assert!(rows.windows(2).all(|pair| pair[0].key < pair[1].key), "a key stands twice");
+        }
         archive
     }
 
-    /// Takes the names of the containers, which stand behind the tables, the parameters and the calibrations.
+    /// Takes the names of the tables, and those of the containers, which stand behind the parameters and the calibrations.
     fn head(&mut self, head: &mut Reader<'a>) {
         assert_eq!(head.take(2), [1, 22]);
         for _ in 0..head.number(1) {
-            head.name();
+            self.tables.push(head.name());
+            self.rows.push(Vec::new());
         }
         for _ in 0..head.number(2) {
             head.name();
@@ -347,9 +360,7 @@ impl<'a> Archive<'a> {
             let pname = batch.number(2) as u16;
             let packet = batch.packet();
             self.front += 1;
-            if table == 0 {
-                self.rows.push(Row { key: key_of(packet, received), link, pname, packet });
-            }
+            self.rows[table].push(Row { key: key_of(packet, received), received, link, pname, packet });
         }
     }
 }
@@ -361,17 +372,22 @@ fn key_of(p: &[u8], received: i64) -> (i64, u32) {
     (time as i64, number(&p[..4]) as u32)
 }
 
+fn journal_of(folder: &str) -> Vec<u8> {
+    std::fs::read(format!("{folder}/00000000")).unwrap()
+}
+
 fn replay(words: &[String], out: &mut impl Write) {
-    let journal = std::fs::read(format!("{}/00000000", words[0])).unwrap();
+    let journal = journal_of(&words[0]);
     let archive = Archive::read(&journal);
     let (from, to): (i64, i64) = (words[1].parse().unwrap(), words[2].parse().unwrap());
     let asked = |name: &str| words.len() == 3 || words[3..].iter().any(|word| word == name);
     let asked: Vec<bool> = archive.names.iter().map(|name| asked(name)).collect();
-    let first = archive.rows.partition_point(|row| row.key.0 < from);
-    let end = archive.rows.partition_point(|row| row.key.0 < to);
+    let rows = &archive.rows[0];
+    let first = rows.partition_point(|row| row.key.0 < from);
+    let end = rows.partition_point(|row| row.key.0 < to);
     let mut count = 0u64;
     writeln!(out, "ask 1 front {}", archive.front).unwrap();
-    for row in archive.rows[first..end].iter().filter(|row| asked[row.pname as usize]) {
+    for row in rows[first..end].iter().filter(|row| asked[row.pname as usize]) {
         let (time, seq) = row.key;
         let name = archive.names[row.pname as usize];
         writeln!(out, "packet tm {time} {seq} {} {name} {}", row.link, row.packet.len()).unwrap();
@@ -380,12 +396,72 @@ fn replay(words: &[String], out: &mut impl Write) {
     writeln!(out, "end {count}").unwrap();
 }
 
+/// Year, month and day of a day since 1970.
+fn date(day: i64) -> (i64, i64, i64) {
+    // the year begins in March: so the leap day is its last
+    let days = day + 719_468;
+    let (era, day_of_era) = (days.div_euclid(146_097), days.rem_euclid(146_097));
+    let year = (day_of_era - day_of_era / 1460 + day_of_era / 36_524 - day_of_era / 146_096) / 365;
+    let day_of_year = day_of_era - (365 * year + year / 4 - year / 100);
+    let month = (5 * day_of_year + 2) / 153;
+    let month_of_year = if month < 10 { month + 3 } else { month - 9 };
+    (400 * era + year + i64::from(month_of_year <= 2), month_of_year, day_of_year - (153 * month + 2) / 5 + 1)
+}
+
+fn time_text(out: &mut impl Write, time: i64) {
+    let (year, month, day) = date(time.div_euclid(86_400_000));
+    let (seconds, millis) = (time.div_euclid(1000).rem_euclid(86_400), time.rem_euclid(1000));
+    let (hours, minutes) = (seconds / 3600, seconds / 60 % 60);
+    write!(out, "{year:04}-{month:02}-{day:02}T{hours:02}:{minutes:02}:{:02}.{millis:03}", seconds % 60).unwrap();
+}
+
+/// The rows of some tables that have an APID, or all, by key; those that tie stand in the order of the tables.
+fn selected<'a>(archive: &'a Archive<'a>, apid: Option<u64>, tables: &[String]) -> Vec<&'a Row<'a>> {
+    let mut selected = Vec::new();
+    for word in tables {
+        let table = archive.tables.iter().position(|table| table == word).unwrap();
+        selected.extend(archive.rows[table].iter().filter(|row| apid.is_none_or(|apid| row.apid() == apid)));
+    }
+    if tables.len() > 1 {
+        // the rows of each table stand in order: the sort merges these runs
+        selected.sort_by_key(|row| row.key);
+    }
+    selected
+}
+
+fn select(words: &[String], out: &mut impl Write) {
+    let journal = journal_of(&words[0]);
+    let archive = Archive::read(&journal);
+    let apid = if words[1] == "all" { None } else { Some(words[1].parse().unwrap()) };
+    let rows = selected(&archive, apid, &words[2..]);
+    for row in &rows {
+        time_text(out, row.key.0);
+        writeln!(out, " {} {} {} {}", row.key.1, row.link, archive.names[row.pname as usize], row.packet.len()).unwrap();
+    }
+    writeln!(out, "select {}", rows.len()).unwrap();
+}
+
+fn rows(words: &[String], out: &mut impl Write) {
+    let journal = journal_of(&words[0]);
+    let archive = Archive::read(&journal);
+    for (table, rows) in archive.tables.iter().zip(&archive.rows) {
+        for row in rows {
+            let ((time, seq), name) = (row.key, archive.names[row.pname as usize]);
+            write!(out, "{table} {time} {seq} {} {} {name} ", row.received, row.link).unwrap();
+            row.packet.iter().for_each(|octet| write!(out, "{octet:02x}").unwrap());
+            out.write_all(b"\n").unwrap();
+        }
+    }
+}
+
 fn main() {
     let words: Vec<String> = std::env::args().skip(1).collect();
     let mut out = std::io::BufWriter::with_capacity(65_536, std::io::stdout().lock());
     match words[0].as_str() {
         "scan" => scan(&words[1..], &mut out),
         "values" => values(&words[1..], &mut out),
+        "select" => select(&words[1..], &mut out),
+        "rows" => rows(&words[1..], &mut out),
         _ => replay(&words[1..], &mut out),
     }
 }

@@ -4,7 +4,7 @@
 // them would first have to be shown to lie in its file.
 ghost use Rattle.std.specs.Prelude.{◌≡◌};
 
-use arch_disk::{Crash, Disk, MemDisk, OpaqueDisk};
+use arch_disk::{Crash, Disk, FaultCounts, MemDisk, OpaqueDisk};
 use std::alloc::{AllocError, Global};
 use std::marker::Send;
 use std::test::Fail;
@@ -284,4 +284,12 @@ fn a_silent_disk_refuses_ranges_outside(rt: HostRuntime) -> Result<(), Fail> {
     assert_eq!(rt; (other, faults), (None, 2));
     assert_eq!(rt; disk.content(0), b"he".as_slice());
     Ok(())
+}
+
+#[test]
+fn failed_writes_are_counted_apart(rt: HostRuntime) {
+    let mut counts = FaultCounts::NONE;
+    let _look = counts.look_failed();
+    let _write = counts.write_failed();
+    assert_eq!(rt; (counts.faults, counts.failed_writes), (2, 1));
 }

@@ -9,7 +9,7 @@ use arch_types::refusal::{BadKind, Refusal, Sheet, Which};
 use arch_types::row::{Row, Rows};
 use std::alloc::{AllocError, Global};
 use std::test::Fail;
-use text_forms::is_name;
+use text_forms::{is_clock_time, is_name};
 
 const STATUSES: [(Refusal, u8); 15] = [
     (Refusal::Usage, 1),
@@ -52,6 +52,37 @@ const STATUSES: [(Refusal, u8); 15] = [
 fn statuses(rt: HostRuntime) {
     for (refusal, status) in STATUSES {
         assert_eq!(rt; refusal.status(), status);
+    }
+}
+
+const LIMITS: [(Which, u64); 6] = [
+    (Which::DumpOctets, 268_435_456),
+    (Which::Dumps, 16),
+    (Which::Links, 255),
+    (Which::Asks, 256),
+    (Which::Statements, 256),
+    (Which::Tables, 16),
+];
+
+#[test]
+fn limits(rt: HostRuntime) {
+    for (which, limit) in LIMITS {
+        assert_eq!(rt; which.limit(), limit);
+    }
+}
+
+/// Times, and whether the clock may tell them: the years from 1970 to 9999.
+const CLOCK_TIMES: [(i64, bool); 4] = [
+    (-1, false),
+    (0, true),
+    (253_402_300_799_999, true),
+    (253_402_300_800_000, false),
+];
+
+#[test]
+fn times_of_the_clock(rt: HostRuntime) {
+    for (time, is) in CLOCK_TIMES {
+        assert_eq!(rt; is_clock_time(time), is);
     }
 }
 

@@ -32,7 +32,7 @@ enum Deed {
 }
 
 /// Deeds and their replies. An interval has 4,194,304 milliseconds. The rows were all received much later than their times.
-const RUN: [(Deed, &str); 32] = [
+const RUN: [(Deed, &str); 34] = [
     (Deed::Begin, "no task"),
     (Deed::Values(b"v", 0, 2000, false, None), "values 0:"),
     (Deed::Ingest(&[(0, 1500, 10, 42, 0)]), "ingested +0"),
@@ -88,10 +88,13 @@ const RUN: [(Deed, &str); 32] = [
     (Deed::Replay(b"hk", 5, 4, None, None), "bad range 5 4"),
     (Deed::Values(b"zz", 5, 4, false, None), "unknown parameter"),
     (Deed::Values(b"v", 5, 4, false, None), "bad range 5 4"),
+    // the first row behind the base of an interval's last fill
+    (Deed::Ingest(&[(0, 1300, 13, 6, 0)]), "ingested +5"),
+    (Deed::Begin, "task 0 6: 1300/13 1400/12 1500/10 1500/11"),
 ];
 
 /// The run, as a value of which a proof knows its type alone.
-fn run_of_all_events() -> [(Deed, &'static str); 32] {
+fn run_of_all_events() -> [(Deed, &'static str); 34] {
     RUN
 }
 
@@ -193,8 +196,8 @@ fn each_event_has_its_reply(rt: HostRuntime) -> Result<(), Fail> {
         let reply = core.step(alloc, &event)?;
         assert_eq!(rt; reply_text(alloc, &reply)?.as_str(), wanted);
     }
-    assert_eq!(rt; core.rows().len(), 5);
-    assert_eq!(rt; core.fills().len(), 8);
+    assert_eq!(rt; core.rows().len(), 6);
+    assert_eq!(rt; core.fills().len(), 9);
     Ok(())
 }
 
@@ -207,7 +210,7 @@ fn a_run_has_the_same_replies(rt: HostRuntime) -> Result<(), Fail> {
         events.push(event(alloc, 0, &deed)?)?;
     }
     let replies = core.run(alloc, events.as_slice())?;
-    assert_eq!(rt; replies.len(), 32);
+    assert_eq!(rt; replies.len(), 34);
     for (reply, (_, wanted)) in replies.as_slice().iter().zip(run_of_all_events()) {
         assert_eq!(rt; reply_text(alloc, reply)?.as_str(), wanted);
     }

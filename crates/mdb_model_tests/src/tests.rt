@@ -58,6 +58,14 @@ fn each_calibration_text() -> &'static str {
     EACH_CALIBRATION
 }
 
+// Those with another coefficient.
+const OTHER_CALIBRATION: &str =
+    "name,kind,x,y|k,poly,0,-10|k,poly,1,0.02|p,points,-2,0|p,points,03,-1.0|e,enum,-0,OFF|e,enum,18446744073709551615,ON ~";
+
+fn other_calibration_text() -> &'static str {
+    OTHER_CALIBRATION
+}
+
 const EACH_CONTAINER: &str =
     "container,parent,condition,archive,entry,position|R,,,,a,5|,,,,b,+5|S.1/x-y,R, a==1; a != 2;a<3;a<=4 ;a>5;b >= -6 ,yes,,|T,S.1/x-y,,no,c,|,,,,d,000100";
 
@@ -596,9 +604,9 @@ fn equal_databases(rt: HostRuntime) -> Result<(), Fail> {
     let again = each(rt.alloc())?;
     let other = check(
         rt.alloc(),
-        labelled_text(),
-        labels_text(),
-        labelled_root_text(),
+        each_parameter_text(),
+        other_calibration_text(),
+        each_container_text(),
     )?;
     assert_eq!(rt; mdb.equals(&again), true);
     assert_eq!(rt; mdb.equals(&other), false);

@@ -33,7 +33,7 @@ fn partition_before_1970(rt: HostRuntime) {
 }
 
 /// Times of rows, and their packet names.
-const ROWS: [(i64, u16); 9] = [
+const ROWS: &[(i64, u16)] = &[
     (5 * DAY + 7, 5),
     (-1, 3),
     (i64::MAX, 9),
@@ -44,6 +44,11 @@ const ROWS: [(i64, u16); 9] = [
     (0, 3),
     (i64::MIN, 9),
 ];
+
+/// It is a function, as each table below is, so that it stands in no goal of its callers.
+fn rows() -> &'static [(i64, u16)] {
+    ROWS
+}
 
 fn held(alloc: Global, rows: &[(i64, u16)]) -> Result<Partitions, AllocError> {
     let mut held = Partitions::new(alloc);
@@ -57,7 +62,7 @@ fn held(alloc: Global, rows: &[(i64, u16)]) -> Result<Partitions, AllocError> {
 /// A range, names, and the partitions left of those of the rows.
 type Ask = (i64, i64, Option<&'static [u16]>, &'static [(i64, u16)]);
 
-const ASKS: [Ask; 10] = [
+const ASKS: &[Ask] = &[
     (
         i64::MIN,
         i64::MAX,
@@ -88,6 +93,10 @@ const ASKS: [Ask; 10] = [
     (0, 6 * DAY, Some(&[]), &[]),
 ];
 
+fn asks() -> &'static [Ask] {
+    ASKS
+}
+
 fn bounds(alloc: Global, from: i64, to: i64, names: Option<&[u16]>) -> Result<Bounds, AllocError> {
     let names = match names {
         Some(names) => Some(listed(alloc, names)?),
@@ -108,10 +117,10 @@ fn pruned(
 #[test]
 fn prunes(rt: HostRuntime) -> Result<(), Fail> {
     let alloc = rt.alloc();
-    let held = held(alloc, &ROWS)?;
-    for (from, to, names, want) in ASKS {
-        let parts = pruned(alloc, &held, &bounds(alloc, from, to, names)?)?;
-        assert_eq!(rt; parts.as_slice(), want, "from {from} to {to}");
+    let held = held(alloc, rows())?;
+    for (from, to, names, want) in asks() {
+        let parts = pruned(alloc, &held, &bounds(alloc, *from, *to, *names)?)?;
+        assert_eq!(rt; parts.as_slice(), *want, "from {from} to {to}");
     }
     Ok(())
 }
@@ -119,7 +128,7 @@ fn prunes(rt: HostRuntime) -> Result<(), Fail> {
 /// A partition, and the places of its rows, the last first.
 type PartitionPlaces = (i64, u16, &'static [usize]);
 
-const PLACES: [PartitionPlaces; 8] = [
+const PLACES: &[PartitionPlaces] = &[
     (-106_751_991_168, 9, &[8]),
     (-1, 3, &[1]),
     (0, 3, &[7, 4, 3]),
@@ -129,6 +138,10 @@ const PLACES: [PartitionPlaces; 8] = [
     (106_751_991_167, 9, &[2]),
     (0, 5, &[]),
 ];
+
+fn partition_places() -> &'static [PartitionPlaces] {
+    PLACES
+}
 
 fn places(alloc: Global, held: &Partitions, part: Partition) -> Result<Vec<usize>, AllocError> {
     let mut places = Vec::new(alloc);
@@ -141,11 +154,14 @@ fn places(alloc: Global, held: &Partitions, part: Partition) -> Result<Vec<usize
 #[test]
 fn places_of_one_partition(rt: HostRuntime) -> Result<(), Fail> {
     let alloc = rt.alloc();
-    let held = held(alloc, &ROWS)?;
-    for (day, pname, want) in PLACES {
-        let part = Partition { day, pname };
+    let held = held(alloc, rows())?;
+    for (day, pname, want) in partition_places() {
+        let part = Partition {
+            day: *day,
+            pname: *pname,
+        };
         let places = places(alloc, &held, part)?;
-        assert_eq!(rt; places.as_slice(), want, "day {day} name {pname}");
+        assert_eq!(rt; places.as_slice(), *want, "day {day} name {pname}");
         assert_eq!(rt; held.row_count(part), want.len());
     }
     Ok(())
@@ -163,7 +179,7 @@ fn taken(mut steps: ChainSteps<'_>) -> usize {
 
 #[test]
 fn steps_along_chains(rt: HostRuntime) -> Result<(), Fail> {
-    let held = held(rt.alloc(), &ROWS)?;
+    let held = held(rt.alloc(), rows())?;
     // three rows, none, and one
     let parts = [
         Partition { day: 0, pname: 3 },
@@ -176,7 +192,7 @@ fn steps_along_chains(rt: HostRuntime) -> Result<(), Fail> {
 }
 
 /// Ranges, and whether they have all times of the days from 0 to 1.
-const WHOLE_DAYS: [(i64, i64, bool); 6] = [
+const WHOLE_DAYS: &[(i64, i64, bool)] = &[
     (0, 2 * DAY, true),
     (-5, i64::MAX, true),
     (1, 2 * DAY, false),
@@ -186,15 +202,19 @@ const WHOLE_DAYS: [(i64, i64, bool); 6] = [
     (i64::MIN, i64::MAX, false),
 ];
 
+fn whole_days() -> &'static [(i64, i64, bool)] {
+    WHOLE_DAYS
+}
+
 #[test]
 fn ranges_of_whole_days(rt: HostRuntime) -> Result<(), Fail> {
     let alloc = rt.alloc();
-    let held = held(alloc, &ROWS)?;
+    let held = held(alloc, rows())?;
     let parts = held.pruned(&bounds(alloc, 0, 2 * DAY, None)?)?;
-    for (from, to, want) in WHOLE_DAYS {
+    for (from, to, want) in whole_days() {
         assert_eq!(rt;
-            are_whole_days(parts.as_slice(), from, to),
-            want,
+            are_whole_days(parts.as_slice(), *from, *to),
+            *want,
             "from {from} to {to}"
         );
     }

@@ -41,7 +41,7 @@ fn reads_headers(rt: HostRuntime) {
 fn splits_dumps(rt: HostRuntime) -> Result<(), AllocError> {
     let alloc = rt.alloc();
     let idle: [u8; 7] = [7, 0xFF, 0xC0, 0, 0, 0, 0];
-    let timeless: [u8; 7] = [0, 0x65, 0xC0, 1, 0, 0, 7];
+    let timeless: [u8; 12] = [0, 0x65, 0xC0, 1, 0, 5, 0, 0, 0, 1, 0x80, 0];
     let first: [u8; 12] = [8, 0x64, 0xC0, 0, 0, 5, 0, 0, 0x10, 0x62, 0x4D, 0xD2];
     let short: [u8; 11] = [8, 0x64, 0xC0, 0, 0, 4, 0, 0, 0x10, 0x62, 0x4D];
     let second: [u8; 12] = [8, 0x64, 0xC0, 0, 0, 5, 0, 0, 0x10, 0x62, 0x4D, 0xD3];
@@ -57,11 +57,11 @@ fn splits_dumps(rt: HostRuntime) -> Result<(), AllocError> {
         dump.extend_from_slice(piece)?;
     }
     let whole = split(alloc, &Octets::from_slice(alloc, dump.as_slice())?)?;
-    assert_eq!(rt; (whole.at, whole.why), (62, Why::End));
+    assert_eq!(rt; (whole.at, whole.why), (67, Why::End));
     let wants = [
         (13, false, 1500, 140820480),
         (7, true, 9000, 134201344),
-        (7, false, 9000, 6668289),
+        (12, false, 9000, 6668289),
         (12, false, 4194303, 140820480),
         (12, false, 4194304, 140820480),
         (11, false, 9000, 140820480),
@@ -84,6 +84,7 @@ fn tells_what_octets_begin_with(rt: HostRuntime) {
         (TIMED.as_slice(), Ok(13)),
         (TIMED.split_at(12).0, Err(Why::Truncated)),
         (TIMED.split_at(1).0, Err(Why::Truncated)),
+        ([0x1F, 0x64, 0xC0, 0, 0, 0, 7].as_slice(), Ok(7)),
         ([0x28].as_slice(), Err(Why::Version)),
         ([].as_slice(), Err(Why::End)),
     ] {

@@ -75,12 +75,14 @@ fn rows_at_a_front(rt: HostRuntime) -> Result<(), Fail> {
 }
 
 /// A front, a range, and the positions of the rows in it.
-const RANGES: [(u64, i64, i64, &[i64]); 5] = [
+const RANGES: [(u64, i64, i64, &[i64]); 6] = [
     (6, 1500, 9000, &[2, 1]),
     (6, 1500, 9001, &[2, 1, 5]),
     (2, 1500, 9001, &[1]),
     (6, i64::MIN, i64::MAX, &[3, 2, 1, 5]),
     (6, 9000, 1500, &[]),
+    // the first number of a time
+    (6, 9000, 9001, &[5]),
 ];
 
 #[test]

@@ -1,0 +1,2 @@
+INSERT INTO tm SELECT * FROM tm_in;
+INSERT INTO odd SELECT * FROM tm_in WHERE apid IN (1, 3, 5, 7, 9, 11);
