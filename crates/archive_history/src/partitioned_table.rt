@@ -12,7 +12,7 @@ ghost use Rattle.partitions.specs.Rows.{is_of_partition, is_of_parts, partitions
 ghost use Rattle.yarch_table.specs.Stored.{seen_at, seen_between, rows_of, IsInserted, IsKeptAt};
 ghost use Rattle.archive_history.specs.PartitionedTable.{named_times_of, rows_at_places};
 
-use crate::ranged::rows_in_steps;
+use crate::ranged::{rows_all_of_parts, rows_in_steps};
 use arch_types::inserted::Inserted;
 use arch_types::key::Key;
 use arch_types::row::{Row, Rows};
@@ -168,9 +168,10 @@ impl PartitionedTable {
         Ok(in_key_order(rows))
     }
 
-    /// The rows of some partitions with a position below the front and `from <= time < to`, in the order of their keys. Of whole days
-    /// the partitions are read. Else the rows of the range are looked at, as many as the partitions have, and those behind the front
-    /// passed over uncounted; only where the range has more the partitions are read too. The one error is want of memory.
+    /// The rows of some partitions with a position below the front and `from <= time < to`, in the order of their keys. The rows of
+    /// the range are looked at, of whole days as long as they are of the partitions, else as many as the partitions have, and those
+    /// behind the front passed over uncounted; only where the range has others, or more, the partitions are read too. The one error
+    /// is want of memory.
     pub fn rows_between(
         &self,
         alloc: Global,
@@ -189,7 +190,8 @@ impl PartitionedTable {
         }
     }
 
-    /// The same by the index of keys, unless the partitions have fewer rows.
+    /// The same by the index of keys, unless the range has rows of other partitions in whole days, or more rows than the
+    /// partitions.
     fn rows_by_keys(
         &self,
         alloc: Global,
@@ -202,11 +204,11 @@ impl PartitionedTable {
         ensures { IfOk result (λ found. IfSome found (λ rows. rows
             ≡ filter (is_of_parts parts.now) (seen_between front from to self.now.stored))) }
     {
-        // Among the rows of whole days are all of the partitions.
-        if are_whole_days(parts, from, to) {
-            return Ok(None);
-        }
         let range = self.table.range_at(front, from, to);
+        // Among the rows of whole days are all of the partitions: the index serves where there are no others.
+        if are_whole_days(parts, from, to) {
+            return rows_all_of_parts(alloc, range, parts);
+        }
         rows_in_steps(alloc, range, parts, self.partitions.steps_of(parts))
     }
 

@@ -35,3 +35,22 @@ pub(crate) fn rows_in_steps(
     }
     Ok(Some(rows))
 }
+
+/// The rows of a range, in its order, unless one of them stands in none of some partitions. The one error is want of memory.
+pub(crate) fn rows_all_of_parts(
+    alloc: Global,
+    mut range: TableRows<'_>,
+    parts: &[Partition],
+) -> Result<Option<Rows>, AllocError>
+    requires { AreRising parts.now }
+    ensures { IfOk result (λ found. IfSome found (λ rows. rows ≡ filter (is_of_parts parts.now) range.entry)) }
+{
+    let mut rows = Rows::new(alloc);
+    while let Some(row) = range.next() {
+        if !is_of_parts(parts, row) {
+            return Ok(None);
+        }
+        rows.push(row.copy()?)?;
+    }
+    Ok(Some(rows))
+}

@@ -1,2 +1,3 @@
 pub mod Flying
 pub mod Marked
+pub mod Runs

@@ -18,8 +18,9 @@ use Rattle.history_items.specs.Items.{Item, is_row_of_interval}
 use Rattle.history_items.specs.Fills.{is_same, base_in, base_after, in_flight, flight_after, reopened, cleared as fill_cleared}
 use Rattle.history_items.specs.Late.{IsLate, IsLastIn, last_in, is_late_in}
 use Rattle.history_items.proofs.FillLists.{base_after_item, flight_after_item, base_in-reopened, in_flight-reopened}
-use Rattle.history_items.proofs.Late.{last_is_greatest, last_after_item, late_by_last}
-use Rattle.fill_tracker.specs.FillTracker.{AreMarksOf, mark_by}
+use Rattle.history_items.proofs.Late.{last_is_greatest, late_by_last}
+use Rattle.fill_tracker.specs.FillTracker.{AreMarksOf, AreOfOneInterval, mark_by}
+use Rattle.fill_tracker.proofs.Runs.{last_behind, like_first}
 use Rattle.interval_fills.specs.Steps.{IsLateFree, IsNextToFill, state_of}
 use Rattle.interval_fills.proofs.Freed.{is_itself}
 use Rattle.interval_fills.proofs.Steps.{same_interval}
@@ -234,7 +235,7 @@ all_written n items written all is =
     let same : n ≡ length written = all ∙ sym (length-map items fill_cleared) ∙ sym (ap length is) in
     ap (λ (k : ℕ). take k (written ++ drop (length written) items)) same ∙ take-append_seam written (drop (length written) items) ∙ is
 
--- ---- one row more
+-- ---- a run of rows more
 
 elsewhere : (table : ℕ) → (table ≡ 0 → ⊥) → eqb table 0 ≡ false
 elsewhere table other = grind (arith, nat_tests, other)
@@ -242,60 +243,57 @@ elsewhere table other = grind (arith, nat_tests, other)
 in_first : (table : ℕ) → table ≡ 0 → eqb table 0 ≡ true
 in_first table is = rw is refl
 
-pub untouched : (e : ℕ) (history : List Item) (fills : List Fill) (marks : Marks) (row : Row) → (row.table ≡ 0 → ⊥) → AreMarksOf e history fills marks → AreMarksOf e (history ++ row ∷ []) fills marks
-untouched e history fills marks row other are = record {
+pub untouched : (e : ℕ) (history : List Item) (fills : List Fill) (marks : Marks) (first : Row) (rest : List Row) → AreOfOneInterval e (first ∷ rest) → (first.table ≡ 0 → ⊥) → AreMarksOf e history fills marks
+    → AreMarksOf e (history ++ first ∷ rest) fills marks
+untouched e history fills marks first rest run other are = record {
   each = λ j. are.each j ∙ ap (λ (o : Option ℕ). mark_by o (base_in j fills) (is_some (in_flight j fills))) (sym (same j));
   known = λ j none. are.known j (sym (same j) ∙ none);
 }
   where
-    same : (j : Interval) → last_in e j (history ++ row ∷ []) ≡ last_in e j history
-    same j = last_after_item e j history row ∙ (let not_tm = elsewhere row.table other in rw not_tm refl)
+    same : (j : Interval) → last_in e j (history ++ first ∷ rest) ≡ last_in e j history
+    same j = last_behind e j history first rest (like_first e j first rest run) ∙ (let not_tm = elsewhere first.table other in rw not_tm refl)
 
-pub touches : (e : ℕ) (history : List Item) (fills : List Fill) (old new : Marks) (row : Row) (i : Interval) → row.table ≡ 0 → i.0 ≡ interval_of e row.key.time → AreMarksOf e history fills old
-    → Marked old new i (touched (mark_of old i) (length history)) → AreMarksOf e (history ++ row ∷ []) fills new
-touches e history fills old new row i table time are marked = record { each = λ j. at j (is_same j i) refl; known = λ j none. known_at j (is_same j i) refl none }
+pub touches : (e : ℕ) (history : List Item) (fills : List Fill) (old new : Marks) (first : Row) (rest : List Row) (i : Interval) (last : ℕ) → last ≡ length history + length rest → AreOfOneInterval e (first ∷ rest)
+    → first.table ≡ 0 → i.0 ≡ interval_of e first.key.time → AreMarksOf e history fills old → Marked old new i (touched (mark_of old i) last) → AreMarksOf e (history ++ first ∷ rest) fills new
+touches e history fills old new first rest i last end run table time are marked = record { each = λ j. at j (is_same j i) refl; known = λ j none. known_at j (is_same j i) refl none }
   where
-    in_tm : eqb row.table 0 ≡ true
-    in_tm = in_first row.table table
+    in_tm : eqb first.table 0 ≡ true
+    in_tm = in_first first.table table
 
-    passes : is_row_of_interval e i row ≡ true
-    passes = let same : int_eq (interval_of e row.key.time) i.0 ≡ true = (Decides-int_eq (interval_of e row.key.time) i.0).1 (sym time) in rw (in_tm, same) refl
+    passes : is_row_of_interval e i first ≡ true
+    passes = let same : int_eq (interval_of e first.key.time) i.0 ≡ true = (Decides-int_eq (interval_of e first.key.time) i.0).1 (sym time) in rw (in_tm, same) refl
 
-    last_here : last_in e i (history ++ row ∷ []) ≡ Some (length history)
-    last_here = last_after_item e i history row ∙ (rw passes refl)
+    last_here : last_in e i (history ++ first ∷ rest) ≡ Some last
+    last_here = last_behind e i history first rest (like_first e i first rest run) ∙ (rw passes (ap Some (sym end)))
 
-    fails : (j : Interval) → is_same j i ≡ false → is_row_of_interval e j row ≡ false
-    fails j same = go (int_eq (interval_of e row.key.time) j.0) refl
+    fails : (j : Interval) → is_same j i ≡ false → is_row_of_interval e j first ≡ false
+    fails j same = go (int_eq (interval_of e first.key.time) j.0) refl
       where
-        go : (b : Bool) → int_eq (interval_of e row.key.time) j.0 ≡ b → is_row_of_interval e j row ≡ false
-        go true is = absurd (true≢false (sym ((Decides-int_eq j.0 i.0).1 (sym ((Decides-int_eq (interval_of e row.key.time) j.0).0 is) ∙ sym time)) ∙ same))
+        go : (b : Bool) → int_eq (interval_of e first.key.time) j.0 ≡ b → is_row_of_interval e j first ≡ false
+        go true is = absurd (true≢false (sym ((Decides-int_eq j.0 i.0).1 (sym ((Decides-int_eq (interval_of e first.key.time) j.0).0 is) ∙ sym time)) ∙ same))
         go false is = rw (in_tm, is) refl
 
-    last_there : (j : Interval) → is_same j i ≡ false → last_in e j (history ++ row ∷ []) ≡ last_in e j history
-    last_there j same = last_after_item e j history row ∙ (let is = fails j same in rw is refl)
+    last_there : (j : Interval) → is_same j i ≡ false → last_in e j (history ++ first ∷ rest) ≡ last_in e j history
+    last_there j same = last_behind e j history first rest (like_first e j first rest run) ∙ (let is = fails j same in rw is refl)
 
-    marked_as : (o b f : Option ℕ) → (o ≡ None → (b ≡ None) × (f ≡ None)) → ((last : ℕ) → o ≡ Some last → last < length history) → Some (touched (mark_by o b (is_some f)) (length history)) ≡ mark_by (Some (length history)) b (is_some f)
+    marked_as : (o b f : Option ℕ) → (o ≡ None → (b ≡ None) × (f ≡ None)) → ((before : ℕ) → o ≡ Some before → before < length history) → Some (touched (mark_by o b (is_some f)) last) ≡ mark_by (Some last) b (is_some f)
     marked_as None b f none below =
         let p = none refl in
-        ap (λ (x : Option ℕ). Some (mark (length history) x false)) (sym p.0) ∙ ap (λ (x : Option ℕ). Some (mark (length history) b (is_some x))) (sym p.1)
-    marked_as (Some last) b f none below =
-        let most : max last (length history) ≡ length history = omega (arith, below last refl) in
+        ap (λ (x : Option ℕ). Some (mark last x false)) (sym p.0) ∙ ap (λ (x : Option ℕ). Some (mark last b (is_some x))) (sym p.1)
+    marked_as (Some before) b f none below =
+        let most : max before last ≡ last = omega (arith, below before refl, end) in
         ap (λ (n : ℕ). Some (mark n b (is_some f))) most
 
-    here : mark_of new i ≡ mark_by (last_in e i (history ++ row ∷ [])) (base_in i fills) (is_some (in_flight i fills))
+    here : mark_of new i ≡ mark_by (last_in e i (history ++ first ∷ rest)) (base_in i fills) (is_some (in_flight i fills))
     here =
-        marked.set ∙ ap (λ (m : Option Mark). Some (touched m (length history))) (are.each i)
-        ∙ marked_as (last_in e i history) (base_in i fills) (in_flight i fills) (are.known i) (λ last is. last_below e i history last is)
+        marked.set ∙ ap (λ (m : Option Mark). Some (touched m last)) (are.each i)
+        ∙ marked_as (last_in e i history) (base_in i fills) (in_flight i fills) (are.known i) (λ before is. last_below e i history before is)
         ∙ ap (λ (o : Option ℕ). mark_by o (base_in i fills) (is_some (in_flight i fills))) (sym last_here)
 
-    at : (j : Interval) (b : Bool) → is_same j i ≡ b → mark_of new j ≡ mark_by (last_in e j (history ++ row ∷ [])) (base_in j fills) (is_some (in_flight j fills))
-    at j true same = subst (λ (k : Interval). mark_of new k ≡ mark_by (last_in e k (history ++ row ∷ [])) (base_in k fills) (is_some (in_flight k fills))) (sym (same_interval j i same)) here
+    at : (j : Interval) (b : Bool) → is_same j i ≡ b → mark_of new j ≡ mark_by (last_in e j (history ++ first ∷ rest)) (base_in j fills) (is_some (in_flight j fills))
+    at j true same = subst (λ (k : Interval). mark_of new k ≡ mark_by (last_in e k (history ++ first ∷ rest)) (base_in k fills) (is_some (in_flight k fills))) (sym (same_interval j i same)) here
     at j false same = marked.others j (apart j i same) ∙ are.each j ∙ ap (λ (o : Option ℕ). mark_by o (base_in j fills) (is_some (in_flight j fills))) (sym (last_there j same))
 
-    known_at : (j : Interval) (b : Bool) → is_same j i ≡ b → last_in e j (history ++ row ∷ []) ≡ None → (base_in j fills ≡ None) × (in_flight j fills ≡ None)
-    known_at j true same none = absurd (let no : Some (length history) ≡ None = sym last_here ∙ subst (λ (k : Interval). last_in e k (history ++ row ∷ []) ≡ None) (same_interval j i same) none in cc)
+    known_at : (j : Interval) (b : Bool) → is_same j i ≡ b → last_in e j (history ++ first ∷ rest) ≡ None → (base_in j fills ≡ None) × (in_flight j fills ≡ None)
+    known_at j true same none = absurd (let no : Some last ≡ None = sym last_here ∙ subst (λ (k : Interval). last_in e k (history ++ first ∷ rest) ≡ None) (same_interval j i same) none in cc)
     known_at j false same none = are.known j (sym (last_there j same) ∙ none)
-
-pub room_left : (b : Bool) (old new : ℕ) → (b ≡ true → new ≡ old) → (b ≡ false → new + 1 ≡ old) → old ≤ new + 1
-room_left true old new same less = omega (arith, same refl)
-room_left false old new same less = omega (arith, less refl)

@@ -1,8 +1,12 @@
 -- What contracts see of a fill tracker, and how its marks go with a history.
-use Rattle.std.specs.Prelude.{◌≡◌, ℕ, ◌-◌, List, Option, Some, None, Bool, vec_len, vec_capacity}
+use Rattle.std.specs.Prelude.{◌≡◌, ◌==◌, ◌&&◌, ℕ, ◌-◌, List, Option, Some, None, Bool, true, length, vec_len, vec_capacity}
 use Rattle.std.specs.Global.{Vec}
+use Rattle.std.specs.List.{AllAdjacentBelow}
 use Rattle.std.specs.Option.{is_some}
+use Rattle.std.specs.Ordering.{int_eq}
 use Rattle.arch_types.specs.declared.interval.Interval.{Interval}
+use Rattle.arch_types.specs.declared.row.Row.{Row}
+use Rattle.arch_types.specs.Interval.{interval_of}
 use Rattle.history_items.specs.declared.fills.Fill.{Fill}
 use Rattle.history_items.specs.Items.{Item}
 use Rattle.history_items.specs.Fills.{base_in, in_flight}
@@ -44,3 +48,11 @@ pub record AreMarksOf (exponent : ℕ) (history : List Item) (fills : List Fill)
 abbrev pub KeepsMarks : FillTrackerView → FillTrackerView → Type 0
 KeepsMarks old new =
     (history : List Item) → AreMarksOf 22 history old.fills old.marks → AreMarksOf 22 history new.fills new.marks
+
+-- whether two rows are of one table and of one interval
+abbrev pub are_of_one_interval : ℕ → Row → Row → Bool
+are_of_one_interval exponent row other = (row.table == other.table) && int_eq (interval_of exponent row.key.time) (interval_of exponent other.key.time)
+
+-- a run: each row and the next are of one table and of one interval
+abbrev pub AreOfOneInterval : ℕ → List Row → Type 0
+AreOfOneInterval exponent rows = AllAdjacentBelow (λ row next. are_of_one_interval exponent row next ≡ true) rows (length rows)

@@ -7,7 +7,8 @@
 //! the end of each flight, so that neither that end nor a fault noted before wants memory once the disk was written.
 //!
 //! The idea of the proof: an item of the fill list changes the mark of its own interval alone, and just as the list
-//! then tells it (`marked_item`, proofs/Marked.antt); a row changes the mark of its interval alone.
+//! then tells it (`marked_item`, proofs/Marked.antt); rows of one interval change its mark alone, and come in runs
+//! (proofs/Runs.antt), each of which looks for the mark once.
 //! It is made for the store, in place of history_items' `FillList`, which has no marks.
 #![tactic(auto)]
 

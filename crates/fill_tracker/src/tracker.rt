@@ -6,11 +6,11 @@ ghost use Rattle.std.specs.Option.{is_some};
 ghost use Rattle.arch_types.specs.Interval.{interval_of};
 ghost use Rattle.history_items.specs.declared.fills.Fill.{Fill as FillItem};
 ghost use Rattle.history_items.specs.declared.fills.Fill.TheVariants as noted;
-ghost use Rattle.history_items.specs.Items.{Item, items_of, row_item};
+ghost use Rattle.history_items.specs.Items.{Item, items_of};
 ghost use Rattle.history_items.specs.FillList.{flights_of};
 ghost use Rattle.history_items.specs.Fills.{reopened};
 ghost use Rattle.history_items.specs.Late.{IsLate, last_in};
-ghost use Rattle.fill_tracker.specs.FillTracker.{AreMarksOf, KeepsMarks};
+ghost use Rattle.fill_tracker.specs.FillTracker.{AreMarksOf, AreOfOneInterval, KeepsMarks, are_of_one_interval};
 ghost use Rattle.interval_fills.specs.Steps.{IsNextToFill, all_freed, freed, state_of};
 ghost use Rattle.late_marks.specs.Marks.{IsLeast, has_rows, is_late_free, late_of};
 
@@ -227,7 +227,7 @@ impl FillTracker {
     }
 }
 
-/// Notes that rows came to a history, the first of them at this position.
+/// Notes that rows came to a history, the first of them at this position: each run of rows of one interval at once.
 fn touch_all(marks: &mut LateMarks, rows: &[Row], first: u64)
     requires room { length rows.now ≤ marks.old.room }
     requires small { first + length rows.now < 2 ^ 64 }
@@ -236,10 +236,17 @@ fn touch_all(marks: &mut LateMarks, rows: &[Row], first: u64)
         AreMarksOf 22 (history ++ items_of rows.now) fills marks.new }
 {
     let mut position = first;
-    for row in rows {
-        touch_row(marks, row, position);
-        position += 1;
+    for part in rows.chunk_by(are_of_one_interval) {
+        touch_run(marks, part, position);
+        position += part.len() as u64;
     }
+}
+
+/// Whether two rows are of one table and of one interval.
+fn are_of_one_interval(row: &Row, other: &Row) -> bool
+    ensures { result ≡ are_of_one_interval 22 row.now other.now }
+{
+    row.table == other.table && interval_of_row(row) == interval_of_row(other)
 }
 
 /// The interval of a row's time.
@@ -249,15 +256,21 @@ fn interval_of_row(row: &Row) -> Interval
     Interval::of(row.key.time)
 }
 
-/// Notes that a row came to a history, at this position.
-fn touch_row(marks: &mut LateMarks, row: &Row, position: u64)
+/// Notes that rows of one table and one interval came to a history, the first of them at this position.
+fn touch_run(marks: &mut LateMarks, run: &[Row], first: u64)
     requires room { 0 < marks.old.room }
+    requires small { first + length run.now < 2 ^ 64 }
+    requires run { AreOfOneInterval 22 run.now }
     ensures room { marks.old.room ≤ marks.new.room + 1 }
-    ensures marks { (fills : List FillItem) (history : List Item) → length history ≡ position →
+    ensures marks { (fills : List FillItem) (history : List Item) → length history ≡ first →
         AreMarksOf 22 history fills marks.old →
-        AreMarksOf 22 (history ++ row_item row.now ∷ []) fills marks.new }
+        AreMarksOf 22 (history ++ items_of run.now) fills marks.new }
 {
+    let Some(row) = run.first() else {
+        return;
+    };
     if row.table == TM {
-        marks.touch(interval_of_row(row), position);
+        let last = first + (run.len() as u64 - 1);
+        marks.touch(interval_of_row(row), last);
     }
 }

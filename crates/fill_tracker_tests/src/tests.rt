@@ -56,15 +56,28 @@ fn flights_behind_a_fault() -> [Deed; 6] {
     ]
 }
 
-/// A row of `tm` with this time, received much later.
-fn row(alloc: Global, time: i64) -> Result<Row, AllocError> {
+/// Tables and times of rows that come at once: two runs of one interval, another interval, and a second table between.
+fn mixed_rows() -> [(u8, i64); 7] {
+    [
+        (0, 1500),
+        (0, 1600),
+        (1, 1700),
+        (0, 1800),
+        (0, 5_000_000),
+        (1, 9_000_000),
+        (0, 1900),
+    ]
+}
+
+/// A row of a table with this time, received much later.
+fn row(alloc: Global, table: u8, time: i64) -> Result<Row, AllocError> {
     Ok(Row {
         key: Key { time, seq: 1 },
         rectime: 9_000_000_000,
         packet: Octets::from_slice(alloc, &[])?,
         link: 1,
         pname: 0,
-        table: 0,
+        table,
     })
 }
 
@@ -75,9 +88,20 @@ fn touch(
     time: i64,
     position: u32,
 ) -> Result<(), AllocError> {
-    let rows = [row(alloc, time)?, row(alloc, time)?];
+    let rows = [row(alloc, 0, time)?, row(alloc, 0, time)?];
     tracker.reserve_rows(2)?;
     tracker.touch(&rows, u64::from(position));
+    Ok(())
+}
+
+/// Notes that rows of several intervals and tables came at once, the first of them at this position.
+fn touch_mixed(alloc: Global, tracker: &mut FillTracker, position: u32) -> Result<(), AllocError> {
+    let mut rows = Vec::new(alloc);
+    for (table, time) in mixed_rows() {
+        rows.push(row(alloc, table, time)?)?;
+    }
+    tracker.reserve_rows(rows.len() as u64)?;
+    tracker.touch(rows.as_slice(), u64::from(position));
     Ok(())
 }
 
@@ -147,6 +171,17 @@ fn a_row_comes_to_a_flight(rt: HostRuntime) -> Result<(), Fail> {
     assert_eq!(rt; tracker.as_slice().len(), 6);
     assert!(rt; steps_of(&tracker) == [Some(Interval(0)), Some(Interval(1)), None]);
     assert_eq!(rt; tracker.late(), 1);
+    Ok(())
+}
+
+#[test]
+fn rows_of_two_tables_come_at_once(rt: HostRuntime) -> Result<(), Fail> {
+    let alloc = rt.alloc();
+    let mut tracker = FillTracker::new(alloc);
+    touch_mixed(alloc, &mut tracker, 10)?;
+    assert!(rt; tracker.last(Interval(0)) == Some(16));
+    assert!(rt; tracker.last(Interval(1)) == Some(14));
+    assert!(rt; steps_of(&tracker) == [Some(Interval(0)), Some(Interval(1)), None]);
     Ok(())
 }
 
