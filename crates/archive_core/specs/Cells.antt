@@ -8,6 +8,6 @@ use Rattle.interval_fills.specs.Intervals.{interval_start, interval_end}
 use Rattle.mdb_items.specs.Database.{Database}
 
 -- the cells of a parameter over the rows of `tm` in an interval, in the order of their keys
-abbrev pub cells_of_interval : Database → ℕ → ℕ → Interval → List Item → List Cell
-cells_of_interval db q exponent interval history =
+abbrev pub values_of_interval : Database → ℕ → ℕ → Interval → List Item → List Cell
+values_of_interval db q exponent interval history =
     values_of (rows_in history) db q (interval_start exponent interval) (interval_end exponent interval)

@@ -14,7 +14,7 @@ use Rattle.archive_core.specs.declared.event.Event.TheVariants.{Abandon}
 use Rattle.archive_core.specs.declared.reply.Reply.{Reply}
 use Rattle.archive_core.specs.declared.reply.Reply.TheVariants.{Abandoned}
 use Rattle.archive_core.specs.Alike.{AreAlike}
-use Rattle.archive_core.specs.Cells.{cells_of_interval}
+use Rattle.archive_core.specs.Cells.{values_of_interval}
 use Rattle.archive_core.specs.Machine.{MachineStep, MachineRun}
 use Rattle.container_extract.specs.Extraction.{cell_of}
 use Rattle.interval_fills.specs.Intervals.{rows_of_interval, NoRowSince}
@@ -27,7 +27,7 @@ use Rattle.mdb_items.specs.Database.{Database}
 -- an interval's cells are those of its rows
 abbrev pub CellsAreOfRows : Type 0
 CellsAreOfRows = (db : Database) (q exponent : ℕ) (interval : Interval) (history : List Item) →
-    cells_of_interval db q exponent interval history
+    values_of_interval db q exponent interval history
     ≡ filter_map (cell_of db q) (rows_of_interval exponent interval history)
 
 -- where no row of an interval stands at or after a front, its cells are those of the rows below the front, whatever the
@@ -35,15 +35,15 @@ CellsAreOfRows = (db : Database) (q exponent : ℕ) (interval : Interval) (histo
 abbrev pub CellsAreThoseBelow : Type 0
 CellsAreThoseBelow = (db : Database) (q exponent : ℕ) (interval : Interval) (front : ℕ) (history : List Item) →
     NoRowSince exponent interval front history →
-    cells_of_interval db q exponent interval history
-    ≡ cells_of_interval db q exponent interval (prefix front history)
+    values_of_interval db q exponent interval history
+    ≡ values_of_interval db q exponent interval (prefix front history)
 
 -- an interval that was filled and isn't late has the cells that its last fill had
 abbrev pub FilledCellsStay : Type 0
 FilledCellsStay = (db : Database) (q exponent : ℕ) (interval : Interval) (base : ℕ) (s : MachineState) →
     base_in interval s.fills ≡ Some base → (IsLate exponent interval s.history s.fills → ⊥) →
-    cells_of_interval db q exponent interval s.history
-    ≡ cells_of_interval db q exponent interval (prefix base s.history)
+    values_of_interval db q exponent interval s.history
+    ≡ values_of_interval db q exponent interval (prefix base s.history)
 
 -- ---- replies
 

@@ -15,11 +15,11 @@ use Rattle.archive_store.specs.declared.head.Head.{Head}
 use Rattle.archive_store.specs.Entries.{FilledArchive, archive, Applies, AreAdmitted, HasArchivedRows, IsArchivedRow, IsPlaced}
 
 module _ {X : Type 0} (P : X → Type 0) where
-  all_more : (xs ys : List X) → AllByRecursion P xs → AllByRecursion P ys → AllByRecursion P (xs ++ ys)
+  pub all_more : (xs ys : List X) → AllByRecursion P xs → AllByRecursion P ys → AllByRecursion P (xs ++ ys)
   all_more [] ys all more = more
   all_more (x ∷ xs) ys all more = (all.0, all_more xs ys all.1 more)
 
-  all_filtered : (test : X → Bool) (xs : List X) → AllByRecursion P xs → AllByRecursion P (filter test xs)
+  pub all_filtered : (test : X → Bool) (xs : List X) → AllByRecursion P xs → AllByRecursion P (filter test xs)
   all_filtered test [] all = tt
   all_filtered test (x ∷ xs) all = either (test x) (all_filtered test xs all.1)
     where

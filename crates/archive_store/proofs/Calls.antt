@@ -71,6 +71,12 @@ module _ {D : Type 0} (device : Device D) where
       ingest_cases old new rows (λ _. new.history ≡ old.history) e is (λ faults r. ap (λ (s : StoreView D). s.history) r.1) (λ which number r. ap (λ (s : StoreView D). s.history) r.1) (λ r. r.fault.history)
       (λ r. ap (λ (s : StoreView D). s.history) r.1)
 
+  -- the fills that are there,
+  pub ingest_filled : (old new : StoreView D) (rows : List Row) (e : Refusal) → IsIngestRefusal device old new rows e → new.filled ≡ old.filled
+  ingest_filled old new rows e is =
+      ingest_cases old new rows (λ _. new.filled ≡ old.filled) e is (λ faults r. ap (λ (s : StoreView D). s.filled) r.1) (λ which number r. ap (λ (s : StoreView D). s.filled) r.1) (λ r. r.fault.filled)
+      (λ r. ap (λ (s : StoreView D). s.filled) r.1)
+
   -- and the number of records,
   pub ingest_records : (old new : StoreView D) (rows : List Row) (e : Refusal) → IsIngestRefusal device old new rows e → new.records ≡ old.records
   ingest_records old new rows e is =

@@ -4,16 +4,14 @@ use Rattle.std.specs.Prelude.{IsTrue, Contains, min, ◌-◌}
 use Rattle.std.specs.Option.{option_or}
 use Rattle.std.proofs.lemmas.List.Elements.{Contains-append_left, Contains-append_right}
 use mathlib.Core.List.{IsPrefix}
-use Rattle.arch_disk.specs.Image.{Image}
 use Rattle.arch_disk.specs.Disk.{Device, LeavesOnly, raised}
-use Rattle.arch_disk.proofs.Moments.{started}
 use Rattle.arch_types.specs.declared.row.Row.{Row}
 use Rattle.history_items.specs.declared.fills.Addition.TheVariants.{Nothing, Rows}
 use Rattle.history_items.specs.declared.fills.Fill.{Fill}
 use Rattle.history_items.specs.declared.fills.Fill.TheVariants.{Begun, Done, Freed, Fault}
 use Rattle.history_items.specs.Items.{Item, items_of}
-use Rattle.history_items.specs.Fills.{rows_of_faults, pending_fault_of, unacknowledged_rows, reopened, above}
-use Rattle.history_items.proofs.FillLists.{rows_of_faults-append, pending_fault_of-reopened, pending_fault_of-append, Rising-later, Rising-append}
+use Rattle.history_items.specs.Fills.{rows_of_faults, pending_fault_of, unacknowledged_rows, above}
+use Rattle.history_items.proofs.FillLists.{rows_of_faults-append, pending_fault_of-append, Rising-later, Rising-append}
 use Rattle.disk_journal.specs.Format.{IsBeforeOrAfter}
 use Rattle.disk_journal.specs.State.{HasOnDisk as JournalHasOnDisk}
 use Rattle.disk_journal.specs.State.{unhealed_fault, file_of, faults_of, IsSame, IsOldBut}
@@ -28,8 +26,6 @@ use Rattle.archive_store.specs.Entries.{FilledArchive, IsSoundArchive, archive, 
 use Rattle.archive_store.specs.Images.{IsPlainLog}
 use Rattle.archive_store.specs.Inside.{StoreInvariant}
 use Rattle.archive_store.specs.PlainLog.{IsUnacknowledged, IsSinceArchive}
-use Rattle.archive_store.specs.Stands.{StandsFor}
-use Rattle.archive_store.specs.StoreView.{StoreView, archive_of, IsNow, CrashInvariant}
 use Rattle.archive_store.proofs.Archived.{more_archived}
 use Rattle.archive_store.proofs.OneJournal as one
 use Rattle.archive_store.proofs.PendingFaults.{prefix_self, prefix_more}
@@ -67,9 +63,6 @@ none_unacknowledged (Fault count false unacknowledged ∷ fills) healed = none_u
 
 pub hand-fault : (fills : List Fill) (count : ℕ) (rows : List Row) → pending_fault_of fills ≡ None → unacknowledged_rows (fills ++ fault count rows ∷ []) ≡ Some (items_of rows)
 hand-fault fills count rows healed = hand-append fills (fault count rows ∷ []) healed
-
-pub hand-reopened : (fills : List Fill) → unacknowledged_rows (reopened fills) ≡ None
-hand-reopened fills = none_unacknowledged (reopened fills) (pending_fault_of-reopened fills)
 
 pub unacknowledged_in_faults : (fills : List Fill) (more : List Item) → unacknowledged_rows fills ≡ Some more → Contains (rows_of_faults fills) more
 unacknowledged_in_faults [] more is = absurd cc
@@ -214,8 +207,3 @@ module _ {D : Type 0} (device : Device D) where
       one.moments_of entry_octets Applies IsPlainLog plain_lower device disk new opened journal mid (filled_archive head history (fillings_in filled)) (filled_archive head (history ++ items_of rows) (fillings_in filled)) (entries.Rows rows)
       (IsUnacknowledged (filled_archive head history (fillings_in filled)) (unacknowledged_rows fills)) (IsSinceArchive (filled_archive head k.before k.fillings) (archive head history) (rows_of_faults fills)) k.archives (ok, refl)
       (healthy (unhealed_fault journal) (pending_fault_of fills) k.journal_fault healed) same run elsewhere transparent
-
--- while no failed write stands, a crash leaves what stands for the history
-pub stands_now : {D : Type 0} (device : Device D) (store : StoreView D) (P : Image → Type 0) → CrashInvariant device store → pending_fault_of store.fills ≡ None → ((c : Image) → StandsFor c (archive_of store) → P c) → LeavesOnly device store.disk store.disk P
-stands_now device store P keeps healed here =
-    started device store.disk P (λ c left. here c (subst (λ (o : Option (List Item)). IsNow store.head store.history o c) (none_unacknowledged store.fills healed) (keeps.now c left)))

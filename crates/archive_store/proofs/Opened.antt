@@ -23,7 +23,7 @@ use Rattle.archive_store.specs.declared.head.Head.{Head}
 use Rattle.param_segments.specs.Rows.{SetRow}
 use Rattle.store_fills.specs.FilledSets.{FilledIntervals, fillings_in}
 use Rattle.store_fills.specs.Sound.{Filling, Fillings, no_fillings}
-use Rattle.archive_store.specs.Entries.{FilledArchive, IsSoundArchive, archive, filled_archive, HasArchivedRows, Replays}
+use Rattle.archive_store.specs.Entries.{FilledArchive, IsSoundArchive, filled_archive, HasArchivedRows, Replays}
 use Rattle.archive_store.specs.Stands.{IsSoundImage, StandsFilled}
 use Rattle.archive_store.specs.Calls.{IsCreateImage}
 use Rattle.archive_store.specs.PartialArchive.{IsReadArchive}

@@ -5,6 +5,7 @@ use mathlib.Core.List.{IsPrefix}
 use Rattle.arch_disk.specs.Image.{Image}
 use Rattle.arch_disk.specs.Disk.{Device, LeavesOnly}
 use Rattle.arch_disk.proofs.Moments.{weakens}
+use Rattle.arch_types.specs.declared.interval.Interval.{Interval}
 use Rattle.history_items.specs.declared.fills.Fill.{Fill}
 use Rattle.history_items.specs.Fills.{rows_of_faults, unacknowledged_rows}
 use Rattle.history_items.specs.Items.{Item}
@@ -12,10 +13,10 @@ use Rattle.disk_journal.specs.Format.{HasRecords}
 use Rattle.disk_journal.specs.declared.journal.Journal.{Journal}
 use Rattle.field_codec.specs.Spelling.{entry_octets}
 use Rattle.param_segments.specs.Rows.{SetRow}
-use Rattle.store_fills.specs.FilledSets.{FilledIntervals, fillings_in}
-use Rattle.store_fills.specs.Filled.{HoldsRows}
-use Rattle.store_fills.specs.Sound.{Fillings}
-use Rattle.store_fills.proofs.Soundness.{rows_leave}
+use Rattle.store_fills.specs.FilledSets.{FilledIntervals, fill_over, fillings_in}
+use Rattle.store_fills.specs.Filled.{HoldsRows, IsRightFill}
+use Rattle.store_fills.specs.Sound.{Fillings, with_filling}
+use Rattle.store_fills.proofs.Soundness.{fill_leaves, rows_leave}
 use Rattle.archive_store.specs.declared.head.Head.{Head}
 use Rattle.archive_store.specs.Entries.{Archive, FilledArchive, IsSoundArchive, archive, filled_archive, Applies, Replays}
 use Rattle.archive_store.specs.Images.{IsSaidByLowerFiles, StandsOver, StandsForSome, StandsNow, IsPlainLog}
@@ -51,14 +52,23 @@ stands_filled c a s = record {
   replays = subst (λ (o : Option FilledArchive). Replays o s.entries (Some a)) s.has_base.2 s.replays;
 }
 
+-- whatever its fills are
+pub stands_unfilled : (c : Image) (a : FilledArchive) → StandsFilled c a → StandsFor c a.plain
+stands_unfilled c a s = record { filled = a; plain_is = refl; stands = s }
+
 pub stands_for : (c : Image) (a : FilledArchive) → StandsPlain c a → StandsFor c a.plain
-stands_for c a s = record { filled = a; plain_is = refl; stands = stands_filled c a s }
+stands_for c a s = stands_unfilled c a (stands_filled c a s)
 
 -- ---- soundness
 
 -- more rows leave an archive sound
 pub rows_sound : (head : Head) (history : List Item) (fillings : Fillings (List SetRow)) (more : List Item) → IsSoundArchive (filled_archive head history fillings) → IsSoundArchive (filled_archive head (history ++ more) fillings)
 rows_sound head history fillings more sound = rows_leave 22 (List SetRow) (HoldsRows head.mdb) history more fillings sound
+
+-- and so does a fill that is right for it
+pub fill_sound : (head : Head) (history : List Item) (fillings : Fillings (List SetRow)) (i : Interval) (base : ℕ) (set : List SetRow) → IsSoundArchive (filled_archive head history fillings)
+    → IsRightFill 22 head.mdb history i base set → IsSoundArchive (filled_archive head history (with_filling fillings i (fill_over base set)))
+fill_sound head history fillings i base set sound right = fill_leaves 22 (List SetRow) (HoldsRows head.mdb) history fillings i (fill_over base set) sound right.may.within right.holds
 
 -- an image whose archive is sound
 sound_image : (c : Image) (a : FilledArchive) → StandsPlain c a → IsSoundArchive a → IsSoundImage c
@@ -68,7 +78,7 @@ sound_image c a s sound other stands = subst IsSoundArchive (filled_once c a oth
 
 pub now_for : (head : Head) (history : List Item) (fillings : Fillings (List SetRow)) (o : Option (List Item)) (c : Image) → PlainNow (filled_archive head history fillings) o c → IsNow head history o c
 now_for head history fillings None c (inl old) = stands_for c (filled_archive head history fillings) old
-now_for head history fillings None c (inr new) = absurd new.holds
+now_for head history fillings None c (inr new) = subst (λ (a : FilledArchive). StandsFor c a.plain) new.holds.after_is (stands_for c new.found new.stands)
 now_for head history fillings (Some more) c (inl old) = inl (stands_for c (filled_archive head history fillings) old)
 now_for head history fillings (Some more) c (inr new) = inr (stands_for c (filled_archive head (history ++ more) fillings) (subst (StandsPlain c) new.holds new.stands))
 
@@ -103,7 +113,13 @@ module _ (before : FilledArchive) (head : Head) (history : List Item) (fillings 
   -- the unacknowledged rows are those of a fault
   pub found_unacknowledged : (o : Option (List Item)) → ((more : List Item) → o ≡ Some more → Contains in_faults more) → (a : FilledArchive) → IsUnacknowledged (filled_archive head history fillings) o a
       → IsSinceArchive before (archive head history) in_faults a
-  found_unacknowledged None there a is = absurd is
+  found_unacknowledged None there a is = subst (IsSinceArchive before (archive head history) in_faults) (sym is.after_is) (record {
+    kept = history;
+    holds = begins;
+    begins = prefix_self history;
+    found_is = inl refl;
+    sound = λ was. fill_sound head history fillings is.interval is.base is.set (sound was) is.right;
+  })
   found_unacknowledged (Some more) there a is = subst (IsSinceArchive before (archive head history) in_faults) (sym is) (found_with more (there more refl))
 
 -- as history and faults grow
@@ -119,8 +135,8 @@ found_on before old new had has same grows keeps a f = record {
 
 module _ {D : Type 0} (device : Device D) where
   -- a run's images, as what they stand for
-  pub either_for : (disk new : D) (a b : FilledArchive) → LeavesOnly device disk new (λ c. StandsPlain c a ⊎ StandsPlain c b) → LeavesOnly device disk new (λ c. StandsFor c a.plain ⊎ StandsFor c b.plain)
-  either_for disk new a b moments = weakens device disk new _ _ moments (λ c either. ⊎_elim (λ old. inl (stands_for c a old)) (λ more. inr (stands_for c b more)) either)
+  pub either_filled : (disk new : D) (a b : FilledArchive) → LeavesOnly device disk new (λ c. StandsPlain c a ⊎ StandsPlain c b) → LeavesOnly device disk new (λ c. StandsFilled c a ⊎ StandsFilled c b)
+  either_filled disk new a b moments = weakens device disk new _ _ moments (λ c either. ⊎_elim (λ old. inl (stands_filled c a old)) (λ more. inr (stands_filled c b more)) either)
 
   -- what contracts say of it
   pub crash_of : (disk opened : D) (journal : Journal) (head : Head) (history : List Item) (fills : List Fill) (filled : FilledIntervals) (pending_fault : Option ℕ)

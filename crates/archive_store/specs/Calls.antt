@@ -20,20 +20,20 @@ use Rattle.disk_journal.specs.Format.{HasRecords, HoldsNone}
 use Rattle.store_fills.specs.FilledSets.{fillings_in}
 use Rattle.store_fills.specs.Sound.{no_fillings}
 use Rattle.archive_store.specs.declared.head.Head.{Head}
-use Rattle.archive_store.specs.Entries.{Archive, archive}
+use Rattle.archive_store.specs.Entries.{Archive, FilledArchive, archive, filled_archive}
 use Rattle.archive_store.specs.Stands.{IsSoundImage, StandsFilled, StandsFor, IsArchiveDamagedAt}
-use Rattle.archive_store.specs.StoreView.{StoreView, AddsFault, IsNow, archive_of, filled_of}
+use Rattle.archive_store.specs.StoreView.{StoreView, AddsFault, IsKeptWithFills, IsNow, archive_of, filled_of}
 
 -- ---- crashes
 
--- what a store stands for once rows came to it
-abbrev pub archive_with : {D : Type 0} → StoreView D → List Row → Archive
-archive_with store rows = archive store.head (after_rows store.history rows)
+-- what a store stands for once rows came to it, with its fills
+abbrev pub archive_with : {D : Type 0} → StoreView D → List Row → FilledArchive
+archive_with store rows = filled_archive store.head (after_rows store.history rows) (fillings_in store.filled)
 
--- Where the disk is transparent, power lost at any moment of a call leaves one archive or the other.
-abbrev pub CrashLeavesEither : {D : Type 0} → Device D → D → D → Archive → Archive → Type 0
+-- Where the disk is transparent, power lost at any moment of a call leaves one archive or the other, with its fills.
+abbrev pub CrashLeavesEither : {D : Type 0} → Device D → D → D → FilledArchive → FilledArchive → Type 0
 CrashLeavesEither device before after old new =
-    IsTrue device.is_transparent → LeavesOnly device before after (λ c. StandsFor c old ⊎ StandsFor c new)
+    IsTrue device.is_transparent → LeavesOnly device before after (λ c. StandsFilled c old ⊎ StandsFilled c new)
 
 -- Where the disk is transparent, power lost at any moment of a call leaves the store's archive, or after a failed write
 -- also the one with the unacknowledged rows.
@@ -107,12 +107,12 @@ IsRowsRefusal device old new rows _ = ⊥
 
 -- ---- reopens
 
--- the failed writes of the fill list are cleared, and every image stands for the history; where none was pending no
--- call of the disk was made
+-- the failed writes of the fill list are cleared, and every image stands for the history with the fills; where none was
+-- pending no call of the disk was made
 pub record IsStoreReopened {D : Type 0} (device : Device D) (old new : StoreView D) : Type 0 where
   pub store : new ≡ record old { fills = reopened old.fills; disk = new.disk }
   pub healed : pending_fault_of new.fills ≡ None
-  pub images : IsTrue device.is_transparent → (c : Image) → device.images new.disk c → StandsFor c (archive_of new)
+  pub images : IsTrue device.is_transparent → IsKeptWithFills device new
   pub no_call : pending_fault_of old.fills ≡ None → new.disk ≡ old.disk
   pub no_failed_write : NoWriteFailed device old.disk new.disk
 

@@ -12,3 +12,5 @@ pub mod StoreView
 pub mod Classifying
 pub mod Stands
 pub mod Tasks
+pub mod CurrentSets
+pub mod Installs

@@ -1,49 +1,74 @@
 -- What a plan holds.
-use Rattle.std.specs.Prelude.{◌≡◌, ◌<◌, ◌≤ℤ◌, ◌<ℤ◌, ℕ, ℤ, List, [], ◌∷◌, filter, length, None, map}
+use Rattle.std.specs.Prelude.{◌≡◌, ◌≤ℤ◌, ◌<ℤ◌, ℤ, List, Bool, ◌&&◌, filter, length, IsSome, None, map}
 use Rattle.std.specs.List.{AllByRecursion}
 use Rattle.std.specs.Arc.{arc_value}
 use Rattle.arch_types.specs.declared.ask.Request.{Request}
+use Rattle.arch_types.specs.declared.interval.Interval.{Interval}
 use Rattle.arch_types.specs.declared.refusal.Refusal.{Refusal}
 use Rattle.arch_types.specs.declared.refusal.Refusal.TheVariants.{UnknownParameter, BadRange, OutOfMemory}
 use Rattle.arch_types.specs.declared.row.Row.{Row}
-use Rattle.arch_types.specs.Interval.{interval_of}
-use Rattle.arch_types.specs.Table.{is_in_time_range, range_of}
+use Rattle.arch_types.specs.Table.{is_in_time_range, range_of, table_of}
+use Rattle.history_items.specs.declared.fills.Fill.{Fill}
 use Rattle.history_items.specs.Items.{Item, rows_in}
+use Rattle.history_items.specs.Late.{IsLate, is_late_in, last_in}
+use Rattle.interval_fills.specs.Intervals.{rows_of_interval}
+use Rattle.interval_walks.specs.Counts.{item_interval}
+use Rattle.interval_walks.specs.Turns.{CoverRange, IntervalsRise, MeetsRange, meets_range}
 use Rattle.mdb_items.specs.Texts.{place_of}
 use Rattle.param_segments.specs.declared.plan.Part.{Part}
+use Rattle.param_segments.specs.declared.plan.Part.TheVariants.{Rows, Set}
 use Rattle.param_segments.specs.declared.plan.Plan.{Plan}
-use Rattle.param_segments.specs.Plans.{ArePartsOver, HasValuesOf, part_interval, rows_of_part, rows_of_parts}
+use Rattle.param_segments.specs.Plans.{ArePartsOver, part_interval, rows_of_parts}
 use Rattle.archive_store.specs.declared.head.Head.{Head}
+use Rattle.archive_store.specs.CurrentSets.{IsCurrentSet}
 use Rattle.archive_store.specs.Entries.{IsArchivedRow}
+use Rattle.archive_store.specs.StoreView.{StoreView}
 
--- a part has a row, and all of its rows are in its interval
-pub record IsPlanPart (exponent : ℕ) (part : Part) : Type 0 where
-  pub some : 0 < length (rows_of_part part)
-  pub each : AllByRecursion (λ row. interval_of exponent row.key.time ≡ part_interval part) (rows_of_part part)
+-- what a plan has of an interval: the set that stands for it, or, where it is late, its rows
+abbrev pub IsPlanPart : {D : Type 0} → StoreView D → Part → Type 0
+IsPlanPart store (Set interval set) = IsCurrentSet store interval (arc_value set)
+IsPlanPart store (Rows interval rows) =
+    IsLate 22 interval store.history store.fills × (rows ≡ rows_of_interval 22 interval store.history)
 
--- the intervals of parts rise
-abbrev pub AreRisingIntervals : List Part → Type 0
-AreRisingIntervals [] = Unit {0}
-AreRisingIntervals (part ∷ parts) =
-    AllByRecursion (λ later. part_interval part <ℤ part_interval later) parts × AreRisingIntervals parts
+-- the interval of a part
+abbrev pub interval_of_part : Part → Interval
+interval_of_part part = record { 0 = part_interval part }
 
--- The rows of `tm` with low <= time < high in the whole history, in the order of their keys, in one part for each
--- interval that has any. Each of them is a row that a store gives, also over a disk that isn't transparent.
-pub record IsPlan (exponent : ℕ) (head : Head) (history : List Item) (low high : ℤ) (plan : Plan) : Type 0 where
-  pub front : plan.front ≡ length history
-  pub mdb : arc_value plan.mdb ≡ head.mdb
-  pub rows : rows_of_parts plan.parts ≡ range_of 0 low high (rows_in history)
-  pub each : AllByRecursion (IsPlanPart exponent) plan.parts
-  pub rising : AreRisingIntervals plan.parts
-  pub archived : AllByRecursion (IsArchivedRow head) (rows_of_parts plan.parts)
+-- the intervals of parts, in their order
+abbrev pub plan_intervals : List Part → List Interval
+plan_intervals parts = map interval_of_part parts
 
--- The sets of a plan have values of the database, and its parts are over rows of which those with low <= time < high
--- are the rows of `tm` in that range of the whole history, in the order of their keys.
+-- an interval that has a row of `tm` meets a range of times
+abbrev pub IsRangeInterval : List Item → ℤ → ℤ → Interval → Type 0
+IsRangeInterval history low high interval = MeetsRange 22 low high interval × IsSome (last_in 22 interval history)
+
+-- A part for each interval that has rows of `tm` and meets a range, the intervals rising, over the whole history. Each
+-- row that is left to extract is one that a store gives, also over a disk that isn't transparent.
+pub record IsPlan {D : Type 0} (store : StoreView D) (low high : ℤ) (plan : Plan) : Type 0 where
+  pub front : plan.front ≡ length store.history
+  pub mdb : arc_value plan.mdb ≡ store.head.mdb
+  pub each : AllByRecursion (IsPlanPart store) plan.parts
+  pub rising : IntervalsRise (plan_intervals plan.parts)
+  pub meets : AllByRecursion (IsRangeInterval store.history low high) (plan_intervals plan.parts)
+  pub cover : low <ℤ high → CoverRange 22 (plan_intervals plan.parts) low high store.history
+  pub archived : AllByRecursion (IsArchivedRow store.head) (rows_of_parts plan.parts)
+
+-- The parts of a plan are over rows of which those with low <= time < high are the rows of `tm` in that range of the
+-- whole history, in the order of their keys.
 pub record IsPlanOver (head : Head) (history : List Item) (low high : ℤ) (plan : Plan) : Type 0 where
-  pub values : AllByRecursion (HasValuesOf head.mdb) plan.parts
   pub rows : List Row
   pub over : ArePartsOver head.mdb plan.parts rows
   pub in_range : filter (is_in_time_range low high) rows ≡ range_of 0 low high (rows_in history)
+
+-- whether an interval is late and meets a range of times: only of such ones rows are left to extract
+abbrev pub is_late_of_range : List Item → List Fill → ℤ → ℤ → Interval → Bool
+is_late_of_range history fills low high interval =
+    is_late_in 22 interval history fills && meets_range 22 low high interval
+
+-- the rows of `tm` in such intervals
+abbrev pub late_rows_of_range : List Item → List Fill → ℤ → ℤ → List Row
+late_rows_of_range history fills low high =
+    filter (λ row. is_late_of_range history fills low high (item_interval 22 row)) (table_of 0 (rows_in history))
 
 -- the database has no parameter of the name
 abbrev pub LacksParameter : Head → Request → Type 0

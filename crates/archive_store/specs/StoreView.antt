@@ -11,7 +11,7 @@ use Rattle.history_items.specs.Fills.{rows_of_faults, pending_fault_of, unacknow
 use Rattle.archive_store.specs.declared.head.Head.{Head}
 use Rattle.store_fills.specs.FilledSets.{FilledIntervals, fillings_in}
 use Rattle.archive_store.specs.Entries.{Archive, FilledArchive, archive, filled_archive}
-use Rattle.archive_store.specs.Stands.{StandsFor, IsSoundImage}
+use Rattle.archive_store.specs.Stands.{StandsFilled, StandsFor, IsSoundImage}
 
 -- the history and the fill list, the fills that are there, the head, how many records the journal has, the disk, and the
 -- disk as it was at the opening
@@ -60,6 +60,10 @@ pub record CrashInvariant {D : Type 0} (device : Device D) (store : StoreView D)
   pub since : LeavesOnly device store.opened store.disk
       (IsSince store.head before store.history (rows_of_faults store.fills))
   pub sound : IsSoundImage (device.reads store.opened) → LeavesOnly device store.opened store.disk IsSoundImage
+
+-- a crash now leaves the archive with its fills
+abbrev pub IsKeptWithFills : {D : Type 0} → Device D → StoreView D → Type 0
+IsKeptWithFills device store = (c : Image) → device.images store.disk c → StandsFilled c (filled_of store)
 
 -- always: the count of each fault is above the count at the opening and that of each earlier fault, and not above the
 -- count now; one with a failed write is there only where the count of failed writes is above its value at the opening

@@ -5,7 +5,7 @@ use Rattle.arch_types.specs.declared.interval.Interval.{Interval}
 use Rattle.arch_types.specs.Interval.{interval_of}
 use Rattle.text_forms.specs.ClockTime.{IsClockTime}
 use Rattle.interval_fills.specs.Steps.{MachineState, AllLateInFlight, BeginsFill, state_of}
-use Rattle.archive_store.specs.declared.task.FillTask.{FillTask}
+use Rattle.store_fills.specs.declared.task.FillTask.{FillTask}
 use Rattle.archive_store.specs.StoreView.{StoreView}
 
 -- a moment of the clock is in the interval

@@ -1,15 +1,15 @@
 //! Late intervals and their fills.
 
-ghost use Rattle.std.specs.Prelude.{◌≡◌, ◌↔◌, ◌<◌, ◌≤◌, length, true, IfOk, IfErr, OnOk};
+ghost use Rattle.std.specs.Prelude.{◌≡◌, ◌↔◌, ◌<◌, ◌≤◌, length, true, IfOk, IfErr, IfSome, OnOk};
 ghost use Rattle.std.specs.Arc.{arc_value};
 ghost use Rattle.arch_types.specs.declared.refusal.Refusal.TheVariants.{OutOfMemory};
 ghost use Rattle.history_items.specs.Late.{IsLate};
 ghost use Rattle.interval_fills.specs.Intervals.{interval_end, interval_start, rows_of_interval};
 ghost use Rattle.interval_fills.specs.Steps.{all_freed, freed};
+ghost use Rattle.store_fills.specs.Built.{IsTaskRows};
 ghost use Rattle.archive_store.specs.Tasks.{HasClockTime};
 
 use crate::store::Store;
-use crate::task::FillTask;
 use arch_disk::Disk;
 use arch_types::interval::Interval;
 use arch_types::refusal::Refusal;
@@ -19,6 +19,7 @@ use fill_tracker::FillTracker;
 use mdb_model::Mdb;
 use std::alloc::{AllocError, Global};
 use std::sync::Arc;
+use store_fills::FillTask;
 use yarch_table::rows::TableRows;
 
 /// The number of milliseconds of an interval.
@@ -52,7 +53,11 @@ fn copies_of(alloc: Global, rows: TableRows<'_>) -> Result<Rows, AllocError>
 }
 
 /// The rows of table `tm` in an interval, in the order of their keys.
-fn rows_of(alloc: Global, history: &History, interval: Interval) -> Result<Rows, AllocError>
+pub(crate) fn rows_of(
+    alloc: Global,
+    history: &History,
+    interval: Interval,
+) -> Result<Rows, AllocError>
     requires tables { 0 < history.now.tables }
     requires interval { HasClockTime interval }
     ensures { IfOk result (λ rows. rows ≡ rows_of_interval 22 interval history.now.items) }
@@ -72,6 +77,7 @@ fn prepare_task(
     requires interval { HasClockTime interval }
     ensures at { IfOk result (λ task. (task.interval ≡ interval) × (task.base ≡ length history.now.items)) }
     ensures rows { IfOk result (λ task. task.rows ≡ rows_of_interval 22 interval history.now.items) }
+    ensures in_order { IfOk result (λ task. IsTaskRows 22 task.interval task.rows) }
     ensures mdb { IfOk result (λ task. arc_value task.mdb ≡ arc_value mdb.now) }
     ensures room { OnOk result ((2 ≤ tracker.new.room) × (1 ≤ tracker.new.flight_room)) }
     ensures same { (tracker.new.fills ≡ tracker.old.fills) × (tracker.new.marks ≡ tracker.old.marks) }
@@ -101,6 +107,9 @@ impl<D: Disk> Store<D> {
         // Ok: the task of that interval, over the whole history; none, where each late interval is in flight.
         ensures begun { IfOk result (IsFillBegun self.old self.new) }
 
+        // Its rows are in the order of their keys, no key twice, in the interval, whatever the disk tells.
+        ensures in_order { IfOk result (λ begun. IfSome begun (λ task. IsTaskRows 22 task.interval task.rows)) }
+
         // Refused, for want of memory alone, all is as it was.
         ensures refused { IfErr result (λ e. (e ≡ OutOfMemory) × (self.new ≡ self.old)) }
         ensures grows { OnlyAppends self.old self.new }
@@ -116,11 +125,18 @@ impl<D: Disk> Store<D> {
         Ok(Some(task))
     }
 
+    /// The flight of an interval ends without a fill, where it is in flight. Takes no memory.
+    pub(crate) fn give_up(&mut self, interval: Interval)
+        ensures { self.new ≡ record self.old { fills = freed interval self.old.fills } }
+    {
+        self.tracker.free(interval);
+    }
+
     /// Gives a task up: the flight of its interval ends without a fill, where it is in flight. Takes no memory.
     pub fn abandon(&mut self, task: FillTask)
         ensures { self.new ≡ record self.old { fills = freed task.interval self.old.fills } }
     {
-        self.tracker.free(task.interval);
+        self.give_up(task.interval);
     }
 
     /// Ends each flight without a fill. Takes no memory.

@@ -8,7 +8,7 @@ ghost use Rattle.field_codec.specs.Entries.{IsArchiveEntry};
 ghost use Rattle.field_codec.specs.Spelling.{entry_octets};
 ghost use Rattle.fill_tracker.specs.FillTracker.{KeepsMarks};
 ghost use Rattle.archive_store.specs.Batches.{batch_rows, IsBatch};
-ghost use Rattle.archive_store.specs.Entries.{archive, AreAdmitted};
+ghost use Rattle.archive_store.specs.Entries.{AreAdmitted};
 ghost use Rattle.arch_types.specs.Limits.{limit_of};
 ghost use Rattle.arch_types.specs.declared.refusal.Which.TheVariants as limits;
 ghost use Rattle.history_items.specs.Items.{items_of};
@@ -63,7 +63,8 @@ fn prepare(
 }
 
 impl<D: Disk> Store<D> {
-    ghost use Rattle.archive_store.specs.StoreView.{archive_of, OnlyAppends};
+    ghost use Rattle.archive_store.specs.PlainLog.{with_rows};
+    ghost use Rattle.archive_store.specs.StoreView.{archive_of, filled_of, OnlyAppends};
     ghost use Rattle.disk_journal.specs.Calls.{CountsNeverFall};
     ghost use Rattle.archive_store.specs.Calls.{AreAppended, AreIngested, CrashLeavesEither, CrashLeavesNow, IsIngestRefusal, IsRowsRefusal, IsStoreReopened, IsStoreReopenRefusal, archive_with};
 
@@ -90,8 +91,8 @@ impl<D: Disk> Store<D> {
         requires records { self.old.records < limit_of limits.Records }
         ensures appended { OnOk result (AreAppended D.device self.old self.new fresh) }
         ensures refused { IfErr result (IsRowsRefusal D.device self.old self.new fresh) }
-        ensures crash { CrashLeavesEither D.device self.old.disk self.new.disk (archive_of self.old)
-            (archive self.old.head (self.old.history ++ items_of fresh)) }
+        ensures crash { CrashLeavesEither D.device self.old.disk self.new.disk (filled_of self.old)
+            (with_rows (filled_of self.old) (items_of fresh)) }
         ensures grows { OnlyAppends self.old self.new }
         ensures counts { CountsNeverFall D.device self.old.disk self.new.disk }
     {
@@ -134,9 +135,9 @@ impl<D: Disk> Store<D> {
         // comes before any call of the disk.
         ensures refused { IfErr result (IsIngestRefusal D.device self.old self.new (batch_rows batch.now)) }
 
-        // Power lost at any moment of the call leaves the archive from before it, or the one with the batch.
+        // Power lost at any moment of the call leaves the archive from before it, or the one with the batch; the fills stay.
         ensures crash { pending_fault_of self.old.fills ≡ None →
-            CrashLeavesEither D.device self.old.disk self.new.disk (archive_of self.old)
+            CrashLeavesEither D.device self.old.disk self.new.disk (filled_of self.old)
             (archive_with self.old (batch_rows batch.now)) }
 
         // History and fill list begin with the old ones, whatever the call answers.
@@ -173,7 +174,7 @@ impl<D: Disk> Store<D> {
 
     /// Makes a write that failed as if it had never been made, so that batches are taken again. Takes no memory.
     pub fn reopen(&mut self) -> Result<(), Refusal>
-        // Ok: no failed write is pending, and every image stands for the history, whatever failed before.
+        // Ok: no failed write is pending, and every image stands for the history with its fills, whatever failed before.
         ensures reopened { OnOk result (IsStoreReopened D.device self.old self.new) }
 
         // Refused, for a fault of the disk alone, all but the disk is as it was.

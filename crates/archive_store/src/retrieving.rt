@@ -1,26 +1,30 @@
 //! What a retrieval needs of the store.
 
-ghost use Rattle.std.specs.Prelude.{◌≡◌, ◌≢◌, ℤ, ◌<◌, ◌≤◌, ◌<ℤ◌, ◌≤ℤ◌, ◌++◌, [], ◌∷◌, None, map, OnOk, OnErr, IfOk, IfErr, Err, length};
-ghost use Rattle.arch_types.specs.declared.refusal.Refusal.TheVariants.{UnknownParameter, BadRange, OutOfMemory};
-ghost use Rattle.mdb_items.specs.Texts.{place_of};
-ghost use Rattle.std.specs.Option.{is_some};
+ghost use Rattle.std.specs.Prelude.{◌≡◌, ◌≤◌, ◌<ℤ◌, map, IsSome, IsTrue, OnOk, IfOk, IfErr, Err, length};
+ghost use Rattle.std.specs.Arc.{arc_value};
 ghost use Rattle.std.specs.List.{AllByRecursion};
-ghost use Rattle.arch_types.specs.Interval.{interval_of};
+ghost use Rattle.std.specs.Option.{is_some};
+ghost use Rattle.arch_types.specs.declared.refusal.Refusal.TheVariants.{UnknownParameter, BadRange, OutOfMemory};
 ghost use Rattle.arch_types.specs.Table.{range_of};
 ghost use Rattle.history_items.specs.Items.{rows_in};
-ghost use Rattle.archive_store.specs.Plans.{IsPlanPart, AreRisingIntervals};
-ghost use Rattle.param_segments.specs.Plans.{part_interval, rows_of_part, rows_of_parts};
-ghost use Rattle.std.specs.Arc.{arc_value};
+ghost use Rattle.history_items.specs.Late.{last_in};
+ghost use Rattle.interval_walks.specs.Turns.{CoverRange, IntervalsRise};
+ghost use Rattle.mdb_items.specs.Texts.{place_of};
+ghost use Rattle.param_segments.specs.Plans.{HasValuesOf, part_interval, rows_of_parts};
+ghost use Rattle.archive_store.specs.Plans.{IsPlan, IsPlanPart, IsRangeInterval, plan_intervals};
+ghost use Rattle.archive_store.specs.Stands.{IsSoundImage};
 
+use crate::filling::rows_of;
 use crate::names::text_of;
+use crate::segments::{current_fill, shared_set};
 use crate::store::Store;
 use arch_disk::Disk;
 use arch_types::ask::Request;
+use arch_types::interval::Interval;
 use arch_types::name::{Name, Names};
 use arch_types::octets::Octets;
 use arch_types::refusal::Refusal;
-use arch_types::row::{Row, Rows};
-use archive_history::history::{History, interval_of_row};
+use interval_walks::intervals_meeting;
 use mdb_model::Mdb;
 use param_segments::{Part, Parts, Plan};
 use std::alloc::{AllocError, Global};
@@ -49,84 +53,89 @@ fn container_names(alloc: Global, mdb: &Mdb) -> Result<Names, AllocError>
     Ok(names)
 }
 
-/// Adds a row to a part that has rows.
-fn add_row(part: &mut Part, row: Row) -> Result<(), AllocError>
-    requires { 0 < length (rows_of_part part.old) }
-    ensures rows { OnOk result (rows_of_part part.new ≡ rows_of_part part.old ++ row ∷ []) }
-    ensures interval { OnOk result (part_interval part.new ≡ part_interval part.old) }
-{
-    match part {
-        Part::Set { .. } => unreachable!(),
-        Part::Rows { rows, .. } => rows.push(row),
-    }
-}
-
-/// One row more, in a part of its own where its interval has none yet.
-fn put(alloc: Global, parts: &mut Vec<Part>, row: &Row) -> Result<(), AllocError>
-    requires { AllByRecursion (IsPlanPart 22) parts.old.items }
-    ensures rows { OnOk result (rows_of_parts parts.new.items ≡ rows_of_parts parts.old.items ++ row.now ∷ []) }
-    ensures each { OnOk result (AllByRecursion (IsPlanPart 22) parts.new.items) }
-    ensures rising { AreRisingIntervals parts.old.items →
-        AllByRecursion (λ part. part_interval part ≤ℤ interval_of 22 row.now.key.time) parts.old.items →
-        OnOk result (AreRisingIntervals parts.new.items) }
-    ensures bounded { (x : ℤ) → AllByRecursion (λ part. part_interval part ≤ℤ x) parts.old.items →
-        interval_of 22 row.now.key.time ≤ℤ x →
-        OnOk result (AllByRecursion (λ part. part_interval part ≤ℤ x) parts.new.items) }
-{
-    let interval = interval_of_row(row);
-    let copy = row.copy()?;
-    let count = parts.len();
-    if count > 0 && parts[count - 1].interval() == interval {
-        return add_row(&mut parts[count - 1], copy);
-    }
-    let mut rows = Rows::new(alloc);
-    rows.push(copy)?;
-    parts.push(Part::Rows { interval, rows })?;
-    Ok(())
-}
-
-/// The rows of a range in parts, one for each interval that has any.
-fn parts_of(alloc: Global, history: &History, from: i64, to: i64) -> Result<Parts, AllocError>
-    requires { 0 < history.now.tables }
-    ensures { IfOk result (λ parts. (rows_of_parts parts ≡ range_of 0 from to history.now.items) ×
-        AllByRecursion (IsPlanPart 22) parts × AreRisingIntervals parts) }
+/// What a plan has of intervals that have rows of table `tm`, in their order.
+fn parts_of<D: Disk>(
+    alloc: Global,
+    store: &Store<D>,
+    intervals: &[Interval],
+) -> Result<Parts, AllocError>
+    requires { AllByRecursion (λ i. IsSome (last_in 22 i store.now.history)) intervals.now }
+    ensures each { IfOk result (λ parts. AllByRecursion (IsPlanPart store.now) parts) }
+    ensures intervals { IfOk result (λ parts. plan_intervals parts ≡ intervals.now) }
 {
     let mut parts = Vec::new(alloc);
-    for row in history.range(from, to) {
-        put(alloc, &mut parts, row)?;
+    for interval in intervals {
+        let part = store.part_of(alloc, *interval)?;
+        parts.push(part)?;
     }
     Ok(Parts::from_vec(parts))
 }
 
-/// The plan of a request over a history.
-fn planned(
-    alloc: Global,
-    history: &History,
-    mdb: &Arc<Mdb, Global>,
-    request: &Request,
-) -> Result<Plan, AllocError>
-    requires { 0 < history.now.tables }
-    ensures { IfOk result (λ plan. (plan.front ≡ length history.now.items) × (arc_value plan.mdb ≡ arc_value mdb.now)
-        × (rows_of_parts plan.parts ≡ range_of 0 request.now.from request.now.to (rows_in history.now.items))
-        × AllByRecursion (IsPlanPart 22) plan.parts × AreRisingIntervals plan.parts) }
-{
-    Ok(Plan {
-        front: history.len() as u64,
-        mdb: Arc::try_clone(mdb)?,
-        parts: parts_of(alloc, history, request.from, request.to)?,
-    })
-}
-
 impl<D: Disk> Store<D> {
-    ghost use Rattle.archive_store.specs.Plans.{IsPlan, IsPlanOver, IsPlanRefusal, IsPlannable};
+    ghost use Rattle.archive_store.specs.Plans.{IsPlanOver, IsPlanRefusal, IsPlannable, late_rows_of_range};
 
-    /// The rows of table `tm` that a retrieval extracts. It names a parameter of the database and a range that doesn't end before it begins.
+    /// The intervals that a retrieval reads: those that have rows of table `tm` and meet the request's range, in the
+    /// order of their numbers. The one error is want of memory.
+    fn range_intervals(&self, alloc: Global, request: &Request) -> Result<Vec<Interval>, AllocError>
+        ensures rising { IfOk result (λ intervals. IntervalsRise intervals.items) }
+        ensures meets { IfOk result (λ intervals. AllByRecursion
+            (IsRangeInterval self.now.history request.now.from request.now.to) intervals.items) }
+        ensures cover { IfOk result (λ intervals. request.now.from <ℤ request.now.to →
+            CoverRange 22 intervals.items request.now.from request.now.to self.now.history) }
+    {
+        if request.from >= request.to {
+            return Ok(Vec::new(alloc));
+        }
+        intervals_meeting(alloc, &self.tracker, request.from, request.to)
+    }
+
+    /// What a plan has of an interval that has rows of table `tm`: its set, where it isn't late, else its rows.
+    fn part_of(&self, alloc: Global, interval: Interval) -> Result<Part, AllocError>
+        requires { IsSome (last_in 22 interval self.now.history) }
+        ensures part { IfOk result (IsPlanPart self.now) }
+        ensures interval { IfOk result (λ part. part_interval part ≡ interval.0) }
+    {
+        let Some(fill) = current_fill(&self.tracker, &self.sets, interval) else {
+            let rows = rows_of(alloc, &self.history, interval)?;
+            return Ok(Part::Rows { interval, rows });
+        };
+        let set = shared_set(fill)?;
+        Ok(Part::Set { interval, set })
+    }
+
+    /// The plan of a request over the whole history.
+    fn planned(&self, alloc: Global, request: &Request) -> Result<Plan, AllocError>
+        ensures { IfOk result (IsPlan self.now request.now.from request.now.to) }
+    {
+        let intervals = self.range_intervals(alloc, request)?;
+        let parts = parts_of(alloc, self, intervals.as_slice())?;
+        let mdb = self.shared_mdb()?;
+        Ok(Plan {
+            front: self.front(),
+            mdb,
+            parts,
+        })
+    }
+
+    /// What a retrieval reads: the sets of the intervals that its range meets, and the rows of those that are late. The
+    /// request names a parameter of the database and a range that doesn't end before it begins.
     pub fn plan(&mut self, alloc: Global, request: &Request) -> Result<Plan, Refusal>
-        ensures planned { IfOk result (IsPlan 22 self.old.head self.old.history request.now.from request.now.to) }
-        ensures over { IfOk result (IsPlanOver self.old.head self.old.history request.now.from request.now.to) }
+        ensures planned { IfOk result (IsPlan self.old request.now.from request.now.to) }
+
+        // Whatever the disk reads as, a set's values are of the database.
+        ensures values { IfOk result (λ plan. AllByRecursion (HasValuesOf self.old.head.mdb) plan.parts) }
+
+        // Where the fills of the disk were sound when it was opened, the parts are over the rows of the range.
+        ensures over { IsTrue D.device.is_transparent → IsSoundImage (D.device.reads self.old.opened) →
+            IfOk result (IsPlanOver self.old.head self.old.history request.now.from request.now.to) }
+
+        // Rows are left to extract of late intervals that meet the range alone.
+        ensures steps { IfOk result (λ plan. length (rows_of_parts plan.parts)
+            ≤ length (late_rows_of_range self.old.history self.old.fills request.now.from request.now.to)) }
         ensures same { self.new ≡ self.old }
 
-        // UnknownParameter comes exactly where the database lacks the name, and then BadRange exactly where the range ends before it begins.
+        // UnknownParameter comes exactly where the database lacks the name, and then BadRange exactly where the range
+        // ends before it begins.
         ensures refused { IfErr result (IsPlanRefusal self.old.head request.now) }
         ensures plannable { OnOk result (IsPlannable self.old.head request.now) }
     {
@@ -139,7 +148,7 @@ impl<D: Disk> Store<D> {
                 to: request.to,
             });
         }
-        match planned(alloc, &self.history, &self.mdb, request) {
+        match self.planned(alloc, request) {
             Ok(plan) => Ok(plan),
             Err(_) => Err(Refusal::OutOfMemory),
         }

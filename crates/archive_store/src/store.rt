@@ -1,6 +1,6 @@
 //! The store.
 
-ghost use Rattle.std.specs.Prelude.{◌≡◌, [], IsTrue, length, IfOk, IfErr};
+ghost use Rattle.std.specs.Prelude.{◌≡◌, [], IsTrue, length, IfOk, IfErr, None};
 ghost use Rattle.arch_disk.specs.Disk.{LeavesOnly};
 ghost use Rattle.disk_journal.specs.State.{IsUntouched};
 ghost use Rattle.field_codec.specs.declared.entry.Entry.TheVariants as entries;
@@ -119,9 +119,13 @@ fn prepare_new(alloc: Global, head: Head) -> Result<NewArchive, AllocError>
 }
 
 impl<D: Disk> Store<D> {
+    ghost use Rattle.arch_types.specs.declared.interval.Interval.{Interval as AnInterval};
+    ghost use Rattle.history_items.specs.Fills.{base_in, pending_fault_of};
+    ghost use Rattle.store_fills.specs.FilledSets.{fillings_in};
+    ghost use Rattle.store_fills.specs.Sound.{base_of_filling};
     ghost use Rattle.archive_store.specs.Entries.{IsSoundArchive};
     ghost use Rattle.archive_store.specs.Stands.{IsSoundImage};
-    ghost use Rattle.archive_store.specs.StoreView.{CrashInvariant, FaultInvariant, filled_of};
+    ghost use Rattle.archive_store.specs.StoreView.{CrashInvariant, FaultInvariant, IsKeptWithFills, filled_of};
     ghost use Rattle.disk_journal.specs.Calls.{BeginsOpen, CountsNeverFall};
     ghost use Rattle.archive_store.specs.Calls.{CrashLeavesHead, IsDecidedByImage, IsStoreCreated, IsStoreCreateRefusal, IsStoreOpened, IsStoreOpenRefusal, disk_of, opened_disk_of};
 
@@ -253,9 +257,16 @@ impl<D: Disk> Store<D> {
         ensures images { IsTrue D.device.is_transparent → CrashInvariant D.device self.now }
         ensures faults { FaultInvariant D.device self.now }
 
+        // While no failed write is pending, each image of now has the fills too.
+        ensures kept { IsTrue D.device.is_transparent → pending_fault_of self.now.fills ≡ None →
+            IsKeptWithFills D.device self.now }
+
         // Its fills are sound if those of the disk were when it was opened.
         ensures sound { IsTrue D.device.is_transparent → IsSoundImage (D.device.reads self.now.opened) →
             IsSoundArchive (filled_of self.now) }
+
+        // The fill list and the fills that are there tell one base of each interval.
+        ensures bases { (i : AnInterval) → base_in i self.now.fills ≡ base_of_filling (fillings_in self.now.filled) i }
     {
         self.history.len() as u64
     }

@@ -47,11 +47,17 @@ const LATE_AGAIN: &[Step] = &[
     Step::Late(2, true),
 ];
 
-/// An interval whose fill stands on the disk is late only once a row more of it comes.
+/// An interval whose fill stands on the disk is late only once a row more of it comes; until then its set stands for it.
 const FILLED_ONCE: &[Step] = &[
     Step::Late(0, false),
+    Step::Segments(0, true),
+    Step::Segments(1, false),
+    Step::PlanOfSets(0, 9_000, 1, &[0]),
+    Step::PlanOfSets(4_194_304, 9_000_000, 1, &[]),
     Step::Ingest((9_000, &[5], &[0]), &[Inserted::New(1)]),
     Step::Late(0, true),
+    Step::Segments(0, false),
+    Step::Plan(9_000, 9_001, 2, &[(0, &[0, 5])]),
 ];
 
 /// They are functions, so that they stand in no goal of their callers.

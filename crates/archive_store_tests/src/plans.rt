@@ -1,4 +1,5 @@
-// What a plan gives: rows of `tm` by interval, in the order of their keys.
+// What a plan gives: the intervals that a range meets, each with all of its rows of `tm` in the order of
+// their keys.
 use crate::steps::{Step, of_new};
 use arch_disk::MemDisk;
 use arch_types::inserted::Inserted;
@@ -28,7 +29,14 @@ const PLANS: &[Step] = &[
     Step::Ingest((4_200_000, &[8], &[1]), &[Inserted::New(8)]),
     Step::Plan(0, 9_000_000, 9, &[(0, &[0, 1]), (1, &[5, 7]), (2, &[6])]),
     Step::Plan(1_500, 1_501, 9, &[(0, &[0, 1])]),
-    Step::Plan(1_501, 8_400_000, 9, &[(1, &[5, 7])]),
+    Step::Plan(
+        1_501,
+        8_400_000,
+        9,
+        &[(0, &[0, 1]), (1, &[5, 7]), (2, &[6])],
+    ),
+    Step::Plan(4_194_303, 4_194_304, 9, &[(0, &[0, 1])]),
+    Step::Plan(4_194_304, 4_194_305, 9, &[(1, &[5, 7])]),
     Step::Plan(4_200_000, 4_200_000, 9, &[]),
     Step::NoPlan(b"zz", 5, 4, "unknown parameter"),
     Step::NoPlan(b"v", 5, 4, "bad range 5 4"),

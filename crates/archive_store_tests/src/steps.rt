@@ -29,8 +29,10 @@ pub enum Step {
     Reopen,
     /// A reopen that is refused by a fault of the disk.
     NoReopen,
-    /// The front, and the packets of each interval with `from <= time < to`.
+    /// The front, and the packets of each interval that a range meets.
     Plan(i64, i64, u64, &'static [IntervalPackets]),
+    /// The front, and the intervals that a range meets, each of which has a set.
+    PlanOfSets(i64, i64, u64, &'static [i64]),
     /// Why there is no plan of a parameter over a range.
     NoPlan(&'static [u8], i64, i64, &'static str),
     /// The name of the one container.
@@ -45,6 +47,8 @@ pub enum Step {
     Parts(u8, i64, i64, usize, usize),
     /// Whether an interval is late.
     Late(i64, bool),
+    /// Whether an interval has a set that stands for it.
+    Segments(i64, bool),
     /// A fill that begins, where there is one.
     Begin(Option<Task>),
     /// A fill that begins and is given up.
@@ -202,6 +206,44 @@ pub(crate) fn shows<D: Disk>(
     }
 }
 
+/// Whether a part is the set of an interval.
+fn is_set(part: &Part, interval: i64) -> bool {
+    match part {
+        Part::Set { interval: of, .. } => of.0 == interval,
+        Part::Rows { .. } => false,
+    }
+}
+
+/// Whether parts are the sets of these intervals.
+fn are_sets(parts: &[Part], expected: &[i64]) -> bool {
+    for (part, interval) in parts.iter().zip(expected) {
+        if !is_set(part, *interval) {
+            return false;
+        }
+    }
+    parts.len() == expected.len()
+}
+
+/// Whether a plan shows this front and these sets.
+fn shows_sets<D: Disk>(
+    alloc: Global,
+    store: &mut Store<D>,
+    from: i64,
+    to: i64,
+    front: u64,
+    sets: &[i64],
+) -> Result<bool, Fail> {
+    match planned(alloc, store, b"v", from, to)? {
+        Ok(plan) => Ok(plan.front == front && are_sets(plan.parts.as_slice(), sets)),
+        Err(_) => Ok(false),
+    }
+}
+
+/// Whether an interval has a set that stands for it.
+fn has_segments<D: Disk>(store: &Store<D>, interval: i64) -> Result<bool, Fail> {
+    Ok(store.segments(Interval(interval))?.is_some())
+}
+
 /// The fill that begins, where there is one.
 fn begun<D: Disk>(alloc: Global, store: &mut Store<D>) -> Result<Option<FillTask>, Fail> {
     Ok(store.begin(alloc)?)
@@ -247,6 +289,9 @@ fn is_answered<D: Disk>(alloc: Global, store: &mut Store<D>, step: &Step) -> Res
         Step::Reopen => Ok(is_reopened(store)),
         Step::NoReopen => Ok(!is_reopened(store)),
         Step::Plan(from, to, front, parts) => shows(alloc, store, *from, *to, *front, parts),
+        Step::PlanOfSets(from, to, front, sets) => {
+            shows_sets(alloc, store, *from, *to, *front, sets)
+        }
         Step::NoPlan(name, from, to, why) => {
             Ok(plan_answer(alloc, store, name, *from, *to)? == *why)
         }
@@ -260,6 +305,7 @@ fn is_answered<D: Disk>(alloc: Global, store: &mut Store<D>, step: &Step) -> Res
             has_parts(store, *table, *from, *to, *parts, *spans)
         }
         Step::Late(interval, late) => Ok(store.is_late(Interval(*interval)) == *late),
+        Step::Segments(interval, some) => Ok(has_segments(store, *interval)? == *some),
         Step::Begin(task) => begins(alloc, store, task),
         Step::GiveUp(task) => gives_up(alloc, store, task),
         Step::Settle => {

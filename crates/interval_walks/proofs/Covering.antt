@@ -44,7 +44,22 @@ meets_between low high i m =
     let last = around (2 ^ 22) (pow_pos 22) (high -ℤ pos 1) in
     (omega (arith, ints, first.0, m.ends), omega (arith, ints, last.1, m.begins))
 
+-- and one between those meets it
+between_meets : (low high : ℤ) (i : Interval) → interval_of 22 low ≤ℤ i.0 → i.0 ≤ℤ interval_of 22 (high -ℤ pos 1) → MeetsRange 22 low high i
+between_meets low high i least most =
+    let first = around (2 ^ 22) (pow_pos 22) low in
+    let last = around (2 ^ 22) (pow_pos 22) (high -ℤ pos 1) in
+    record { begins = omega (arith, ints, last.0, most); ends = omega (arith, ints, first.1, least) }
+
 -- ---- an interval more
+
+-- each interval lies between a first and a last
+abbrev pub AllBetween : ℤ → ℤ → List Interval → Type 0
+AllBetween first last is = AllByRecursion (λ i. (first ≤ℤ i.0) × (i.0 ≤ℤ last)) is
+
+pub all_meet : (low high : ℤ) (is : List Interval) → AllBetween (interval_of 22 low) (interval_of 22 (high -ℤ pos 1)) is → AllByRecursion (MeetsRange 22 low high) is
+all_meet low high [] all = tt
+all_meet low high (i ∷ is) all = (between_meets low high i all.0.0 all.0.1, all_meet low high is all.1)
 
 abbrev pub AllBelow : List Interval → ℤ → Type 0
 AllBelow is at = AllByRecursion (λ i. i.0 <ℤ at) is
@@ -56,6 +71,9 @@ below_push (i ∷ is) x at next all le less = (omega (arith, ints, all.0, le, le
 all_push : (P : Interval → Type 0) (is : List Interval) (x : Interval) → AllByRecursion P is → P x → AllByRecursion P (is ++ x ∷ [])
 all_push P [] x all here = (here, tt)
 all_push P (i ∷ is) x all here = (all.0, all_push P is x all.1 here)
+
+pub between_push : (first last : ℤ) (is : List Interval) (x : Interval) → AllBetween first last is → first ≤ℤ x.0 → x.0 ≤ℤ last → AllBetween first last (is ++ x ∷ [])
+between_push first last is x all least most = all_push (λ i. (first ≤ℤ i.0) × (i.0 ≤ℤ last)) is x all (least, most)
 
 pub rows_push : (marks : Marks) (is : List Interval) (x : Interval) → AllByRecursion (λ i. has_rows marks i ≡ true) is → has_rows marks x ≡ true → AllByRecursion (λ i. has_rows marks i ≡ true) (is ++ x ∷ [])
 rows_push marks is x all here = all_push (λ i. has_rows marks i ≡ true) is x all here

@@ -1,5 +1,5 @@
 -- Intervals one after the other.
-use Rattle.std.specs.Prelude.{◌≡◌, ℕ, ℤ, ◌<ℤ◌, List, [], ◌∷◌, true}
+use Rattle.std.specs.Prelude.{◌≡◌, ℕ, ℤ, ◌<ℤ◌, int_lt, List, [], ◌∷◌, Bool, true, ◌&&◌}
 use Rattle.std.specs.List.{flat_map, list_any, AllByRecursion}
 use Rattle.arch_types.specs.declared.interval.Interval.{Interval}
 use Rattle.arch_types.specs.declared.row.Row.{Row}
@@ -17,6 +17,11 @@ IntervalsRise (interval ∷ later) = AllByRecursion (λ other. interval.0 <ℤ o
 pub record MeetsRange (exponent : ℕ) (low high : ℤ) (interval : Interval) : Type 0 where
   pub begins : interval_start exponent interval <ℤ high
   pub ends : low <ℤ interval_end exponent interval
+
+-- whether it does
+abbrev pub meets_range : ℕ → ℤ → ℤ → Interval → Bool
+meets_range exponent low high interval =
+    int_lt (interval_start exponent interval) high && int_lt low (interval_end exponent interval)
 
 -- each interval that has rows and meets a range of times is among these
 abbrev pub CoverRange : ℕ → List Interval → ℤ → ℤ → List Item → Type 0

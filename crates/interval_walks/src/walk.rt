@@ -6,7 +6,7 @@ ghost use Rattle.arch_types.specs.declared.interval.Interval.{Interval as AnInte
 ghost use Rattle.arch_types.specs.Interval.{interval_of};
 ghost use Rattle.history_items.specs.Items.{Item};
 ghost use Rattle.fill_tracker.specs.FillTracker.{AreMarksOf};
-ghost use Rattle.interval_walks.specs.Turns.{CoverRange, IntervalsRise};
+ghost use Rattle.interval_walks.specs.Turns.{CoverRange, IntervalsRise, MeetsRange};
 ghost use Rattle.late_marks.specs.Marks.{has_rows};
 
 use arch_types::interval::Interval;
@@ -66,6 +66,7 @@ pub fn intervals_meeting(
         CoverRange 22 intervals.items from to history) }
     ensures rows { IfOk result (λ intervals.
         AllByRecursion (λ i. has_rows tracker.now.marks i ≡ true) intervals.items) }
+    ensures meets { IfOk result (λ intervals. AllByRecursion (MeetsRange 22 from to) intervals.items) }
 {
     let last = last_of(from, to);
     let first = first_of(from);

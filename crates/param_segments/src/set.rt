@@ -98,7 +98,8 @@ impl SegSet {
 
     /// Its one spelling, whose octets it shares.
     pub fn to_bytes(&self) -> Result<Octets, AllocError>
-        ensures { IfOk result (λ octets. octets ≡ set_octets self.now) }
+        ensures spelled { IfOk result (λ octets. octets ≡ set_octets self.now) }
+        ensures value { IfOk result (λ octets. rows_in_octets octets ≡ self.now) }
     {
         self.octets.copy()
     }

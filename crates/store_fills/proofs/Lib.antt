@@ -1,4 +1,6 @@
 pub mod Bases
+pub mod Built
 pub mod Faults
+pub mod RightFills
 pub mod SlotPlaces
 pub mod Soundness

@@ -1,8 +1,12 @@
 -- What holds of sound fills.
-use Rattle.std.specs.Prelude.{ℕ, List, ◌++◌}
+use Rattle.std.specs.Prelude.{ℕ, List, ◌++◌, length}
 use Rattle.arch_types.specs.declared.interval.Interval.{Interval}
+use Rattle.history_items.specs.declared.fills.Fill.{Fill}
 use Rattle.history_items.specs.Items.{Item}
+use Rattle.history_items.specs.Late.{IsLate}
+use Rattle.interval_fills.specs.Intervals.{rows_of_interval}
 use Rattle.mdb_items.specs.Database.{Database}
+use Rattle.param_segments.specs.Extracted.{IsSetOf}
 use Rattle.param_segments.specs.Rows.{SetRow}
 use Rattle.store_fills.specs.Filled.{HoldsRows, IsRightFill}
 use Rattle.store_fills.specs.FilledSets.{fill_over}
@@ -19,3 +23,16 @@ FillLeavesSound = (exponent : ℕ) (db : Database) (history : List Item) (fillin
     (interval : Interval) (base : ℕ) (set : List SetRow) →
     AreSound exponent (HoldsRows db) history fillings → IsRightFill exponent db history interval base set →
     AreSound exponent (HoldsRows db) history (with_filling fillings interval (fill_over base set))
+
+-- a fill of a late interval over the whole history is right, where its set holds what the interval's rows give
+abbrev pub WholeFillIsRight : Type 0
+WholeFillIsRight = (exponent : ℕ) (db : Database) (history : List Item) (fills : List Fill) (interval : Interval)
+    (set : List SetRow) → IsLate exponent interval history fills → IsSetOf db exponent interval.0 set →
+    HoldsRows db set (rows_of_interval exponent interval history) →
+    IsRightFill exponent db history interval (length history) set
+
+-- a fill that is right stays so when rows come
+abbrev pub RightFillStays : Type 0
+RightFillStays = (exponent : ℕ) (db : Database) (history more : List Item) (interval : Interval) (base : ℕ)
+    (set : List SetRow) → IsRightFill exponent db history interval base set →
+    IsRightFill exponent db (history ++ more) interval base set

@@ -1,4 +1,4 @@
-use Rattle.std.proofs.Common.{[], List, None, Some, sym, ◌∙◌, ap, subst}
+use Rattle.std.proofs.Common.{List, None, Some, sym, ◌∙◌, ap, subst}
 use Rattle.std.specs.Arc.{arc_value}
 use Rattle.std.specs.List.{AllByRecursion}
 use Rattle.history_items.specs.declared.fills.Fill.TheVariants.{Done}

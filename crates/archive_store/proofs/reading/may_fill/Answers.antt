@@ -1,5 +1,4 @@
-use Rattle.std.proofs.Common.{◌≡◌, ◌≤◌, length, true≢false, sym, ◌∙◌, ap, arith}
-use Rattle.std.specs.Option.{is_some}
+use Rattle.std.proofs.Common.{◌≤◌, length, true≢false, sym, ◌∙◌, arith}
 use Rattle.archive_store.proofs.Fillable.{stored_by, stored_has}
 use Rattle.archive_store.proofs.reading.may_fill.Goals as goal
 

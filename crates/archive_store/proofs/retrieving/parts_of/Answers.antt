@@ -1,48 +1,57 @@
-use Rattle.std.proofs.Common.{◌≡◌, ◌++◌, [], ◌∷◌, ◌<◌, ℕ, List, ℤ, length, get_or, sym, ◌∙◌, ap, subst, arith, append_assoc, w64}
-use Rattle.std.specs.List.Sorted.{IsSortedBy}
-use Rattle.std.proofs.lemmas.List.{append-nil}
-use Rattle.std.proofs.lemmas.Int.{to_z-of_z}
-use Rattle.arch_types.specs.declared.row.Row.{Row}
-use Rattle.arch_types.specs.Interval.{interval_of}
-use Rattle.arch_types.specs.Order.{is_before}
-use Rattle.arch_types.specs.Table.{range_of}
-use Rattle.param_segments.specs.Plans.{rows_of_parts}
-use Rattle.archive_store.proofs.Planning.{bounded, range_classified, classified_tail, first_rises, earlier_next}
+use Rattle.std.proofs.Common.{◌≡◌, ◌∙◌, ℕ, pos, ◌+◌, ◌<◌, ◌++◌, ◌∷◌, List, length, get_or, sym, ap, subst, drop}
+use Rattle.std.specs.Prelude.{IsSome}
+use Rattle.std.specs.List.{AllByRecursion}
+use Rattle.std.proofs.lemmas.List.{append-nil, at_drop_all, drop_more}
+use Rattle.arch_types.specs.declared.interval.Interval.{Interval}
+use Rattle.history_items.specs.Late.{last_in}
+use Rattle.param_segments.specs.declared.plan.Part.{Part}
+use Rattle.archive_store.specs.Plans.{IsPlanPart, plan_intervals}
+use Rattle.archive_store.proofs.Planning.{intervals_push, parts_push}
 use Rattle.archive_store.proofs.retrieving.parts_of.Goals as goal
 
-range_same : {a b c d : ℤ} (items : List Row) → a ≡ b → c ≡ d → range_of 0 a c items ≡ range_of 0 b d items
-range_same {a} {b} {c} {d} items low high = ap (λ (t : ℤ). range_of 0 t c items) low ∙ ap (λ (t : ℤ). range_of 0 b t items) high
-
-pub loop-row-init : goal.loop-row-init
-loop-row-init c =
-    let none = c.new-parts.ensures.items in
-    let start = c.into_iter-row-iterator.ensures.into_iter_gives in
-    let same = range_same c.args.history.now.items (sym (to_z-of_z w64 c.args.from c.ranges.from)) (sym (to_z-of_z w64 c.args.to c.ranges.to)) in
-    let rows = rw (to_z-of_z w64 c.args.from c.ranges.from, to_z-of_z w64 c.args.to c.ranges.to) at c.range-row-items.ensures in
-    let classified = range_classified 0 c.args.from c.args.to c.args.history.now.items in
-    rw (none, start, rows) (let d : IsSortedBy is_before (range_of 0 c.args.from c.args.to c.args.history.now.items) = classified in record { rows = same; each = tt; rising = tt; classified = d; earlier = λ k e within. tt })
-
-pub loop-row-preserved : goal.loop-row-preserved
-loop-row-preserved c =
-    let step : c.loop-row.row-iterator ≡ c.in-Some.row.now ∷ c.next.new.self = let s = c.in-Some.ensures.steps in cc in
-    let row : Row = c.in-Some.row.now in
-    let rest : List Row = c.next.new.self in
-    let inv = c.loop-row.invariant in
-    let parts = c.loop-row.parts.items in
-    let classified : IsSortedBy is_before (row ∷ rest) = subst (IsSortedBy is_before) step inv.classified in
-    let earlier : (j : ℕ) (e : Row) → j < length (row ∷ rest) → bounded (interval_of 22 (get_or (row ∷ rest) j e).key.time) parts =
-    subst (λ (l : List Row). (j : ℕ) (e : Row) → j < length l → bounded (interval_of 22 (get_or l j e).key.time) parts) step inv.earlier in
-    let put = c.in_ok-put.ensures in
+pub loop-interval-init : goal.loop-interval-init
+loop-interval-init g c =
+    let parts = c.new-parts.ensures.items in
     record {
-      rows = ap (λ (l : List Row). l ++ rest) put.rows ∙ append_assoc (rows_of_parts parts) (row ∷ []) rest ∙ ap (λ (l : List Row). rows_of_parts parts ++ l) (sym step) ∙ inv.rows;
-      each = put.each;
-      rising = put.rising inv.rising (earlier 0 row (omega arith));
-      classified = classified_tail row rest classified;
-      earlier = λ k d within. put.bounded (interval_of 22 (get_or rest k d).key.time) (earlier_next parts row rest d k earlier within) (first_rises row rest d k classified within);
+      each = subst (AllByRecursion (IsPlanPart c.args.store.now)) (sym parts) tt;
+      intervals = ap (λ (l : List Part). plan_intervals l ++ c.args.intervals.now) parts;
+      left = c.requires;
     }
 
-pub returns : goal.returns
-returns c =
-    let none : c.loop-row.row-iterator ≡ [] = let s = c.in-None.ensures.steps in cc in
-    let inv = c.loop-row.invariant in
-    rw c.from_vec.ensures (sym (append-nil (rows_of_parts c.loop-row.parts.items)) ∙ ap (λ (l : List Row). rows_of_parts c.loop-row.parts.items ++ l) (sym none) ∙ inv.rows ∙ range_same c.args.history.now.items (to_z-of_z w64 c.args.from c.ranges.from) (to_z-of_z w64 c.args.to c.ranges.to), inv.each, inv.rising)
+-- the interval of this turn, and those behind it
+first_left : (all : List Interval) (n : ℕ) → n < length all → drop n all ≡ get_or all n (record { 0 = pos 0 }) ∷ drop (n + 1) all
+first_left all n within = drop_more all n (record { 0 = pos 0 }) within
+
+left_parts : (P : Interval → Type 0) (all : List Interval) (n : ℕ) → n < length all → AllByRecursion P (drop n all) → P (get_or all n (record { 0 = pos 0 })) × AllByRecursion P (drop (n + 1) all)
+left_parts P all n within = subst (AllByRecursion P) (first_left all n within)
+
+pub part_of-requires : goal.part_of-requires
+part_of-requires g c =
+    (left_parts (λ j. IsSome (last_in 22 j c.args.store.now.history)) c.args.intervals.now c.loop-interval.interval-index c.loop-interval-test.true c.loop-interval.invariant.left).0
+
+pub loop-interval-preserved : goal.loop-interval-preserved
+loop-interval-preserved g c =
+    let store = c.args.store.now in
+    let all = c.args.intervals.now in
+    let n = c.loop-interval.interval-index in
+    let i : Interval = get_or all n (record { 0 = pos 0 }) in
+    let rest = drop (n + 1) all in
+    let parts = c.loop-interval.parts.items in
+    let part = c.in_ok-part.part in
+    let inv = c.loop-interval.invariant in
+    let items = c.in_ok-push.ensures.items in
+    record {
+      each = parts_push (IsPlanPart store) parts c.push.new.self.items part items inv.each c.in_ok-part.ensures.part;
+      intervals = intervals_push parts c.push.new.self.items part i rest items c.in_ok-part.ensures.interval ∙ ap (λ (l : List Interval). plan_intervals parts ++ l) (sym (first_left all n c.loop-interval-test.true)) ∙ inv.intervals;
+      left = (left_parts (λ j. IsSome (last_in 22 j store.history)) all n c.loop-interval-test.true inv.left).1;
+    }
+
+pub returns-clause-each : goal.returns-clause-each
+returns-clause-each g c = subst (AllByRecursion (IsPlanPart c.args.store.now)) (sym c.from_vec.ensures) c.loop-interval.invariant.each
+
+pub returns-clause-intervals : goal.returns-clause-intervals
+returns-clause-intervals g c =
+    let all = c.args.intervals.now in
+    let parts = c.loop-interval.parts.items in
+    let behind = at_drop_all (λ (l : List Interval). plan_intervals parts ++ l) all c.loop-interval.interval-index c.loop-interval-test.false in
+    ap plan_intervals c.from_vec.ensures ∙ sym (append-nil (plan_intervals parts)) ∙ sym behind ∙ c.loop-interval.invariant.intervals

@@ -41,13 +41,13 @@ returns-then-ne-clause-each c = λ rows is same. absurd (
     let short = c.fits_u32.ensures c.if-not-fits_u32.false in
     let segments = c.in_ok-segments.ensures.each (set_of rows) (known_segments c.args.mdb.now 22 c.args.interval.0 rows is) (few_segments rows c.args.octets.now short same) (same ∙ spelled_as_counted rows) in
     let made = c.in_ok-set.ensures.each rows is (c.deref.ensures.value ∙ segments) in
-    let own : c.as_slice.result.now ≡ c.args.octets.now = c.as_slice.ensures ∙ c.in_ok-own.ensures ∙ ap set_octets made ∙ sym same in
+    let own : c.as_slice.result.now ≡ c.args.octets.now = c.as_slice.ensures ∙ c.in_ok-own.ensures.spelled ∙ ap set_octets made ∙ sym same in
     other_text c.as_slice.result.now c.args.octets.now (unlike _ (sym c.ne.ensures ∙ c.if-ne.true)) own)
 
 pub returns-clause-spelled : goal.returns-clause-spelled
 returns-clause-spelled c =
     let own : c.as_slice.result.now ≡ c.args.octets.now = same_text c.as_slice.result.now c.args.octets.now (alike _ (sym c.ne.ensures ∙ c.if-ne.false)) in
-    (c.in_ok-set.ensures.sound, sym own ∙ c.as_slice.ensures ∙ c.in_ok-own.ensures)
+    (c.in_ok-set.ensures.sound, sym own ∙ c.as_slice.ensures ∙ c.in_ok-own.ensures.spelled)
 
 pub returns-clause-each : goal.returns-clause-each
 returns-clause-each c = λ rows is same.

@@ -1,4 +1,4 @@
-use Rattle.std.proofs.Common.{◌≡◌, ◌⊎◌, inl, ◌++◌, ◌<◌, ◌-◌, ◌^◌, [], ◌∷◌, ℕ, List, length, Bool, true, false, Some, None, refl, sym, ◌∙◌, ap, subst, arith, length-append}
+use Rattle.std.proofs.Common.{◌≡◌, ◌⊎◌, ◌++◌, ◌<◌, ◌-◌, ◌^◌, [], ◌∷◌, ℕ, List, length, Bool, true, false, Some, None, refl, sym, ◌∙◌, ap, subst, arith, length-append}
 use Rattle.std.specs.Prelude.{IsTrue}
 use Rattle.arch_disk.specs.Disk.{LeavesOnly}
 use Rattle.arch_types.specs.declared.row.Row.{Row}
@@ -16,13 +16,15 @@ use Rattle.field_codec.specs.Spelling.{entry_octets}
 use Rattle.fill_tracker.specs.FillTracker.{AreMarksOf}
 use Rattle.store_fills.specs.FilledSets.{fillings_in}
 use Rattle.archive_store.specs.Entries.{archive, filled_archive, AreAdmitted}
-use Rattle.archive_store.specs.Inside.{HoldsFills, StoreInvariant, view_of}
-use Rattle.archive_store.specs.StoreView.{StoreView}
-use Rattle.archive_store.specs.Stands.{StandsFor}
+use Rattle.archive_store.specs.Inside.{HoldsFills, StoreInvariant}
+use Rattle.archive_store.specs.PlainLog.{with_rows}
+use Rattle.archive_store.specs.StoreView.{StoreView, filled_of}
+use Rattle.archive_store.specs.Stands.{StandsFilled}
 use Rattle.archive_store.proofs.Batching.{placed_tables}
 use Rattle.archive_store.proofs.Fillable.{holds_same}
-use Rattle.archive_store.proofs.Kept.{healthy, kept_same, kept_ok, kept_err, moments_of, fault, stands_now}
-use Rattle.archive_store.proofs.PlainLog.{crash_of, either_for}
+use Rattle.archive_store.proofs.Kept.{healthy, kept_same, kept_ok, kept_err, moments_of, fault}
+use Rattle.archive_store.proofs.KeptFills.{filled_now}
+use Rattle.archive_store.proofs.PlainLog.{either_filled}
 use Rattle.archive_store.proofs.store.Store.append.Goals as goal
 
 -- all were added, since each is new
@@ -79,8 +81,8 @@ returns-in-Ok-append-clause-crash g c =
     subst (λ (b : List ℕ). LeavesOnly device s.disk c.append.new.disk (λ c'. IsBeforeOrAfter bodies b (c' (file_of mid)))) frame (append_crash_on device mid bodies pending s.disk transparent keeps c.append.new.disk c.in-Ok.frame (c.append.ensures.crash no_pending_fault)) in
     let elsewhere = c.append.ensures.others.crash in
     let moments = moments_of device s.disk c.append.new.disk s.opened.value s.journal mid s.head s.history.items fresh s.tracker.fills s.sets.filled s.pending_fault k ok no_failed_write c.prepare-prepared.ensures.journal run elsewhere in
-    subst (λ (x : StoreView g.row.D.Denot). IsTrue device.is_transparent → LeavesOnly device x.disk c.append.new.disk (λ c'. StandsFor c' (archive x.head x.history) ⊎ StandsFor c' (archive x.head (x.history ++ fresh)))) c.self.view_is
-    (λ transparent. either_for device s.disk c.append.new.disk (filled_archive s.head s.history.items (fillings_in s.sets.filled)) (filled_archive s.head (s.history.items ++ fresh) (fillings_in s.sets.filled)) (moments transparent))
+    subst (λ (x : StoreView g.row.D.Denot). IsTrue device.is_transparent → LeavesOnly device x.disk c.append.new.disk (λ c'. StandsFilled c' (filled_of x) ⊎ StandsFilled c' (with_rows (filled_of x) fresh))) c.self.view_is
+    (λ transparent. either_filled device s.disk c.append.new.disk (filled_archive s.head s.history.items (fillings_in s.sets.filled)) (filled_archive s.head (s.history.items ++ fresh) (fillings_in s.sets.filled)) (moments transparent))
 
 pub invariant_of-self-in-Err : goal.invariant_of-self-in-Err
 invariant_of-self-in-Err g c =
@@ -145,16 +147,17 @@ returns-clause-crash g c =
     subst (λ (b : List ℕ). LeavesOnly device s.disk c.append.new.disk (λ c'. IsBeforeOrAfter bodies b (c' (file_of mid)))) frame (append_crash_on device mid bodies pending s.disk transparent keeps c.append.new.disk c.in-Ok.frame (c.append.ensures.crash no_pending_fault)) in
     let elsewhere = c.append.ensures.others.crash in
     let moments = moments_of device s.disk c.append.new.disk s.opened.value s.journal mid s.head s.history.items fresh s.tracker.fills s.sets.filled s.pending_fault k ok no_failed_write c.prepare-prepared.ensures.journal run elsewhere in
-    subst (λ (x : StoreView g.row.D.Denot). IsTrue device.is_transparent → LeavesOnly device x.disk c.append.new.disk (λ c'. StandsFor c' (archive x.head x.history) ⊎ StandsFor c' (archive x.head (x.history ++ fresh)))) c.self.view_is
-    (λ transparent. either_for device s.disk c.append.new.disk (filled_archive s.head s.history.items (fillings_in s.sets.filled)) (filled_archive s.head (s.history.items ++ fresh) (fillings_in s.sets.filled)) (moments transparent))
+    subst (λ (x : StoreView g.row.D.Denot). IsTrue device.is_transparent → LeavesOnly device x.disk c.append.new.disk (λ c'. StandsFilled c' (filled_of x) ⊎ StandsFilled c' (with_rows (filled_of x) fresh))) c.self.view_is
+    (λ transparent. either_filled device s.disk c.append.new.disk (filled_archive s.head s.history.items (fillings_in s.sets.filled)) (filled_archive s.head (s.history.items ++ fresh) (fillings_in s.sets.filled)) (moments transparent))
 
 pub returns-in_default-clause-crash : goal.returns-in_default-clause-crash
 returns-in_default-clause-crash g c transparent =
     let device = g.D.Disk.device in
     let s = c.self.inside in
     let no_failed_write : pending_fault_of s.tracker.fills ≡ None = subst (λ (x : StoreView g.row.D.Denot). pending_fault_of x.fills ≡ None) (sym c.self.view_is) c.requires.healed in
-    subst (λ (x : StoreView g.row.D.Denot). LeavesOnly device x.disk s.disk (λ c'. StandsFor c' (archive x.head x.history) ⊎ StandsFor c' (archive x.head (x.history ++ c.args.fresh)))) c.self.view_is
-    (stands_now device (view_of s.disk s.opened.value s.journal s.head s.history.items s.tracker.fills s.sets.filled) _ (crash_of device s.disk s.opened.value s.journal s.head s.history.items s.tracker.fills s.sets.filled s.pending_fault c.self.invariant.0 transparent) no_failed_write (λ c' stands. inl stands))
+    subst (λ (x : StoreView g.row.D.Denot). LeavesOnly device x.disk s.disk (λ c'. StandsFilled c' (filled_of x) ⊎ StandsFilled c' (with_rows (filled_of x) c.args.fresh))) c.self.view_is
+    (filled_now device s.disk s.opened.value s.journal s.head s.history.items s.tracker.fills s.sets.filled s.pending_fault c.self.invariant.0 no_failed_write transparent
+    (filled_archive s.head (s.history.items ++ c.args.fresh) (fillings_in s.sets.filled)))
 
 pub add_all-requires-clause-tables : goal.add_all-requires-clause-tables
 add_all-requires-clause-tables g c =

@@ -1,9 +1,14 @@
-use Rattle.std.proofs.Common.{subst}
+use Rattle.std.proofs.Common.{◌≡◌, None, subst}
 use Rattle.std.specs.List.{AllByRecursion}
+use Rattle.arch_types.specs.declared.interval.Interval.{Interval}
+use Rattle.history_items.specs.Fills.{base_in, pending_fault_of}
 use Rattle.history_items.specs.Items.{rows_in}
+use Rattle.store_fills.specs.FilledSets.{fillings_in}
+use Rattle.store_fills.specs.Sound.{base_of_filling}
 use Rattle.archive_store.specs.Entries.{IsArchivedRow, IsSoundArchive}
 use Rattle.archive_store.specs.Stands.{IsSoundImage}
-use Rattle.archive_store.specs.StoreView.{StoreView, CrashInvariant, filled_of}
+use Rattle.archive_store.specs.StoreView.{StoreView, CrashInvariant, IsKeptWithFills, filled_of}
+use Rattle.archive_store.proofs.KeptFills.{kept_now}
 use Rattle.archive_store.proofs.PlainLog.{crash_of, sound_of}
 use Rattle.archive_store.proofs.store.Store.front.Goals as goal
 
@@ -22,3 +27,14 @@ returns-clause-sound g c transparent =
     let s = c.self.inside in
     subst (λ (x : StoreView g.row.D.Denot). IsSoundImage (device.reads x.opened) → IsSoundArchive (filled_of x)) c.self.view_is
     (sound_of device s.disk s.opened.value s.journal s.head s.history.items s.tracker.fills s.sets.filled s.pending_fault c.self.invariant.0 transparent)
+
+pub returns-clause-bases : goal.returns-clause-bases
+returns-clause-bases g c =
+    subst (λ (x : StoreView g.row.D.Denot). (i : Interval) → base_in i x.fills ≡ base_of_filling (fillings_in x.filled) i) c.self.view_is c.self.invariant.4.bases
+
+pub returns-clause-kept : goal.returns-clause-kept
+returns-clause-kept g c transparent =
+    let device = g.D.Disk.device in
+    let s = c.self.inside in
+    subst (λ (x : StoreView g.row.D.Denot). pending_fault_of x.fills ≡ None → IsKeptWithFills device x) c.self.view_is
+    (λ healed. kept_now device s.disk s.opened.value s.journal s.head s.history.items s.tracker.fills s.sets.filled s.pending_fault c.self.invariant.0 healed transparent)

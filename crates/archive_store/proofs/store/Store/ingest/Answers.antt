@@ -1,4 +1,4 @@
-use Rattle.std.proofs.Common.{◌≡◌, ◌≢◌, ◌⊎◌, inl, ◌≤◌, ◌++◌, List, [], length, None, refl, sym, ◌∙◌, ap, subst, arith}
+use Rattle.std.proofs.Common.{◌≡◌, ◌≢◌, ◌⊎◌, ◌≤◌, ◌++◌, List, [], length, None, refl, sym, ◌∙◌, ap, subst, arith}
 use Rattle.arch_disk.specs.Disk.{LeavesOnly}
 use Rattle.arch_types.specs.declared.row.Row.{Row}
 use Rattle.std.specs.List.{AllByRecursion}
@@ -7,16 +7,17 @@ use Rattle.history_items.specs.Fills.{pending_fault_of}
 use Rattle.history_items.specs.Items.{Item}
 use Rattle.history_items.specs.Outcomes.{outcomes_of, fresh_of}
 use Rattle.archive_store.specs.Batches.{batch_rows, IsBatch}
-use Rattle.archive_store.specs.Calls.{AreIngested, IsIngestRefusal}
-use Rattle.archive_store.specs.Entries.{archive, AreAdmitted}
+use Rattle.archive_store.specs.Calls.{AreIngested, IsIngestRefusal, archive_with}
+use Rattle.store_fills.specs.FilledSets.{fillings_in}
+use Rattle.archive_store.specs.Entries.{archive, filled_archive, AreAdmitted}
 use Rattle.archive_history.specs.Limits.{IsWithin, IsLimit}
-use Rattle.archive_store.specs.StoreView.{StoreView, CrashInvariant}
-use Rattle.archive_store.specs.Stands.{StandsFor}
+use Rattle.archive_store.specs.StoreView.{StoreView, filled_of}
+use Rattle.archive_store.specs.Inside.{view_of}
+use Rattle.archive_store.specs.Stands.{StandsFilled}
 use Rattle.archive_store.proofs.Batching.{admitted, sortable}
 use Rattle.archive_store.proofs.Calls.{passed_on, rows_refused}
 use Rattle.archive_store.proofs.Ingesting.{added, nothing_added, none_new, below_none, below_some}
-use Rattle.archive_store.proofs.Kept.{stands_now}
-use Rattle.archive_store.proofs.PlainLog.{crash_of}
+use Rattle.archive_store.proofs.KeptFills.{filled_now}
 use Rattle.archive_store.proofs.store.Store.ingest.Goals as goal
 
 pub classify-requires : goal.classify-requires
@@ -45,32 +46,38 @@ returns-in_err-append-clause-crash g c no_failed_write transparent =
     let rows = batch_rows c.args.batch.now in
     let now = c.args.self.now in
     let fresh = subst (λ (x : StoreView g.row.D.Denot). c.in-Ok.classified.fresh ≡ fresh_of x.history rows) c.self.view_is c.in-Ok.ensures.fresh in
-    subst (λ (l : List Item). LeavesOnly g.D.Disk.device now.disk c.append.new.self.disk (λ c'. StandsFor c' (archive now.head now.history) ⊎ StandsFor c' (archive now.head l))) (added now.history rows c.in-Ok.classified.fresh fresh) (c.append.ensures.crash transparent)
+    subst (λ (l : List Item). LeavesOnly g.D.Disk.device now.disk c.append.new.self.disk (λ c'. StandsFilled c' (filled_of now) ⊎ StandsFilled c' (filled_archive now.head l (fillings_in now.filled)))) (added now.history rows c.in-Ok.classified.fresh fresh) (c.append.ensures.crash transparent)
 
 pub returns-clause-crash : goal.returns-clause-crash
 returns-clause-crash g c no_failed_write transparent =
     let rows = batch_rows c.args.batch.now in
     let now = c.args.self.now in
     let fresh = subst (λ (x : StoreView g.row.D.Denot). c.in-Ok.classified.fresh ≡ fresh_of x.history rows) c.self.view_is c.in-Ok.ensures.fresh in
-    subst (λ (l : List Item). LeavesOnly g.D.Disk.device now.disk c.append.new.self.disk (λ c'. StandsFor c' (archive now.head now.history) ⊎ StandsFor c' (archive now.head l))) (added now.history rows c.in-Ok.classified.fresh fresh) (c.append.ensures.crash transparent)
+    subst (λ (l : List Item). LeavesOnly g.D.Disk.device now.disk c.append.new.self.disk (λ c'. StandsFilled c' (filled_of now) ⊎ StandsFilled c' (filled_archive now.head l (fillings_in now.filled)))) (added now.history rows c.in-Ok.classified.fresh fresh) (c.append.ensures.crash transparent)
 
 pub returns-in_default-clause-crash : goal.returns-in_default-clause-crash
 returns-in_default-clause-crash g c no_failed_write transparent =
     let device = g.D.Disk.device in
     let s = c.self.inside in
-    stands_now device c.args.self.now _ (subst (λ (x : StoreView g.row.D.Denot). CrashInvariant device x) c.self.view_is (crash_of device s.disk s.opened.value s.journal s.head s.history.items s.tracker.fills s.sets.filled s.pending_fault c.self.invariant.0 transparent)) no_failed_write (λ c' stands. inl stands)
+    subst (λ (x : StoreView g.row.D.Denot). pending_fault_of x.fills ≡ None → LeavesOnly device x.disk x.disk (λ c'. StandsFilled c' (filled_of x) ⊎ StandsFilled c' (archive_with x (batch_rows c.args.batch.now)))) c.self.view_is
+    (λ none. filled_now device s.disk s.opened.value s.journal s.head s.history.items s.tracker.fills s.sets.filled s.pending_fault c.self.invariant.0 none transparent
+    (archive_with (view_of s.disk s.opened.value s.journal s.head s.history.items s.tracker.fills s.sets.filled) (batch_rows c.args.batch.now))) no_failed_write
 
 pub returns-then-len-eq0-clause-crash : goal.returns-then-len-eq0-clause-crash
 returns-then-len-eq0-clause-crash g c no_failed_write transparent =
     let device = g.D.Disk.device in
     let s = c.self.inside in
-    stands_now device c.args.self.now _ (subst (λ (x : StoreView g.row.D.Denot). CrashInvariant device x) c.self.view_is (crash_of device s.disk s.opened.value s.journal s.head s.history.items s.tracker.fills s.sets.filled s.pending_fault c.self.invariant.0 transparent)) no_failed_write (λ c' stands. inl stands)
+    subst (λ (x : StoreView g.row.D.Denot). pending_fault_of x.fills ≡ None → LeavesOnly device x.disk x.disk (λ c'. StandsFilled c' (filled_of x) ⊎ StandsFilled c' (archive_with x (batch_rows c.args.batch.now)))) c.self.view_is
+    (λ none. filled_now device s.disk s.opened.value s.journal s.head s.history.items s.tracker.fills s.sets.filled s.pending_fault c.self.invariant.0 none transparent
+    (archive_with (view_of s.disk s.opened.value s.journal s.head s.history.items s.tracker.fills s.sets.filled) (batch_rows c.args.batch.now))) no_failed_write
 
 pub returns-in-Some-limit_passed-clause-crash : goal.returns-in-Some-limit_passed-clause-crash
 returns-in-Some-limit_passed-clause-crash g c no_failed_write transparent =
     let device = g.D.Disk.device in
     let s = c.self.inside in
-    stands_now device c.args.self.now _ (subst (λ (x : StoreView g.row.D.Denot). CrashInvariant device x) c.self.view_is (crash_of device s.disk s.opened.value s.journal s.head s.history.items s.tracker.fills s.sets.filled s.pending_fault c.self.invariant.0 transparent)) no_failed_write (λ c' stands. inl stands)
+    subst (λ (x : StoreView g.row.D.Denot). pending_fault_of x.fills ≡ None → LeavesOnly device x.disk x.disk (λ c'. StandsFilled c' (filled_of x) ⊎ StandsFilled c' (archive_with x (batch_rows c.args.batch.now)))) c.self.view_is
+    (λ none. filled_now device s.disk s.opened.value s.journal s.head s.history.items s.tracker.fills s.sets.filled s.pending_fault c.self.invariant.0 none transparent
+    (archive_with (view_of s.disk s.opened.value s.journal s.head s.history.items s.tracker.fills s.sets.filled) (batch_rows c.args.batch.now))) no_failed_write
 
 pub returns-then-len-eq0-clause-ingested : goal.returns-then-len-eq0-clause-ingested
 returns-then-len-eq0-clause-ingested g c =

@@ -1,4 +1,4 @@
-use Rattle.std.proofs.Common.{◌≡◌, ◌≤◌, ℕ, List, Option, None, sym, ◌∙◌, ap, subst}
+use Rattle.std.proofs.Common.{◌≡◌, ◌≤◌, ℕ, List, None, sym, ◌∙◌, ap, subst}
 use Rattle.std.specs.Prelude.{IsTrue}
 use Rattle.arch_disk.specs.Disk.{LeavesOnly, raised}
 use Rattle.history_items.specs.declared.fills.Fill.{Fill}
@@ -13,9 +13,9 @@ use Rattle.archive_store.specs.StoreView.{StoreView, IsNow}
 use Rattle.archive_store.specs.declared.head.Head.{Head}
 use Rattle.archive_store.specs.Inside.{StoreInvariant, view_of}
 use Rattle.archive_store.proofs.Fillable.{holds_same}
-use Rattle.archive_store.proofs.Kept.{hand-reopened, healthy}
+use Rattle.archive_store.proofs.Kept.{healthy}
 use Rattle.archive_store.proofs.Healing.{heal_moments, moments_for, kept_healed, kept_unhealed}
-use Rattle.archive_store.proofs.PlainLog.{crash_of}
+use Rattle.archive_store.proofs.KeptFills.{kept_now}
 use Rattle.archive_store.proofs.store.Store.reopen.Goals as goal
 
 -- what contracts see of a store of that many records
@@ -74,7 +74,7 @@ returns-in-Ok-clause-reopened g c =
           ∙ ap (view_of_records c.heal.new.disk s.opened.value s.head s.history.items (reopened s.tracker.fills) s.sets.filled) (ap count_of c.in-Ok.ensures.healed.journal)
           ∙ ap (λ (x : StoreView g.row.D.Denot). view_of_records c.heal.new.disk x.opened x.head x.history (reopened x.fills) x.filled x.records) c.self.view_is;
       healed = ap pending_fault_of cleared ∙ pending_fault_of-reopened c.args.self.now.fills;
-      images = λ transparent image left. subst (λ (o : Option (List Item)). IsNow s.head s.history.items o image) (hand-reopened s.tracker.fills) ((crash_of device c.heal.new.disk s.opened.value c.heal.new.self s.head s.history.items (reopened s.tracker.fills) s.sets.filled None done transparent).now image left);
+      images = λ transparent image left. kept_now device c.heal.new.disk s.opened.value c.heal.new.self s.head s.history.items (reopened s.tracker.fills) s.sets.filled None done (pending_fault_of-reopened s.tracker.fills) transparent image left;
       no_call = λ none. c.in-Ok.ensures.healed.no_call (healthy (unhealed_fault s.journal) (pending_fault_of s.tracker.fills) k.journal_fault (ap (λ (x : StoreView g.row.D.Denot). pending_fault_of x.fills) c.self.view_is ∙ none)) ∙ ap (λ (x : StoreView g.row.D.Denot). x.disk) c.self.view_is;
       no_failed_write = c.in-Ok.ensures.healed.no_failed_write ∙ ap (λ (x : StoreView g.row.D.Denot). device.failed_writes x.disk) c.self.view_is;
     }

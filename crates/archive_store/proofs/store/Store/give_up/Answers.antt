@@ -6,14 +6,14 @@ use Rattle.archive_store.specs.Inside.{HoldsFills, StoreInvariant, view_of}
 use Rattle.archive_store.specs.StoreView.{StoreView}
 use Rattle.archive_store.proofs.Fillable.{holds_same}
 use Rattle.archive_store.proofs.SameFaults.{same_faults_freed, same_faults_kept, with_fills}
-use Rattle.archive_store.proofs.store.Store.abandon.Goals as goal
+use Rattle.archive_store.proofs.store.Store.give_up.Goals as goal
 
 pub invariant_of-self : goal.invariant_of-self
 invariant_of-self g c =
     let device = g.D.Disk.device in
     let s = c.self.inside in
     let k = c.self.invariant in
-    let i = c.args.task.interval in
+    let i = c.args.interval in
     let done = same_faults_kept device s.disk s.opened.value s.journal s.head s.history.items s.tracker.fills (freed i s.tracker.fills) s.sets.filled s.pending_fault k.0 (same_faults_freed s.tracker.fills i) in (
       subst (λ (l : List Fill). StoreInvariant device s.disk s.opened.value s.journal s.head s.history.items l s.sets.filled s.pending_fault) (sym c.free.ensures.fills) done,
       k.1,
@@ -26,4 +26,4 @@ pub returns : goal.returns
 returns g c =
     let s = c.self.inside in
     ap (λ (l : List Fill). view_of s.disk s.opened.value s.journal s.head s.history.items l s.sets.filled) c.free.ensures.fills
-    ∙ ap (λ (x : StoreView g.row.D.Denot). with_fills x (freed c.args.task.interval x.fills)) c.self.view_is
+    ∙ ap (λ (x : StoreView g.row.D.Denot). with_fills x (freed c.args.interval x.fills)) c.self.view_is

@@ -1,0 +1,86 @@
+-- Installs, by what a store is seen as.
+use Rattle.std.proofs.Common.{◌≡◌, ℕ, ◌<◌, List, [], ◌∷◌, ◌++◌, Bool, true, false, Option, Some, None, refl, sym, ◌∙◌, ap, subst, arith, append_assoc}
+use Rattle.std.specs.Prelude.{if◌then◌else◌}
+use Rattle.std.specs.Option.{is_some}
+use mathlib.Core.List.{IsPrefix}
+use Rattle.arch_disk.specs.Disk.{Device}
+use Rattle.arch_types.specs.declared.interval.Interval.{Interval}
+use Rattle.arch_types.specs.declared.refusal.Refusal.{Refusal}
+use Rattle.arch_types.specs.declared.refusal.Refusal.TheVariants.{DiskFault, OutOfMemory}
+use Rattle.disk_journal.specs.Calls.{CountsNeverFall}
+use Rattle.history_items.specs.declared.fills.Fill.{Fill}
+use Rattle.history_items.specs.declared.fills.Fill.TheVariants.{Freed}
+use Rattle.history_items.specs.Fills.{in_flight}
+use Rattle.history_items.specs.Items.{Item}
+use Rattle.history_items.specs.Late.{IsLastIn, last_in}
+use Rattle.history_items.proofs.Late.{last_is_greatest}
+use Rattle.interval_fills.specs.Intervals.{NoRowSince}
+use Rattle.interval_fills.specs.Steps.{freed}
+use Rattle.store_fills.specs.Built.{BuiltFill}
+use Rattle.archive_store.specs.Installs.{IsFillRefusal, IsAbandoned, IsInstallable, IsInstallRefusal}
+use Rattle.archive_store.specs.StoreView.{OnlyAppends, StoreView}
+use Rattle.archive_store.proofs.PendingFaults.{prefix_self}
+
+-- ---- rows since a base
+
+module _ (interval : Interval) (base : ℕ) (history : List Item) (last : Option ℕ) (is : last ≡ last_in 22 interval history) where
+  last_row : IsLastIn 22 interval history last
+  last_row = subst (IsLastIn 22 interval history) (sym is) (last_is_greatest 22 interval history)
+
+  pub never_since : last ≡ None → NoRowSince 22 interval base history
+  never_since none = λ p stands. absurd (subst (IsLastIn 22 interval history) none last_row p stands)
+
+  pub none_since_last : (l : ℕ) → last ≡ Some l → l < base → NoRowSince 22 interval base history
+  none_since_last l some below = λ p stands. let greatest = (subst (IsLastIn 22 interval history) some last_row).1 p stands in omega (arith, greatest, below)
+
+-- what is known of an interval and a base, of those of a fill
+pub at_done : (done : BuiltFill) (i : Interval) (base : ℕ) → i ≡ done.interval → base ≡ done.base → (P : Interval → ℕ → Type 0) → P i base → P done.interval done.base
+at_done done i base at over P known = subst (λ (j : Interval). P j done.base) at (subst (λ (n : ℕ). P i n) over known)
+
+-- ---- lists that go on
+
+pub freed_begins : (fills : List Fill) (i : Interval) → IsPrefix fills (freed i fills)
+freed_begins fills i = go (is_some (in_flight i fills))
+  where
+    go : (b : Bool) → IsPrefix fills (if b then fills ++ Freed i ∷ [] else fills)
+    go true = (Freed i ∷ [], refl)
+    go false = prefix_self fills
+
+prefix_on : {A : Type 0} (xs ys zs : List A) → IsPrefix xs ys → IsPrefix ys zs → IsPrefix xs zs
+prefix_on {A = A} xs ys zs first next = (first.0 ++ next.0, sym (append_assoc xs first.0 next.0) ∙ ap (λ (l : List A). l ++ next.0) first.1 ∙ next.1)
+
+module _ {D : Type 0} where
+  pub goes_on : (old mid new : StoreView D) → OnlyAppends old mid → OnlyAppends mid new → OnlyAppends old new
+  goes_on old mid new first next = record {
+    history = prefix_on old.history mid.history new.history first.history next.history;
+    fills = prefix_on old.fills mid.fills new.fills first.fills next.fills;
+    head = next.head ∙ first.head;
+    opened = next.opened ∙ first.opened;
+  }
+
+  -- ---- a fill that is given up
+
+  pub goes_given_up : (old new : StoreView D) (i : Interval) → IsAbandoned old new i → OnlyAppends old new
+  goes_given_up old new i up = subst (OnlyAppends old) (sym up) (record {
+    history = prefix_self old.history;
+    fills = freed_begins old.fills i;
+    head = refl;
+    opened = refl;
+  })
+
+  pub same_disk : (old new : StoreView D) (i : Interval) → IsAbandoned old new i → old.disk ≡ new.disk
+  same_disk old new i up = sym (ap (λ (s : StoreView D). s.disk) up)
+
+  pub counts_same : (device : Device D) (old new : StoreView D) (i : Interval) → IsAbandoned old new i → CountsNeverFall device old.disk new.disk
+  counts_same device old new i up = subst (λ (d : D). CountsNeverFall device old.disk d) (same_disk old new i up) (record { faults = omega arith; writes = omega arith })
+
+  pub counts_on : (device : Device D) (old mid new : StoreView D) (i : Interval) → CountsNeverFall device old.disk mid.disk → IsAbandoned mid new i → CountsNeverFall device old.disk new.disk
+  counts_on device old mid new i counts up = subst (λ (d : D). CountsNeverFall device old.disk d) (same_disk mid new i up) counts
+
+  -- ---- why an install is refused behind its tests
+
+  pub install_refused : (device : Device D) (old mid new : StoreView D) (done : BuiltFill) (e : Refusal) → IsInstallable old → NoRowSince 22 done.interval done.base old.history
+      → IsFillRefusal device old mid e → IsAbandoned mid new done.interval → IsInstallRefusal device old new done e
+  install_refused device old mid new done OutOfMemory able none refusal up = (able, none, subst (λ (s : StoreView D). IsAbandoned s new done.interval) refusal up)
+  install_refused device old mid new done DiskFault able none refusal up = (able, none, (mid, refusal, up))
+  install_refused device old mid new done _ able none refusal up = absurd refusal

@@ -1,0 +1,54 @@
+-- The intervals that have rows.
+use Rattle.std.proofs.Common.{◌≡◌, ℕ, pos, List, [], ◌∷◌, Option, Some, None, true, refl, arith}
+use Rattle.std.specs.Prelude.{option_map, IsSome}
+use Rattle.std.specs.List.{AllByRecursion}
+use Rattle.std.proofs.lemmas.Int.{ints}
+use Rattle.arch_types.specs.declared.interval.Interval.{Interval}
+use Rattle.arch_types.specs.declared.row.Row.{Row}
+use Rattle.history_items.specs.Fills.{base_in}
+use Rattle.history_items.specs.Items.{Item}
+use Rattle.history_items.specs.Late.{IsLastIn, StandsIn, last_in}
+use Rattle.history_items.proofs.Late.{last_is_greatest}
+use Rattle.history_items.specs.declared.fills.Fill.{Fill}
+use Rattle.interval_fills.specs.Intervals.{interval_end, interval_start}
+use Rattle.interval_fills.proofs.Intervals.{in_range}
+use Rattle.interval_walks.specs.Turns.{MeetsRange}
+use Rattle.interval_walks.proofs.Rising.{after_low, before_high, range_is}
+use Rattle.late_marks.specs.Marks.{Marks, has_rows}
+use Rattle.fill_tracker.specs.FillTracker.{AreMarksOf}
+use Rattle.param_segments.specs.Rows.{SetRow}
+use Rattle.store_fills.specs.FilledSets.{FilledIntervals, fillings_in}
+use Rattle.store_fills.specs.Sound.{Filling}
+use Rattle.archive_store.specs.declared.head.Head.{Head}
+use Rattle.archive_store.specs.Entries.{IsArchivedRow}
+use Rattle.archive_store.specs.Inside.{HoldsFills}
+use Rattle.archive_store.proofs.CurrentSets.{marked_last}
+use Rattle.archive_store.proofs.Times.{stands_in_clock}
+
+-- intervals that have marks have rows
+pub all_marked : (history : List Item) (fills : List Fill) (marks : Marks) (is : List Interval) → AreMarksOf 22 history fills marks → AllByRecursion (λ i. has_rows marks i ≡ true) is → AllByRecursion (λ i. IsSome (last_in 22 i history)) is
+all_marked history fills marks [] are all = tt
+all_marked history fills marks (i ∷ is) are all = (marked_last marks fills history i are all.0, all_marked history fills marks is are all.1)
+
+-- the interval of a row of an archive meets the range of all times
+pub meets_all : (head : Head) (history : List Item) (i : Interval) (p : ℕ) → AllByRecursion (IsArchivedRow head) history → StandsIn 22 i p history → MeetsRange 22 (pos 0) (pos 9223372036854775807) i
+meets_all head history i p all stands =
+    let moment = stands_in_clock head history i p all stands in
+    let clock = moment.1 in
+    let row : Row = record stands.row { key = record { time = moment.0; seq = 0 } } in
+    let bounds = range_is (interval_start 22 i) (interval_end 22 i) row (in_range 22 i row moment.2) in
+    record { begins = before_high bounds.0 (omega (arith, ints, clock.1)); ends = after_low clock.0 bounds.1 }
+
+-- where an interval is filled, a row of it stands somewhere: its base is told by the fill list, which names no interval
+-- without rows
+pub filled_stands : (head : Head) (history : List Item) (fills : List Fill) (marks : Marks) (filled : FilledIntervals) (i : Interval) → AreMarksOf 22 history fills marks → HoldsFills head fills filled
+    → IsSome (fillings_in filled i) → (p : ℕ) × StandsIn 22 i p history
+filled_stands head history fills marks filled i are holds some = go (last_in 22 i history) refl (last_is_greatest 22 i history)
+  where
+    not_filled : (f : Option (Filling (List SetRow))) → base_in i fills ≡ option_map (λ g. g.base) f → base_in i fills ≡ None → IsSome f → ⊥
+    not_filled None based none some = cc
+    not_filled (Some f) based none some = cc
+
+    go : (o : Option ℕ) → last_in 22 i history ≡ o → IsLastIn 22 i history o → (p : ℕ) × StandsIn 22 i p history
+    go None e never = absurd (not_filled (fillings_in filled i) (holds.bases i) (are.known i e).0 some)
+    go (Some last) e row = (last, row.0)

@@ -1,0 +1,194 @@
+-- What a store keeps over an install.
+use Rattle.std.proofs.Common.{◌≡◌, ◌⊎◌, inl, ℕ, ◌≤◌, ◌^◌, true, List, [], ◌∷◌, ◌++◌, map, Option, Some, None, refl, sym, ◌∙◌, ap, subst, arith, append-nil}
+use Rattle.std.specs.Prelude.{IsTrue, min, ◌-◌}
+use Rattle.arch_disk.specs.Image.{Image}
+use Rattle.arch_disk.specs.Disk.{Device, LeavesOnly, raised}
+use Rattle.arch_disk.proofs.Moments.{started}
+use Rattle.arch_types.specs.declared.interval.Interval.{Interval}
+use Rattle.history_items.specs.declared.fills.Addition.TheVariants.{Nothing}
+use Rattle.history_items.specs.declared.fills.Fill.{Fill}
+use Rattle.history_items.specs.declared.fills.Fill.TheVariants.{Fault}
+use Rattle.history_items.specs.Items.{Item}
+use Rattle.history_items.specs.Fills.{rows_of_faults, pending_fault_of, unacknowledged_rows, above}
+use Rattle.history_items.proofs.FillLists.{rows_of_faults-append, pending_fault_of-append, Rising-later, Rising-append}
+use Rattle.std.specs.Option.{option_or}
+use Rattle.disk_journal.specs.Format.{IsBeforeOrAfter}
+use Rattle.disk_journal.specs.State.{HasOnDisk as JournalHasOnDisk}
+use Rattle.disk_journal.specs.State.{unhealed_fault, file_of, IsSame, IsOldBut}
+use Rattle.disk_journal.specs.declared.journal.Journal.{Journal}
+use Rattle.field_codec.specs.declared.entry.Entry.TheVariants as entries
+use Rattle.field_codec.specs.Entries.{IsArchiveEntry}
+use Rattle.field_codec.specs.Spelling.{entry_octets}
+use Rattle.interval_fills.proofs.Growing.{stored_base}
+use Rattle.param_segments.specs.Extracted.{IsSetOf}
+use Rattle.param_segments.specs.Octets.{rows_in_octets, set_octets}
+use Rattle.param_segments.specs.Rows.{SetRow}
+use Rattle.store_fills.specs.Filled.{IsRightFill}
+use Rattle.store_fills.specs.FilledSets.{FilledIntervals, fill_over, fillings_in}
+use Rattle.store_fills.specs.Sound.{Fillings, with_filling}
+use Rattle.archive_store.specs.declared.head.Head.{Head}
+use Rattle.archive_store.specs.Entries.{FilledArchive, IsSoundArchive, archive, filled_archive, Applies}
+use Rattle.archive_store.specs.Images.{ArchiveInvariant, IsPlainLog}
+use Rattle.archive_store.specs.Inside.{StoreInvariant}
+use Rattle.archive_store.specs.PlainLog.{IsFilledOnce, IsUnacknowledged, IsSinceArchive}
+use Rattle.archive_store.specs.Stands.{StandsFilled}
+use Rattle.archive_store.proofs.Kept.{hand-append, healthy}
+use Rattle.archive_store.proofs.OneJournal as one
+use Rattle.archive_store.proofs.PendingFaults.{keeps_without_fault}
+use Rattle.archive_store.proofs.PlainLog.{StandsPlain, plain_lower, fill_sound, found_whole, stands_filled}
+
+-- the fault of a fill that wasn't written
+abbrev pub empty_fault : ℕ → Fill
+empty_fault count = Fault count true Nothing
+
+module _ (head : Head) (history : List Item) (fillings : Fillings (List SetRow)) (i : Interval) (base : ℕ) (set : List SetRow) where
+  abbrev pub with_fill : FilledArchive
+  with_fill = filled_archive head history (with_filling fillings i (fill_over base set))
+
+  -- a fill that is right, and spelled, may be added
+  pub fill_applies : IsRightFill 22 head.mdb history i base set → IsArchiveEntry (entries.Fill i base (set_octets set)) → rows_in_octets (set_octets set) ≡ set
+      → Applies (Some (filled_archive head history fillings)) (entries.Fill i base (set_octets set)) with_fill
+  fill_applies right fits again = (
+    record {
+      fits = fits;
+      based = stored_base 22 i base history right.may;
+      set = subst (IsSetOf head.mdb 22 i.0) (sym again) right.fits;
+      spelled = ap set_octets (sym again);
+    },
+    ap (λ (s : List SetRow). filled_archive head history (with_filling fillings i (fill_over base s))) (sym again),
+  )
+
+module _ {D : Type 0} (device : Device D) (disk new opened : D) (journal next : Journal) (head : Head) (history : List Item) (fills : List Fill) (filled : FilledIntervals) (pending_fault : Option ℕ)
+    (i : Interval) (base : ℕ) (set : List SetRow) (k : StoreInvariant device disk opened journal head history fills filled pending_fault) (right : IsRightFill 22 head.mdb history i base set)
+    (fits : IsArchiveEntry (entries.Fill i base (set_octets set))) (again : rows_in_octets (set_octets set) ≡ set) (healed : pending_fault_of fills ≡ None) where
+  abbrev now : FilledArchive
+  now = filled_archive head history (fillings_in filled)
+
+  abbrev after : FilledArchive
+  after = with_fill head history (fillings_in filled) i base set
+
+  abbrev before : FilledArchive
+  before = filled_archive head k.before k.fillings
+
+  abbrev pub LeavesFill : Type 0
+  LeavesFill = LeavesOnly device disk new (λ c. StandsPlain c now ⊎ StandsPlain c after)
+
+  -- what an install leaves at each moment
+  pub fill_moments : IsSame journal next
+      → (IsTrue device.is_transparent → (bodies : List (List ℕ)) (pending : List ℕ) → JournalHasOnDisk device next bodies pending disk → unhealed_fault next ≡ None
+      → LeavesOnly device disk new (λ c. IsBeforeOrAfter bodies (entry_octets (entries.Fill i base (set_octets set))) (c (file_of next))))
+      → LeavesOnly device disk new (IsOldBut device (file_of next) disk) → IsTrue device.is_transparent → LeavesFill
+  fill_moments same run elsewhere transparent =
+      one.moments_of entry_octets Applies IsPlainLog plain_lower device disk new opened journal next now after (entries.Fill i base (set_octets set))
+      (IsUnacknowledged now (unacknowledged_rows fills)) (IsSinceArchive before (archive head history) (rows_of_faults fills)) k.archives
+      (fill_applies head history (fillings_in filled) i base set right fits again) (healthy (unhealed_fault journal) (pending_fault_of fills) k.journal_fault healed) same run elsewhere transparent
+
+  after_sound : IsSoundArchive before → IsSoundArchive after
+  after_sound was = fill_sound head history (fillings_in filled) i base set (k.sound was) right
+
+  -- a fill was appended
+  pub fill_ok : (filled_after : FilledIntervals) → fillings_in filled_after ≡ with_filling (fillings_in filled) i (fill_over base set)
+      → file_of next ≡ file_of journal → unhealed_fault next ≡ None
+      → (IsTrue device.is_transparent → (bodies : List (List ℕ)) (pending : List ℕ) → JournalHasOnDisk device journal bodies pending disk →
+      JournalHasOnDisk device next (bodies ++ entry_octets (entries.Fill i base (set_octets set)) ∷ []) pending new)
+      → (IsTrue device.is_transparent → LeavesFill)
+      → LeavesOnly device disk new (IsOldBut device (file_of journal) disk)
+      → device.fault_count disk ≤ device.fault_count new
+      → device.failed_writes new ≡ device.failed_writes disk
+      → StoreInvariant device new opened next head history fills filled_after pending_fault
+  fill_ok filled_after put file no_pending_fault keeps moments elsewhere later writes =
+      let in_faults = rows_of_faults fills in
+      let o = unacknowledged_rows fills in
+      let there : FilledArchive = filled_archive head history (fillings_in filled_after) in
+      let same : after ≡ there = ap (filled_archive head history) (sym put) in
+      let done = one.kept_ok entry_octets Applies IsPlainLog plain_lower device disk new opened journal next now after (entries.Fill i base (set_octets set))
+      (IsUnacknowledged now o) (IsUnacknowledged after o) (IsSinceArchive before (archive head history) in_faults) (IsSinceArchive before (archive head history) in_faults) k.archives
+      (fill_applies head history (fillings_in filled) i base set right fits again) file no_pending_fault keeps moments elsewhere (λ x f. f)
+      (found_whole before head history (fillings_in filled) in_faults k.begins k.sound)
+      (found_whole before head history (with_filling (fillings_in filled) i (fill_over base set)) in_faults k.begins after_sound) in record {
+        faults = record {
+          rising = Rising-later fills (above (device.fault_count opened)) (device.fault_count disk) (device.fault_count new) later k.faults.rising;
+          later = omega (arith, k.faults.later, later);
+          writes_later = omega (arith, k.faults.writes_later, writes);
+          wrote = λ faults is. omega (arith, k.faults.wrote faults is, writes);
+        };
+        before = k.before;
+        fillings = k.fillings;
+        begins = k.begins;
+        opening = k.opening;
+        sound = λ was. subst IsSoundArchive same (after_sound was);
+        archives = subst (λ (a : FilledArchive). ArchiveInvariant entry_octets Applies IsPlainLog device new opened next a (IsUnacknowledged a o) (IsSinceArchive before (archive head history) in_faults)) same done;
+        pending_fault_is = k.pending_fault_is;
+        journal_fault = λ faults is. absurd (cc (is, no_pending_fault));
+        head_is = k.head_is;
+        rows = k.rows;
+      }
+
+  no_rows : (count : ℕ) → rows_of_faults (fills ++ empty_fault count ∷ []) ≡ rows_of_faults fills
+  no_rows count = rows_of_faults-append fills (empty_fault count ∷ []) ∙ append-nil (rows_of_faults fills)
+
+  -- an append failed
+  pub fill_err : (count : ℕ) → file_of next ≡ file_of journal
+      → unhealed_fault next ≡ Some (min (device.fault_count new) (2 ^ 64 - 1))
+      → count ≡ min (device.fault_count new) (2 ^ 64 - 1)
+      → (IsTrue device.is_transparent → (bodies : List (List ℕ)) (pending : List ℕ) → JournalHasOnDisk device journal bodies pending disk →
+      JournalHasOnDisk device next bodies (entry_octets (entries.Fill i base (set_octets set))) new)
+      → (IsTrue device.is_transparent → LeavesFill)
+      → LeavesOnly device disk new (IsOldBut device (file_of journal) disk)
+      → raised (device.fault_count disk) ≤ device.fault_count new
+      → device.failed_writes new ≡ raised (device.failed_writes disk)
+      → StoreInvariant device new opened next head history (fills ++ empty_fault count ∷ []) filled (Some count)
+  fill_err count file unhealed_fault_is count_is keeps moments elsewhere rose writes =
+      let more : List Fill = fills ++ empty_fault count ∷ [] in
+      let pending_now : pending_fault_of more ≡ Some count = pending_fault_of-append fills (empty_fault count ∷ []) ∙ ap (λ (o : Option ℕ). option_or o (Some count)) healed in
+      let none : unacknowledged_rows more ≡ None = hand-append fills (empty_fault count ∷ []) healed in
+      let once : IsFilledOnce now after = record { interval = i; base = base; set = set; right = right; after_is = refl } in record {
+        faults = record {
+          rising = Rising-append (above (device.fault_count opened)) (device.fault_count disk) (device.fault_count new) fills (empty_fault count ∷ []) (omega (arith, k.faults.later)) (omega (arith, rose)) k.faults.rising
+              (omega (arith, rose, count_is), omega (arith, count_is), tt);
+          later = omega (arith, k.faults.later, rose);
+          writes_later = omega (arith, k.faults.writes_later, writes);
+          wrote = λ faults is. omega (arith, k.faults.writes_later, writes);
+        };
+        before = k.before;
+        fillings = k.fillings;
+        begins = k.begins;
+        opening = k.opening;
+        sound = k.sound;
+        archives = one.kept_err entry_octets Applies IsPlainLog plain_lower device disk new opened journal next now after (entries.Fill i base (set_octets set))
+            (IsUnacknowledged now (unacknowledged_rows fills)) (IsUnacknowledged now (unacknowledged_rows more))
+            (IsSinceArchive before (archive head history) (rows_of_faults fills)) (IsSinceArchive before (archive head history) (rows_of_faults more))
+            (min (device.fault_count new) (2 ^ 64 - 1)) k.archives (fill_applies head history (fillings_in filled) i base set right fits again) file
+            (healthy (unhealed_fault journal) (pending_fault_of fills) k.journal_fault healed) unhealed_fault_is keeps moments elsewhere
+            (λ x f. subst (λ (l : List (List Item)). IsSinceArchive before (archive head history) l x) (sym (no_rows count)) f)
+            (found_whole before head history (fillings_in filled) (rows_of_faults more) k.begins k.sound)
+            (found_whole before head history (with_filling (fillings_in filled) i (fill_over base set)) (rows_of_faults more) k.begins after_sound)
+            (subst (λ (o : Option (List Item)). IsUnacknowledged now o after) (sym none) once);
+        pending_fault_is = sym pending_now;
+        journal_fault = λ faults is. pending_now ∙ ap Some count_is ∙ sym unhealed_fault_is ∙ is;
+        head_is = k.head_is;
+        rows = k.rows;
+      }
+
+-- ---- while no failed write is pending
+
+module _ {D : Type 0} (device : Device D) (disk opened : D) (journal : Journal) (head : Head) (history : List Item) (fills : List Fill) (filled : FilledIntervals) (pending_fault : Option ℕ)
+    (k : StoreInvariant device disk opened journal head history fills filled pending_fault) (healed : pending_fault_of fills ≡ None) (transparent : IsTrue device.is_transparent) where
+  -- each image of now has the fills
+  pub kept_now : (c : Image) → device.images disk c → StandsFilled c (filled_archive head history (fillings_in filled))
+  kept_now c left =
+      let e = k.archives.log transparent in
+      let none : unhealed_fault journal ≡ None = healthy (unhealed_fault journal) (pending_fault_of fills) k.journal_fault healed in
+      stands_filled c (filled_archive head history (fillings_in filled)) (record {
+        log = file_of journal;
+        beginning = e.beginning;
+        base = e.base;
+        entries = e.entries;
+        has_base = e.has_base c left;
+        has = keeps_without_fault device journal (e.beginning ++ map entry_octets e.entries) e.pending disk none e.keeps c left;
+        replays = e.replays;
+      })
+
+  -- a call that doesn't ask the disk leaves these alone
+  pub filled_now : (other : FilledArchive) → LeavesOnly device disk disk (λ c. StandsFilled c (filled_archive head history (fillings_in filled)) ⊎ StandsFilled c other)
+  filled_now other = started device disk _ (λ c left. inl (kept_now c left))

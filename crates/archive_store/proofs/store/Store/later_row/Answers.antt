@@ -1,0 +1,32 @@
+use Rattle.std.proofs.Common.{◌≡◌, ◌≤◌, Option, None, Some, sym, ◌∙◌, subst}
+use Rattle.std.specs.Prelude.{IfNone}
+use Rattle.history_items.specs.Late.{last_in}
+use Rattle.interval_fills.specs.Intervals.{NoRowSince}
+use Rattle.archive_store.specs.StoreView.{StoreView}
+use Rattle.archive_store.proofs.Installs.{never_since, none_since_last}
+use Rattle.archive_store.proofs.store.Store.later_row.Goals as goal
+
+-- what holds whatever came, holds at None
+at_none : {T : Type 0} (o : Option T) (P : Type 0) → P → IfNone o P
+at_none None P p = p
+at_none (Some x) P p = tt
+
+pub returns-in_err-last-clause-none : goal.returns-in_err-last-clause-none
+returns-in_err-last-clause-none g c =
+    let s = c.self.inside in
+    at_none c.from_residual.result (NoRowSince 22 c.args.interval c.args.base c.args.self.now.history)
+    (subst (λ (x : StoreView g.row.D.Denot). NoRowSince 22 c.args.interval c.args.base x.history) c.self.view_is
+    (never_since c.args.interval c.args.base s.history.items c.last.result (c.last.ensures.last s.history.items c.self.invariant.3) c.in_err-last.was))
+
+pub returns-then-last-base-clause-none : goal.returns-then-last-base-clause-none
+returns-then-last-base-clause-none g c =
+    let s = c.self.inside in
+    subst (λ (x : StoreView g.row.D.Denot). NoRowSince 22 c.args.interval c.args.base x.history) c.self.view_is
+    (none_since_last c.args.interval c.args.base s.history.items c.last.result (c.last.ensures.last s.history.items c.self.invariant.3) c.in_ok-last.last c.in_ok-last.was c.if-last-base.true)
+
+pub returns-clause-later : goal.returns-clause-later
+returns-clause-later g c =
+    let s = c.self.inside in
+    let last = c.in_ok-last.last in
+    subst (λ (x : StoreView g.row.D.Denot). (c.args.base ≤ last) × (last_in 22 c.args.interval x.history ≡ Some last)) c.self.view_is
+    (c.if-last-base.false, sym (c.last.ensures.last s.history.items c.self.invariant.3) ∙ c.in_ok-last.was)

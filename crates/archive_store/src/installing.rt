@@ -1,0 +1,150 @@
+//! Fills that are installed.
+
+ghost use Rattle.std.specs.Prelude.{◌≡◌, true, false, ◌≤◌, ◌<◌, ◌⊎◌, IsTrue, None, Some, OnOk, IfOk, IfErr, IfSome, IfNone};
+ghost use Rattle.arch_disk.specs.Disk.{LeavesOnly};
+ghost use Rattle.arch_types.specs.declared.refusal.Which.TheVariants as limits;
+ghost use Rattle.arch_types.specs.Limits.{limit_of};
+ghost use Rattle.disk_journal.specs.State.{HasRoom, IsSame};
+ghost use Rattle.history_items.specs.Fills.{pending_fault_of};
+ghost use Rattle.history_items.specs.Late.{last_in};
+ghost use Rattle.interval_fills.specs.Intervals.{NoRowSince};
+ghost use Rattle.store_fills.specs.Filled.{IsRightFill};
+
+use crate::store::Store;
+use arch_disk::Disk;
+use arch_types::inserted::Installed;
+use arch_types::interval::Interval;
+use arch_types::refusal::{Refusal, Which};
+use disk_journal::Journal;
+use fill_tracker::FillTracker;
+use history_items::fills::Addition;
+use std::alloc::AllocError;
+use store_fills::{Filled, FilledSets};
+
+/// Takes all memory that a fill needs.
+fn prepare_fill(
+    journal: &mut Journal,
+    tracker: &mut FillTracker,
+    sets: &mut FilledSets,
+) -> Result<(), AllocError>
+    ensures room { OnOk result (HasRoom journal.new × (1 ≤ tracker.new.room) × (1 ≤ sets.new.room)) }
+    ensures journal { IsSame journal.old journal.new }
+    ensures tracker { (tracker.new.fills ≡ tracker.old.fills) × (tracker.new.marks ≡ tracker.old.marks) }
+    ensures sets { sets.new.filled ≡ sets.old.filled }
+{
+    tracker.reserve()?;
+    sets.reserve()?;
+    journal.reserve()
+}
+
+impl<D: Disk> Store<D> {
+    ghost use Rattle.archive_store.specs.Installs.{FillIsAppended, IsFillRefusal, IsInstallRefusal, IsStoreInstalled, filled_with};
+    ghost use Rattle.archive_store.specs.Stands.{StandsFilled};
+    ghost use Rattle.archive_store.specs.StoreView.{OnlyAppends, filled_of};
+    ghost use Rattle.disk_journal.specs.Calls.{CountsNeverFall};
+
+    /// The position of an interval's last row, where that stands at or after a base.
+    fn later_row(&self, interval: Interval, base: u64) -> Option<u64>
+        ensures later { IfSome result (λ p. (base ≤ p) × (last_in 22 interval self.now.history ≡ Some p)) }
+        ensures none { IfNone result (NoRowSince 22 interval base self.now.history) }
+    {
+        let last = self.tracker.last(interval)?;
+        if last < base {
+            return None;
+        }
+        Some(last)
+    }
+
+    /// Whether no more record may come.
+    fn is_full(&self) -> bool
+        ensures full { result ≡ true → limit_of limits.Records ≤ self.now.records }
+        ensures room { result ≡ false → self.now.records < limit_of limits.Records }
+    {
+        self.journal.count() >= Which::Records.limit()
+    }
+
+    /// Appends a fill to the disk, and then it is the interval's. All memory is taken before the first device call.
+    fn append_fill(&mut self, done: Filled) -> Result<(), Refusal>
+        requires healed { pending_fault_of self.old.fills ≡ None }
+        requires records { self.old.records < limit_of limits.Records }
+        requires right { IsRightFill 22 self.old.head.mdb self.old.history done.interval done.base done.set }
+        requires none { NoRowSince 22 done.interval done.base self.old.history }
+        ensures appended { OnOk result (FillIsAppended D.device self.old self.new done) }
+        ensures refused { IfErr result (IsFillRefusal D.device self.old self.new) }
+        ensures crash { IsTrue D.device.is_transparent → LeavesOnly D.device self.old.disk self.new.disk
+            (λ c. StandsFilled c (filled_of self.old) ⊎ StandsFilled c (filled_with self.old done)) }
+        ensures grows { OnlyAppends self.old self.new }
+        ensures counts { CountsNeverFall D.device self.old.disk self.new.disk }
+    {
+        let interval = done.interval();
+        let base = done.base();
+        // It tells the proof that the marks have the interval's rows.
+        let _row = self.tracker.last(interval);
+        let prepared = prepare_fill(&mut self.journal, &mut self.tracker, &mut self.sets);
+        let Ok(()) = prepared else {
+            return Err(Refusal::OutOfMemory);
+        };
+        let parts = done.into_parts();
+        match self.journal.append(&mut self.disk, &parts.0) {
+            Ok(_) => {
+                self.tracker.finish(interval, base);
+                self.sets.put(interval, base, parts.1);
+                Ok(())
+            }
+            Err(_) => {
+                let count = self.disk.faults();
+                self.tracker.note_fault(count, true, Addition::Nothing);
+                self.pending_fault = Some(count);
+                Err(Refusal::DiskFault)
+            }
+        }
+    }
+
+    /// Installs a fill: its set is the interval's from now on. Where a row of the interval came at or after its base it is
+    /// given up, and so it is where the call is refused.
+    pub fn install(&mut self, done: Filled) -> Result<Installed, Refusal>
+        requires { IsRightFill 22 self.old.head.mdb self.old.history done.interval done.base done.set }
+
+        // Ok: the fill stands in one record more; or it is stale, by the last row of its interval.
+        ensures installed { IfOk result (IsStoreInstalled D.device self.old self.new done) }
+
+        // NeedsReopen comes exactly where a failed write is pending, then Stale, then the limit of records, then want of
+        // memory, before any call of the disk, and then a fault of the disk. The interval's flight ends.
+        ensures refused { IfErr result (IsInstallRefusal D.device self.old self.new done) }
+
+        // Power lost at any moment of the call leaves the archive from before it, or the one with the fill.
+        ensures crash { pending_fault_of self.old.fills ≡ None → IsTrue D.device.is_transparent →
+            LeavesOnly D.device self.old.disk self.new.disk
+            (λ c. StandsFilled c (filled_of self.old) ⊎ StandsFilled c (filled_with self.old done)) }
+        ensures grows { OnlyAppends self.old self.new }
+        ensures counts { CountsNeverFall D.device self.old.disk self.new.disk }
+    {
+        let interval = done.interval();
+        let base = done.base();
+        match self.pending_fault {
+            Some(faults) => {
+                self.give_up(interval);
+                return Err(Refusal::NeedsReopen { faults });
+            }
+            None => {}
+        }
+        if let Some(position) = self.later_row(interval, base) {
+            self.give_up(interval);
+            return Ok(Installed::Stale { position });
+        }
+        if self.is_full() {
+            self.give_up(interval);
+            return Err(Refusal::Limit {
+                which: Which::Records,
+                number: Which::Records.limit(),
+            });
+        }
+        match self.append_fill(done) {
+            Ok(()) => Ok(Installed::Done),
+            Err(refusal) => {
+                self.give_up(interval);
+                Err(refusal)
+            }
+        }
+    }
+}
