@@ -31,6 +31,7 @@ use Rattle.archive_store.specs.Calls.{IsIngestRefusal}
 use Rattle.archive_store.specs.Batches.{batch_rows}
 use Rattle.archive_history.specs.Limits.{IsLimit}
 use Rattle.archive_store.specs.StoreView.{AddsFault, StoreView}
+use Rattle.archive_store.proofs.Calls.{ingest_cases}
 use Rattle.load_session.specs.declared.batches.NextBatch.{NextBatch}
 use Rattle.load_session.specs.Receiving.{Receiving, arrived, rows_received}
 use Rattle.load_session.specs.Batches.{ExactlyOne, arrivals_with, batch_at, IsNextBatch, HasIngested, IsIngested, IsStoppedAt, IsRefusedFor}
@@ -66,6 +67,15 @@ taken_more dump start mid end r old new can left t part count received grown =
 
 -- ---- all batches
 
+-- a fill list without faults, and none behind it
+pub faults_behind : {D : Type 0} (old new : StoreView D) → faults_in old.fills ≡ [] → new ≡ old → new.fills ≡ old.fills ++ faults_in new.fills
+faults_behind {D = D} old new none same =
+    subst (λ (s : StoreView D). s.fills ≡ old.fills ++ faults_in s.fills) (sym same) (sym (append-nil old.fills) ∙ ap (λ (l : List Fill). old.fills ++ l) (sym none))
+
+-- where none came behind it, the fill list stays
+pub fills_stay : {D : Type 0} (old new : StoreView D) → new.fills ≡ old.fills ++ faults_in new.fills → faults_in new.fills ≡ [] → new.fills ≡ old.fills
+fills_stay old new fills none = fills ∙ ap (λ (l : List Fill). old.fills ++ l) none ∙ append-nil old.fills
+
 -- a record that was appended has a new row
 records_more : {D : Type 0} (mid new : StoreView D) (rows : List Row) → new.history ≡ ingested mid.history rows → (fresh_of mid.history rows ≢ [] → new.records ≡ mid.records + 1)
     → (fresh_of mid.history rows ≡ [] → new ≡ mid) → new.records + length mid.history ≤ mid.records + length new.history
@@ -88,7 +98,7 @@ pub record IsSoFar {D : Type 0} (old new : StoreView D) (dump : List ℕ) (r : R
   pub cut : IsCut dump so_far at
   pub few : length so_far ≤ at
   pub done : HasIngested old new r so_far
-  pub fills : faults_in new.fills ≡ []
+  pub no_fault : faults_in new.fills ≡ []
   pub of_packets : packets ≡ length so_far
   pub of_idle : idle + arrived so_far ≡ length so_far
   pub of_routed : routed ≡ length (rows_received r so_far)
@@ -96,12 +106,12 @@ pub record IsSoFar {D : Type 0} (old new : StoreView D) (dump : List ℕ) (r : R
 module _ {D : Type 0} (old : StoreView D) (dump : List ℕ) (r : Receiving) where
   -- no batch yet
   pub so_far_none : faults_in old.fills ≡ [] → IsSoFar old old dump r 0 0 0 0
-  so_far_none no_failed_write = record {
+  so_far_none no_fault = record {
     so_far = [];
     cut = record { within = omega arith; joined = refl; each = All-nil IsPacket };
     few = omega arith;
-    done = record { history = refl; head = refl; opened = refl; records = λ none. omega arith };
-    fills = no_failed_write;
+    done = record { history = refl; head = refl; opened = refl; filled = refl; fills = faults_behind old old no_fault refl; records = λ none. omega arith };
+    no_fault = no_fault;
     of_packets = refl;
     of_idle = refl;
     of_routed = refl;
@@ -109,10 +119,10 @@ module _ {D : Type 0} (old : StoreView D) (dump : List ℕ) (r : Receiving) wher
 
   -- one batch more
   pub so_far_more : (mid new : StoreView D) (start end packets idle routed : ℕ) (taken : NextBatch) → IsSoFar old mid dump r start packets idle routed → IsNextBatch dump start end r taken
-      → new.history ≡ ingested mid.history (batch_rows taken.batch) → new.fills ≡ mid.fills → new.head ≡ mid.head → new.opened ≡ mid.opened
+      → new.history ≡ ingested mid.history (batch_rows taken.batch) → new.fills ≡ mid.fills → new.head ≡ mid.head → new.opened ≡ mid.opened → new.filled ≡ mid.filled
       → (fresh_of mid.history (batch_rows taken.batch) ≢ [] → new.records ≡ mid.records + 1) → (fresh_of mid.history (batch_rows taken.batch) ≡ [] → new ≡ mid)
       → IsSoFar old new dump r end (packets + taken.packets) (idle + (taken.packets - length taken.batch.arrivals)) (routed + length (batch_rows taken.batch))
-  so_far_more mid new start end packets idle routed taken s t history fills head opened some none =
+  so_far_more mid new start end packets idle routed taken s t history fills head opened filled some none =
       let few = s.few in let rising = t.run.rising in let of_packets = s.of_packets in let of_idle = s.of_idle in let count = t.count in let arrivals = t.batch.count in
       let less = few_arrived t.packets in
       let more = length-append s.so_far t.packets in
@@ -129,9 +139,11 @@ module _ {D : Type 0} (old : StoreView D) (dump : List ℕ) (r : Receiving) wher
               ∙ ap (ingested old.history) (sym (rows-append r s.so_far t.packets));
           head = head ∙ s.done.head;
           opened = opened ∙ s.done.opened;
-          records = λ no_failed_write. omega (arith, s.done.records s.fills, records_more mid new (batch_rows taken.batch) history some none);
+          filled = filled ∙ s.done.filled;
+          fills = fills ∙ s.done.fills ∙ ap (λ (l : List Fill). old.fills ++ faults_in l) (sym fills);
+          records = λ no_fault. omega (arith, s.done.records s.no_fault, records_more mid new (batch_rows taken.batch) history some none);
         };
-        fills = ap faults_in fills ∙ s.fills;
+        no_fault = ap faults_in fills ∙ s.no_fault;
         of_packets = omega (arith, of_packets, count, more);
         of_idle = omega (arith, of_idle, count, arrivals, less, more, more_arrived);
         of_routed =
@@ -152,7 +164,7 @@ module _ {D : Type 0} (old : StoreView D) (dump : List ℕ) (r : Receiving) wher
         parts = cut_whole dump s.so_far end cut (last (omega (arith, none)));
         why = why_is;
         done = s.done;
-        fills = s.fills;
+        no_fault = s.no_fault;
         of_packets = s.of_packets;
         of_idle = s.of_idle;
         of_routed = s.of_routed;
@@ -173,7 +185,7 @@ module _ {D : Type 0} (old : StoreView D) (dump : List ℕ) (r : Receiving) wher
         parts = all.2;
         within = omega (arith, more);
         done = subst (λ (l : List (List ℕ)). HasIngested old new r l) (sym (take-append_seam s.so_far all.0)) s.done;
-        cause = s.fills;
+        cause = s.no_fault;
       }
 
   -- the batch from a place on
@@ -186,9 +198,10 @@ module _ {D : Type 0} (old : StoreView D) (dump : List ℕ) (r : Receiving) wher
   -- a batch was refused
   stopped_at : (mid new : StoreView D) (start end packets idle routed : ℕ) (taken : NextBatch) (refusal : Refusal) (more : List (List ℕ)) (rest : List ℕ) → (s : IsSoFar old mid dump r start packets idle routed)
       → (t : IsNextBatch dump start end r taken) → IsDump dump ((s.so_far ++ t.packets) ++ more) rest → (length t.packets ≡ 64) ⊎ (more ≡ [])
-      → new.history ≡ mid.history → new.head ≡ mid.head → new.opened ≡ mid.opened → (faults_in new.fills ≡ [] → new.records ≡ mid.records) → IsRefusedFor new (batch_rows taken.batch) refusal
+      → new.history ≡ mid.history → new.head ≡ mid.head → new.opened ≡ mid.opened → new.filled ≡ mid.filled → new.fills ≡ mid.fills ++ faults_in new.fills
+      → (faults_in new.fills ≡ [] → new.records ≡ mid.records) → IsRefusedFor new (batch_rows taken.batch) refusal
       → IsStoppedAt old new dump r refusal
-  stopped_at mid new start end packets idle routed taken refusal more rest s t parts full history head opened still cause =
+  stopped_at mid new start end packets idle routed taken refusal more rest s t parts full history head opened filled fills still cause =
       let a = length-append (s.so_far ++ t.packets) more in
       let b = length-append s.so_far t.packets in
       let first : take (length s.so_far) ((s.so_far ++ t.packets) ++ more) ≡ s.so_far = ap (take (length s.so_far)) (append_assoc s.so_far t.packets more) ∙ take-append_seam s.so_far (t.packets ++ more) in
@@ -204,28 +217,43 @@ module _ {D : Type 0} (old : StoreView D) (dump : List ℕ) (r : Receiving) wher
           history = history ∙ s.done.history ∙ ap (λ (l : List (List ℕ)). ingested old.history (rows_received r l)) (sym first);
           head = head ∙ s.done.head;
           opened = opened ∙ s.done.opened;
-          records = λ no_failed_write. omega (arith, s.done.records s.fills, still no_failed_write, ap length history);
+          filled = filled ∙ s.done.filled;
+          fills = fills ∙ ap (λ (l : List Fill). l ++ faults_in new.fills) (fills_stay old mid s.done.fills s.no_fault);
+          records = λ no_fault. omega (arith, s.done.records s.no_fault, still no_fault, ap length history);
         };
         cause = subst (λ (l : List Row). IsRefusedFor new l refusal) rows cause;
       }
 
   pub so_far_refused : (mid new : StoreView D) (start end packets idle routed : ℕ) (taken : NextBatch) (refusal : Refusal) → IsSoFar old mid dump r start packets idle routed
       → IsNextBatch dump start end r taken → (taken.packets < 64 → BeginsWithNoPacket (drop end dump))
-      → new.history ≡ mid.history → new.head ≡ mid.head → new.opened ≡ mid.opened → (faults_in new.fills ≡ [] → new.records ≡ mid.records) → IsRefusedFor new (batch_rows taken.batch) refusal
+      → new.history ≡ mid.history → new.head ≡ mid.head → new.opened ≡ mid.opened → new.filled ≡ mid.filled → new.fills ≡ mid.fills ++ faults_in new.fills
+      → (faults_in new.fills ≡ [] → new.records ≡ mid.records) → IsRefusedFor new (batch_rows taken.batch) refusal
       → IsStoppedAt old new dump r refusal
-  so_far_refused mid new start end packets idle routed taken refusal s t last history head opened still cause = go (ltb taken.packets 64) refl
+  so_far_refused mid new start end packets idle routed taken refusal s t last history head opened filled fills still cause = go (ltb taken.packets 64) refl
     where
       go : (b : Bool) → ltb taken.packets 64 ≡ b → IsStoppedAt old new dump r refusal
       go true less =
           let whole = cut_whole dump (s.so_far ++ t.packets) end (t.run.follows s.so_far s.cut) (last (ltb-true taken.packets 64 less)) in
           stopped_at mid new start end packets idle routed taken refusal [] (drop end dump) s t
-          (subst (λ (l : List (List ℕ)). IsDump dump l (drop end dump)) (sym (append-nil (s.so_far ++ t.packets))) whole) (inr refl) history head opened still cause
+          (subst (λ (l : List (List ℕ)). IsDump dump l (drop end dump)) (sym (append-nil (s.so_far ++ t.packets))) whole) (inr refl) history head opened filled fills still cause
       go false full =
           let all = completes dump (s.so_far ++ t.packets) end (t.run.follows s.so_far s.cut) in
           let least = ltb-false taken.packets 64 full in
           let count = t.count in
           let few = t.few in
-          stopped_at mid new start end packets idle routed taken refusal all.0 all.1 s t all.2 (inl (omega (arith, least, count, few))) history head opened still cause
+          stopped_at mid new start end packets idle routed taken refusal all.0 all.1 s t all.2 (inl (omega (arith, least, count, few))) history head opened filled fills still cause
+
+-- the fault of a batch is the one that the fill list holds
+one_fault : {D : Type 0} (device : Device D) (mid new : StoreView D) (rows : List Row) → faults_in mid.fills ≡ [] → (f : AddsFault device mid new (Rows rows)) → faults_in new.fills ≡ Fault f.count true (Rows rows) ∷ []
+one_fault device mid new rows none f =
+    ap faults_in f.fills ∙ faults_in-append mid.fills (Fault f.count true (Rows rows) ∷ []) ∙ ap (λ (l : List Fill). l ++ Fault f.count true (Rows rows) ∷ []) none
+
+-- a store that refused a batch has it alone behind its fill list
+pub refused_fills : {D : Type 0} (device : Device D) (mid new : StoreView D) (rows : List Row) (refusal : Refusal) → faults_in mid.fills ≡ [] → IsIngestRefusal device mid new rows refusal → new.fills ≡ mid.fills ++ faults_in new.fills
+refused_fills device mid new rows refusal none refused =
+    ingest_cases device mid new rows (λ _. new.fills ≡ mid.fills ++ faults_in new.fills) refusal refused (λ faults r. faults_behind mid new none r.1) (λ which number r. faults_behind mid new none r.1)
+    (λ r. r.fault.fills ∙ ap (λ (l : List Fill). mid.fills ++ l) (sym (one_fault device mid new (fresh_of mid.history rows) none r.fault)))
+    (λ r. faults_behind mid new none r.1)
 
 -- why a store refused a batch
 pub refused_for : {D : Type 0} (device : Device D) (mid new : StoreView D) (rows : List Row) (refusal : Refusal) → faults_in mid.fills ≡ [] → IsIngestRefusal device mid new rows refusal → IsRefusedFor new rows refusal
@@ -234,7 +262,7 @@ refused_for {D = D} device mid new rows (Limit which number) none refused =
 refused_for device mid new rows DiskFault none refused =
     let f = refused.fault in (
       f.count,
-      ap faults_in f.fills ∙ faults_in-append mid.fills (Fault f.count true (Rows (fresh_of mid.history rows)) ∷ []) ∙ ap (λ (l : List Fill). l ++ Fault f.count true (Rows (fresh_of mid.history rows)) ∷ []) none ∙ ap (λ (h : List Item). Fault f.count true (Rows (fresh_of h rows)) ∷ []) (sym f.history),
+      one_fault device mid new (fresh_of mid.history rows) none f ∙ ap (λ (h : List Item). Fault f.count true (Rows (fresh_of h rows)) ∷ []) (sym f.history),
     )
 refused_for {D = D} device mid new rows OutOfMemory none refused = ap (λ (s : StoreView D). faults_in s.fills) refused.1 ∙ none
 refused_for device mid new rows (NeedsReopen faults) none refused = absurd (let calm = pending_fault_of-in mid.fills ∙ ap pending_fault_of none in cc (refused.0, calm))

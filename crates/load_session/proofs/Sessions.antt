@@ -1,7 +1,7 @@
 -- What a session came to, by how its batches went.
-use Rattle.std.proofs.Common.{◌≡◌, ◌⊎◌, inl, inr, ℕ, ◌+◌, ◌≤◌, Bool, true, false, List, [], ◌∷◌, length, take, drop, Option, Some, None, refl, sym, ap, subst, ◌∙◌, arith, length-append}
+use Rattle.std.proofs.Common.{◌≡◌, ◌⊎◌, inl, inr, ℕ, ◌+◌, ◌≤◌, Bool, true, false, List, [], ◌∷◌, ◌++◌, length, take, drop, Option, Some, None, refl, sym, ap, subst, ◌∙◌, arith, length-append}
 use Rattle.std.specs.Prelude.{◌≢◌, Ok, Err}
-use Rattle.std.proofs.lemmas.List.{take_all}
+use Rattle.std.proofs.lemmas.List.{map-append, take_all}
 use Rattle.arch_disk.specs.Disk.{Device, raised}
 use Rattle.arch_types.specs.declared.refusal.Refusal.{Refusal}
 use Rattle.arch_types.specs.declared.refusal.Refusal.TheVariants.{DiskFault, Limit, OutOfMemory}
@@ -9,8 +9,8 @@ use Rattle.arch_types.specs.declared.row.Row.{Row}
 use Rattle.arch_types.specs.History.{ingested}
 use Rattle.history_items.specs.declared.fills.Addition.TheVariants.{Rows}
 use Rattle.history_items.specs.declared.fills.Fill.{Fill}
-use Rattle.history_items.specs.declared.fills.Fill.TheVariants.{Fault}
-use Rattle.history_items.specs.Fills.{Rising, above, reopened}
+use Rattle.history_items.specs.declared.fills.Fill.TheVariants.{Begun, Done, Fault, Freed}
+use Rattle.history_items.specs.Fills.{Rising, above, cleared, reopened}
 use Rattle.store_fills.specs.Faults.{faults_in}
 use Rattle.store_fills.proofs.Faults.{Rising-in, faults_in-reopened}
 use Rattle.history_items.specs.Outcomes.{fresh_of}
@@ -38,6 +38,22 @@ more_faults device store count wrote rows keeps one =
 twice : (first then last : ℕ) → raised first ≤ then → raised then ≤ last → raised (raised first) ≤ last
 twice first then last once again = omega (arith, once, again)
 
+-- ---- the fill list
+
+-- a reopen leaves what tells nothing of faults
+reopened_same : (fills : List Fill) → faults_in fills ≡ [] → reopened fills ≡ fills
+reopened_same [] none = refl
+reopened_same (Begun i b ∷ fills) none = ap (λ (l : List Fill). Begun i b ∷ l) (reopened_same fills none)
+reopened_same (Done i b ∷ fills) none = ap (λ (l : List Fill). Done i b ∷ l) (reopened_same fills none)
+reopened_same (Freed i ∷ fills) none = ap (λ (l : List Fill). Freed i ∷ l) (reopened_same fills none)
+reopened_same (Fault count wrote unacknowledged ∷ fills) none = absurd cc
+
+-- behind it stand the faults, which are healed
+healed_behind : {D : Type 0} (old new last : StoreView D) → faults_in old.fills ≡ [] → new.fills ≡ old.fills ++ faults_in new.fills → last.fills ≡ reopened new.fills → last.fills ≡ old.fills ++ faults_in last.fills
+healed_behind old new last none behind healed =
+    healed ∙ ap reopened behind ∙ map-append cleared old.fills (faults_in new.fills) ∙ ap (λ (l : List Fill). l ++ reopened (faults_in new.fills)) (reopened_same old.fills none)
+    ∙ ap (λ (l : List Fill). old.fills ++ l) (sym (ap faults_in healed ∙ faults_in-reopened new.fills))
+
 -- ---- the answer of a session
 
 module _ {D : Type 0} (device : Device D) (old new : StoreView D) (dump : List ℕ) (r : Receiving) where
@@ -52,7 +68,7 @@ module _ {D : Type 0} (device : Device D) (old new : StoreView D) (dump : List �
           ∙ ap (λ (l : List (List ℕ)). ingested old.history (rows_received r l)) (sym (take_all (length i.packets) i.packets (omega arith)));
       cause = refl;
     };
-    reached = record { history = refl; head = i.done.head; opened = i.done.opened; failed_write = i.fills; records = i.done.records };
+    reached = record { history = refl; head = i.done.head; opened = i.done.opened; filled = i.done.filled; fills = i.done.fills; failed_write = i.no_fault; records = i.done.records };
     limit = tt;
     answer_is = refl;
     summary = record { within = i.within; rest = refl; why = i.why; of_packets = i.of_packets; of_idle = i.of_idle; of_routed = i.of_routed };
@@ -73,13 +89,13 @@ module _ {D : Type 0} (device : Device D) (old new : StoreView D) (dump : List �
   still_run refusal s cause holds limit = record {
     came_to = stopped_result refusal s;
     session = is_stopped refusal s cause;
-    reached = record { history = refl; head = s.done.head; opened = s.done.opened; failed_write = holds; records = s.done.records };
+    reached = record { history = refl; head = s.done.head; opened = s.done.opened; filled = s.done.filled; fills = s.done.fills; failed_write = holds; records = s.done.records };
     limit = limit;
     answer_is = refl;
     summary = tt;
   }
 
-  module _ (last : StoreView D) where
+  module _ (last : StoreView D) (no_fault : faults_in old.fills ≡ []) where
     -- one failed: the write was taken back, or one failed again
     failed_run : (s : IsStoppedAt old new dump r DiskFault) → IsReopened device new last → IsSessionRun device old last dump r (Err DiskFault)
     failed_run s again = record {
@@ -89,6 +105,11 @@ module _ {D : Type 0} (device : Device D) (old new : StoreView D) (dump : List �
         history = again.history;
         head = again.head ∙ s.done.head;
         opened = again.opened ∙ s.done.opened;
+        filled = again.filled ∙ s.done.filled;
+        fills = elim again.healed [
+          | inl healed ↦ healed_behind old new last no_fault s.done.fills healed
+          | inr failed ↦ failed.0 ∙ s.done.fills ∙ ap (λ (l : List Fill). old.fills ++ faults_in l) (sym failed.0)
+        ];
         failed_write = elim again.healed [
           | inl healed ↦ (s.cause.0, false, ap faults_in healed ∙ faults_in-reopened new.fills ∙ ap reopened s.cause.1, inl refl)
           | inr failed ↦ (s.cause.0, true, ap faults_in failed.0 ∙ s.cause.1, inr (rose failed.1))

@@ -61,11 +61,14 @@ pub record IsNextBatch (dump : List ℕ) (start end : ℕ) (r : Receiving) (take
 
 -- ---- all batches
 
--- packets were ingested; where no fault is held each record that was appended has a new row
+-- packets were ingested, and the fills stay, with faults alone behind them; where no fault is held each record that was
+-- appended has a new row
 pub record HasIngested {D : Type 0} (old new : StoreView D) (r : Receiving) (packets : List (List ℕ)) : Type 0 where
   pub history : new.history ≡ after_rows old.history (rows_received r packets)
   pub head : new.head ≡ old.head
   pub opened : new.opened ≡ old.opened
+  pub filled : new.filled ≡ old.filled
+  pub fills : new.fills ≡ old.fills ++ faults_in new.fills
   pub records : faults_in new.fills ≡ [] → new.records + length old.history ≤ old.records + length new.history
 
 -- all packets of a dump were
@@ -76,7 +79,7 @@ pub record IsIngested {D : Type 0} (old new : StoreView D) (dump : List ℕ) (r 
   pub parts : IsDump dump packets (drop whole.at dump)
   pub why : whole.why ≡ why_of (drop whole.at dump)
   pub done : HasIngested old new r packets
-  pub fills : faults_in new.fills ≡ []
+  pub no_fault : faults_in new.fills ≡ []
   pub of_packets : whole.packets ≡ length packets
   pub of_idle : whole.idle + arrived packets ≡ length packets
   pub of_routed : whole.routed ≡ length (rows_received r packets)

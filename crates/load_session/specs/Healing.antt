@@ -9,5 +9,6 @@ pub record IsReopened {D : Type 0} (device : Device D) (old new : StoreView D) :
   pub history : new.history ≡ old.history
   pub head : new.head ≡ old.head
   pub opened : new.opened ≡ old.opened
+  pub filled : new.filled ≡ old.filled
   pub counted : FaultInvariant device old
   pub healed : (new.fills ≡ reopened old.fills) ⊎ ((new.fills ≡ old.fills) × (raised (device.fault_count old.disk) ≤ device.fault_count new.disk))

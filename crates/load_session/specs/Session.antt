@@ -1,5 +1,5 @@
 -- A session that ingests the packets of a dump into an archive: what comes of it, and what it leaves of the store.
-use Rattle.std.specs.Prelude.{◌≡◌, ◌⊎◌, ◌≤◌, ◌+◌, ℕ, List, [], ◌∷◌, length, take, drop, Bool, false, IfOk, Option, Some, None, Result}
+use Rattle.std.specs.Prelude.{◌≡◌, ◌⊎◌, ◌≤◌, ◌+◌, ℕ, List, [], ◌∷◌, ◌++◌, length, take, drop, Bool, false, IfOk, Option, Some, None, Result}
 use Rattle.std.specs.Result.{result_err}
 use Rattle.arch_disk.specs.Disk.{Device, raised}
 use Rattle.arch_types.specs.declared.refusal.Refusal.{Refusal}
@@ -67,12 +67,14 @@ HoldsFailedWrite device store rows (Some DiskFault) =
     × ((wrote ≡ false) ⊎ (raised (raised (device.fault_count store.opened)) ≤ device.fault_count store.disk))
 HoldsFailedWrite device store rows other = faults_in store.fills ≡ []
 
--- A store holds the history that a session reached, of the same archive and since the same opening; where it holds no failed write each record more has a
--- new row.
+-- A store holds the history that a session reached, of the same archive with the same fills and since the same opening; behind the fill list came faults
+-- alone; where it holds no failed write each record more has a new row.
 pub record HasReached {D : Type 0} (device : Device D) (old new : StoreView D) (r : Receiving) (s : SessionResult) : Type 0 where
   pub history : new.history ≡ s.reached
   pub head : new.head ≡ old.head
   pub opened : new.opened ≡ old.opened
+  pub filled : new.filled ≡ old.filled
+  pub fills : new.fills ≡ old.fills ++ faults_in new.fills
   pub failed_write : HoldsFailedWrite device new (next_fresh_rows r s) s.refusal
   pub records : faults_in new.fills ≡ [] → new.records + length old.history ≤ old.records + length new.history
 

@@ -1,19 +1,11 @@
 -- One step at most for a row whose time lies in the range.
-use Rattle.std.proofs.Common.{◌≡◌, ◌∙◌, ◌+◌, ◌≤◌, ℕ, List, [], ◌∷◌, ◌++◌, Bool, length, ap, refl, arith, append-nil, length-append}
+use Rattle.std.proofs.Common.{◌≡◌, ◌∙◌, ◌+◌, ◌≤◌, ℕ, List, [], ◌∷◌, ◌++◌, Bool, length, ap, arith, append-nil, length-append}
 use Rattle.std.specs.Prelude.{filter}
 use Rattle.std.proofs.lemmas.Grind.{flat_map-append}
 use Rattle.std.proofs.lemmas.List.Elements.{filter-append}
 use Rattle.arch_types.specs.declared.row.Row.{Row}
-use Rattle.mdb_items.specs.Database.{Database}
 use Rattle.param_segments.specs.declared.plan.Part.{Part}
-use Rattle.param_segments.specs.declared.plan.Part.TheVariants.{Rows, Set}
-use Rattle.param_segments.specs.Plans.{ArePartsOver, rows_of_part, rows_of_parts}
-
--- the step for the first row
-pub first_row : (rows rest : List Row) (row : Row) (before now most : ℕ) → rows ≡ row ∷ rest → before + length rows ≤ most → now ≤ before + 1 → now + length rest ≤ most
-first_row rows rest row before now most is left step =
-    let whole : length rows ≡ length rest + 1 = ap length is ∙ omega arith in
-    omega (arith, whole, left, step)
+use Rattle.param_segments.specs.Plans.{rows_of_part, rows_of_parts}
 
 module _ (test : Row → Bool) where
   -- as many of both lists as of one and of the other
@@ -46,17 +38,3 @@ module _ (test : Row → Bool) where
       let rows : rows_of_parts (rest ++ part ∷ []) ≡ rows_of_parts rest ++ rows_of_part part = flat_map-append rows_of_part rest (part ∷ []) ∙ ap (λ (rs : List Row). rows_of_parts rest ++ rs) (append-nil (rows_of_part part)) in
       let whole = both_pass (rows_of_parts parts) (rows_of_parts rest) (rows_of_part part) (ap rows_of_parts is ∙ rows) in
       omega (arith, whole, left, step)
-
-  -- no more rows are to be extracted than there are of those that the parts are over
-  pub extracted_few : (db : Database) (parts : List Part) (rows : List Row) → ArePartsOver db parts rows → length (filter test (rows_of_parts parts)) ≤ length (filter test rows)
-  extracted_few db [] rows over = omega arith
-  extracted_few db (Set interval set ∷ parts) rows over =
-      let rest = extracted_few db parts over.1 over.4 in
-      let whole = both_pass rows over.0 over.1 over.2 in
-      omega (arith, rest, whole)
-  extracted_few db (Rows interval held ∷ parts) rows over =
-      let rest = extracted_few db parts over.1 over.4 in
-      let whole = both_pass rows over.0 over.1 over.2 in
-      let own = both_pass (held ++ rows_of_parts parts) held (rows_of_parts parts) refl in
-      let same : length (filter test held) ≡ length (filter test over.0) = ap (λ (rs : List Row). length (filter test rs)) over.3 in
-      omega (arith, rest, whole, own, same)

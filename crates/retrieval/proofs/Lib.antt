@@ -9,3 +9,5 @@ pub mod ReplayRefusals
 pub mod ReplayTexts
 pub mod Timely
 pub mod OverRows
+pub mod OneList
+pub mod FilledAnswers

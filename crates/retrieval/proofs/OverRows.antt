@@ -50,7 +50,7 @@ part_over : (db : Database) (q : ℕ) (low high : ℤ) (part : Part) (rows : Lis
 part_over db q low high (Set interval set) rows over = ap (filter (is_cell_in_range low high)) (over q) ∙ timely_cells db q low high rows
 part_over db q low high (Rows interval held) rows over = ap (cells_of_rows db q low high) over
 
-joined : (db : Database) (q : ℕ) (low high : ℤ) (first behind : List Row) → cells_of_rows db q low high first ++ cells_of_rows db q low high behind ≡ cells_of_rows db q low high (first ++ behind)
+pub joined : (db : Database) (q : ℕ) (low high : ℤ) (first behind : List Row) → cells_of_rows db q low high first ++ cells_of_rows db q low high behind ≡ cells_of_rows db q low high (first ++ behind)
 joined db q low high first behind =
     let test = is_in_time_range low high in
     sym (ap (filter_map (cell_of db q)) (filter-append test first behind) ∙ filter_map-append (cell_of db q) (filter test first) (filter test behind))
@@ -97,3 +97,8 @@ same_cells (Err error) these those same is = tt
 pub same_front : (r : Result Answer AllocError) (this that : ℕ) → this ≡ that → IfOk r (λ answer. answer.front ≡ this) → IfOk r (λ answer. answer.front ≡ that)
 same_front (Ok answer) this that same is = is ∙ same
 same_front (Err error) this that same is = tt
+
+-- the cells of an answer, where two facts are known
+pub where_known : (r : Result Answer AllocError) (P Q : Type 0) (cells : List Cell) → (P → Q → IfOk r (λ answer. answer.cells ≡ cells)) → IfOk r (λ answer. P → Q → answer.cells ≡ cells)
+where_known (Ok answer) P Q cells is = is
+where_known (Err error) P Q cells is = tt

@@ -1,17 +1,13 @@
 -- The answers to asks for values, and their text.
-use Rattle.std.specs.Prelude.{◌≡◌, ℕ, ℤ, List, [], ◌∷◌, ◌++◌, length, reverse, Bool, true, false, not, nat_lt, Option, Some, None, codes, decimal, unwrap_or, if◌then◌else◌, int_lt}
-use Rattle.std.specs.Arc.{arc_value}
+use Rattle.std.specs.Prelude.{ℕ, ℤ, List, [], ◌∷◌, ◌++◌, length, reverse, Bool, true, false, not, nat_lt, Option, Some, None, codes, decimal, if◌then◌else◌, int_lt}
 use Rattle.arch_types.specs.declared.ask.Request.{Request}
 use Rattle.arch_types.specs.declared.cell.Cell.{Cell}
 use Rattle.arch_types.specs.declared.row.Row.{Row}
 use Rattle.arch_types.specs.declared.refusal.Refusal.{Refusal}
 use Rattle.arch_types.specs.declared.refusal.Refusal.TheVariants.{UnknownParameter, BadRange}
-use Rattle.history_items.specs.Items.{Item, rows_in}
 use Rattle.mdb_items.specs.Database.{Database}
 use Rattle.container_extract.specs.Extraction.{values_of}
 use Rattle.replay_merge.specs.Replay.{truncated}
-use Rattle.retrieval.specs.declared.answer.ParameterAnswer.{ParameterAnswer}
-use Rattle.retrieval.specs.Parameter.{number_named}
 use Rattle.retrieval.specs.ValuesText.{cell_lines}
 
 -- the last first, where that is asked
@@ -37,13 +33,6 @@ as_asked request cells = truncated request.limit (in_asked_order request.descend
 abbrev pub answered : Database → ℕ → Request → List Row → List Cell
 answered db number request rows = as_asked request (values_of rows db number request.from request.to)
 
--- the answer to a request over a database and a history
-pub record IsParameterAnswer (db : Database) (history : List Item) (request : Request) (found : ParameterAnswer) : Type 0 where
-  pub mdb : arc_value found.mdb ≡ db
-  pub number : number_named db request.parameter ≡ Some found.number
-  pub front : found.answer.front ≡ length history
-  pub cells : found.answer.cells ≡ answered db found.number request (rows_in history)
-
 -- the first line of an answer or a replay: its number and the front
 abbrev pub front_line : ℕ → ℕ → List ℕ
 front_line k front = codes "ask " ++ decimal k ++ codes " front " ++ decimal front ++ codes "\n"
@@ -55,12 +44,6 @@ end_line count = codes "end " ++ decimal count ++ codes "\n"
 -- the lines of an answer: its number and the front, the cells, and how many there are
 abbrev pub answer_lines : ℕ → ℕ → Database → ℕ → List Cell → List ℕ
 answer_lines k front db number cells = front_line k front ++ cell_lines db number cells ++ end_line (length cells)
-
--- the text of the answer to a request, the ask with a number
-abbrev pub request_text : Database → List Item → ℕ → Request → List ℕ
-request_text db history k request =
-    let number = unwrap_or (number_named db request.parameter) 0 in
-    answer_lines k (length history) db number (answered db number request (rows_in history))
 
 -- why a range is none: it ends before it begins
 abbrev pub range_refusal : ℤ → ℤ → Option Refusal

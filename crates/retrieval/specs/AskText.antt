@@ -6,19 +6,23 @@ use Rattle.arch_types.specs.declared.refusal.Refusal.{Refusal}
 use Rattle.history_items.specs.Items.{Item}
 use Rattle.archive_store.specs.declared.head.Head.{Head}
 use Rattle.mdb_items.specs.Checks.{or_else}
-use Rattle.retrieval.specs.AnswerText.{request_refusal, request_text}
+use Rattle.param_segments.specs.Rows.{SetRow}
+use Rattle.store_fills.specs.Sound.{Fillings}
+use Rattle.retrieval.specs.AnswerText.{request_refusal}
+use Rattle.retrieval.specs.FilledAnswer.{request_text}
 use Rattle.retrieval.specs.Parameter.{number_named}
 use Rattle.retrieval.specs.ReplayText.{replay_refusal, replay_text}
 
 -- the text of the ask with a number
-abbrev pub ask_text : Head → List Item → ℕ → Ask → List ℕ
-ask_text head history k (Values request) = request_text head.mdb history k request
-ask_text head history k (Replay request) = replay_text head history k request
+abbrev pub ask_text : Head → List Item → Fillings (List SetRow) → ℕ → Ask → List ℕ
+ask_text head history fillings k (Values request) = request_text head.mdb history fillings k request
+ask_text head history fillings k (Replay request) = replay_text head history k request
 
 -- the texts of asks, numbered from k on
-abbrev pub asks_text : Head → List Item → ℕ → List Ask → List ℕ
-asks_text head history k [] = []
-asks_text head history k (ask ∷ asks) = ask_text head history k ask ++ asks_text head history (suc k) asks
+abbrev pub asks_text : Head → List Item → Fillings (List SetRow) → ℕ → List Ask → List ℕ
+asks_text head history fillings k [] = []
+asks_text head history fillings k (ask ∷ asks) =
+    ask_text head history fillings k ask ++ asks_text head history fillings (suc k) asks
 
 -- why an ask isn't answered: its parameter or its table is unknown, or else its range ends before it begins
 abbrev pub ask_refusal : Head → Ask → Option Refusal

@@ -2,12 +2,23 @@
 use Rattle.std.specs.Prelude.{◌≡◌, ℕ, List, Some}
 use Rattle.arch_types.specs.declared.ask.Request.{Request}
 use Rattle.history_items.specs.Items.{Item, rows_in}
+use Rattle.mdb_items.specs.Database.{Database}
 use Rattle.param_segments.specs.declared.plan.Plan.{Plan}
+use Rattle.param_segments.specs.Rows.{SetRow}
+use Rattle.store_fills.specs.Filled.{HoldsRows}
+use Rattle.store_fills.specs.Sound.{AreSound, Fillings}
 use Rattle.archive_store.specs.declared.head.Head.{Head}
 use Rattle.archive_store.specs.Plans.{IsPlanOver}
 use Rattle.retrieval.specs.AnswerText.{answered}
+use Rattle.retrieval.specs.FilledAnswer.{filled_answer}
 use Rattle.retrieval.specs.Parameter.{number_named}
 use Rattle.retrieval.specs.PartCells.{answer_over_parts}
+
+-- where the fills are sound, what is asked of a history with them is the answer over the history
+abbrev pub FilledIsAnswered : Type 0
+FilledIsAnswered = (db : Database) (history : List Item) (fillings : Fillings (List SetRow)) (request : Request)
+    (number : ℕ) → AreSound 22 (HoldsRows db) history fillings →
+    filled_answer db number request history fillings ≡ answered db number request (rows_in history)
 
 -- what is answered over the parts of a store's plan is the answer over its whole history
 abbrev pub PlannedIsAnswered : Type 0

@@ -5,4 +5,5 @@ pub mod AnswerText
 pub mod ReplayText
 pub mod AskText
 pub mod PartCells
+pub mod FilledAnswer
 pub mod Laws

@@ -1,27 +1,26 @@
 //! The answer to a request, over the parts of a plan, and over a store.
 
-ghost use Rattle.std.specs.Prelude.{◌≡◌, ◌+◌, ◌≤◌, IfOk, IsSome, List, None, Some, filter, length};
-ghost use Rattle.std.specs.List.{AllByRecursion, filter_map};
+ghost use Rattle.std.specs.Prelude.{◌≡◌, ◌+◌, ◌≤◌, IfOk, IsSome, IsTrue, List, None, Some, filter, length};
+ghost use Rattle.std.specs.List.{AllByRecursion};
 ghost use Rattle.arch_types.specs.declared.row.Row.{Row};
 ghost use Rattle.arch_types.specs.Table.{is_in_time_range, range_of};
 ghost use Rattle.history_items.specs.Items.{rows_in};
-ghost use Rattle.container_extract.specs.Extraction.{cell_of};
 ghost use Rattle.param_segments.specs.Plans.{ArePartsOver, HasValuesOf, rows_of_parts};
-ghost use Rattle.replay_merge.specs.Replay.{truncated};
-ghost use Rattle.retrieval.specs.AnswerText.{IsParameterAnswer, answered, request_refusal};
+ghost use Rattle.store_fills.specs.FilledSets.{fillings_in};
+ghost use Rattle.archive_store.specs.Stands.{IsSoundImage};
+ghost use Rattle.retrieval.specs.AnswerText.{answered, request_refusal};
+ghost use Rattle.retrieval.specs.FilledAnswer.{IsParameterAnswer, filled_answer};
 ghost use Rattle.retrieval.specs.Parameter.{number_named};
 ghost use Rattle.retrieval.specs.PartCells.{answer_over_parts, answer_over_rows};
 
-use crate::cells::{add_cell, is_full};
 use crate::part_cells::cells_over_parts;
 use arch_disk::Disk;
 use arch_types::ask::{Answer, Request};
-use arch_types::cell::{Cell, Cells};
+use arch_types::cell::Cells;
 use arch_types::name::Name;
 use arch_types::refusal::Refusal;
 use arch_types::steps::Steps;
 use archive_store::Store;
-use container_extract::Extractor;
 use mdb_model::Mdb;
 use param_segments::Plan;
 use std::alloc::{AllocError, Global};
@@ -69,7 +68,7 @@ pub fn answer<L: Ledger>(
 }
 
 /// The answer to a request over the whole history of a store, whose database has the parameter, in a step for each row
-/// of the range at most.
+/// of the range at most: over the sets of the intervals that it meets, and the rows of those that are late.
 pub fn answer_request<D: Disk, L: Ledger>(
     alloc: Global,
     store: &mut Store<D>,
@@ -77,7 +76,13 @@ pub fn answer_request<D: Disk, L: Ledger>(
     steps: &mut Steps<L>,
 ) -> Result<ParameterAnswer, AllocError>
     requires { request_refusal (number_named store.old.head.mdb request.now.parameter) request.now ≡ None }
-    ensures found { IfOk result (IsParameterAnswer store.old.head.mdb store.old.history request.now) }
+    ensures found { IfOk result (IsParameterAnswer store.old.head.mdb store.old.history
+        (fillings_in store.old.filled) request.now) }
+
+    // Where the fills of the disk were sound when it was opened, the cells are those that the range's rows give.
+    ensures answered { IfOk result (λ found.
+        IsTrue D.device.is_transparent → IsSoundImage (D.device.reads store.old.opened) → found.answer.cells ≡
+        answered store.old.head.mdb found.number request.now (rows_in store.old.history)) }
     ensures same { store.new ≡ store.old }
     ensures steps { steps.new ≤ steps.old + length (range_of 0 request.now.from request.now.to
         (rows_in store.old.history)) }
@@ -85,7 +90,7 @@ pub fn answer_request<D: Disk, L: Ledger>(
     let Some(number) = number_of(&store.head().mdb, &request.parameter) else {
         unreachable!();
     };
-    let answer = store_answer(alloc, store, number, request, steps)?;
+    let answer = planned_answer(alloc, store, number, request, steps)?;
     Ok(ParameterAnswer {
         mdb: store.shared_mdb()?,
         number,
@@ -103,35 +108,7 @@ pub fn number_of(mdb: &Mdb, name: &Name) -> Option<u16>
     }
 }
 
-/// The answer of a store to a request for the parameter with this number. In key order the rows are borrowed; from the
-/// last on they come by a plan.
-fn store_answer<D: Disk, L: Ledger>(
-    alloc: Global,
-    store: &mut Store<D>,
-    number: u16,
-    request: &Request,
-    steps: &mut Steps<L>,
-) -> Result<Answer, AllocError>
-    requires number { number_named store.old.head.mdb request.now.parameter ≡ Some number }
-    requires admitted { request_refusal (number_named store.old.head.mdb request.now.parameter) request.now ≡ None }
-    ensures front { IfOk result (λ answer. answer.front ≡ length store.old.history) }
-    ensures cells { IfOk result (λ answer. answer.cells ≡
-        answered store.old.head.mdb number request.now (rows_in store.old.history)) }
-    ensures same { store.new ≡ store.old }
-    ensures steps { steps.new ≤ steps.old + length (range_of 0 request.now.from request.now.to
-        (rows_in store.old.history)) }
-{
-    if request.descending {
-        return planned_answer(alloc, store, number, request, steps);
-    }
-    let cells = first_cells(alloc, store, number, request, steps)?;
-    Ok(Answer {
-        front: store.front(),
-        cells: Cells::from_vec(cells),
-    })
-}
-
-/// The same over a plan.
+/// The answer of a store to a request for the parameter with this number, by a plan.
 fn planned_answer<D: Disk, L: Ledger>(
     alloc: Global,
     store: &mut Store<D>,
@@ -143,40 +120,19 @@ fn planned_answer<D: Disk, L: Ledger>(
     requires admitted { request_refusal (number_named store.old.head.mdb request.now.parameter) request.now ≡ None }
     ensures front { IfOk result (λ answer. answer.front ≡ length store.old.history) }
     ensures cells { IfOk result (λ answer. answer.cells ≡
+        filled_answer store.old.head.mdb number request.now store.old.history (fillings_in store.old.filled)) }
+    ensures answered { IfOk result (λ answer.
+        IsTrue D.device.is_transparent → IsSoundImage (D.device.reads store.old.opened) → answer.cells ≡
         answered store.old.head.mdb number request.now (rows_in store.old.history)) }
     ensures same { store.new ≡ store.old }
     ensures steps { steps.new ≤ steps.old + length (range_of 0 request.now.from request.now.to
         (rows_in store.old.history)) }
 {
+    // It tells the proof that the fill list has the bases of the fills that are there.
+    let _bases = store.front();
     match store.plan(alloc, request) {
         Ok(plan) => answer(alloc, plan, &store.head().mdb, request, steps),
         Err(Refusal::OutOfMemory) => Err(AllocError),
         Err(_) => unreachable!(),
     }
-}
-
-/// The first cells in key order, of rows that the store lends.
-fn first_cells<D: Disk, L: Ledger>(
-    alloc: Global,
-    store: &Store<D>,
-    number: u16,
-    request: &Request,
-    steps: &mut Steps<L>,
-) -> Result<Vec<Cell>, AllocError>
-    ensures cells { IfOk result (λ cells. cells.items ≡ truncated request.now.limit
-        (filter_map (cell_of store.now.head.mdb number) (range_of 0 request.now.from request.now.to
-        (rows_in store.now.history)))) }
-    ensures steps { steps.new ≤ steps.old + length (range_of 0 request.now.from request.now.to
-        (rows_in store.now.history)) }
-{
-    let mut extractor = Extractor::new(alloc)?;
-    let mut cells = Vec::new(alloc);
-    let mdb = &store.head().mdb;
-    for row in store.range(request.from, request.to) {
-        if is_full(cells.as_slice(), request.limit) {
-            return Ok(cells);
-        }
-        add_cell(&mut extractor, mdb, number, row, &mut cells, steps)?;
-    }
-    Ok(cells)
 }

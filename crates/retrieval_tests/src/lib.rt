@@ -1,7 +1,9 @@
 // Tests of retrieval: answers over every mix of sets and rows, in both orders, with limits and ranges at the borders of
-// parts; a worked row; texts.
+// parts; the same over an archive with fills; a worked row; texts.
 #![tactic(auto)]
 
+#[cfg(test)]
+mod fills;
 #[cfg(test)]
 mod mixes;
 #[cfg(test)]

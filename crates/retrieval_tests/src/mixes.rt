@@ -4,11 +4,11 @@ ghost use Rattle.std.specs.List.{AllByRecursion};
 ghost use Rattle.arch_types.specs.Table.{is_in_time_range};
 ghost use Rattle.param_segments.specs.Plans.{HasValuesOf, rows_of_parts};
 
-use crate::parts::{Asked, FLIGHT, database, part, request, row};
+use crate::parts::{
+    Asked, AskedValues, FLIGHT, Packet, are_raws, database, part, request, rows_of,
+};
 use arch_types::ask::{Answer, Request};
-use arch_types::cell::Cell;
 use arch_types::interval::Interval;
-use arch_types::row::Rows;
 use arch_types::steps::Steps;
 use mdb_model::Mdb;
 use param_segments::{Parts, Plan};
@@ -18,9 +18,6 @@ use std::marker::Brand;
 use std::sync::Arc;
 use std::sync::ledger::{Blank, Ledger};
 use std::test::Fail;
-
-/// When a packet came, its process, and its value.
-type Packet = (i64, u8, u8);
 
 /// The packets of an interval.
 type IntervalPackets = (i64, &'static [Packet]);
@@ -54,9 +51,6 @@ const MIXES: &[[bool; 3]] = &[
 fn mixes() -> &'static [[bool; 3]] {
     MIXES
 }
-
-/// What is asked, and the raw values of the answer.
-type AskedValues = (Asked, &'static [i64]);
 
 /// All, from either end.
 const ALL: &[AskedValues] = &[
@@ -100,16 +94,6 @@ const CUT: &[AskedValues] = &[
 /// All asks. A function, as above.
 fn asks() -> [&'static [AskedValues]; 3] {
     [ALL, LIMITED, CUT]
-}
-
-/// The rows of packets.
-fn rows_of(alloc: Global, packets: &[Packet]) -> Result<Rows, Fail> {
-    let mut rows = Rows::new(alloc);
-    for (time, process, value) in packets {
-        let packet = [8, *process, 0xC0, 0, 0, 6, 0, 0, 0, 1, 0x80, 0, *value];
-        rows.push(row(alloc, *time, &packet)?)?;
-    }
-    Ok(rows)
 }
 
 /// The parts of intervals, each as a set or as rows.
@@ -167,15 +151,6 @@ fn counted<L: Ledger>(
         parts,
     };
     Ok(answer(alloc, plan, mdb, request, steps)?)
-}
-
-/// Whether cells have these raw values.
-fn are_raws(cells: &[Cell], raws: &[i64]) -> bool {
-    cells.len() == raws.len()
-        && cells
-            .iter()
-            .zip(raws)
-            .all(|(cell, raw)| cell.raw == i128::from(*raw))
 }
 
 /// Whether an ask over a mix gives these raw values, at front 7.

@@ -3,6 +3,7 @@ ghost use Rattle.std.specs.Prelude.{IfOk};
 ghost use Rattle.param_segments.specs.Plans.{HasValuesOf};
 
 use arch_types::ask::Request;
+use arch_types::cell::Cell;
 use arch_types::interval::Interval;
 use arch_types::key::Key;
 use arch_types::name::Name;
@@ -70,6 +71,23 @@ pub(crate) fn row(alloc: Global, time: i64, packet: &[u8]) -> Result<Row, Fail> 
     })
 }
 
+/// When a packet came, its process, and its value.
+pub(crate) type Packet = (i64, u8, u8);
+
+/// The rows of packets without a time of their own, so that the time of reception is their time.
+pub(crate) fn rows_of(alloc: Global, packets: &[Packet]) -> Result<Rows, Fail> {
+    let mut rows = Rows::new(alloc);
+    for (time, process, value) in packets {
+        rows.push(row(alloc, *time, &packet_of(*process, *value))?)?;
+    }
+    Ok(rows)
+}
+
+/// The packet of a process with a value.
+pub(crate) fn packet_of(process: u8, value: u8) -> [u8; 13] {
+    [0, process, 0xC0, 0, 0, 6, 0, 0, 0, 0, 0, 0, value]
+}
+
 /// The part that has the set of rows of an interval.
 fn set_part(alloc: Global, mdb: &Mdb, interval: Interval, rows: &Rows) -> Result<Part, Fail>
     ensures { IfOk result (HasValuesOf mdb.now) }
@@ -116,4 +134,16 @@ pub(crate) fn request(alloc: Global, asked: &Asked) -> Result<Request, Fail> {
         descending,
         limit,
     })
+}
+
+/// What is asked, and the raw values of the answer.
+pub(crate) type AskedValues = (Asked, &'static [i64]);
+
+/// Whether cells have these raw values.
+pub(crate) fn are_raws(cells: &[Cell], raws: &[i64]) -> bool {
+    cells.len() == raws.len()
+        && cells
+            .iter()
+            .zip(raws)
+            .all(|(cell, raw)| cell.raw == i128::from(*raw))
 }

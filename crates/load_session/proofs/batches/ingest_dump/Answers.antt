@@ -1,16 +1,16 @@
-use Rattle.std.proofs.Common.{◌≡◌, ◌∙◌, ◌≤◌, length, drop, w64, ap, sym, subst, arith}
+use Rattle.std.proofs.Common.{◌≡◌, ◌∙◌, ◌≤◌, length, drop, w64, ap, refl, sym, subst, arith}
 use Rattle.std.proofs.lemmas.Int.{to_z-of_z}
 use Rattle.std.proofs.lemmas.Result.{err_from_is_err_and}
 use Rattle.history_items.proofs.Outcomes.{length-outcomes}
 use Rattle.archive_store.specs.declared.head.Head.{Head}
 use Rattle.field_codec.specs.Entries.{AreTables}
 use Rattle.archive_store.specs.Batches.{batch_rows}
-use Rattle.archive_store.proofs.Calls.{ingest_fault, ingest_history, ingest_records, ingest_untouched}
+use Rattle.archive_store.proofs.Calls.{ingest_fault, ingest_filled, ingest_history, ingest_records, ingest_untouched}
 use Rattle.space_packet.specs.Rest.{why_of}
 use Rattle.load_session.specs.Batches.{IsNextBatch}
 use Rattle.load_session.specs.Receiving.{Receiving, IsRouteOver, receiving}
 use Rattle.load_session.proofs.Arrived.{few_arrived, few_rows}
-use Rattle.load_session.proofs.Batching.{so_far_more, so_far_end, so_far_memory, so_far_none, so_far_refused, refused_for, refused_writes, IsSoFar}
+use Rattle.load_session.proofs.Batching.{so_far_more, so_far_end, so_far_memory, so_far_none, so_far_refused, refused_fills, refused_for, refused_writes, IsSoFar}
 use Rattle.load_session.proofs.batches.ingest_dump.Goals as goal
 
 pub returns-in_err-extractor-clause-stopped : goal.returns-in_err-extractor-clause-stopped
@@ -90,7 +90,17 @@ returns-in_err-ingested-clause-stopped g c =
     rw (p.1, p.2)
     (so_far_refused c.args.store.now c.args.dump.now (receiving c.args.store.now.head c.args.graph.now c.args.link c.args.moment) c.batches.store c.ingest.new.self c.batches.places.at c.next_batch.new.places.at c.batches.packets c.batches.idle c.batches.routed c.in_ok-taken.taken
     refusal so_far taken c.in_ok-taken.ensures.last (ingest_history device c.batches.store c.ingest.new.self rows refusal refused) c.ingest.ensures.grows.head c.ingest.ensures.grows.opened
-    (λ none. ingest_records device c.batches.store c.ingest.new.self rows refusal refused) (refused_for device c.batches.store c.ingest.new.self rows refusal so_far.fills refused))
+    (ingest_filled device c.batches.store c.ingest.new.self rows refusal refused) (refused_fills device c.batches.store c.ingest.new.self rows refusal so_far.no_fault refused)
+    (λ none. ingest_records device c.batches.store c.ingest.new.self rows refusal refused) (refused_for device c.batches.store c.ingest.new.self rows refusal so_far.no_fault refused))
+
+pub batches-init : goal.batches-init
+batches-init g c =
+    let moment = to_z-of_z w64 c.args.moment c.ranges.moment in
+    record {
+      dump = rw c.new-places.ensures c.as_slice.ensures;
+      so_far = rw (moment, c.new-places.ensures) (so_far_none c.args.store.now c.args.dump.now (receiving c.args.store.now.head c.args.graph.now c.args.link c.args.moment) c.requires.no_fault);
+      writes = refl;
+    }
 
 pub batches-preserved : goal.batches-preserved
 batches-preserved g c =
@@ -103,7 +113,7 @@ batches-preserved g c =
       dump = c.next_batch.ensures.dump ∙ c.batches.invariant.dump;
       so_far = rw (moment, c.as_slice-in-batches.ensures, c.as_slice-in-batches-2.ensures, ok.outcomes_are, counted)
           (so_far_more c.args.store.now c.args.dump.now (receiving c.args.store.now.head c.args.graph.now c.args.link c.args.moment) c.batches.store c.ingest.new.self c.batches.places.at c.next_batch.new.places.at c.batches.packets c.batches.idle c.batches.routed c.in_ok-taken.taken
-          so_far taken ok.history ok.fills c.ingest.ensures.grows.head c.ingest.ensures.grows.opened
+          so_far taken ok.history ok.fills c.ingest.ensures.grows.head c.ingest.ensures.grows.opened ok.filled
           ok.one_record ok.no_call);
       writes = ok.no_failed_write ∙ c.batches.invariant.writes;
     }

@@ -14,7 +14,7 @@ pub returns-in-Err-clause-session : goal.returns-in-Err-clause-session
 returns-in-Err-clause-session g c =
     let moment = to_z-of_z w64 c.args.moment c.ranges.moment in
     let stopped = rw moment at c.in-Err.ensures.stopped in
-    stopped_run g.D.Disk.device c.args.store.now c.ingest_dump.new.store c.args.dump.now (receiving c.args.store.now.head c.args.graph.now c.args.link c.args.moment) c.heal.new.store c.in-Err.refusal stopped
+    stopped_run g.D.Disk.device c.args.store.now c.ingest_dump.new.store c.args.dump.now (receiving c.args.store.now.head c.args.graph.now c.args.link c.args.moment) c.heal.new.store c.requires.no_fault c.in-Err.refusal stopped
     c.heal.ensures.same c.heal.ensures.reopened
 
 pub returns-in-Err-clause-disk_writes : goal.returns-in-Err-clause-disk_writes

@@ -1,17 +1,23 @@
 use Rattle.std.proofs.Common.{◌≡◌, ◌∙◌, ℕ, Option, length, ap, arith, refl, sym, subst}
-use Rattle.std.specs.Prelude.{IsSome}
+use Rattle.std.specs.Prelude.{IfOk, IsSome, IsTrue, Result}
 use Rattle.std.specs.List.{AllByRecursion}
-use Rattle.arch_types.specs.Table.{is_in_time_range}
+use Rattle.arch_types.specs.declared.refusal.Refusal.{Refusal}
 use Rattle.history_items.specs.Items.{rows_in}
 use Rattle.archive_store.specs.declared.head.Head.{Head}
+use Rattle.archive_store.specs.Plans.{IsPlanOver}
+use Rattle.archive_store.specs.Stands.{IsSoundImage}
 use Rattle.archive_store.specs.StoreView.{StoreView}
+use Rattle.archive_store.proofs.Planning.{few_in_range}
 use Rattle.mdb_items.specs.Database.{Database}
+use Rattle.param_segments.specs.declared.plan.Plan.{Plan}
 use Rattle.param_segments.specs.Plans.{ArePartsOver, HasValuesOf}
+use Rattle.store_fills.specs.FilledSets.{fillings_in}
 use Rattle.retrieval.specs.AnswerText.{answered}
 use Rattle.retrieval.specs.Parameter.{number_named}
-use Rattle.retrieval.specs.PartCells.{answer_over_rows}
-use Rattle.retrieval.proofs.Counted.{extracted_few}
-use Rattle.retrieval.proofs.OverRows.{answer_of_history, same_cells, same_front}
+use Rattle.retrieval.specs.FilledAnswer.{filled_answer}
+use Rattle.retrieval.specs.PartCells.{answer_over_parts, answer_over_rows}
+use Rattle.retrieval.proofs.FilledAnswers.{plan_filled}
+use Rattle.retrieval.proofs.OverRows.{answer_of_history, same_cells, same_front, where_known}
 use Rattle.retrieval.proofs.answer.planned_answer.Goals as goal
 
 pub answer-requires-clause-known : goal.answer-requires-clause-known
@@ -23,7 +29,7 @@ answer-requires-clause-known g c =
 pub answer-requires-clause-values : goal.answer-requires-clause-values
 answer-requires-clause-values g c =
     let same : c.args.store.now.head.mdb ≡ c.head.result.now.mdb = sym (ap (λ (head : Head). head.mdb) c.head.ensures.head ∙ ap (λ (s : StoreView g.row.D.Denot). s.head.mdb) c.plan.ensures.same) in
-    subst (λ (db : Database). AllByRecursion (HasValuesOf db) c.in-Ok.plan.parts) same c.in-Ok.ensures.over.values
+    subst (λ (db : Database). AllByRecursion (HasValuesOf db) c.in-Ok.plan.parts) same c.in-Ok.ensures.values
 
 pub returns-in-Ok-clause-front : goal.returns-in-Ok-clause-front
 returns-in-Ok-clause-front g c = same_front c.answer.result c.in-Ok.plan.front (length c.args.store.now.history) c.in-Ok.ensures.planned.front c.answer.ensures.front
@@ -32,17 +38,31 @@ pub returns-in-Ok-clause-cells : goal.returns-in-Ok-clause-cells
 returns-in-Ok-clause-cells g c =
     let store = c.args.store.now in
     let request = c.args.request.now in
-    let is = c.in-Ok.ensures.over in
+    let parts = c.in-Ok.plan.parts in
     let same : store.head.mdb ≡ c.head.result.now.mdb = sym (ap (λ (head : Head). head.mdb) c.head.ensures.head ∙ ap (λ (s : StoreView g.row.D.Denot). s.head.mdb) c.plan.ensures.same) in
+    same_cells c.answer.result (answer_over_parts c.head.result.now.mdb request parts) (filled_answer store.head.mdb c.args.number request store.history (fillings_in store.filled))
+    (ap (λ (db : Database). answer_over_parts db request parts) (sym same)
+    ∙ plan_filled store c.args.number request c.in-Ok.plan c.front-bases.ensures.bases c.requires.number c.in-Ok.ensures.planned)
+    c.answer.ensures.cells
+
+pub returns-in-Ok-clause-answered : goal.returns-in-Ok-clause-answered
+returns-in-Ok-clause-answered g c =
+    let device = g.D.Disk.device in
+    let store = c.args.store.now in
+    let request = c.args.request.now in
+    let Answers = λ (r : Result Plan Refusal). IfOk r (IsPlanOver store.head store.history request.from request.to) in
+    let same : store.head.mdb ≡ c.head.result.now.mdb = sym (ap (λ (head : Head). head.mdb) c.head.ensures.head ∙ ap (λ (s : StoreView g.row.D.Denot). s.head.mdb) c.plan.ensures.same) in
+    let cells = answered store.head.mdb c.args.number request (rows_in store.history) in
+    where_known c.answer.result (IsTrue device.is_transparent) (IsSoundImage (device.reads store.opened)) cells
+    (λ transparent image.
+    let is : IsPlanOver store.head store.history request.from request.to c.in-Ok.plan = subst Answers c.in-Ok.is (c.plan.ensures.over transparent image) in
     let parts_over = subst (λ (db : Database). ArePartsOver db c.in-Ok.plan.parts is.rows) same is.over in
-    same_cells c.answer.result (answer_over_rows c.head.result.now.mdb request is.rows) (answered store.head.mdb c.args.number request (rows_in store.history))
+    same_cells c.answer.result (answer_over_rows c.head.result.now.mdb request is.rows) cells
     (ap (λ (db : Database). answer_over_rows db request is.rows) (sym same) ∙ answer_of_history store.head.mdb c.args.number request is.rows (rows_in store.history) c.requires.number is.in_range)
-    (c.answer.ensures.over is.rows parts_over)
+    (c.answer.ensures.over is.rows parts_over))
 
 pub returns-in-Ok-clause-steps : goal.returns-in-Ok-clause-steps
 returns-in-Ok-clause-steps g c =
     let request = c.args.request.now in
-    let is = c.in-Ok.ensures.over in
-    let few = extracted_few (is_in_time_range request.from request.to) c.args.store.now.head.mdb c.in-Ok.plan.parts is.rows is.over in
-    let rows = ap length is.in_range in
-    omega (arith, c.answer.ensures.steps, few, rows)
+    let few = few_in_range c.args.store.now request.from request.to c.in-Ok.plan c.in-Ok.ensures.planned in
+    omega (arith, c.answer.ensures.steps, few)
