@@ -1,0 +1,74 @@
+use Rattle.std.proofs.Common.{◌≡◌, ◌⊎◌, ℕ, List, Option, Some, None, ap, subst}
+use Rattle.std.specs.Prelude.{IfOk, IfSome, IfNone, Result, Ok, Err}
+use Rattle.std.specs.List.{filter_map}
+use Rattle.std.specs.Arc.{arc_value}
+use Rattle.arch_types.specs.declared.row.Row.{Row}
+use Rattle.container_extract.specs.Extraction.{cell_of}
+use Rattle.history_items.specs.Late.{IsLate}
+use Rattle.interval_fills.specs.Intervals.{rows_of_interval}
+use Rattle.mdb_items.specs.Database.{Database}
+use Rattle.param_segments.specs.Cells.{set_cells}
+use Rattle.param_segments.specs.Rows.{SetRow}
+use Rattle.store_fills.specs.FilledSets.{fill_over, fillings_in}
+use Rattle.archive_store.specs.declared.head.Head.{Head}
+use Rattle.archive_store.specs.CurrentSets.{IsCurrentSet}
+use Rattle.archive_store.specs.StoreView.{filled_of}
+use Rattle.archive_verify.specs.ComparedSets.{IsFirstSetDifference}
+use Rattle.archive_verify.specs.Verified.{HoldsWhereCurrent, IsIntervalMismatch}
+use Rattle.archive_verify.proofs.Currents.{current_of, holds_of_sets, mismatch_of_sets, none_current}
+use Rattle.archive_verify.proofs.verified.interval_difference.Goals as goal
+
+some_weaker : {A E : Type 0} (P Q : A → Type 0) → ((a : A) → P a → Q a) → (r : Result (Option A) E) → IfOk r (λ o. IfSome o P) → IfOk r (λ o. IfSome o Q)
+some_weaker P Q by (Ok None) is = tt
+some_weaker P Q by (Ok (Some a)) is = by a is
+some_weaker P Q by (Err e) is = tt
+
+none_weaker : {A E : Type 0} (P Q : Type 0) → (P → Q) → (r : Result (Option A) E) → IfOk r (λ o. IfNone o P) → IfOk r (λ o. IfNone o Q)
+none_weaker P Q by (Ok None) is = by is
+none_weaker P Q by (Ok (Some a)) is = tt
+none_weaker P Q by (Err e) is = tt
+
+-- what the rows of an interval give, under other names of its database and of them
+gives_named : (db named : Database) (rows_named rows : List Row) (replayed : List SetRow) → named ≡ db → rows_named ≡ rows
+    → ((q : ℕ) → set_cells named q replayed ≡ filter_map (cell_of named q) rows_named) → (q : ℕ) → set_cells db q replayed ≡ filter_map (cell_of db q) rows
+gives_named db named rows_named rows replayed same_db same_rows gives q =
+    subst (λ (x : Database). set_cells x q replayed ≡ filter_map (cell_of x q) rows) same_db
+    (subst (λ (l : List Row). set_cells named q replayed ≡ filter_map (cell_of named q) l) same_rows (gives q))
+
+pub returns-clause-some : goal.returns-clause-some
+returns-clause-some g c =
+    let store = c.args.store.now in
+    let i = c.args.interval in
+    let set = arc_value c.in-Some.stored in
+    let named = c.head.result.now.mdb in
+    let same_db : named ≡ store.head.mdb = ap (λ (h : Head). h.mdb) c.head.ensures.head in
+    let current : IsCurrentSet store i set = subst (λ o. IfSome o (λ s. IsCurrentSet store i (arc_value s))) c.in-Some.is c.in_ok-stored.ensures.some in
+    let fill = current_of store i set c.front.ensures.bases current in
+    let replayed = c.in_ok-replayed.replayed in
+    let gives = gives_named store.head.mdb named c.in_ok-rows.rows (rows_of_interval 22 i store.history) replayed same_db c.in_ok-rows.ensures.rows c.in_ok-replayed.ensures.cells in
+    let found = subst (λ (x : Database). IfOk c.set_difference.result (λ o. IfSome o (IsFirstSetDifference x set replayed))) same_db
+    (subst (λ (s : List SetRow). IfOk c.set_difference.result (λ o. IfSome o (IsFirstSetDifference named s replayed))) c.deref.ensures c.set_difference.ensures.some) in
+    some_weaker (IsFirstSetDifference store.head.mdb set replayed) (IsIntervalMismatch (filled_of store) i)
+    (λ d is. mismatch_of_sets (filled_of store) i (fill_over current.base set) replayed d fill gives is) c.set_difference.result found
+
+pub returns-clause-none : goal.returns-clause-none
+returns-clause-none g c =
+    let store = c.args.store.now in
+    let i = c.args.interval in
+    let set = arc_value c.in-Some.stored in
+    let named = c.head.result.now.mdb in
+    let same_db : named ≡ store.head.mdb = ap (λ (h : Head). h.mdb) c.head.ensures.head in
+    let current : IsCurrentSet store i set = subst (λ o. IfSome o (λ s. IsCurrentSet store i (arc_value s))) c.in-Some.is c.in_ok-stored.ensures.some in
+    let fill = current_of store i set c.front.ensures.bases current in
+    let replayed = c.in_ok-replayed.replayed in
+    let gives = gives_named store.head.mdb named c.in_ok-rows.rows (rows_of_interval 22 i store.history) replayed same_db c.in_ok-rows.ensures.rows c.in_ok-replayed.ensures.cells in
+    let same = subst (λ (x : Database). IfOk c.set_difference.result (λ o. IfNone o ((q : ℕ) → set_cells x q set ≡ set_cells x q replayed))) same_db
+    (subst (λ (s : List SetRow). IfOk c.set_difference.result (λ o. IfNone o ((q : ℕ) → set_cells named q s ≡ set_cells named q replayed))) c.deref.ensures c.set_difference.ensures.none) in
+    none_weaker ((q : ℕ) → set_cells store.head.mdb q set ≡ set_cells store.head.mdb q replayed) (HoldsWhereCurrent (filled_of store) i)
+    (λ all. holds_of_sets (filled_of store) i (fill_over current.base set) replayed fill gives all) c.set_difference.result same
+
+pub returns-in_default-clause-none : goal.returns-in_default-clause-none
+returns-in_default-clause-none g c =
+    let store = c.args.store.now in
+    let i = c.args.interval in
+    none_current store i c.front.ensures.bases (subst (λ o. IfNone o (IsLate 22 i store.history store.fills ⊎ (fillings_in store.filled i ≡ None))) c.in_default.is c.in_ok-stored.ensures.none)

@@ -1,0 +1,4 @@
+pub mod Differences
+pub mod ComparedSets
+pub mod Verified
+pub mod Laws

@@ -1,0 +1,116 @@
+-- Whether what an archive keeps of its intervals is what their rows give. Of an archive with its fills, as a disk
+-- stands for one.
+use Rattle.std.specs.Prelude.{◌≡◌, ℕ, ◌<◌, ◌<ℤ◌, Bool, true, false, List, length, map, filter, slice_get, Some}
+use Rattle.std.specs.List.{filter_map, list_any}
+use Rattle.std.specs.Option.{option_map_or}
+use Rattle.arch_types.specs.declared.cell.Cell.{Cell}
+use Rattle.arch_types.specs.declared.interval.Interval.{Interval}
+use Rattle.arch_types.specs.declared.refusal.Refusal.{Refusal}
+use Rattle.arch_types.specs.declared.refusal.Refusal.TheVariants.{Mismatch, OutOfMemory}
+use Rattle.mdb_items.specs.Database.{Database}
+use Rattle.container_extract.specs.Extraction.{cell_of}
+use Rattle.history_items.specs.Fills.{is_same}
+use Rattle.history_items.specs.Late.{last_in}
+use Rattle.late_marks.specs.Mark.{is_late_by}
+use Rattle.interval_fills.specs.Intervals.{NoRowSince, rows_of_interval}
+use Rattle.interval_walks.specs.Counts.{intervals_in, late_intervals}
+use Rattle.param_segments.specs.Cells.{set_cells}
+use Rattle.param_segments.specs.Rows.{SetRow}
+use Rattle.store_fills.specs.Filled.{HoldsRows}
+use Rattle.store_fills.specs.Sound.{Filling, base_of_filling}
+use Rattle.archive_store.specs.Entries.{FilledArchive}
+use Rattle.archive_store.specs.StoreView.{StoreView}
+use Rattle.archive_verify.specs.declared.compared_sets.SetDifference.{SetDifference}
+use Rattle.archive_verify.specs.declared.differences.CellDifference.{CellDifference}
+use Rattle.archive_verify.specs.declared.verified.Sound.{Sound}
+use Rattle.archive_verify.specs.Differences.{IsFirstDifference}
+
+-- the archive's database, and the rows of an interval in its history
+abbrev pub database_in : FilledArchive → Database
+database_in filled = filled.plain.head.mdb
+
+-- the cells of a parameter that an interval's rows give
+abbrev pub replayed_cells : FilledArchive → Interval → ℕ → List Cell
+replayed_cells filled interval q =
+    filter_map (cell_of (database_in filled) q) (rows_of_interval 22 interval filled.plain.history)
+
+-- ---- sound
+
+-- a fill stands for an interval: it is the interval's, and no row of the interval came at or after its base
+pub record IsCurrentFill (filled : FilledArchive) (interval : Interval) (f : Filling (List SetRow)) : Type 0 where
+  pub there : filled.fillings interval ≡ Some f
+  pub current : NoRowSince 22 interval f.base filled.plain.history
+
+-- it holds the cells that the interval's rows give of each parameter
+abbrev pub HoldsInterval : FilledArchive → Interval → Filling (List SetRow) → Type 0
+HoldsInterval filled interval f =
+    HoldsRows (database_in filled) f.set (rows_of_interval 22 interval filled.plain.history)
+
+-- so does the fill that stands for an interval, if one does
+abbrev pub HoldsWhereCurrent : FilledArchive → Interval → Type 0
+HoldsWhereCurrent filled interval =
+    (f : Filling (List SetRow)) → IsCurrentFill filled interval f → HoldsInterval filled interval f
+
+-- so do all
+abbrev pub HoldCurrentFills : FilledArchive → Type 0
+HoldCurrentFills filled = (interval : Interval) → HoldsWhereCurrent filled interval
+
+-- so do those of the intervals that stand below one among these
+abbrev pub HoldBelow : FilledArchive → List Interval → Interval → Type 0
+HoldBelow filled intervals bound = (other : Interval) → list_any (is_same other) intervals ≡ true →
+    other.0 <ℤ bound.0 → HoldsWhereCurrent filled other
+
+-- ---- the first mismatch
+
+-- the fill that stands for an interval holds other cells: the least parameter of which, and the least key where
+pub record IsIntervalMismatch (filled : FilledArchive) (interval : Interval) (d : SetDifference) : Type 0 where
+  pub fill : Filling (List SetRow)
+  pub current : IsCurrentFill filled interval fill
+  pub known : d.parameter < length (database_in filled).parameters
+  pub first : IsFirstDifference (set_cells (database_in filled) d.parameter fill.set)
+      (replayed_cells filled interval d.parameter) d.cells
+  pub before : (q : ℕ) → q < d.parameter →
+      set_cells (database_in filled) q fill.set ≡ replayed_cells filled interval q
+
+-- the least interval of which that holds
+pub record IsFirstMismatch (filled : FilledArchive) (interval : Interval) (d : SetDifference) : Type 0 where
+  pub here : IsIntervalMismatch filled interval d
+  pub before : (other : Interval) → other.0 <ℤ interval.0 → HoldsWhereCurrent filled other
+
+-- the refusal that names a difference, by the name of its parameter
+abbrev pub IsMismatchOf : Database → Interval → SetDifference → Refusal → Type 0
+IsMismatchOf db interval d (Mismatch i name key stored replayed) =
+    (i ≡ interval) × (slice_get (map (λ p. p.name) db.parameters) d.parameter ≡ Some name)
+    × (d.cells ≡ record { key = key; stored = stored; replayed = replayed })
+IsMismatchOf db interval d _ = ⊥
+
+-- the first mismatch, with the parameter's name
+pub record IsNamedMismatch (filled : FilledArchive) (interval : Interval) (name : List ℕ) (d : CellDifference) : Type 0 where
+  pub parameter : ℕ
+  pub first : IsFirstMismatch filled interval (record { parameter = parameter; cells = d })
+  pub named : slice_get (map (λ p. p.name) (database_in filled).parameters) parameter ≡ Some name
+
+-- why an archive is not found sound: its first mismatch, or want of memory
+abbrev pub IsVerifyRefusal : FilledArchive → Refusal → Type 0
+IsVerifyRefusal filled (Mismatch interval name key stored replayed) =
+    IsNamedMismatch filled interval name (record { key = key; stored = stored; replayed = replayed })
+IsVerifyRefusal filled OutOfMemory = Unit {0}
+IsVerifyRefusal filled _ = ⊥
+
+-- ---- how much there is
+
+-- how many rows a store has, in how many intervals rows of `tm` stand, and how many of these are late
+pub record IsCounted {D : Type 0} (store : StoreView D) (sound : Sound) : Type 0 where
+  pub rows : sound.rows ≡ length store.history
+  pub intervals : sound.intervals ≡ length (intervals_in 22 store.history)
+  pub late : sound.late ≡ length (late_intervals 22 store.history store.fills)
+
+-- whether an interval is late by its last row and the base of its fill
+abbrev pub is_late_in_archive : FilledArchive → Interval → Bool
+is_late_in_archive filled interval =
+    option_map_or (λ last. is_late_by last (base_of_filling filled.fillings interval))
+    (last_in 22 interval filled.plain.history) false
+
+-- the late intervals of an archive
+abbrev pub late_in_archive : FilledArchive → List Interval
+late_in_archive filled = filter (is_late_in_archive filled) (intervals_in 22 filled.plain.history)
