@@ -1,5 +1,5 @@
 #!/usr/bin/env bash
-# A day of an archive, in a folder that is removed at the end: it is made of three sheets, two stations' dumps are loaded, it is asked, and opened again.
+# A day of an archive, in a folder that is removed at the end: it is made of three sheets, two stations' dumps are loaded, it is asked, opened again, and compared with its packets.
 set -eu
 cd "$(dirname "$0")"
 folder=$(mktemp -d)
@@ -10,6 +10,7 @@ export YARCH_HOME=$folder/archive
 ../cudrakh load --link 2 link-2.dump
 ../cudrakh query --ask asks.csv
 ../cudrakh recover
+../cudrakh verify
 
 # another archive of the first dump, whose packets of two kinds have tables of their own
 export YARCH_HOME=$folder/routed

@@ -5,8 +5,8 @@ use Rattle.arch_disk.specs.Disk.{Device, LeavesOnly}
 use Rattle.arch_types.specs.declared.refusal.Refusal.{Refusal}
 use Rattle.arch_types.specs.declared.refusal.Refusal.TheVariants.{NoArchive, Damaged, DiskFault, OutOfMemory, WriteFault}
 use Rattle.archive_store.specs.Calls.{IsStoreOpenRefusal}
-use Rattle.archive_store.specs.Entries.{Archive}
-use Rattle.archive_store.specs.Stands.{StandsFor}
+use Rattle.archive_store.specs.Entries.{FilledArchive}
+use Rattle.archive_store.specs.Stands.{StandsFilled}
 use Rattle.disk_journal.specs.Calls.{CountsNeverFall, IsJournalOpenFailed}
 use Rattle.command_plans.specs.Plan.{Interruption, OfMemory, OfInputs, OfDisk, OfOutput, CommandPlan, May, Way, Returned, Stopped, Interrupted, Allows, IsDetermined, IsDue, refusal_at, and_then}
 use Rattle.command_plans.proofs.Plans.{required, gave}
@@ -81,7 +81,7 @@ module _ {D : Type 0} (device : Device D) where
     | inr one ↦ record { faults = failed.rose; writes = (1, omega arith, omega arith, one) }
   ]
 
-module _ {D : Type 0} (device : Device D) (e : Effects D) (f : Archive → CommandPlan Progress ⊥) (sources : ℕ) where
+module _ {D : Type 0} (device : Device D) (e : Effects D) (f : FilledArchive → CommandPlan Progress ⊥) (sources : ℕ) where
   -- an opening was refused
   pub ran_unopened : (refusal : Refusal) → IsStoreOpenRefusal device e.disk e.disk' refusal → device.reads e.disk' ≡ device.reads e.disk →
       LeavesOnly device e.disk e.disk' (device.images e.disk) → CountsNeverFall device e.disk e.disk' → e.report ≡ unopened (Some refusal) → e.output' ≡ e.output →
@@ -140,8 +140,8 @@ module _ {D : Type 0} (device : Device D) (e : Effects D) (f : Archive → Comma
   unopened_after other refused reads images counts report silent = absurd refused
 
   -- an archive was opened, and what followed ran
-  pub ran_opened : (archive : Archive) → (IsTrue device.is_transparent → StandsFor (device.reads e.disk) archive) → Ran device (f archive) e → Ran device (and_then (opening_plan sources device e.disk) f) e
-  ran_opened archive stands ran = ran_then device e (opening_plan sources device e.disk) f archive (inr (inr (ArchiveFound archive, stands, refl))) ran
+  pub ran_opened : (filled : FilledArchive) → (IsTrue device.is_transparent → StandsFilled (device.reads e.disk) filled) → Ran device (f filled) e → Ran device (and_then (opening_plan sources device e.disk) f) e
+  ran_opened filled stands ran = ran_then device e (opening_plan sources device e.disk) f filled (inr (inr (ArchiveFound filled, stands, refl))) ran
 
 -- ---- the first steps of a command that opens an archive and takes memory before
 
@@ -155,7 +155,7 @@ module _ {D : Type 0} (device : Device D) (disk : D) (output : OutputState) (sou
   }
 
   -- the opening was refused
-  pub ran_refused_opening : (f : Archive → CommandPlan Progress ⊥) (refused : D × Refusal) → IsStoreOpenRefusal device disk refused.0 refused.1 → device.reads refused.0 ≡ device.reads disk →
+  pub ran_refused_opening : (f : FilledArchive → CommandPlan Progress ⊥) (refused : D × Refusal) → IsStoreOpenRefusal device disk refused.0 refused.1 → device.reads refused.0 ≡ device.reads disk →
       LeavesOnly device disk refused.0 (device.images disk) → CountsNeverFall device disk refused.0 →
       Ran device (May OfMemory (nothing_done sources) (and_then (opening_plan sources device disk) f)) (effects_of disk refused.0 output output (unopened (Some refused.1)))
   ran_refused_opening f refused cause reads images counts =

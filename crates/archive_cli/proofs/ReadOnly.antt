@@ -13,7 +13,7 @@ use Rattle.archive_store.specs.declared.head.Head.{Head}
 use Rattle.archive_store.specs.Entries.{Archive, archive}
 use Rattle.archive_store.specs.Calls.{IsStoreOpened}
 use Rattle.archive_store.specs.StoreView.{StoreView, archive_of, IsNow, IsSince, CrashInvariant, FaultInvariant}
-use Rattle.archive_store.specs.Stands.{StandsFor}
+use Rattle.archive_store.specs.Stands.{IsSoundImage, StandsFor}
 use Rattle.archive_store.proofs.Exact.{stands_once}
 use Rattle.disk_journal.specs.Calls.{CountsNeverFall}
 use Rattle.archive_cli.specs.Command.{HasDiskOutcome, Opened}
@@ -52,6 +52,7 @@ read_only_store device disk s stands same opening fills handed_in keeps =
         opened = s.opened;
         before = handed_in;
         since = weakens device s.opened s.disk (IsSince s.head s.history s.history []) (λ c. StandsFor c (archive_of s)) since (only_since s.head s.history);
+        sound = λ handed. keeps.sound (subst IsSoundImage (sym opening) handed);
       };
       now = now;
     }

@@ -4,13 +4,14 @@ use Rattle.arch_types.specs.declared.ask.Ask.{Ask}
 use Rattle.arch_types.specs.declared.refusal.Refusal.{Refusal}
 use Rattle.arch_types.specs.declared.refusal.Refusal.TheVariants.{OutOfMemory, WriteFault}
 use Rattle.archive_store.specs.declared.head.Head.{Head}
+use Rattle.archive_store.specs.Entries.{FilledArchive}
 use Rattle.command_plans.specs.Plan.{OfMemory, CommandPlan, Return, Stop, May, Question, and_then, map_done}
 use Rattle.dump_lines.specs.Output.{Appends}
 use Rattle.dump_lines.specs.declared.print_fault.PrintFault.{PrintFault}
 use Rattle.dump_lines.specs.declared.print_fault.PrintFault.TheVariants as unprinted
 use Rattle.mdb_sheets.specs.Plans.{ask_sheet_plan}
 use Rattle.outer_traits.specs.Outside.{Files, WritesSome}
-use Rattle.retrieval.specs.AskText.{asks_refusal}
+use Rattle.retrieval.specs.AskText.{ask_text, asks_refusal, asks_text}
 use Rattle.archive_cli.specs.Command.{Progress, nothing_done}
 
 -- ---- the sheet is read
@@ -47,6 +48,14 @@ AreRefused head (Ok asks) refusal = (asks_refusal head asks ≡ Some refusal) �
 AreRefused head (Err refused) refusal = refusal ≡ refused
 
 -- ---- the answers are printed
+
+-- the answer of an archive to the ask with a number
+abbrev pub archive_ask_text : FilledArchive → ℕ → Ask → List ℕ
+archive_ask_text filled k ask = ask_text filled.plain.head filled.plain.history filled.fillings k ask
+
+-- the answers of an archive to asks, numbered from k on
+abbrev pub archive_asks_text : FilledArchive → ℕ → List Ask → List ℕ
+archive_asks_text filled k asks = asks_text filled.plain.head filled.plain.history filled.fillings k asks
 
 -- the refusal of a text that wasn't printed to its end
 abbrev pub print_refusal : PrintFault → Refusal

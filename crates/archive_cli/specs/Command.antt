@@ -13,13 +13,14 @@ use Rattle.dump_lines.specs.Output.{Appends}
 use Rattle.command_plans.specs.Plan.{FailedCalls, OfMemory, OfInputs, OfOutput, OfDisk, interruption_refusal, no_failed_calls, with_failed_call, CommandPlan, Return, Stop, May, Question, Way, Returned, Stopped, Interrupted, Allows}
 use Rattle.archive_store.specs.declared.head.Head.{Head}
 use Rattle.history_items.specs.Items.{Item}
-use Rattle.archive_store.specs.Entries.{Archive}
-use Rattle.archive_store.specs.Stands.{StandsFor, IsArchiveDamagedAt}
+use Rattle.archive_store.specs.Entries.{Archive, FilledArchive}
+use Rattle.archive_store.specs.Stands.{StandsFilled, IsArchiveDamagedAt}
 use Rattle.archive_cli.specs.declared.report.Report.{Report}
 use Rattle.archive_cli.specs.create_command.Creation.{IsMade, IsMakingFailed}
 use Rattle.archive_cli.specs.ReadOnly.{IsReadAsBefore, IsReadOnly}
 use Rattle.archive_cli.specs.Report.{unopened, read_only}
 use Rattle.archive_cli.specs.load_command.Extension.{IsExtended, IsExtensionFailed}
+use Rattle.archive_cli.specs.Filling.{LeavesNoneLate}
 
 -- ---- what was done
 
@@ -41,6 +42,10 @@ pub data DiskOutcome : Type 0 where
   Extended : Archive → List Item → DiskOutcome
   -- it was extended to this, and the disk failed as these rows were to stand behind it
   ExtensionFailed : Archive → List Item → List Row → DiskOutcome
+  -- it was extended to this, and each late interval was filled
+  AllFilled : Archive → List Item → DiskOutcome
+  -- it was extended to this, and the disk failed at the fill of a late interval
+  FillingFailed : Archive → List Item → DiskOutcome
 
 -- a disk has this outcome: what it holds by then is known where it is transparent, and its counts on any disk
 abbrev pub HasDiskOutcome : {D : Type 0} → Device D → D → D → Bool → DiskOutcome → Type 0
@@ -54,6 +59,11 @@ HasDiskOutcome device old new failed (Extended archive reached) =
     UsedWithoutFailedWrite device old new failed × (IsTrue device.is_transparent → IsExtended device old new archive reached)
 HasDiskOutcome device old new failed (ExtensionFailed archive reached rows) =
     UsedDisk device old new failed 1 2 × (IsTrue device.is_transparent → IsExtensionFailed device old new archive reached rows)
+HasDiskOutcome device old new failed (AllFilled archive reached) =
+    UsedWithoutFailedWrite device old new failed
+    × (IsTrue device.is_transparent → IsExtended device old new archive reached × LeavesNoneLate device new archive.head reached)
+HasDiskOutcome device old new failed (FillingFailed archive reached) =
+    UsedDisk device old new failed 1 2 × (IsTrue device.is_transparent → IsExtended device old new archive reached)
 
 -- What a command has done so far: the text that it printed, whole, or that it was printing; the report but for its refusal; the outcome of the disk; how
 -- many sources the inputs gave; and which calls of the outside failed before, though it went on.
@@ -157,22 +167,23 @@ stepwise_printing_plan s text = stepwise_printing_then_plan s text None
 pub data OpeningResult : Type 0 where
   NoneFound : OpeningResult
   DamageFound : ℕ → ℕ → OpeningResult
-  ArchiveFound : Archive → OpeningResult
+  -- the archive, with its fills
+  ArchiveFound : FilledArchive → OpeningResult
 
 -- the image has what was found
 abbrev pub IsOpeningResult : Image → OpeningResult → Type 0
 IsOpeningResult image NoneFound = HoldsNone (image 0)
 IsOpeningResult image (DamageFound file at) = (file ≡ 0) × IsArchiveDamagedAt image at
-IsOpeningResult image (ArchiveFound archive) = StandsFor image archive
+IsOpeningResult image (ArchiveFound filled) = StandsFilled image filled
 
 -- what an opening leads to, by what it found
-abbrev pub after_opening : ℕ → OpeningResult → CommandPlan Progress Archive
+abbrev pub after_opening : ℕ → OpeningResult → CommandPlan Progress FilledArchive
 after_opening sources NoneFound = Stop (archive_sought sources) (Some NoArchive)
 after_opening sources (DamageFound file at) = Stop (archive_sought sources) (Some (Damaged file at))
-after_opening sources (ArchiveFound archive) = Return archive
+after_opening sources (ArchiveFound filled) = Return filled
 
 -- opens the archive of a disk after so many sources were given: DiskFault; NoArchive or Damaged, where the disk says so
-abbrev pub opening_plan : {D : Type 0} → ℕ → Device D → D → CommandPlan Progress Archive
+abbrev pub opening_plan : {D : Type 0} → ℕ → Device D → D → CommandPlan Progress FilledArchive
 opening_plan sources device disk =
     May OfMemory (archive_sought sources)
     (May OfDisk (seeking_failed sources) (Question (λ held. IsTrue device.is_transparent → IsOpeningResult (device.reads disk) held) (after_opening sources)))

@@ -12,9 +12,10 @@ pub mod verify_command
 pub mod ReadDump
 pub mod ReadOnly
 pub mod Command
-pub mod ArchiveLine
 pub mod Asks
 pub mod DumpRest
+pub mod Filling
+pub mod FillingPlan
 pub mod Report
 pub mod Run
 pub mod Scripts

@@ -1,1 +1,2 @@
 pub mod Verify
+pub mod Replying

@@ -1,13 +1,16 @@
-//! A sheet of asks: checked over an archive's head, and answered over its history.
+//! A sheet of asks: checked over an archive's head, and answered over its history and its fills.
 
 ghost use Rattle.std.specs.Prelude.{◌≡◌, ◌≤◌, ◌<◌, ◌++◌, [], OnOk, OnErr, IfOk, IfErr, length};
 ghost use Rattle.std.specs.Result.{result_err};
 ghost use Rattle.outer_traits.specs.Outside.{WritesSome};
-ghost use Rattle.retrieval.specs.AnswerText.{IsParameterAnswer, request_refusal};
-ghost use Rattle.retrieval.specs.AskText.{ask_refusal, ask_text, asks_refusal, asks_text};
+ghost use Rattle.store_fills.specs.FilledSets.{fillings_in};
+ghost use Rattle.retrieval.specs.AnswerText.{request_refusal};
+ghost use Rattle.archive_store.specs.StoreView.{filled_of};
+ghost use Rattle.retrieval.specs.AskText.{ask_refusal, asks_refusal};
+ghost use Rattle.retrieval.specs.FilledAnswer.{IsParameterAnswer};
 ghost use Rattle.retrieval.specs.Parameter.{number_named};
 ghost use Rattle.dump_lines.specs.Output.{IsBuffered, PrintCounted};
-ghost use Rattle.archive_cli.specs.Asks.{AreAnswerable, AreRefused, print_refusal};
+ghost use Rattle.archive_cli.specs.Asks.{AreAnswerable, AreRefused, archive_ask_text, archive_asks_text, print_refusal};
 
 use arch_disk::Disk;
 use arch_types::ask::{Ask, Asks, Request};
@@ -62,10 +65,10 @@ pub fn print_asks<D: Disk, K: Sink>(
     requires known { asks_refusal store.old.head asks.now ≡ None }
     requires empty { line_buffer.old ≡ [] }
     ensures buffered { OnOk result (IsBuffered (K.state sink.old).written (K.state sink.new).written
-        (asks_text store.old.head store.old.history 1 asks.now) line_buffer.new) }
+        (archive_asks_text (filled_of store.old) 1 asks.now) line_buffer.new) }
     ensures room { OnOk result (length line_buffer.new < 65536) }
     ensures some { OnErr result (WritesSome (K.state sink.old).written (K.state sink.new).written
-        (asks_text store.old.head store.old.history 1 asks.now)) }
+        (archive_asks_text (filled_of store.old) 1 asks.now)) }
     ensures asked { OnErr result (0 < length asks.now) }
     ensures later { (K.state sink.old).faults ≤ (K.state sink.new).faults }
     ensures counted { PrintCounted (result_err result) (K.state sink.old).faults (K.state sink.new).faults }
@@ -89,10 +92,10 @@ fn print_ask<D: Disk, K: Sink>(
     requires known { ask_refusal store.old.head ask.now ≡ None }
     requires room { length line_buffer.old < 65536 }
     ensures buffered { OnOk result (IsBuffered (K.state sink.old).written (K.state sink.new).written
-        (line_buffer.old ++ ask_text store.old.head store.old.history k ask.now) line_buffer.new) }
+        (line_buffer.old ++ archive_ask_text (filled_of store.old) k ask.now) line_buffer.new) }
     ensures room { OnOk result (length line_buffer.new < 65536) }
     ensures some { OnErr result (WritesSome (K.state sink.old).written (K.state sink.new).written
-        (line_buffer.old ++ ask_text store.old.head store.old.history k ask.now)) }
+        (line_buffer.old ++ archive_ask_text (filled_of store.old) k ask.now)) }
     ensures later { (K.state sink.old).faults ≤ (K.state sink.new).faults }
     ensures counted { PrintCounted (result_err result) (K.state sink.old).faults (K.state sink.new).faults }
     ensures same { store.new ≡ store.old }
@@ -115,11 +118,11 @@ fn print_values<D: Disk, K: Sink>(
     requires known { request_refusal (number_named store.old.head.mdb request.now.parameter) request.now ≡ None }
     requires room { length line_buffer.old < 65536 }
     ensures buffered { OnOk result (IsBuffered (K.state sink.old).written (K.state sink.new).written
-        (line_buffer.old ++ ask_text store.old.head store.old.history k (Ask.Values request.now))
+        (line_buffer.old ++ archive_ask_text (filled_of store.old) k (Ask.Values request.now))
         line_buffer.new) }
     ensures room { OnOk result (length line_buffer.new < 65536) }
     ensures some { OnErr result (WritesSome (K.state sink.old).written (K.state sink.new).written
-        (line_buffer.old ++ ask_text store.old.head store.old.history k (Ask.Values request.now))) }
+        (line_buffer.old ++ archive_ask_text (filled_of store.old) k (Ask.Values request.now))) }
     ensures later { (K.state sink.old).faults ≤ (K.state sink.new).faults }
     ensures counted { PrintCounted (result_err result) (K.state sink.old).faults (K.state sink.new).faults }
     ensures same { store.new ≡ store.old }
@@ -138,7 +141,8 @@ fn answer_of<D: Disk, L: Ledger>(
 ) -> Result<ParameterAnswer, AllocError>
     requires known { request_refusal (number_named store.old.head.mdb request.now.parameter) request.now ≡ None }
     requires blank { (blank.name ≡ L.name) × (blank.parts ≡ L.parts) × (0 < blank.parts) }
-    ensures found { IfOk result (IsParameterAnswer store.old.head.mdb store.old.history request.now) }
+    ensures found { IfOk result (IsParameterAnswer store.old.head.mdb store.old.history
+        (fillings_in store.old.filled) request.now) }
     ensures same { store.new ≡ store.old }
 {
     let (book, share) = blank.open::<L>();

@@ -8,20 +8,26 @@ ghost use Rattle.mdb_sheets.specs.Sheets.{ReadsCounted};
 ghost use Rattle.command_plans.specs.Plan.{IsDue};
 ghost use Rattle.command_words.specs.JobView.{load_words_of};
 ghost use Rattle.dump_lines.specs.Output.{WritesCounted};
-ghost use Rattle.retrieval.specs.AskText.{asks_refusal, asks_text};
-ghost use Rattle.archive_cli.specs.Asks.{ArePrinted};
+ghost use Rattle.retrieval.specs.AskText.{asks_refusal};
+ghost use Rattle.archive_cli.specs.Asks.{ArePrinted, archive_asks_text};
 ghost use Rattle.archive_cli.specs.Command.{RanOver, effects_of};
-ghost use Rattle.store_fills.specs.Faults.{faults_in};
-ghost use Rattle.load_session.specs.Receiving.{receiving, IsRouteOver};
-ghost use Rattle.load_session.specs.Session.{OneOrTwo};
+ghost use Rattle.std.specs.List.{AllByRecursion};
+ghost use Rattle.arch_types.specs.declared.interval.Interval.{Interval as AnInterval};
+ghost use Rattle.history_items.specs.Fills.{in_flight};
+ghost use Rattle.store_fills.specs.Faults.{IsDone, faults_in};
+ghost use Rattle.archive_store.specs.StoreView.{filled_of};
+ghost use Rattle.load_session.specs.Receiving.{receiving, IsRouteOver, Receiving};
+ghost use Rattle.load_session.specs.Session.{IsSummary, SessionResult};
+ghost use Rattle.archive_cli.specs.Filling.{IsFilledOn};
 ghost use Rattle.archive_cli.specs.Scripts.{OrNoMemory};
 ghost use Rattle.archive_cli.specs.load_command.Load.{archive_load_plan, load_plan, routed_load_plan};
 ghost use Rattle.archive_cli.specs.load_command.LoadLine.{load_line};
-ghost use Rattle.archive_cli.specs.load_command.Loading.{printed_report, link_refusal, IsLoadRun, IsDumpRefusal, IsDumpRefusalFor, IsNotReceived, IsReady, IsRouteAnswer};
+ghost use Rattle.archive_cli.specs.load_command.Loading.{printed_report, link_refusal, IsLoadRun, IsWholeLoadEnd, IsDumpRefusal, IsDumpRefusalFor, IsNotReceived, IsReady, IsRouteAnswer};
 ghost use Rattle.archive_cli.specs.ReadDump.{dump_limit, ending_of};
 ghost use Rattle.archive_cli.specs.Report.{disk_of_work, loaded, read_only, report_of_work, status_at};
 
 use crate::asks::{check_asks, print_asks, print_refusal};
+use crate::fill_late::fill_late;
 use crate::read::{read_limited, refusal_of_opening};
 use crate::report::{Ended, LoadCounts, Report};
 use crate::scan_input::bad_packet;
@@ -46,16 +52,17 @@ use std::alloc::Global;
 use stream_graph::graph::Graph;
 
 /// Opens a dump and the archive of a disk, ingests the dump's packets in batches of 64 into the tables that a route names, or where none is given into
-/// `tm`, answers the asks of a sheet, where one is given, over the history after them, and prints what became of the packets. Room for the line is taken
-/// before.
+/// `tm`, fills each late interval, answers the asks of a sheet, where one is given, over the history after them, and prints what became of the packets. Room
+/// for the line is taken before.
 ///
 /// Refuses, in this order: by `Missing`, `ReadFault` or `Limit` ScriptOctets of the route; by `Missing`, `ReadFault` or `Limit` SheetOctets of the sheet; by
 /// `Missing` or `ReadFault` where the dump isn't opened; by `DiskFault`, `NoArchive` or `Damaged`; by `Limit` Links; by `BadSql` of rule 1 or 2; by `Limit`
 /// Statements or SqlDepth; at the first token with which something is wrong by `BadSql` or `UnknownTable`; by `BadSheet`; by `Limit` Asks; each ask in turn
-/// by `UnknownParameter` or `UnknownTable`, then by `BadRange`; by `ReadFault` or `Limit` DumpOctets; batch by batch by a `Limit` of the history or by `DiskFault`; by `BadPacket`; by `WriteFault`.
-/// `OutOfMemory` may come anywhere before the line, but behind the session only where there are asks.
+/// by `UnknownParameter` or `UnknownTable`, then by `BadRange`; by `ReadFault` or `Limit` DumpOctets; batch by batch by a `Limit` of the history or by `DiskFault`; by `BadPacket`; by `DiskFault`
+/// of a fill, or by `Limit` Records; by `WriteFault`. `OutOfMemory` may come anywhere before the line.
 ///
-/// Where a call of the disk failed in a batch, the write is taken back before it ends, as far as the disk lets it.
+/// Where a call of the disk failed in a batch, the write is taken back before it ends, as far as the disk lets it. Behind packets that were all ingested what
+/// is late is filled, also where a rest of the dump is left that is no packet.
 pub fn load<D: Disk, I: Inputs, K: Sink, C: Clock>(
     alloc: Global,
     words: LoadWords<'_>,
@@ -182,6 +189,8 @@ fn load_archive<D: Disk, I: Inputs, K: Sink, C: Clock>(
             return Err(refused);
         }
     };
+    // It tells the proof that the fill list has the bases of the fills that are there.
+    let _opened = store.front();
     let received = receive(alloc, &store, text, sheet, &mut source, words.link);
     inputs.close(source);
     let report = match received {
@@ -191,6 +200,8 @@ fn load_archive<D: Disk, I: Inputs, K: Sink, C: Clock>(
         }
         Err(unread) => nothing_loaded(&store, unread),
     };
+    // It tells the proof which fills a crash leaves now.
+    let _loaded = store.front();
     Ok((store.into_disk(), report))
 }
 
@@ -380,14 +391,12 @@ fn load_dump<D: Disk, K: Sink>(
     requires route { IsRouteOver store.old.head received.now.graph }
     requires moment { IsClockTime moment }
     requires empty { line_buffer ≡ [] }
-    requires no_fault { faults_in store.old.fills ≡ [] }
+    requires opened { AllByRecursion IsDone store.old.fills }
     ensures session { IsLoadRun D.device store.old store.new received.now.asks received.now.dump
         (receiving store.old.head received.now.graph received.now.link moment) (K.state sink.old).written
         (K.state sink.new).written result }
     ensures writes_counted { WritesCounted result.refusal (K.state sink.old).faults (K.state sink.new).faults }
     ensures writes_later { (K.state sink.old).faults ≤ (K.state sink.new).faults }
-    ensures disk_writes { OneOrTwo result.refusal (D.device.failed_writes store.old.disk)
-        (D.device.failed_writes store.new.disk) }
 {
     let before = store.front();
     match run_session(
@@ -398,8 +407,43 @@ fn load_dump<D: Disk, K: Sink>(
         received.link,
         moment,
     ) {
-        Ok(whole) => match refusal_of_rest(&whole) {
-            None => print(
+        Ok(whole) => end_load(alloc, store, before, whole, received, line_buffer, sink),
+        Err(refusal) => stopped(store, before, None, refusal),
+    }
+}
+
+/// Fills what is late behind a session that ingested all packets of a dump, and prints the answers to its asks and what
+/// became of the packets. Where a rest is left of the dump that is what is reported, whatever the filling came to.
+fn end_load<D: Disk, K: Sink>(
+    alloc: Global,
+    store: &mut Store<D>,
+    before: u64,
+    whole: DumpSummary,
+    received: &LoadInput,
+    line_buffer: LineBuffer,
+    sink: &mut K,
+) -> Report
+    requires idle { (i : AnInterval) → in_flight i store.old.fills ≡ None }
+    requires no_fault { faults_in store.old.fills ≡ [] }
+    requires answerable { asks_refusal store.old.head received.now.asks ≡ None }
+    requires empty { line_buffer ≡ [] }
+    requires grown { before ≤ length store.old.history }
+    requires counts { length store.old.history ≤ whole.routed + before }
+    ensures left { IsFilledOn store.old store.new }
+
+    // For each session that came to this store and this summary.
+    ensures ending { (r : Receiving) (s : SessionResult) → IsSummary received.now.dump r s whole → s.refusal ≡ None →
+        store.old.history ≡ s.reached → store.old.head ≡ r.head → received.now.link ≡ r.link →
+        IsWholeLoadEnd D.device store.old store.new r received.now.asks before received.now.dump s
+        (K.state sink.old).written (K.state sink.new).written result }
+    ensures writes_counted { WritesCounted result.refusal (K.state sink.old).faults (K.state sink.new).faults }
+    ensures writes_later { (K.state sink.old).faults ≤ (K.state sink.new).faults }
+{
+    let filled = fill_late(alloc, store);
+    match refusal_of_rest(&whole) {
+        Some(refusal) => stopped(store, before, Some(received.link), refusal),
+        None => match filled {
+            Ok(_) => print(
                 alloc,
                 store,
                 before,
@@ -408,9 +452,8 @@ fn load_dump<D: Disk, K: Sink>(
                 line_buffer,
                 sink,
             ),
-            Some(refusal) => stopped(store, before, Some(received.link), refusal),
+            Err(refusal) => stopped(store, before, None, refusal),
         },
-        Err(refusal) => stopped(store, before, None, refusal),
     }
 }
 
@@ -449,7 +492,7 @@ fn print<D: Disk, K: Sink>(
     requires grown { before ≤ length store.old.history }
     requires counts { length store.old.history ≤ whole.routed + before }
     ensures printed { ArePrinted asks.now result.refusal (K.state sink.old).written (K.state sink.new).written
-        (asks_text store.old.head store.old.history 1 asks.now ++ load_line whole.packets
+        (archive_asks_text (filled_of store.old) 1 asks.now ++ load_line whole.packets
         (length store.old.history - before) (whole.routed - (length store.old.history - before)) whole.idle
         (length store.old.history)) }
     ensures report { result ≡ printed_report result.refusal before (length store.old.history) whole.packets whole.routed

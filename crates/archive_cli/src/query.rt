@@ -1,10 +1,11 @@
 //! The command `query --ask`: the answers of an archive to a sheet of asks.
 
 ghost use Rattle.std.specs.Prelude.{◌≡◌, ◌≤◌, [], IsSome, IsTrue, None};
-ghost use Rattle.retrieval.specs.AskText.{asks_refusal, asks_text};
+ghost use Rattle.archive_store.specs.StoreView.{filled_of};
+ghost use Rattle.retrieval.specs.AskText.{asks_refusal};
 ghost use Rattle.command_plans.specs.Plan.{IsDue};
 ghost use Rattle.dump_lines.specs.Output.{WritesCounted};
-ghost use Rattle.archive_cli.specs.Asks.{ArePrinted};
+ghost use Rattle.archive_cli.specs.Asks.{ArePrinted, archive_asks_text};
 ghost use Rattle.archive_cli.specs.Command.{Ran, RanOver, effects_of};
 ghost use Rattle.archive_cli.specs.query_command.Query.{archive_asks_plan, query_plan};
 ghost use Rattle.archive_cli.specs.query_command.Replying.{IsSheetReply};
@@ -97,8 +98,8 @@ fn answer_sheet<D: Disk, K: Sink>(
     sink: &mut K,
 ) -> Option<Refusal>
     requires { line_buffer ≡ [] }
-    ensures reply { IsSheetReply store.old.head store.old.history sheet result (K.state sink.old).written
-        (K.state sink.new).written (K.state sink.old).faults (K.state sink.new).faults }
+    ensures reply { IsSheetReply (filled_of store.old) sheet result (K.state sink.old).written (K.state sink.new).written
+        (K.state sink.old).faults (K.state sink.new).faults }
     ensures writes_later { (K.state sink.old).faults ≤ (K.state sink.new).faults }
     ensures same { store.new ≡ store.old }
 {
@@ -119,7 +120,7 @@ fn answer_asks<D: Disk, K: Sink>(
     requires answerable { asks_refusal store.old.head asks.now ≡ None }
     requires empty { line_buffer ≡ [] }
     ensures printed { ArePrinted asks.now result (K.state sink.old).written (K.state sink.new).written
-        (asks_text store.old.head store.old.history 1 asks.now) }
+        (archive_asks_text (filled_of store.old) 1 asks.now) }
     ensures writes_counted { WritesCounted result (K.state sink.old).faults (K.state sink.new).faults }
     ensures writes_later { (K.state sink.old).faults ≤ (K.state sink.new).faults }
     ensures same { store.new ≡ store.old }

@@ -1,20 +1,69 @@
-//! The command `recover`: what an archive holds.
+//! The command `recover`: late intervals, filled.
 
-ghost use Rattle.archive_cli.specs.recover_command.Recover.{recover_line};
+ghost use Rattle.std.specs.Prelude.{◌≡◌, ◌++◌, [], IsTrue, codes, decimal};
+ghost use Rattle.command_plans.specs.Plan.{IsDue};
+ghost use Rattle.archive_cli.specs.Command.{Ran, effects_of};
+ghost use Rattle.archive_cli.specs.Report.{disk_of_work, report_of_work, status_at};
+ghost use Rattle.archive_cli.specs.recover_command.Recover.{recover_plan};
 
-use crate::archive_line::ArchiveLine;
+use crate::fill_late::fill_late;
+use crate::report::{Ended, Report};
 use arch_disk::Disk;
+use arch_types::refusal::Refusal;
 use archive_store::Store;
 use dump_lines::line_buffer::LineBuffer;
+use outer_traits::sink::Sink;
+use std::alloc::Global;
 
-/// How many rows an archive has.
-pub struct Recovered;
+/// Opens the archive of a disk, fills each late interval, and prints how many rows there are and how many intervals it
+/// filled. Room for the line is taken before.
+///
+/// Refuses, in this order: by `DiskFault`, `NoArchive` or `Damaged`; by `DiskFault` of a fill, or by `Limit` Records; by
+/// `WriteFault`. `OutOfMemory` may come anywhere before the line. What was filled before a refusal stays filled.
+pub fn recover<D: Disk, K: Sink>(alloc: Global, disk: D, sink: &mut K) -> Ended<D>
+    // It took a way through its plan: where that ends stands what was printed, what became of the disk, what is reported,
+    // and which calls failed.
+    ensures ran { Ran D.device (recover_plan D.device disk) (effects_of disk result.disk (K.state sink.old)
+        (K.state sink.new) result.report) }
 
-impl ArchiveLine for Recovered {
-    ghost line = { recover_line };
+    // Where the disk is transparent the answer that is due comes, or that of an interruption at its place.
+    ensures due { IsTrue D.device.is_transparent → IsDue (recover_plan D.device disk) result.report.refusal }
 
-    fn put<D: Disk>(store: &Store<D>, line_buffer: &mut LineBuffer) {
-        line_buffer.put_number(b"recovered rows ", store.front());
-        line_buffer.put(b" filled 0\n");
+    // The number of the refusal, and 0 exactly where there's none.
+    ensures status { result.status ≡ status_at result.report.refusal }
+{
+    Ended::of_work(work(alloc, disk, sink))
+}
+
+/// Does the command.
+fn work<D: Disk, K: Sink>(alloc: Global, disk: D, sink: &mut K) -> Result<(D, Report), (D, Refusal)>
+    ensures { Ran D.device (recover_plan D.device disk) (effects_of disk (disk_of_work result)
+        (K.state sink.old) (K.state sink.new) (report_of_work result)) }
+{
+    let Ok(mut line_buffer) = LineBuffer::new(alloc) else {
+        return Err((disk, Refusal::OutOfMemory));
+    };
+    let mut store = Store::open(alloc, disk)?;
+    let rows = store.front();
+    match fill_late(alloc, &mut store) {
+        Ok(filled) => {
+            put_recovered(&mut line_buffer, rows, filled);
+            let refusal = line_buffer.finish(sink);
+            // It tells the proof which fills a crash leaves now.
+            store.front();
+            Ok((store.into_disk(), Report::read_only(refusal, rows)))
+        }
+        Err(refusal) => Ok((store.into_disk(), Report::read_only(Some(refusal), rows))),
     }
+}
+
+/// Adds the line of a recovered archive.
+fn put_recovered(line_buffer: &mut LineBuffer, rows: u64, filled: u64)
+    requires { line_buffer.old ≡ [] }
+    ensures { line_buffer.new ≡ codes "recovered rows " ++ decimal rows ++ codes " filled " ++ decimal filled
+        ++ codes "\n" }
+{
+    line_buffer.put_number(b"recovered rows ", rows);
+    line_buffer.put_number(b" filled ", filled);
+    line_buffer.put(b"\n");
 }

@@ -9,16 +9,15 @@ ghost use Rattle.archive_cli.specs.Command.{RanOver, effects_of};
 ghost use Rattle.archive_cli.specs.Run.{job_plan, run_plan};
 ghost use Rattle.archive_cli.specs.Report.{status_at};
 
-use crate::archive_line::print_archive_line;
 use crate::create::create;
 use crate::load::load;
 use crate::query::query;
-use crate::recover::Recovered;
+use crate::recover::recover;
 use crate::report::Ended;
 use crate::scan::scan;
 use crate::sql::query_sql;
 use crate::values::values;
-use crate::verify::Verified;
+use crate::verify::verify;
 use arch_disk::Disk;
 use arch_types::refusal::Refusal;
 use command_words::job::{Job, job_of};
@@ -88,7 +87,7 @@ fn run_job<D: Disk, I: Inputs, K: Sink, C: Clock>(
         Job::Load(words) => load(alloc, words, disk, inputs, sink, clock),
         Job::Query { asks } => query(alloc, asks, disk, inputs, sink),
         Job::Sql { script } => query_sql(alloc, script, disk, inputs, sink),
-        Job::Recover => print_archive_line::<Recovered, D, K>(alloc, disk, sink),
-        Job::Verify => print_archive_line::<Verified, D, K>(alloc, disk, sink),
+        Job::Recover => recover(alloc, disk, sink),
+        Job::Verify => verify(alloc, disk, sink),
     }
 }

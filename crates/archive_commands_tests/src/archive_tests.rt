@@ -9,9 +9,9 @@ use outer_traits::mem_sink::MemSink;
 use std::alloc::{AllocError, Global};
 use std::test::Fail;
 
-const CREATE: &str = "create parameters calibrations containers";
+pub(crate) const CREATE: &str = "create parameters calibrations containers";
 
-const CREATED: &str = "created tables 1 parameters 2 containers 1\n";
+pub(crate) const CREATED: &str = "created tables 1 parameters 2 containers 1\n";
 
 /// Two packets at 1.5 s, the first of them twice.
 const TWICE: &[u8] =
@@ -20,6 +20,16 @@ const TWICE: &[u8] =
 /// Two packets at 1.5 s, of APID 100 and 101, the first one longer.
 const NAMED: &[u8] =
     b"\x08\x64\xC0\x00\x00\x07\x00\x00\x00\x01\x80\x00\x2A\xFE\x08\x65\xC0\x00\x00\x06\x00\x00\x00\x01\x80\x00\x07";
+
+/// A packet at 1.5 s whose key stands behind those.
+const THIRD: &[u8] = b"\x08\x66\xC0\x00\x00\x06\x00\x00\x00\x01\x80\x00\x08";
+
+/// A packet at 5,000 s, which is in the interval behind.
+const LATER: &[u8] = b"\x08\x64\xC0\x00\x00\x06\x00\x00\x13\x88\x00\x00\x05";
+
+/// A packet at 1.5 s and one at 9,000 s, two intervals behind, and an octet that begins none.
+const LATE_BROKEN: &[u8] =
+    b"\x08\x67\xC0\x00\x00\x06\x00\x00\x00\x01\x80\x00\x09\x08\x64\xC0\x00\x00\x06\x00\x00\x23\x28\x00\x00\x03\x28";
 
 /// A packet, an idle one, and an octet that begins none.
 const BROKEN: &[u8] =
@@ -101,6 +111,9 @@ const TEXTS: &[(&str, &[u8])] = &[
     ),
     ("named", NAMED),
     ("twice", TWICE),
+    ("third", THIRD),
+    ("later", LATER),
+    ("late_broken", LATE_BROKEN),
     ("broken", BROKEN),
 ];
 
@@ -222,7 +235,7 @@ const A_DAY: &[Call] = &[
     ),
     (
         "verify",
-        (0, "sound rows 2 intervals 1 late 1\n", "", Some((2, 2))),
+        (0, "sound rows 2 intervals 1 late 0\n", "", Some((2, 2))),
     ),
 ];
 
@@ -436,7 +449,7 @@ const ROUTED: &[Call] = &[
     ),
 ];
 
-fn routed() -> &'static [Call] {
+pub(crate) fn routed() -> &'static [Call] {
     ROUTED
 }
 
@@ -943,6 +956,7 @@ fn what_a_disk_may_hold(rt: HostRuntime) -> Result<(), Fail> {
 
 const FAULTS: &[Call] = &[
     ("recover", (5, "", "disk fault", None)),
+    ("verify", (5, "", "disk fault", None)),
     ("load twice", (5, "", "disk fault", None)),
     ("query --ask bad", (5, "", "disk fault", None)),
     ("query --sql bad", (5, "", "disk fault", None)),
@@ -979,7 +993,7 @@ const RECOVERED: &[Call] = &[(
     (0, "recovered rows 2 filled 0\n", "", Some((2, 2))),
 )];
 
-fn loaded() -> &'static [Call] {
+pub(crate) fn loaded() -> &'static [Call] {
     LOADED
 }
 
@@ -1010,7 +1024,11 @@ fn two_batches(alloc: Global) -> Result<Vec<u8>, AllocError> {
 }
 
 /// A call of the program, of which nothing is expected yet: its status, the length of the history afterwards, and the disk.
-fn call<D: Disk + Drop>(alloc: Global, line: &str, disk: D) -> Result<(u8, u64, D), Fail> {
+pub(crate) fn call<D: Disk + Drop>(
+    alloc: Global,
+    line: &str,
+    disk: D,
+) -> Result<(u8, u64, D), Fail> {
     let mut files = files_of(alloc)?;
     files.push(file_of(alloc, "batches", two_batches(alloc)?.as_slice())?)?;
     let inputs = MemInputs::new(alloc, files);
@@ -1019,7 +1037,7 @@ fn call<D: Disk + Drop>(alloc: Global, line: &str, disk: D) -> Result<(u8, u64, 
 }
 
 /// A disk that tells how many calls were made, and what its crashes leave now.
-trait Crashing: Disk + Drop {
+pub(crate) trait Crashing: Disk + Drop {
     fn calls(&self) -> u64;
 
     fn image(&self, crash: Crash) -> Result<MemDisk, Fail>;
@@ -1048,7 +1066,7 @@ fn holds_none<D: Disk + Drop>(alloc: Global, disk: D) -> Result<bool, Fail> {
 }
 
 /// Whether what each kind of crash leaves is an archive that has just these rows.
-fn images_hold<D: Crashing>(alloc: Global, disk: &D, rows: u64) -> Result<bool, Fail> {
+pub(crate) fn images_hold<D: Crashing>(alloc: Global, disk: &D, rows: u64) -> Result<bool, Fail> {
     for crash in Crash::ALL {
         if !holds(alloc, disk.image(crash)?, rows)? {
             return Ok(false);
@@ -1087,7 +1105,7 @@ fn made_and_loaded<D: Crashing>(alloc: Global, fails: u64, disk: D) -> Result<Op
         let is_told = status == 0 && (rows == 0 || rows == 64 || rows == 66);
         return Ok(made_where(is_right && is_told, true));
     }
-    let is_told = status == 5 && (rows == 0 || rows == 64);
+    let is_told = status == 5 && (rows == 0 || rows == 64 || rows == 66);
     let is_held = holds(alloc, disk, rows)?;
     Ok(made_where(is_right && is_told && is_held, true))
 }
@@ -1139,38 +1157,49 @@ fn sheets_are_read_before_the_disk(rt: HostRuntime) -> Result<(), Fail> {
     Ok(())
 }
 
-/// What a load of two batches answers, whether what each crash leaves then holds 64 rows, and what a `recover` and a second load answer.
+/// What a load of two batches answers, whether what each crash leaves then holds the rows that it reports, and what a `recover` and a second load answer.
 fn answers_of_a_load<D: Crashing>(alloc: Global, disk: D) -> Result<([(u8, u64); 3], bool), Fail> {
     let (_, _, disk) = call(alloc, CREATE, disk)?;
     let (status, rows, disk) = call(alloc, "load batches", disk)?;
     let first = (status, rows);
-    let are_kept = images_hold(alloc, &disk, 64)?;
+    let are_kept = images_hold(alloc, &disk, rows)?;
     let (status, rows, disk) = call(alloc, "recover", disk)?;
     let second = (status, rows);
     let (status, rows, _disk) = call(alloc, "load batches", disk)?;
     Ok(([first, second, (status, rows)], are_kept))
 }
 
-#[test]
-fn a_load_whose_last_sync_fails(rt: HostRuntime) -> Result<(), Fail> {
-    let alloc = rt.alloc();
+/// The number of a call of a load of two batches, counted from its last.
+fn call_before_the_last(alloc: Global, behind: u64) -> Result<u64, Fail> {
     let last = calls_of_a_load(alloc, MemDisk::new(alloc))?;
-    let disk = MemDisk::failing(alloc, vec![in alloc; last; 1]?);
-    let (answers, are_kept) = answers_of_a_load(alloc, disk)?;
-    assert_eq!(rt; answers, [(5, 64), (0, 64), (0, 66)]);
-    assert!(rt; are_kept);
+    Ok(last.saturating_sub(behind))
+}
+
+/// Whether a load whose call with so many behind it fails reports so many rows, each crash leaves these, and a second load adds the others.
+fn fails_so(alloc: Global, behind: u64, rows: u64) -> Result<bool, Fail> {
+    let failing = vec![in alloc; call_before_the_last(alloc, behind)?; 1]?;
+    let (answers, are_kept) = answers_of_a_load(alloc, MemDisk::failing(alloc, failing))?;
+    Ok(answers == [(5, rows), (0, rows), (0, 66)] && are_kept)
+}
+
+// The last sync of the fill, and that of the second batch, behind which the fill makes four calls.
+#[test]
+fn a_load_whose_last_syncs_fail(rt: HostRuntime) -> Result<(), Fail> {
+    for (behind, rows) in [(0, 66), (4, 64)] {
+        assert!(rt; fails_so(rt.alloc(), behind, rows)?, "{behind} behind");
+    }
     Ok(())
 }
 
 #[test]
 fn a_failed_write_is_taken_back_in_one_try(rt: HostRuntime) -> Result<(), Fail> {
     let alloc = rt.alloc();
-    let last = calls_of_a_load(alloc, MemDisk::new(alloc))?;
-    let disk = MemDisk::failing(
-        alloc,
-        Vec::from_slice(alloc, &[last, last.saturating_add(1)])?,
-    );
-    assert_eq!(rt; calls_of_a_load(alloc, disk)?, last.saturating_add(1));
+    for back in [4, 0] {
+        let fails = call_before_the_last(alloc, back)?;
+        let both = Vec::from_slice(alloc, &[fails, fails.saturating_add(1)])?;
+        let made = calls_of_a_load(alloc, MemDisk::failing(alloc, both))?;
+        assert_eq!(rt; made, fails.saturating_add(1));
+    }
     Ok(())
 }
 

@@ -4,4 +4,8 @@
 #[cfg(test)]
 mod archive_tests;
 #[cfg(test)]
+mod filled_tests;
+#[cfg(test)]
+mod late_tests;
+#[cfg(test)]
 mod sql_tests;

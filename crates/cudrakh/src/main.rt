@@ -9,7 +9,7 @@ use arch_types::refusal::Refusal;
 use archive_cli::Ended;
 use archive_cli::run::run;
 use dump_lines::text::FaultText;
-use outer_real::{RealClock, RealDisk, RealInputs, RealSink, StandardStreams};
+use outer_real::{RealClock, RealDisk, RealInputs, RealSink, StandardStreams, keep_freed_memory};
 use std::env::{self, VarError};
 use std::process::ExitCode;
 
@@ -17,6 +17,7 @@ fn main(rt: HostRuntime) -> ExitCode {
     let Ok(streams) = StandardStreams::hold(&rt) else {
         return refused(&rt, &Refusal::ReadFault);
     };
+    keep_freed_memory(rt.alloc());
     let status = run_command(&rt);
     // only now, when all is printed
     drop(streams);

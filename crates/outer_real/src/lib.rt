@@ -9,7 +9,8 @@
 //
 // `inputs`, `sink` and `clock` are the objects of a command that reads and prints. `disk` counts the failed calls of the disk, `folder` makes
 // them on files that it locks, and `handles` keeps a few of these files open. `streams` keeps the standard streams from all of them. The
-// program's `main` makes one of each, `streams` first, and hands them to the top call; no other crate names these types.
+// program's `main` makes one of each, `streams` first, and hands them to the top call; no other crate names these types. `memory` tells the C
+// library to keep memory that is given back.
 #![tactic(auto)]
 
 mod clock;
@@ -17,11 +18,13 @@ mod disk;
 mod folder;
 mod handles;
 mod inputs;
+mod memory;
 mod sink;
 mod streams;
 
 pub use clock::RealClock;
 pub use disk::RealDisk;
 pub use inputs::{RealInputs, RealSource};
+pub use memory::keep_freed_memory;
 pub use sink::RealSink;
 pub use streams::StandardStreams;

@@ -1,5 +1,5 @@
 -- How the plan of `create` goes.
-use Rattle.std.proofs.Common.{◌≡◌, ◌⊎◌, ◌≤◌, ◌<◌, ◌+◌, ◌∙◌, inl, inr, ℕ, List, [], ◌∷◌, length, codes, Bool, true, false, Option, Some, None, refl, sym, ap, subst, arith}
+use Rattle.std.proofs.Common.{◌≡◌, ◌≤◌, ◌<◌, ◌+◌, ◌∙◌, inl, inr, ℕ, List, [], ◌∷◌, length, codes, Bool, true, false, Option, Some, None, refl, sym, ap, subst, arith}
 use Rattle.std.specs.Prelude.{IsSome, IsTrue, Result, Ok, Err}
 use Rattle.std.proofs.lemmas.Bool.{cases_eq}
 use Rattle.arch_disk.specs.Image.{Image}
@@ -18,7 +18,7 @@ use Rattle.mdb_sheets.specs.Plans.{sheets_plan}
 use Rattle.outer_traits.specs.Outside.{Files}
 use Rattle.archive_store.specs.declared.head.Head.{Head}
 use Rattle.archive_store.specs.Calls.{CrashLeavesHead, IsStoreCreateRefusal}
-use Rattle.command_plans.specs.Plan.{OfMemory, OfDisk, CommandPlan, Returned, Stopped, Interrupted, Allows, EachEnd, IsDetermined, map_done}
+use Rattle.command_plans.specs.Plan.{OfMemory, OfDisk, CommandPlan, Stopped, Interrupted, Allows, EachEnd, IsDetermined, map_done}
 use Rattle.command_plans.proofs.Plans.{determined, determined_map_done}
 use Rattle.command_words.specs.Job.{CreateWords}
 use Rattle.input_plans.specs.Inputs.{AnsweredByPlan, WasRead}

@@ -1,9 +1,10 @@
 -- How `create` ends.
 use Rattle.std.proofs.Common.{◌≡◌, ◌⊎◌, ◌≤◌, inl, inr, ℕ, List, [], ◌∷◌, ◌++◌, Option, Some, None, refl, ◌∙◌, ap, subst, append_assoc, ◌<◌, ◌+◌, ◌^◌, arith}
-use Rattle.std.specs.Prelude.{option_map, Result, Ok, Err}
+use Rattle.std.specs.Prelude.{option_map, Ok, Err}
 use mathlib.Core.List.{IsPrefix}
 use Rattle.arch_disk.specs.Image.{Image}
 use Rattle.arch_disk.specs.Disk.{Device, LeavesOnly, raised}
+use Rattle.arch_disk.proofs.Moments.{at_end}
 use Rattle.arch_types.specs.declared.refusal.Refusal.{Refusal}
 use Rattle.arch_types.specs.declared.refusal.Refusal.TheVariants.{OutOfMemory}
 use Rattle.history_items.specs.Fills.{unacknowledged_rows}
@@ -22,7 +23,7 @@ use Rattle.archive_store.specs.declared.head.Head.{Head}
 use Rattle.archive_store.specs.Calls.{IsCreateImage}
 use Rattle.archive_store.specs.Entries.{archive}
 use Rattle.archive_store.specs.StoreView.{StoreView, IsNow, CrashInvariant}
-use Rattle.archive_store.specs.Stands.{StandsFor}
+use Rattle.archive_store.specs.Stands.{IsSoundImage, StandsFor}
 use Rattle.archive_cli.specs.ReadOnly.{IsReadAsBefore}
 use Rattle.archive_cli.specs.create_command.Create.{IsHeadAnswer, IsTablesAnswer}
 use Rattle.archive_cli.specs.create_command.Creation.{IsMade}
@@ -92,8 +93,8 @@ no_front (x ∷ xs) t e = absurd (cc (e))
 
 -- a store that was made
 pub made_store : {D : Type 0} (device : Device D) (disk : D) (s : StoreView D) (head : Head) → HoldsNone (device.reads disk 0) → s.history ≡ [] → s.fills ≡ [] → s.head ≡ head →
-    s.opened ≡ s.disk → LeavesOnly device disk s.disk (IsCreateImage (device.images disk) head) → CrashInvariant device s → IsMade device disk s.disk head
-made_store {D = D} device disk s head none history fills is opened images keeps =
+    s.opened ≡ s.disk → IsSoundImage (device.reads s.opened) → LeavesOnly device disk s.disk (IsCreateImage (device.images disk) head) → CrashInvariant device s → IsMade device disk s.disk head
+made_store {D = D} device disk s head none history fills is opened sound images keeps =
     let begins : IsPrefix keeps.before [] = subst (λ (h : List Item). IsPrefix keeps.before h) history keeps.begins in
     let before : keeps.before ≡ [] = no_front keeps.before begins.0 begins.1 in
     let first : StandsFor (device.reads s.opened) (archive s.head []) = subst (λ (h : List Item). StandsFor (device.reads s.opened) (archive s.head h)) before keeps.opening in
@@ -107,5 +108,6 @@ made_store {D = D} device disk s head none history fills is opened images keeps 
       none = none;
       stands = subst (λ (h : Head). StandsFor (device.reads s.disk) (archive h [])) is second;
       now = now;
+      sound = at_end device s.opened s.disk IsSoundImage (keeps.sound sound);
       images = images;
     }

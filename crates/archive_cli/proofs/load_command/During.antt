@@ -1,5 +1,5 @@
 -- The disk during a load, and after it.
-use Rattle.std.proofs.Common.{◌≡◌, ◌⊎◌, inl, inr, ℕ, ◌+◌, ◌≤◌, Bool, true, false, List, [], ◌∷◌, ◌++◌, length, Option, ap, subst, ◌∙◌, arith}
+use Rattle.std.proofs.Common.{◌≡◌, ◌⊎◌, inl, inr, ℕ, Bool, true, false, List, [], ◌∷◌, ◌++◌, Option, ap, subst, sym, ◌∙◌}
 use Rattle.std.specs.Prelude.{Contains, IsTrue}
 use mathlib.Core.List.{IsPrefix}
 use Rattle.arch_disk.specs.Image.{Image}
@@ -15,7 +15,7 @@ use Rattle.history_items.specs.Items.{Item, items_of}
 use Rattle.archive_store.specs.declared.head.Head.{Head}
 use Rattle.archive_store.specs.Entries.{Archive, archive}
 use Rattle.archive_store.specs.StoreView.{StoreView, archive_of, IsNow, IsSince, CrashInvariant}
-use Rattle.archive_store.specs.Stands.{StandsFor}
+use Rattle.archive_store.specs.Stands.{IsSoundImage, StandsFor}
 use Rattle.archive_store.proofs.Exact.{stands_once}
 use Rattle.archive_cli.specs.ReadOnly.{IsOpenedThen}
 use Rattle.archive_cli.specs.load_command.Extension.{IsDuring}
@@ -64,6 +64,7 @@ module _ {D : Type 0} (device : Device D) (disk : D) (old new : StoreView D) (op
             subst (λ (d : D). LeavesOnly device d new.disk (IsDuring (archive_of old) new.history in_hand)) same
             (weakens device new.opened new.disk (IsSince new.head keeps.before new.history (rows_of_faults new.fills)) (IsDuring (archive_of old) new.history in_hand) keeps.since
             (during keeps.before before head));
+        sound = λ handed. subst (λ (d : D). LeavesOnly device d new.disk IsSoundImage) same (keeps.sound (subst IsSoundImage (sym first) handed));
       }
 
 -- a crash now leaves the history of a store without faults

@@ -8,8 +8,8 @@ use Rattle.arch_types.specs.declared.refusal.Refusal.{Refusal}
 use Rattle.arch_types.specs.declared.refusal.Refusal.TheVariants as refused
 use Rattle.arch_types.specs.declared.refusal.Which.TheVariants.{DumpOctets}
 use Rattle.archive_store.specs.Calls.{IsStoreOpenRefusal}
-use Rattle.archive_store.specs.Entries.{Archive}
-use Rattle.archive_store.specs.Stands.{StandsFor}
+use Rattle.archive_store.specs.Entries.{Archive, FilledArchive}
+use Rattle.archive_store.specs.Stands.{StandsFilled}
 use Rattle.disk_journal.specs.Calls.{CountsNeverFall}
 use Rattle.outer_traits.specs.declared.fault.OpenFault.{OpenFault}
 use Rattle.outer_traits.specs.declared.fault.OpenFault.TheVariants.{Missing, Failed, OutOfMemory}
@@ -28,8 +28,10 @@ use Rattle.archive_cli.specs.Asks.{asks_check_plan}
 use Rattle.archive_cli.specs.Moment.{IsMomentOf}
 use Rattle.archive_cli.specs.Command.{Progress, EndedAt, HasDiskOutcome, Opened, Effects, ArchiveFound, Ran, RanOver, archive_opened, nothing_done, opening_plan}
 use Rattle.archive_cli.specs.DumpRest.{ending_of_rest}
-use Rattle.archive_cli.specs.load_command.Load.{after_dump, after_dump_found, after_link, after_packets, after_route, after_session, archive_load_plan, dump_too_long, load_plan, loading_plan, reading_plan, route_plan, routed_load_plan, session_plan}
-use Rattle.archive_cli.specs.load_command.Loading.{IsDumpRefusal, IsNotReceived, IsOpeningFault, IsReady, IsRecordCount, IsRouteAnswer, IsUnready, link_refusal}
+use Rattle.archive_cli.specs.load_command.Load.{IsRecordedBehind, after_dump, after_dump_found, after_link, after_packets, after_route, after_session, archive_load_plan, bad_packet_left, dump_too_long, history_extended, late_behind, load_plan, load_printing_plan, loading_plan, reading_plan, route_plan, routed_load_plan, session_plan}
+use Rattle.archive_cli.specs.FillingPlan.{IsRecordCount}
+use Rattle.archive_cli.proofs.FillingPlan.{filling_determined, filling_reads}
+use Rattle.archive_cli.specs.load_command.Loading.{IsDumpRefusal, IsNotReceived, IsOpeningFault, IsReady, IsRouteAnswer, IsUnready, link_refusal}
 use Rattle.archive_cli.specs.ReadDump.{dump_limit}
 use Rattle.archive_cli.specs.Report.{read_only, unopened}
 use Rattle.archive_cli.specs.Scripts.{OrNoMemory}
@@ -59,16 +61,25 @@ closed_again a m b first next gave closed reliable failed counted = record {
 -- ---- the ends of a session
 
 -- one source was given, and no call of the inputs failed
-pub session_after : (Began : ℕ → Type 0) (archive : Archive) (r : Receiving) (asks : List Ask) (dump : List ℕ) → EachEnd (HasRead 1) (session_plan Began archive r asks dump)
-session_after Began archive r asks dump = λ s h. each s s.refusal
+pub session_after : (Began : ℕ → Type 0) (filled : FilledArchive) (r : Receiving) (asks : List Ask) (dump : List ℕ) → EachEnd (HasRead 1) (session_plan Began filled r asks dump)
+session_after Began filled r asks dump = λ s h. each s s.refusal
   where
-    whole : (asks : List Ask) (s : SessionResult) (rest : Option Refusal) → EachEnd (HasRead 1) (after_packets archive r asks s rest)
-    whole [] s None = ((refl, refl), (refl, refl))
-    whole (ask ∷ asks) s None = ((refl, refl), ((refl, refl), (refl, refl)))
-    whole asks s (Some refusal) = (refl, refl)
+    printing : (asks : List Ask) (s : SessionResult) → EachEnd (HasRead 1) (load_printing_plan filled.plain r asks s filled.fillings)
+    printing [] s = ((refl, refl), (refl, refl))
+    printing (ask ∷ asks) s = ((refl, refl), ((refl, refl), (refl, refl)))
 
-    each : (s : SessionResult) (refusal : Option Refusal) → EachEnd (HasRead 1) (after_session archive r asks dump s refusal)
-    each s None = whole asks s (ending_of_rest dump s.rest)
+    left : (s : SessionResult) (failed : Bool) → HasRead 1 (Stopped (bad_packet_left filled.plain r.link s failed) None)
+    left s false = (refl, refl)
+    left s true = (refl, refl)
+
+    whole : (s : SessionResult) (rest : Option Refusal) → EachEnd (HasRead 1) (after_packets Began filled r asks s rest)
+    whole s None =
+        filling_reads (IsRecordedBehind Began filled.plain.history s.reached) filled.plain s.reached (length (late_behind filled s)) (history_extended filled.plain None s)
+        (load_printing_plan filled.plain r asks s filled.fillings) 1 (refl, refl) (printing asks s)
+    whole s (Some refusal) = λ failed h. left s failed
+
+    each : (s : SessionResult) (refusal : Option Refusal) → EachEnd (HasRead 1) (after_session Began filled r asks dump s refusal)
+    each s None = whole s (ending_of_rest dump s.rest)
     each s (Some refused.DiskFault) = (refl, refl)
     each s (Some other) = (refl, refl)
 
@@ -140,22 +151,25 @@ module _ {D : Type 0} (device : Device D) (e : Effects D) (files : Option Files)
         let each = unopened_after device e f 1 refusal cause reads images counts report silent in
         record { ran = record { way = went.way; allows = inr (true, there, inr went.allows); did = went.did }; inputs = rw (each.0, each.1) used }
 
-    module _ (archive : Archive) (stands : known → StandsFor (device.reads e.disk) archive) where
+    module _ (filled : FilledArchive) (stands : known → StandsFilled (device.reads e.disk) filled) where
+      abbrev archive : Archive
+      archive = filled.plain
+
       -- an archive was
-      goes_on : (way : Way Progress ⊥) → Allows (loading_plan Began files next words text sheet archive) way → Allows plan way
-      goes_on way goes = inr (true, there, inr (gave (opening_plan 1 device e.disk) (loading_plan Began files next words text sheet) archive way (inr (inr (ArchiveFound archive, stands, refl))) goes))
+      goes_on : (way : Way Progress ⊥) → Allows (loading_plan Began files next words text sheet filled) way → Allows plan way
+      goes_on way goes = inr (true, there, inr (gave (opening_plan 1 device e.disk) (loading_plan Began files next words text sheet) filled way (inr (inr (ArchiveFound filled, stands, refl))) goes))
 
       -- the asks of a sheet that the archive can answer are checked, and the dump is read
       routes_on : (route : List RouteStatement) → link_refusal words.link ≡ None → IsRouteAnswer archive.head text (Ok route) → (way : Way Progress ⊥)
-          → Allows (after_route Began files next words sheet archive route) way → Allows (loading_plan Began files next words text sheet archive) way
+          → Allows (after_route Began files next words sheet filled route) way → Allows (loading_plan Began files next words text sheet filled) way
       routes_on route near is way goes =
-          (None, sym near, gave (route_plan (archive_opened 1 archive) archive.head text) (after_route Began files next words sheet archive) route way (inr (Ok route, is, refl)) goes)
+          (None, sym near, gave (route_plan (archive_opened 1 archive) archive.head text) (after_route Began files next words sheet filled) route way (inr (Ok route, is, refl)) goes)
 
       reads_on : (route : List RouteStatement) (asks : List Ask) → IsReady archive.head text sheet words.link route asks → (way : Way Progress ⊥)
-          → Allows (reading_plan Began files next words archive route asks) way → Allows (loading_plan Began files next words text sheet archive) way
+          → Allows (reading_plan Began files next words filled route asks) way → Allows (loading_plan Began files next words text sheet filled) way
       reads_on route asks ready way goes =
           let s = archive_opened 1 archive in
-          routes_on route ready.0 ready.1 way (gave (asks_check_plan s archive.head sheet) (reading_plan Began files next words archive route) asks way (checked s archive.head sheet asks ready.2) goes)
+          routes_on route ready.0 ready.1 way (gave (asks_check_plan s archive.head sheet) (reading_plan Began files next words filled route) asks way (checked s archive.head sheet asks ready.2) goes)
 
       abbrev reports : Refusal → Option ℕ → Type 0
       reports refusal link = e.report ≡ record (read_only (Some refusal) (length archive.history)) { link = link }
@@ -175,13 +189,13 @@ module _ {D : Type 0} (device : Device D) (e : Effects D) (files : Option Files)
             record { report = report; printed = rw silent (no_text e.output.written); output = record { counted = rw (silent, no_output) refl }; disk = rw no_disk disk }
 
         stopped : (link : Option ℕ) (refusal : Refusal) → reports refusal link → Counted false a.faults b.faults
-            → Allows (loading_plan Began files next words text sheet archive) (Stopped (unloaded link) (Some refusal)) → RanOver device plan e a b
+            → Allows (loading_plan Began files next words text sheet filled) (Stopped (unloaded link) (Some refusal)) → RanOver device plan e a b
         stopped link refusal report counted goes =
             let way : Way Progress ⊥ = Stopped (unloaded link) (Some refusal) in
             record { ran = record { way = way; allows = goes_on way goes; did = left link refusal no_failed_calls refl refl report }; inputs = used false counted }
 
         cut_short : (failed : Bool) → reports (interruption_refusal (reading_fault failed)) None → Counted failed a.faults b.faults
-            → Allows (loading_plan Began files next words text sheet archive) (Interrupted (archive_opened 1 archive) (reading_fault failed)) → RanOver device plan e a b
+            → Allows (loading_plan Began files next words text sheet filled) (Interrupted (archive_opened 1 archive) (reading_fault failed)) → RanOver device plan e a b
         cut_short true report counted goes =
             let way : Way Progress ⊥ = Interrupted (archive_opened 1 archive) OfInputs in
             record { ran = record { way = way; allows = goes_on way goes; did = left None refused.ReadFault (with_failed_call OfInputs no_failed_calls) refl refl report }; inputs = used true counted }
@@ -195,11 +209,11 @@ module _ {D : Type 0} (device : Device D) (e : Effects D) (files : Option Files)
         load_unrouted refusal near (inl memory) report counted =
             let s = archive_opened 1 archive in
             cut_short false (subst (λ (r : Refusal). reports r None) memory report) counted
-            (None, sym near, cut (route_plan s archive.head text) (after_route Began files next words sheet archive) s OfMemory (inl refl))
+            (None, sym near, cut (route_plan s archive.head text) (after_route Began files next words sheet filled) s OfMemory (inl refl))
         load_unrouted refusal near (inr is) report counted =
             let s = archive_opened 1 archive in
             stopped None refusal report counted
-            (None, sym near, ended (route_plan s archive.head text) (after_route Began files next words sheet archive) s (Some refusal) (inr (Err refusal, is, refl)))
+            (None, sym near, ended (route_plan s archive.head text) (after_route Began files next words sheet filled) s (Some refusal) (inr (Err refusal, is, refl)))
 
         -- the link was, or the route, or the sheet of asks
         load_unready : (refusal : Refusal) → IsUnready archive.head text sheet words.link refusal → reports refusal None → Counted false a.faults b.faults → RanOver device plan e a b
@@ -208,7 +222,7 @@ module _ {D : Type 0} (device : Device D) (e : Effects D) (files : Option Files)
         load_unready refusal (inr (inr near)) report counted =
             let s = archive_opened 1 archive in
             let route = near.1.0 in
-            let f = reading_plan Began files next words archive route in
+            let f = reading_plan Began files next words filled route in
             elim (check_refused s archive.head sheet refusal near.1.2) [
               | inl ending ↦ stopped None refusal report counted
                   (routes_on route near.0 near.1.1 (Stopped s (Some refusal)) (ended (asks_check_plan s archive.head sheet) f s (Some refusal) ending))
@@ -244,10 +258,10 @@ module _ {D : Type 0} (device : Device D) (e : Effects D) (files : Option Files)
       -- the packets of the dump were ingested, so far
       pub load_received : (dump : List ℕ) (moment : ℤ) (route : List RouteStatement) (asks : List Ask) → IsReady archive.head text sheet words.link route asks → IsInput files words.dump dump
           → length dump ≤ dump_limit → IsMomentOf next moment → UsedInputs a b 1 false
-          → Ran device (session_plan Began archive (receiving archive.head route words.link moment) asks dump) e → RanOver device plan e a b
+          → Ran device (session_plan Began filled (receiving archive.head route words.link moment) asks dump) e → RanOver device plan e a b
       load_received dump moment route asks ready input short clock used went =
           let r : Receiving = receiving archive.head route words.link moment in
-          let each = end_of (HasRead 1) (session_plan Began archive r asks dump) went.way (session_after Began archive r asks dump) went.allows in
+          let each = end_of (HasRead 1) (session_plan Began filled r asks dump) went.way (session_after Began filled r asks dump) went.allows in
           record {
             ran = record {
               way = went.way;
@@ -259,38 +273,43 @@ module _ {D : Type 0} (device : Device D) (e : Effects D) (files : Option Files)
 
 -- ---- which answer is due
 
-session_determined : (is : ℕ → Type 0) (archive : Archive) (r : Receiving) (asks : List Ask) (dump : List ℕ) → IsDetermined (session_plan is archive r asks dump)
-session_determined is archive r asks dump = λ s h. each s s.refusal
+session_determined : (is : ℕ → Type 0) (filled : FilledArchive) (r : Receiving) (asks : List Ask) (dump : List ℕ) → IsDetermined (session_plan is filled r asks dump)
+session_determined is filled r asks dump = λ s h. each s s.refusal
   where
-    whole : (asks : List Ask) (s : SessionResult) (rest : Option Refusal) → IsDetermined (after_packets archive r asks s rest)
-    whole [] s None = tt
-    whole (ask ∷ asks) s None = tt
-    whole asks s (Some refusal) = tt
+    printing : (asks : List Ask) (s : SessionResult) → IsDetermined (load_printing_plan filled.plain r asks s filled.fillings)
+    printing [] s = tt
+    printing (ask ∷ asks) s = tt
 
-    each : (s : SessionResult) (refusal : Option Refusal) → IsDetermined (after_session archive r asks dump s refusal)
-    each s None = whole asks s (ending_of_rest dump s.rest)
+    whole : (s : SessionResult) (rest : Option Refusal) → IsDetermined (after_packets is filled r asks s rest)
+    whole s None =
+        filling_determined (IsRecordedBehind is filled.plain.history s.reached) filled.plain s.reached (length (late_behind filled s)) (history_extended filled.plain None s)
+        (load_printing_plan filled.plain r asks s filled.fillings) (printing asks s)
+    whole s (Some refusal) = λ failed h. tt
+
+    each : (s : SessionResult) (refusal : Option Refusal) → IsDetermined (after_session is filled r asks dump s refusal)
+    each s None = whole s (ending_of_rest dump s.rest)
     each s (Some refused.DiskFault) = tt
     each s (Some other) = tt
 
 module _ (Began : ℕ → Type 0) (all : Files) (next : Option ℤ) (words : LoadWords) where
-  dump_determined : (archive : Archive) (route : List RouteStatement) (asks : List Ask) (read : InputRead (List ℕ)) → IsDetermined (after_dump Began next words.link archive route asks read)
-  dump_determined archive route asks OverLimit = tt
-  dump_determined archive route asks (WithinLimit dump) = λ moment h. session_determined Began archive (receiving archive.head route words.link moment) asks dump
+  dump_determined : (filled : FilledArchive) (route : List RouteStatement) (asks : List Ask) (read : InputRead (List ℕ)) → IsDetermined (after_dump Began next words.link filled route asks read)
+  dump_determined filled route asks OverLimit = tt
+  dump_determined filled route asks (WithinLimit dump) = λ moment h. session_determined Began filled (receiving filled.plain.head route words.link moment) asks dump
 
-  routed_determined : IsThere (Some all) words.dump → (sheet : Result (List Ask) Refusal) (archive : Archive) (route : List RouteStatement) →
-      IsDetermined (after_route Began (Some all) next words sheet archive route)
-  routed_determined there sheet archive route =
-      determined (asks_check_plan (archive_opened 1 archive) archive.head sheet) (reading_plan Began (Some all) next words archive route) (check_determined (archive_opened 1 archive) archive.head sheet)
-      (λ asks. (((reads_determined DumpOctets (λ octets. octets) all words.dump 0).1 true there).0, λ read h. dump_determined archive route asks read))
+  routed_determined : IsThere (Some all) words.dump → (sheet : Result (List Ask) Refusal) (filled : FilledArchive) (route : List RouteStatement) →
+      IsDetermined (after_route Began (Some all) next words sheet filled route)
+  routed_determined there sheet filled route =
+      determined (asks_check_plan (archive_opened 1 filled.plain) filled.plain.head sheet) (reading_plan Began (Some all) next words filled route) (check_determined (archive_opened 1 filled.plain) filled.plain.head sheet)
+      (λ asks. (((reads_determined DumpOctets (λ octets. octets) all words.dump 0).1 true there).0, λ read h. dump_determined filled route asks read))
 
-  loading_determined : IsThere (Some all) words.dump → (text : Option (List ℕ)) (sheet : Result (List Ask) Refusal) (archive : Archive) →
-      IsDetermined (loading_plan Began (Some all) next words text sheet archive)
-  loading_determined there text sheet archive = (λ a b h k. h ∙ sym k, λ found h. each found)
+  loading_determined : IsThere (Some all) words.dump → (text : Option (List ℕ)) (sheet : Result (List Ask) Refusal) (filled : FilledArchive) →
+      IsDetermined (loading_plan Began (Some all) next words text sheet filled)
+  loading_determined there text sheet filled = (λ a b h k. h ∙ sym k, λ found h. each found)
     where
-      each : (found : Option Refusal) → IsDetermined (after_link Began (Some all) next words text sheet archive found)
+      each : (found : Option Refusal) → IsDetermined (after_link Began (Some all) next words text sheet filled found)
       each None =
-          determined (route_plan (archive_opened 1 archive) archive.head text) (after_route Began (Some all) next words sheet archive) (route_determined (archive_opened 1 archive) archive.head text)
-          (routed_determined there sheet archive)
+          determined (route_plan (archive_opened 1 filled.plain) filled.plain.head text) (after_route Began (Some all) next words sheet filled) (route_determined (archive_opened 1 filled.plain) filled.plain.head text)
+          (routed_determined there sheet filled)
       each (Some refusal) = tt
 
 pub load_determined : {D : Type 0} (device : Device D) (disk : D) (files : Option Files) (next : Option ℤ) (words : LoadWords) → IsTrue device.is_transparent → IsSome files

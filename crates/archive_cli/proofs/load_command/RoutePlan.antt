@@ -1,5 +1,5 @@
 -- The script of a route: read before all else, and what it stands for over a head.
-use Rattle.std.proofs.Common.{◌≡◌, ◌∙◌, inl, inr, ℕ, List, Option, Some, None, refl, sym, ap}
+use Rattle.std.proofs.Common.{◌≡◌, ◌∙◌, ℕ, List, Option, Some, None, sym, ap}
 use Rattle.std.specs.Prelude.{map, Result, Ok, Err}
 use Rattle.arch_disk.specs.Disk.{Device}
 use Rattle.arch_types.specs.declared.refusal.Refusal.{Refusal}

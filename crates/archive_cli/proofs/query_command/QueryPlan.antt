@@ -6,12 +6,11 @@ use Rattle.arch_types.specs.declared.ask.Ask.{Ask}
 use Rattle.arch_types.specs.declared.refusal.Refusal.{Refusal}
 use Rattle.arch_types.specs.declared.refusal.Refusal.TheVariants.{WriteFault, OutOfMemory}
 use Rattle.outer_traits.specs.Outside.{Files}
-use Rattle.archive_store.specs.Entries.{Archive}
+use Rattle.archive_store.specs.Entries.{Archive, FilledArchive}
 use Rattle.command_plans.specs.Plan.{OfMemory, Interrupted, EachEnd, IsDetermined}
 use Rattle.command_plans.proofs.Plans.{determined, each_end}
 use Rattle.dump_lines.specs.Output.{WritesCounted}
-use Rattle.retrieval.specs.AskText.{asks_text}
-use Rattle.archive_cli.specs.Asks.{ArePrinted, after_asks_check, asks_check_plan}
+use Rattle.archive_cli.specs.Asks.{ArePrinted, after_asks_check, archive_asks_text, asks_check_plan}
 use Rattle.archive_cli.specs.Command.{HasDiskOutcome, Opened, Effects, Progress, Ran, archive_opened, opening_plan, printing_plan}
 use Rattle.archive_cli.specs.query_command.Query.{answering_plan, answers_plan, archive_asks_plan, query_plan}
 use Rattle.archive_cli.specs.query_command.Replying.{IsSheetReply}
@@ -23,19 +22,22 @@ use Rattle.archive_cli.proofs.OverInputs.{HasRead}
 
 -- ---- an archive was opened
 
-module _ {D : Type 0} (device : Device D) (e : Effects D) (archive : Archive) (later : e.output.faults ≤ e.output'.faults) (disk : HasDiskOutcome device e.disk e.disk' false (Opened archive)) where
+module _ {D : Type 0} (device : Device D) (e : Effects D) (filled : FilledArchive) (later : e.output.faults ≤ e.output'.faults) (disk : HasDiskOutcome device e.disk e.disk' false (Opened filled.plain)) where
+  abbrev archive : Archive
+  archive = filled.plain
+
   abbrev printing : List Ask → Progress
-  printing asks = record (archive_opened 0 archive) { text = asks_text archive.head archive.history 1 asks; is_whole = false }
+  printing asks = record (archive_opened 0 archive) { text = archive_asks_text filled 1 asks; is_whole = false }
 
   -- the asks were answered
-  ran_answered : (asks : List Ask) (refusal : Option Refusal) → ArePrinted asks refusal e.output.written e.output'.written (asks_text archive.head archive.history 1 asks) →
-      WritesCounted refusal e.output.faults e.output'.faults → e.report ≡ read_only refusal (length archive.history) → Ran device (answers_plan archive asks) e
+  ran_answered : (asks : List Ask) (refusal : Option Refusal) → ArePrinted asks refusal e.output.written e.output'.written (archive_asks_text filled 1 asks) →
+      WritesCounted refusal e.output.faults e.output'.faults → e.report ≡ read_only refusal (length archive.history) → Ran device (answers_plan filled asks) e
   ran_answered asks None printed counted report =
-      let text = asks_text archive.head archive.history 1 asks in
+      let text = archive_asks_text filled 1 asks in
       ran_later device e OfMemory (printing asks) (printing_plan (archive_opened 0 archive) text)
       (ran_printed device e (archive_opened 0 archive) text None refl refl printed later counted report disk)
   ran_answered asks (Some WriteFault) printed counted report =
-      let text = asks_text archive.head archive.history 1 asks in
+      let text = archive_asks_text filled 1 asks in
       ran_later device e OfMemory (printing asks) (printing_plan (archive_opened 0 archive) text)
       (ran_printed device e (archive_opened 0 archive) text (Some WriteFault) refl refl printed later counted report disk)
   ran_answered asks (Some OutOfMemory) printed counted report = record {
@@ -47,24 +49,24 @@ module _ {D : Type 0} (device : Device D) (e : Effects D) (archive : Archive) (l
 
   -- or the sheet was refused
   pub ran_replied : (sheet : Result (List Ask) Refusal) (refusal : Option Refusal) →
-      IsSheetReply archive.head archive.history sheet refusal e.output.written e.output'.written e.output.faults e.output'.faults →
-      e.report ≡ read_only refusal (length archive.history) → Ran device (answering_plan sheet archive) e
+      IsSheetReply filled sheet refusal e.output.written e.output'.written e.output.faults e.output'.faults →
+      e.report ≡ read_only refusal (length archive.history) → Ran device (answering_plan sheet filled) e
   ran_replied sheet None (inl refused) report = absurd refused.0
   ran_replied sheet (Some refusal) (inl refused) report =
-      ran_refused (archive_opened 0 archive) archive.head device e (answers_plan archive) sheet refusal refused.0
+      ran_refused (archive_opened 0 archive) archive.head device e (answers_plan filled) sheet refusal refused.0
       (record { report = report; printed = rw refused.1 (no_text e.output.written); output = record { counted = refused.2 }; disk = disk })
   ran_replied sheet refusal (inr reply) report =
-      ran_then device e (asks_check_plan (archive_opened 0 archive) archive.head sheet) (answers_plan archive) reply.0
+      ran_then device e (asks_check_plan (archive_opened 0 archive) archive.head sheet) (answers_plan filled) reply.0
       (checked (archive_opened 0 archive) archive.head sheet reply.0 reply.1) (ran_answered reply.0 refusal reply.2 reply.3 report)
 
 -- ---- over inputs
 
 -- nothing is asked of them behind the sheet
-check_reads : (archive : Archive) (sheet : Result (List Ask) Refusal) → EachEnd (HasRead 0) (asks_check_plan (archive_opened 0 archive) archive.head sheet)
-check_reads archive (Err refusal) = (refl, refl)
-check_reads archive (Ok asks) = ((refl, refl), λ found h. each found)
+check_reads : (opened : Archive) (sheet : Result (List Ask) Refusal) → EachEnd (HasRead 0) (asks_check_plan (archive_opened 0 opened) opened.head sheet)
+check_reads opened (Err refusal) = (refl, refl)
+check_reads opened (Ok asks) = ((refl, refl), λ found h. each found)
   where
-    each : (found : Option Refusal) → EachEnd (HasRead 0) (after_asks_check (archive_opened 0 archive) asks found)
+    each : (found : Option Refusal) → EachEnd (HasRead 0) (after_asks_check (archive_opened 0 opened) asks found)
     each None = tt
     each (Some refusal) = (refl, refl)
 
@@ -72,7 +74,7 @@ pub asks_read : {D : Type 0} (device : Device D) (disk : D) (sheet : Result (Lis
 asks_read device disk sheet = (
   (refl, refl),
   each_end (HasRead 0) (opening_plan 0 device disk) (answering_plan sheet) (opening_reads 0 device disk)
-      (λ archive. each_end (HasRead 0) (asks_check_plan (archive_opened 0 archive) archive.head sheet) (answers_plan archive) (check_reads archive sheet)
+      (λ filled. each_end (HasRead 0) (asks_check_plan (archive_opened 0 filled.plain) filled.plain.head sheet) (answers_plan filled) (check_reads filled.plain sheet)
       (λ asks. ((refl, refl), ((refl, refl), (refl, refl))))),
 )
 
@@ -84,4 +86,4 @@ query_determined device disk None name known some = absurd (cc (some))
 query_determined device disk (Some all) name known some =
     asked_determined all (Some name) (archive_asks_plan device disk)
     (λ sheet. determined (opening_plan 0 device disk) (answering_plan sheet) (opens_determined 0 device disk known)
-    (λ archive. determined (asks_check_plan (archive_opened 0 archive) archive.head sheet) (answers_plan archive) (check_determined (archive_opened 0 archive) archive.head sheet) (λ asks. tt)))
+    (λ filled. determined (asks_check_plan (archive_opened 0 filled.plain) filled.plain.head sheet) (answers_plan filled) (check_determined (archive_opened 0 filled.plain) filled.plain.head sheet) (λ asks. tt)))

@@ -90,7 +90,7 @@ text_reads text archive =
     each (Err refusal) = (refl, refl)
 
 pub archive_reads : {D : Type 0} (device : Device D) (disk : D) (text : List ℕ) → EachEnd (HasRead 1) (archive_text_plan device disk text)
-archive_reads device disk text = ((refl, refl), each_end (HasRead 1) (opening_plan 1 device disk) (text_plan text) (opening_reads 1 device disk) (text_reads text))
+archive_reads device disk text = ((refl, refl), each_end (HasRead 1) (opening_plan 1 device disk) (λ filled. text_plan text filled.plain) (opening_reads 1 device disk) (λ filled. text_reads text filled.plain))
 
 -- ---- which answer is due
 
@@ -104,4 +104,4 @@ sql_determined device disk None name known some = absurd (cc (some))
 sql_determined device disk (Some all) name known some =
     determined (map_done nothing_done (script_octets_plan (Some all) name 0)) (archive_text_plan device disk)
     (determined_map_done nothing_done (script_octets_plan (Some all) name 0) (reads_determined ScriptOctets (λ octets. octets) all name 0))
-    (λ text. determined (opening_plan 1 device disk) (text_plan text) (opens_determined 1 device disk known) (text_determined text))
+    (λ text. determined (opening_plan 1 device disk) (λ filled. text_plan text filled.plain) (opens_determined 1 device disk known) (λ filled. text_determined text filled.plain))

@@ -7,7 +7,7 @@ use Rattle.disk_journal.specs.Format.{HoldsNone}
 use Rattle.archive_store.specs.declared.head.Head.{Head}
 use Rattle.archive_store.specs.Calls.{IsCreateImage}
 use Rattle.archive_store.specs.Entries.{archive}
-use Rattle.archive_store.specs.Stands.{StandsFor}
+use Rattle.archive_store.specs.Stands.{IsSoundImage, StandsFor}
 use Rattle.ssql_types.specs.declared.statement.TypedStatement.{TypedStatement}
 use Rattle.ssql_types.specs.CreatedTables.{created_tables}
 use Rattle.archive_cli.specs.ReadOnly.{IsReadAsBefore}
@@ -24,11 +24,12 @@ create_line head =
     ++ decimal (length head.mdb.containers) ++ codes "\n"
 
 -- An archive was made where there was none: the disk stands for the head without rows, and so does each image that a crash now leaves; a crash
--- during the call leaves no archive or the head, or what it could have left before.
+-- during the call leaves no archive or the head, or what it could have left before. The fills of these images, of which there may be none, are sound.
 pub record IsMade {D : Type 0} (device : Device D) (old new : D) (head : Head) : Type 0 where
   pub none : HoldsNone (device.reads old 0)
   pub stands : StandsFor (device.reads new) (archive head [])
   pub now : (c : Image) → device.images new c → StandsFor c (archive head [])
+  pub sound : (c : Image) → device.images new c → IsSoundImage c
   pub images : LeavesOnly device old new (IsCreateImage (device.images old) head)
 
 -- each image that a crash now leaves holds no archive, or could have been left before

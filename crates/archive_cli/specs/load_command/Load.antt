@@ -1,12 +1,17 @@
 -- The command `load`.
-use Rattle.std.specs.Prelude.{◌≡◌, ℕ, ℤ, List, [], ◌∷◌, length, Bool, true, false, Option, Some, None, Result}
+use Rattle.std.specs.Prelude.{◌≡◌, ◌+◌, ◌≤◌, ℕ, ℤ, List, [], ◌∷◌, length, Bool, true, false, Option, Some, None, Result}
 use Rattle.arch_disk.specs.Disk.{Device}
 use Rattle.arch_types.specs.declared.ask.Ask.{Ask}
+use Rattle.arch_types.specs.declared.interval.Interval.{Interval}
 use Rattle.arch_types.specs.declared.refusal.Refusal.{Refusal}
 use Rattle.arch_types.specs.declared.refusal.Refusal.TheVariants.{Missing, DiskFault, Limit}
 use Rattle.arch_types.specs.declared.refusal.Which.TheVariants.{DumpOctets}
 use Rattle.outer_traits.specs.Outside.{Files}
-use Rattle.archive_store.specs.Entries.{Archive}
+use Rattle.history_items.specs.Items.{Item}
+use Rattle.param_segments.specs.Rows.{SetRow}
+use Rattle.archive_store.specs.Entries.{Archive, FilledArchive, filled_archive}
+use Rattle.archive_verify.specs.Verified.{late_in_archive}
+use Rattle.store_fills.specs.Sound.{Fillings}
 use Rattle.command_plans.specs.Plan.{OfMemory, OfInputs, OfOutput, OfDisk, no_failed_calls, with_failed_call, CommandPlan, Stop, May, Question, Choose, and_then, map_done}
 use Rattle.command_words.specs.Job.{LoadWords}
 use Rattle.input_plans.specs.Inputs.{InputRead, OverLimit, WithinLimit, IsInputAs, IsThereAs}
@@ -15,8 +20,9 @@ use Rattle.archive_cli.specs.Asks.{asked_plan, asks_check_plan, with_sources}
 use Rattle.archive_cli.specs.Moment.{IsMomentOf}
 use Rattle.archive_cli.specs.Command.{Progress, Extended, ExtensionFailed, archive_opened, nothing_done, opening_plan}
 use Rattle.archive_cli.specs.DumpRest.{ending_of_rest}
+use Rattle.archive_cli.specs.FillingPlan.{IsRecordCount, all_filled, fill_failed, filling_plan}
 use Rattle.archive_cli.specs.load_command.LoadLine.{load_text, whole_report}
-use Rattle.archive_cli.specs.load_command.Loading.{IsRecordCount, IsRouteAnswer, link_refusal}
+use Rattle.archive_cli.specs.load_command.Loading.{IsRouteAnswer, link_refusal}
 use Rattle.archive_cli.specs.ReadDump.{dump_limit}
 use Rattle.archive_cli.specs.Report.{loaded, read_only}
 use Rattle.archive_cli.specs.Scripts.{after_answer, script_octets_plan}
@@ -52,67 +58,84 @@ extension_failed archive r s = record {
   failed = with_failed_call OfDisk no_failed_calls;
 }
 
+-- all packets were ingested, a rest is left of the dump, and what is late was filled, as far as it came: a call of the disk may have failed then
+abbrev pub bad_packet_left : Archive → ℕ → SessionResult → Bool → Progress
+bad_packet_left archive link s false = history_extended archive (Some link) s
+bad_packet_left archive link s true = record (fill_failed archive s.reached (history_extended archive (Some link) s)) { failed = with_failed_call OfDisk no_failed_calls }
+
 -- ---- the session
+
+-- what is known of the log's records behind a session: they rose by no more than the rows
+abbrev pub IsRecordedBehind : (ℕ → Type 0) → List Item → List Item → ℕ → Type 0
+IsRecordedBehind Began before reached records = (began : ℕ) × Began began × (records + length before ≤ began + length reached)
+
+-- the late intervals of the history that a session reached
+abbrev pub late_behind : FilledArchive → SessionResult → List Interval
+late_behind filled s = late_in_archive (filled_archive filled.plain.head s.reached filled.fillings)
 
 -- memory may be wanting while asks are answered, if there are any
 abbrev pub answering_asks_plan : List Ask → Progress → CommandPlan Progress ⊥ → CommandPlan Progress ⊥
 answering_asks_plan [] s plan = plan
 answering_asks_plan (ask ∷ asks) s plan = May OfMemory s plan
 
--- prints the answers to asks over the history that was reached, and then the line of a load; its counts are reported once all is printed
-abbrev pub load_printing_plan : Archive → Receiving → List Ask → SessionResult → CommandPlan Progress ⊥
-load_printing_plan archive r asks s =
-    let text = load_text r asks (length archive.history) s.reached s.packets in
-    let printing = record (history_extended archive None s) { text = text; is_whole = false } in
+-- prints the answers to asks over the history that was reached and these fills, and then the line of a load; its counts are reported once all is printed
+abbrev pub load_printing_plan : Archive → Receiving → List Ask → SessionResult → Fillings (List SetRow) → CommandPlan Progress ⊥
+load_printing_plan archive r asks s fillings =
+    let text = load_text r asks fillings (length archive.history) s.reached s.packets in
+    let done = all_filled archive s.reached (history_extended archive None s) in
+    let printing = record done { text = text; is_whole = false } in
     answering_asks_plan asks printing
-    (May OfOutput printing (Stop (record (history_extended archive None s) { text = text; report = whole_report r (length archive.history) (length s.reached) s.packets }) None))
+    (May OfOutput printing (Stop (record done { text = text; report = whole_report r (length archive.history) (length s.reached) s.packets }) None))
 
--- what a whole dump leads to, by the refusal of its rest
-abbrev pub after_packets : Archive → Receiving → List Ask → SessionResult → Option Refusal → CommandPlan Progress ⊥
-after_packets archive r asks s None = load_printing_plan archive r asks s
-after_packets archive r asks s (Some refusal) = Stop (history_extended archive (Some r.link) s) (Some refusal)
+-- What a whole dump leads to, by the refusal of its rest: what is late is filled, and the asks are answered as the fills before say, since a fill holds just what
+-- the rows of a late interval give. Where a rest is left it is filled too, and the rest is what is told, whatever the filling comes to.
+abbrev pub after_packets : (ℕ → Type 0) → FilledArchive → Receiving → List Ask → SessionResult → Option Refusal → CommandPlan Progress ⊥
+after_packets Began filled r asks s None =
+    filling_plan (IsRecordedBehind Began filled.plain.history s.reached) filled.plain s.reached (length (late_behind filled s)) (history_extended filled.plain None s)
+    (load_printing_plan filled.plain r asks s filled.fillings)
+after_packets Began filled r asks s (Some refusal) = Choose (λ (failed : Bool). Unit {0}) (λ failed. Stop (bad_packet_left filled.plain r.link s failed) (Some refusal))
 
 -- what a session leads to, by why it ended
-abbrev pub after_session : Archive → Receiving → List Ask → List ℕ → SessionResult → Option Refusal → CommandPlan Progress ⊥
-after_session archive r asks dump s None = after_packets archive r asks s (ending_of_rest dump s.rest)
-after_session archive r asks dump s (Some DiskFault) = Stop (extension_failed archive r s) (Some DiskFault)
-after_session archive r asks dump s (Some refusal) = Stop (history_extended archive None s) (Some refusal)
+abbrev pub after_session : (ℕ → Type 0) → FilledArchive → Receiving → List Ask → List ℕ → SessionResult → Option Refusal → CommandPlan Progress ⊥
+after_session Began filled r asks dump s None = after_packets Began filled r asks s (ending_of_rest dump s.rest)
+after_session Began filled r asks dump s (Some DiskFault) = Stop (extension_failed filled.plain r s) (Some DiskFault)
+after_session Began filled r asks dump s (Some refusal) = Stop (history_extended filled.plain None s) (Some refusal)
 
--- ingests the packets of a dump, and then answers: a limit of the history, or DiskFault; BadPacket; WriteFault
-abbrev pub session_plan : (ℕ → Type 0) → Archive → Receiving → List Ask → List ℕ → CommandPlan Progress ⊥
-session_plan Began archive r asks dump = Choose (IsSession Began archive.history dump r) (λ s. after_session archive r asks dump s s.refusal)
+-- ingests the packets of a dump, and then answers: a limit of the history, or DiskFault; BadPacket; DiskFault of a fill, or Limit Records; WriteFault
+abbrev pub session_plan : (ℕ → Type 0) → FilledArchive → Receiving → List Ask → List ℕ → CommandPlan Progress ⊥
+session_plan Began filled r asks dump = Choose (IsSession Began filled.plain.history dump r) (λ s. after_session Began filled r asks dump s s.refusal)
 
 -- ---- the dump
 
 -- what the reading of a dump leads to: it is received at the clock's moment, and ingested by a route
-abbrev pub after_dump : (ℕ → Type 0) → Option ℤ → ℕ → Archive → List RouteStatement → List Ask → InputRead (List ℕ) → CommandPlan Progress ⊥
-after_dump Began next link archive route asks OverLimit = Stop (dump_too_long link archive) (Some (Limit DumpOctets dump_limit))
-after_dump Began next link archive route asks (WithinLimit dump) =
-    Choose (IsMomentOf next) (λ moment. session_plan Began archive (receiving archive.head route link moment) asks dump)
+abbrev pub after_dump : (ℕ → Type 0) → Option ℤ → ℕ → FilledArchive → List RouteStatement → List Ask → InputRead (List ℕ) → CommandPlan Progress ⊥
+after_dump Began next link filled route asks OverLimit = Stop (dump_too_long link filled.plain) (Some (Limit DumpOctets dump_limit))
+after_dump Began next link filled route asks (WithinLimit dump) =
+    Choose (IsMomentOf next) (λ moment. session_plan Began filled (receiving filled.plain.head route link moment) asks dump)
 
 -- reads a dump whose link and asks are none that is refused: ReadFault, or the limit of its octets
-abbrev pub reading_plan : (ℕ → Type 0) → Option Files → Option ℤ → LoadWords → Archive → List RouteStatement → List Ask → CommandPlan Progress ⊥
-reading_plan Began files next words archive route asks =
-    May OfMemory (archive_opened 1 archive)
-    (May OfInputs (archive_opened 1 archive)
-    (Question (IsInputAs files DumpOctets (λ octets. octets) words.dump) (after_dump Began next words.link archive route asks)))
+abbrev pub reading_plan : (ℕ → Type 0) → Option Files → Option ℤ → LoadWords → FilledArchive → List RouteStatement → List Ask → CommandPlan Progress ⊥
+reading_plan Began files next words filled route asks =
+    May OfMemory (archive_opened 1 filled.plain)
+    (May OfInputs (archive_opened 1 filled.plain)
+    (Question (IsInputAs files DumpOctets (λ octets. octets) words.dump) (after_dump Began next words.link filled route asks)))
 
 -- gives the route of a load over a head: BadSql of its script's first wrong token, UnknownTable, or a limit; memory may be wanting
 abbrev pub route_plan : Progress → Head → Option (List ℕ) → CommandPlan Progress (List RouteStatement)
 route_plan s head text = May OfMemory s (Question (IsRouteAnswer head text) (after_answer s))
 
 -- what a route leads to: the asks are checked, and the dump is read, whose packets go by it
-abbrev pub after_route : (ℕ → Type 0) → Option Files → Option ℤ → LoadWords → Result (List Ask) Refusal → Archive → List RouteStatement → CommandPlan Progress ⊥
-after_route Began files next words asks archive route = and_then (asks_check_plan (archive_opened 1 archive) archive.head asks) (reading_plan Began files next words archive route)
+abbrev pub after_route : (ℕ → Type 0) → Option Files → Option ℤ → LoadWords → Result (List Ask) Refusal → FilledArchive → List RouteStatement → CommandPlan Progress ⊥
+after_route Began files next words asks filled route = and_then (asks_check_plan (archive_opened 1 filled.plain) filled.plain.head asks) (reading_plan Began files next words filled route)
 
 -- what the number of a link leads to: the text of the route is looked at
-abbrev pub after_link : (ℕ → Type 0) → Option Files → Option ℤ → LoadWords → Option (List ℕ) → Result (List Ask) Refusal → Archive → Option Refusal → CommandPlan Progress ⊥
-after_link Began files next words text asks archive None = and_then (route_plan (archive_opened 1 archive) archive.head text) (after_route Began files next words asks archive)
-after_link Began files next words text asks archive (Some refusal) = Stop (archive_opened 1 archive) (Some refusal)
+abbrev pub after_link : (ℕ → Type 0) → Option Files → Option ℤ → LoadWords → Option (List ℕ) → Result (List Ask) Refusal → FilledArchive → Option Refusal → CommandPlan Progress ⊥
+after_link Began files next words text asks filled None = and_then (route_plan (archive_opened 1 filled.plain) filled.plain.head text) (after_route Began files next words asks filled)
+after_link Began files next words text asks filled (Some refusal) = Stop (archive_opened 1 filled.plain) (Some refusal)
 
 -- loads a dump that was opened into an archive that was: Limit Links; the refusal of the route; that of the asks; ReadFault, or the limit of its octets
-abbrev pub loading_plan : (ℕ → Type 0) → Option Files → Option ℤ → LoadWords → Option (List ℕ) → Result (List Ask) Refusal → Archive → CommandPlan Progress ⊥
-loading_plan Began files next words text asks archive = Question (λ found. found ≡ link_refusal words.link) (after_link Began files next words text asks archive)
+abbrev pub loading_plan : (ℕ → Type 0) → Option Files → Option ℤ → LoadWords → Option (List ℕ) → Result (List Ask) Refusal → FilledArchive → CommandPlan Progress ⊥
+loading_plan Began files next words text asks filled = Question (λ found. found ≡ link_refusal words.link) (after_link Began files next words text asks filled)
 
 -- what it leads to whether there's an input of the dump's name: it is opened, and then the archive
 abbrev pub after_dump_found : {D : Type 0} → Device D → D → Option Files → Option ℤ → LoadWords → Option (List ℕ) → Result (List Ask) Refusal → Bool → CommandPlan Progress ⊥

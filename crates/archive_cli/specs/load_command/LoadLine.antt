@@ -2,9 +2,12 @@
 use Rattle.std.specs.Prelude.{◌-◌, ℕ, List, ◌++◌, length, codes, decimal, None}
 use Rattle.arch_types.specs.declared.ask.Ask.{Ask}
 use Rattle.history_items.specs.Items.{Item}
-use Rattle.retrieval.specs.AskText.{asks_text}
+use Rattle.archive_store.specs.Entries.{filled_archive}
+use Rattle.param_segments.specs.Rows.{SetRow}
+use Rattle.store_fills.specs.Sound.{Fillings}
 use Rattle.archive_cli.specs.declared.report.Report.{Report}
 use Rattle.load_session.specs.Receiving.{Receiving, arrived, rows_received}
+use Rattle.archive_cli.specs.Asks.{archive_asks_text}
 use Rattle.archive_cli.specs.Report.{loaded}
 
 -- the last line of a load: how many packets there were, how many rows are new, were there or are of idle packets, and how long the history is
@@ -18,9 +21,10 @@ abbrev pub line_of_load : Receiving → ℕ → ℕ → List (List ℕ) → List
 line_of_load r before reached packets =
     load_line (length packets) (reached - before) (length (rows_received r packets) - (reached - before)) (length packets - arrived packets) reached
 
--- all that such a load prints: the answers to its asks over the history that it reached, and its line
-abbrev pub load_text : Receiving → List Ask → ℕ → List Item → List (List ℕ) → List ℕ
-load_text r asks before reached packets = asks_text r.head reached 1 asks ++ line_of_load r before (length reached) packets
+-- all that such a load prints: the answers to its asks over the history that it reached and the fills that are there then, and its line
+abbrev pub load_text : Receiving → List Ask → Fillings (List SetRow) → ℕ → List Item → List (List ℕ) → List ℕ
+load_text r asks fillings before reached packets =
+    archive_asks_text (filled_archive r.head reached fillings) 1 asks ++ line_of_load r before (length reached) packets
 
 -- the report of a load that ingested all packets of its dump, and printed so
 abbrev pub whole_report : Receiving → ℕ → ℕ → List (List ℕ) → Report

@@ -1,24 +1,25 @@
 -- The steps of a load: how its asks are checked and its dump is read, and what is printed and reported of its session.
-use Rattle.std.specs.Prelude.{◌≡◌, ◌⊎◌, ◌<◌, ◌-◌, ℕ, List, [], length, map, IsTrue, Option, Some, None, IfSome, Result, Ok, Err, nat_lt, if◌then◌else◌}
+use Rattle.std.specs.Prelude.{◌≡◌, ◌⊎◌, ◌<◌, ◌-◌, ℕ, List, [], length, map, Option, Some, None, IfSome, Result, Ok, Err, nat_lt, if◌then◌else◌}
 use Rattle.arch_disk.specs.Disk.{Device}
 use Rattle.arch_types.specs.declared.ask.Ask.{Ask}
 use Rattle.arch_types.specs.declared.refusal.Refusal.{Refusal}
 use Rattle.arch_types.specs.declared.refusal.Refusal.TheVariants as refused
+use Rattle.arch_types.specs.declared.refusal.BadKind.{BadKind}
 use Rattle.arch_types.specs.declared.refusal.Which.TheVariants.{DumpOctets, Links}
 use Rattle.arch_types.specs.Limits.{limit_of}
-use Rattle.disk_journal.specs.Format.{HasRecords}
 use Rattle.outer_traits.specs.declared.whole.ReadFault.{ReadFault}
 use Rattle.outer_traits.specs.declared.whole.ReadFault.TheVariants as faulted
-use Rattle.outer_traits.specs.Outside.{Stays, WritesSome}
+use Rattle.outer_traits.specs.Outside.{Stays}
 use Rattle.archive_store.specs.declared.head.Head.{Head}
 use Rattle.archive_store.specs.StoreView.{StoreView}
 use Rattle.mdb_sheets.specs.Sheets.{ReadsCounted}
-use Rattle.archive_cli.specs.Asks.{AreAnswerable, AreRefused}
+use Rattle.archive_cli.specs.Asks.{AreAnswerable, ArePrinted, AreRefused}
+use Rattle.archive_cli.specs.Filling.{AllLateFilled, IsFillTakenBack, IsFilledOn, IsFillingRefusal, IsUnfailed}
 use Rattle.archive_cli.specs.declared.report.Report.{Report}
-use Rattle.load_session.specs.Receiving.{Receiving}
-use Rattle.load_session.specs.Session.{HasReached, IsSession, SessionResult}
-use Rattle.dump_lines.specs.Output.{Appends}
-use Rattle.archive_cli.specs.load_command.LoadLine.{load_text, whole_report}
+use Rattle.load_session.specs.Receiving.{Receiving, arrived, rows_received}
+use Rattle.load_session.specs.Session.{HasReached, IsSession, OneOrTwo, SessionResult}
+use Rattle.store_fills.specs.FilledSets.{fillings_in}
+use Rattle.archive_cli.specs.load_command.LoadLine.{load_text}
 pub use Rattle.archive_cli.specs.Reading.{IsOpeningFault}
 use Rattle.archive_cli.specs.ReadDump.{dump_limit, IsBadRest}
 use Rattle.archive_cli.specs.Report.{loaded}
@@ -77,38 +78,64 @@ IsDumpRefusalFor other number refusal link = (refusal ≡ refused.OutOfMemory) �
 
 -- ---- the session
 
--- how many records the log of a disk has, where it is known
-abbrev pub IsRecordCount : {D : Type 0} → Device D → D → ℕ → Type 0
-IsRecordCount device disk number =
-    IsTrue device.is_transparent → (bodies : List (List ℕ)) × HasRecords (device.reads disk 0) bodies × (number ≡ length bodies)
-
 -- the report of a load whose line was printed, or not
 abbrev pub printed_report : Option Refusal → ℕ → ℕ → ℕ → ℕ → ℕ → Report
 printed_report None before after packets routed idle = loaded None None before after packets (routed - (after - before)) idle
 printed_report (Some refusal) before after packets routed idle = loaded (Some refusal) None before after 0 0 0
 
--- What is printed and reported of a session over a history of this length, behind which asks are answered, by the refusal of the load: all
--- packets were ingested, nothing is left of the dump, and all was printed, or not to its end; all were, and something is left; or a batch was refused.
-abbrev pub IsLoadOutcome : Receiving → List Ask → ℕ → List ℕ → SessionResult → Option (List ℕ) → Option (List ℕ) → Option Refusal → Report → Type 0
-IsLoadOutcome r asks before dump s written written' None report =
-    (s.refusal ≡ None) × (s.rest ≡ []) × Appends written written' (load_text r asks before s.reached s.packets)
-    × (report ≡ whole_report r before (length s.reached) s.packets)
-IsLoadOutcome r asks before dump s written written' (Some refused.WriteFault) report =
-    (s.refusal ≡ None) × (s.rest ≡ []) × WritesSome written written' (load_text r asks before s.reached s.packets)
-    × (report ≡ loaded (Some refused.WriteFault) None before (length s.reached) 0 0 0)
-IsLoadOutcome r asks before dump s written written' (Some refused.OutOfMemory) report =
-    (((s.refusal ≡ Some refused.OutOfMemory) × (written' ≡ written))
-    ⊎ ((0 < length asks) × (s.refusal ≡ None) × (s.rest ≡ []) × WritesSome written written' (load_text r asks before s.reached s.packets)))
-    × (report ≡ loaded (Some refused.OutOfMemory) None before (length s.reached) 0 0 0)
-IsLoadOutcome r asks before dump s written written' (Some (refused.BadPacket at kind)) report =
-    (s.refusal ≡ None) × IsBadRest dump s.rest at kind × (written' ≡ written)
-    × (report ≡ loaded (Some (refused.BadPacket at kind)) (Some r.link) before (length s.reached) 0 0 0)
-IsLoadOutcome r asks before dump s written written' (Some refusal) report =
-    (s.refusal ≡ Some refusal) × (written' ≡ written) × (report ≡ loaded (Some refusal) None before (length s.reached) 0 0 0)
+-- a batch was refused, and nothing was printed
+pub record IsRefusedLoad {D : Type 0} (reached new : StoreView D) (before : ℕ) (s : SessionResult) (written written' : Option (List ℕ)) (report : Report) : Type 0 where
+  pub refusal : Refusal
+  pub refused : s.refusal ≡ Some refusal
+  pub left : new ≡ reached
+  pub silent : written' ≡ written
+  pub report_is : report ≡ loaded (Some refusal) None before (length s.reached) 0 0 0
 
--- A session over an open store came to this end, of which that was printed and reported.
+-- all packets were ingested, a rest is left of the dump, and what is late was filled, whatever that came to
+pub record IsBadLoad {D : Type 0} (device : Device D) (reached new : StoreView D) (link before : ℕ) (dump : List ℕ) (s : SessionResult) (written written' : Option (List ℕ)) (report : Report) : Type 0 where
+  pub all : s.refusal ≡ None
+  pub at : ℕ
+  pub kind : BadKind
+  pub bad : IsBadRest dump s.rest at kind
+  pub filling : IsUnfailed device reached new ⊎ IsFillTakenBack device reached new
+  pub silent : written' ≡ written
+  pub report_is : report ≡ loaded (Some (refused.BadPacket at kind)) (Some link) before (length s.reached) 0 0 0
+
+-- all packets of the whole dump were ingested, and a fill was refused
+pub record IsUnfilledLoad {D : Type 0} (device : Device D) (reached new : StoreView D) (before : ℕ) (s : SessionResult) (written written' : Option (List ℕ)) (report : Report) : Type 0 where
+  pub all : s.refusal ≡ None
+  pub rest : s.rest ≡ []
+  pub refusal : Refusal
+  pub cause : IsFillingRefusal device reached new (IsFillTakenBack device reached new) refusal
+  pub silent : written' ≡ written
+  pub report_is : report ≡ loaded (Some refusal) None before (length s.reached) 0 0 0
+
+-- they were, each late interval was filled, and the answers and the line were printed, or not to their end
+pub record IsPrintedLoad {D : Type 0} (device : Device D) (reached new : StoreView D) (r : Receiving) (asks : List Ask) (before : ℕ) (s : SessionResult) (written written' : Option (List ℕ)) (report : Report) : Type 0 where
+  pub all : s.refusal ≡ None
+  pub rest : s.rest ≡ []
+  pub filled : ℕ
+  pub done : AllLateFilled device reached new filled
+  pub text : ArePrinted asks report.refusal written written' (load_text r asks (fillings_in new.filled) before s.reached s.packets)
+  pub report_is : report ≡ printed_report report.refusal before (length s.reached) (length s.packets) (length (rows_received r s.packets)) (length s.packets - arrived s.packets)
+
+-- what became of a load whose packets were all ingested: one of these
+abbrev pub IsWholeLoadEnd : {D : Type 0} → Device D → StoreView D → StoreView D → Receiving → List Ask → ℕ → List ℕ → SessionResult → Option (List ℕ) → Option (List ℕ) → Report → Type 0
+IsWholeLoadEnd device reached new r asks before dump s written written' report =
+    IsBadLoad device reached new r.link before dump s written written' report
+    ⊎ (IsUnfilledLoad device reached new before s written written' report ⊎ IsPrintedLoad device reached new r asks before s written written' report)
+
+-- what became of a load: a batch was refused, or none was
+abbrev pub IsLoadEnd : {D : Type 0} → Device D → StoreView D → StoreView D → Receiving → List Ask → ℕ → List ℕ → SessionResult → Option (List ℕ) → Option (List ℕ) → Report → Type 0
+IsLoadEnd device reached new r asks before dump s written written' report =
+    IsRefusedLoad reached new before s written written' report
+    ⊎ (IsFilledOn reached new × IsWholeLoadEnd device reached new r asks before dump s written written' report)
+
+-- A session over an open store came to this end, which left this store, and that was filled, printed and reported behind it.
 pub record IsLoadRun {D : Type 0} (device : Device D) (old new : StoreView D) (asks : List Ask) (dump : List ℕ) (r : Receiving) (written written' : Option (List ℕ)) (report : Report) : Type 0 where
   pub came_to : SessionResult
+  pub between : StoreView D
   pub session : IsSession (λ n. n ≡ old.records) old.history dump r came_to
-  pub reached : HasReached device old new r came_to
-  pub outcome : IsLoadOutcome r asks (length old.history) dump came_to written written' report.refusal report
+  pub reached : HasReached device old between r came_to
+  pub writes : OneOrTwo came_to.refusal (device.failed_writes old.disk) (device.failed_writes between.disk)
+  pub ending : IsLoadEnd device between new r asks (length old.history) dump came_to written written' report

@@ -4,19 +4,18 @@ use Rattle.arch_disk.specs.Disk.{Device}
 use Rattle.arch_types.specs.declared.ask.Ask.{Ask}
 use Rattle.arch_types.specs.declared.refusal.Refusal.{Refusal}
 use Rattle.outer_traits.specs.Outside.{Files}
-use Rattle.archive_store.specs.Entries.{Archive}
+use Rattle.archive_store.specs.Entries.{FilledArchive}
 use Rattle.command_plans.specs.Plan.{OfMemory, CommandPlan, May, and_then}
-use Rattle.retrieval.specs.AskText.{asks_text}
-use Rattle.archive_cli.specs.Asks.{asked_plan, asks_check_plan}
+use Rattle.archive_cli.specs.Asks.{archive_asks_text, asked_plan, asks_check_plan}
 use Rattle.archive_cli.specs.Command.{Progress, archive_opened, nothing_done, opening_plan, stepwise_printing_plan}
 
--- prints the answers of an archive to asks, none of which is refused
-abbrev pub answers_plan : Archive → List Ask → CommandPlan Progress ⊥
-answers_plan archive asks = stepwise_printing_plan (archive_opened 0 archive) (asks_text archive.head archive.history 1 asks)
+-- prints the answers of an archive with its fills to asks, none of which is refused
+abbrev pub answers_plan : FilledArchive → List Ask → CommandPlan Progress ⊥
+answers_plan filled asks = stepwise_printing_plan (archive_opened 0 filled.plain) (archive_asks_text filled 1 asks)
 
 -- checks the asks of a sheet over an archive, and answers them
-abbrev pub answering_plan : Result (List Ask) Refusal → Archive → CommandPlan Progress ⊥
-answering_plan asks archive = and_then (asks_check_plan (archive_opened 0 archive) archive.head asks) (answers_plan archive)
+abbrev pub answering_plan : Result (List Ask) Refusal → FilledArchive → CommandPlan Progress ⊥
+answering_plan asks filled = and_then (asks_check_plan (archive_opened 0 filled.plain) filled.plain.head asks) (answers_plan filled)
 
 -- opens the archive, and answers the asks of a sheet that was read
 abbrev pub archive_asks_plan : {D : Type 0} → Device D → D → Result (List Ask) Refusal → CommandPlan Progress ⊥

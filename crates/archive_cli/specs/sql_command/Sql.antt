@@ -20,7 +20,7 @@ text_plan text archive = and_then (script_plan (archive_opened 1 archive) Sql ar
 
 -- opens the archive, and answers a text that was read
 abbrev pub archive_text_plan : {D : Type 0} → Device D → D → List ℕ → CommandPlan Progress ⊥
-archive_text_plan device disk text = May OfMemory (nothing_done 1) (and_then (opening_plan 1 device disk) (text_plan text))
+archive_text_plan device disk text = May OfMemory (nothing_done 1) (and_then (opening_plan 1 device disk) (λ filled. text_plan text filled.plain))
 
 -- reads the script, opens the archive, and answers it
 abbrev pub sql_plan : {D : Type 0} → Device D → D → Option Files → List ℕ → CommandPlan Progress ⊥

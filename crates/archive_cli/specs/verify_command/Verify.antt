@@ -1,35 +1,42 @@
 -- The command `verify`.
-use Rattle.std.specs.Prelude.{ℕ, ℤ, pos, negsuc, List, ◌++◌, map, length, codes, decimal}
-use Rattle.std.specs.List.{dedup}
-use Rattle.std.specs.Ordering.{int_eq}
+use Rattle.std.specs.Prelude.{ℕ, List, ◌++◌, length, codes, decimal, Option, Some, None}
 use Rattle.arch_disk.specs.Disk.{Device}
-use Rattle.arch_types.specs.declared.row.Row.{Row}
-use Rattle.arch_types.specs.Interval.{interval_of}
-use Rattle.arch_types.specs.Table.{range_of}
-use Rattle.history_items.specs.Items.{Item, rows_in}
-use Rattle.archive_store.specs.Entries.{Archive}
-use Rattle.command_plans.specs.Plan.{CommandPlan}
-use Rattle.archive_cli.specs.ArchiveLine.{archive_line_plan}
-use Rattle.archive_cli.specs.Command.{Progress}
+use Rattle.arch_types.specs.declared.refusal.Refusal.{Refusal}
+use Rattle.arch_types.specs.declared.refusal.Refusal.TheVariants.{Mismatch}
+use Rattle.interval_walks.specs.Counts.{intervals_in}
+use Rattle.archive_store.specs.Entries.{FilledArchive}
+use Rattle.archive_verify.specs.Verified.{HoldCurrentFills, IsVerifyRefusal, late_in_archive}
+use Rattle.command_plans.specs.Plan.{OfMemory, CommandPlan, May, Question, Stop, and_then}
+use Rattle.archive_cli.specs.Command.{Progress, archive_opened, nothing_done, opening_plan, printing_plan}
 
--- the interval of a row's time
-abbrev pub row_interval : Row → ℤ
-row_interval row = interval_of 22 row.key.time
+-- the line of a sound archive: how many rows it has, how many intervals, and how many of these are late
+abbrev pub sound_line : ℕ → ℕ → ℕ → List ℕ
+sound_line rows intervals late =
+    codes "sound rows " ++ decimal rows ++ codes " intervals " ++ decimal intervals ++ codes " late " ++ decimal late ++ codes "\n"
 
--- the intervals of rows that stand in the order of their keys, each once
-abbrev pub intervals_of : List Row → List ℤ
-intervals_of rows = dedup int_eq (map row_interval rows)
+-- how many rows a sound archive has, how many intervals have rows of `tm`, and how many of these are late
+abbrev pub verify_line : FilledArchive → List ℕ
+verify_line filled =
+    sound_line (length filled.plain.history) (length (intervals_in 22 filled.plain.history)) (length (late_in_archive filled))
 
--- the rows of `tm`, in the order of their keys: no packet has the one time that 64 bits hold above these
-abbrev pub rows_of_tm : List Item → List Row
-rows_of_tm history = range_of 0 (negsuc 9223372036854775807) (pos 9223372036854775807) (rows_in history)
+-- what comparing finds: that each fill that stands for an interval holds what the interval's rows give, or the first
+-- mismatch
+abbrev pub IsCompared : FilledArchive → Option Refusal → Type 0
+IsCompared filled None = HoldCurrentFills filled
+IsCompared filled (Some (Mismatch interval name key stored replayed)) =
+    IsVerifyRefusal filled (Mismatch interval name key stored replayed)
+IsCompared filled (Some other) = ⊥
 
--- how many rows an archive has, in how many intervals, and how many of these are late: all of them, as no fill is kept yet
-abbrev pub verify_line : Archive → List ℕ
-verify_line archive =
-    let intervals = length (intervals_of (rows_of_tm archive.history)) in
-    codes "sound rows " ++ decimal (length archive.history) ++ codes " intervals " ++ decimal intervals ++ codes " late " ++ decimal intervals ++ codes "\n"
+-- what comparing leads to: the line, or the mismatch and no text
+abbrev pub after_comparing : FilledArchive → Option Refusal → CommandPlan Progress ⊥
+after_comparing filled None = printing_plan (archive_opened 0 filled.plain) (verify_line filled)
+after_comparing filled (Some refusal) = Stop (archive_opened 0 filled.plain) (Some refusal)
 
--- opens the archive, and prints its line: there is no fill whose cells could differ from what rows give
+-- compares what is stored of the intervals of an archive with what their rows give
+abbrev pub compare_plan : FilledArchive → CommandPlan Progress ⊥
+compare_plan filled =
+    May OfMemory (archive_opened 0 filled.plain) (Question (IsCompared filled) (after_comparing filled))
+
+-- opens the archive, and compares
 abbrev pub verify_plan : {D : Type 0} → Device D → D → CommandPlan Progress ⊥
-verify_plan device disk = archive_line_plan verify_line device disk
+verify_plan device disk = May OfMemory (nothing_done 0) (and_then (opening_plan 0 device disk) compare_plan)

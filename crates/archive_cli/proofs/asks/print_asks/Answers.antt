@@ -2,18 +2,18 @@ use Rattle.std.proofs.Common.{◌≡◌, ◌∙◌, ◌+◌, ◌++◌, ◌<◌, 
 use Rattle.std.proofs.lemmas.List.{drop_more}
 use Rattle.std.proofs.lemmas.Result.{err_from_is_err_and}
 use Rattle.arch_types.specs.declared.ask.Ask.{Ask}
-use Rattle.archive_store.specs.StoreView.{StoreView}
+use Rattle.archive_store.specs.StoreView.{StoreView, filled_of}
 use Rattle.outer_traits.specs.Outside.{WritesSome}
-use Rattle.retrieval.specs.AskText.{ask_text, asks_text}
 use Rattle.dump_lines.specs.Output.{IsBuffered}
 use Rattle.dump_lines.proofs.LineBuffers.{buffered_more, buffered_some}
+use Rattle.archive_cli.specs.Asks.{archive_ask_text, archive_asks_text}
 use Rattle.archive_cli.proofs.AskSheets.{first_known, next_text}
 use Rattle.archive_cli.proofs.asks.print_asks.Goals as goal
 
 pub loop-i-preserved : goal.loop-i-preserved
 loop-i-preserved g c =
     let head = c.args.store.now.head in
-    let history = c.args.store.now.history in
+    let filled = filled_of c.args.store.now in
     let asks = c.args.asks.now in
     let i = c.loop-i.i in
     let ask = c.index-asks-i.result in
@@ -21,16 +21,16 @@ loop-i-preserved g c =
     let first = (g.K.Sink.state c.args.sink.now).written in
     let now = (g.K.Sink.state c.loop-i.sink).written in
     let new = (g.K.Sink.state c.print_ask.new.sink).written in
-    let all = asks_text head history 1 asks in
+    let all = archive_asks_text filled 1 asks in
     let held = c.loop-i.line_buffer in
     let last = c.print_ask.new.line_buffer in
     let lt : i < length asks = omega arith in
     let step : drop i asks ≡ ask ∷ rest = drop_more asks i ask lt ∙ ap (λ (a : Ask). a ∷ rest) (sym c.index-asks-i.is) in
-    let before = next_text head history (i + 1) first now all held (drop i asks) ask rest step c.loop-i.invariant.buffered in
-    let put : IsBuffered now new (held ++ ask_text head history (i + 1) ask) last =
-    subst (λ (x : StoreView g.row.D.Denot). IsBuffered now new (held ++ ask_text x.head x.history (i + 1) ask) last) c.loop-i.invariant.same c.in_ok-print_ask.ensures.buffered in
+    let before = next_text filled (i + 1) first now all held (drop i asks) ask rest step c.loop-i.invariant.buffered in
+    let put : IsBuffered now new (held ++ archive_ask_text filled (i + 1) ask) last =
+    subst (λ (x : StoreView g.row.D.Denot). IsBuffered now new (held ++ archive_ask_text (filled_of x) (i + 1) ask) last) c.loop-i.invariant.same c.in_ok-print_ask.ensures.buffered in
     record {
-      buffered = buffered_more first now new all (held ++ ask_text head history (i + 1) ask) last (asks_text head history (i + 1 + 1) rest) before put;
+      buffered = buffered_more first now new all (held ++ archive_ask_text filled (i + 1) ask) last (archive_asks_text filled (i + 1 + 1) rest) before put;
       room = c.in_ok-print_ask.ensures.room;
       known = (first_known head (drop i asks) ask rest step c.loop-i.invariant.known).1;
       no_fault = c.in_ok-print_ask.ensures.counted ∙ c.loop-i.invariant.no_fault;
@@ -40,7 +40,7 @@ loop-i-preserved g c =
 pub returns-in_err-print_ask-clause-some : goal.returns-in_err-print_ask-clause-some
 returns-in_err-print_ask-clause-some g c =
     let head = c.args.store.now.head in
-    let history = c.args.store.now.history in
+    let filled = filled_of c.args.store.now in
     let asks = c.args.asks.now in
     let i = c.loop-i.i in
     let ask = c.index-asks-i.result in
@@ -48,15 +48,15 @@ returns-in_err-print_ask-clause-some g c =
     let first = (g.K.Sink.state c.args.sink.now).written in
     let now = (g.K.Sink.state c.loop-i.sink).written in
     let new = (g.K.Sink.state c.print_ask.new.sink).written in
-    let all = asks_text head history 1 asks in
+    let all = archive_asks_text filled 1 asks in
     let held = c.loop-i.line_buffer in
     let lt : i < length asks = omega arith in
     let step : drop i asks ≡ ask ∷ rest = drop_more asks i ask lt ∙ ap (λ (a : Ask). a ∷ rest) (sym c.index-asks-i.is) in
-    let before = next_text head history (i + 1) first now all held (drop i asks) ask rest step c.loop-i.invariant.buffered in
-    let some : WritesSome now new (held ++ ask_text head history (i + 1) ask) =
-    subst (λ (x : StoreView g.row.D.Denot). WritesSome now new (held ++ ask_text x.head x.history (i + 1) ask)) c.loop-i.invariant.same c.in_err-print_ask.ensures.some in
+    let before = next_text filled (i + 1) first now all held (drop i asks) ask rest step c.loop-i.invariant.buffered in
+    let some : WritesSome now new (held ++ archive_ask_text filled (i + 1) ask) =
+    subst (λ (x : StoreView g.row.D.Denot). WritesSome now new (held ++ archive_ask_text (filled_of x) (i + 1) ask)) c.loop-i.invariant.same c.in_err-print_ask.ensures.some in
     let p = err_from_is_err_and c.from_residual.result c.from_residual.ensures.1 in
-    rw p.1 (buffered_some first now new all (held ++ ask_text head history (i + 1) ask) (asks_text head history (i + 1 + 1) rest) before some)
+    rw p.1 (buffered_some first now new all (held ++ archive_ask_text filled (i + 1) ask) (archive_asks_text filled (i + 1 + 1) rest) before some)
 
 pub returns-in_err-print_ask-clause-asked : goal.returns-in_err-print_ask-clause-asked
 returns-in_err-print_ask-clause-asked g c =

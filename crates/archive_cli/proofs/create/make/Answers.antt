@@ -51,7 +51,7 @@ returns g c = λ sources.
     let text = subst (IsFinished refusal written written') line c.finish-refusal.ensures.finished in
     let disk : HasDiskOutcome device c.args.disk s.disk false (Made c.args.head) = (
       record { faults = e.counts.faults; writes = (0, omega arith, omega arith, m.no_failed_write) },
-      λ known. made_store device c.args.disk s c.args.head (m.none known) m.history m.fills m.head_is m.opened (e.crash known (m.none known)) (c.into_disk.ensures.images known),
+      λ known. made_store device c.args.disk s c.args.head (m.none known) m.history m.fills m.head_is m.opened (m.sound known) (e.crash known (m.none known)) (c.into_disk.ensures.images known),
     ) in
     subst (λ (d : g.row.D.Denot). Ran device (new_archive_plan sources device c.args.disk c.args.head) (effects_of c.args.disk d output output' report)) (sym c.into_disk.ensures.disk)
     (ran_made sources device went c.args.head m.none

@@ -1,20 +1,19 @@
-use Rattle.std.proofs.Common.{◌≡◌, ◌≤◌, ◌∙◌, ℕ, List, Bor, Option, false, refl, arith, rules, w64, SFits, Some}
+use Rattle.std.proofs.Common.{◌≤◌, ◌∙◌, ℕ, List, Bor, Option, false, refl, arith, rules, w64, SFits, Some}
 use Rattle.std.specs.Prelude.{option_map}
 use Rattle.std.proofs.lemmas.Int.{to_z-of_z}
-use Rattle.archive_store.specs.StoreView.{archive_of}
+use Rattle.archive_store.specs.StoreView.{filled_of}
 use Rattle.command_words.specs.JobView.{load_words_of}
 use Rattle.arch_types.specs.declared.refusal.Refusal.TheVariants.{OutOfMemory}
 use Rattle.archive_cli.specs.Command.{effects_of}
 use Rattle.archive_cli.specs.load_command.Loading.{IsLoadRun}
 use Rattle.archive_cli.specs.Report.{unopened}
 use Rattle.archive_cli.proofs.SourceCounts.{reads_closed}
-use Rattle.store_fills.proofs.Faults.{faults_in-done}
 use Rattle.archive_cli.proofs.load_command.During.{opened_store}
 use Rattle.archive_cli.proofs.load_command.LoadPlan.{closed_again, load_not_received, load_received, load_unarchived, no_room, ran_unfound}
 use Rattle.archive_cli.proofs.load_command.NotLoaded.{gives_input, gives_there}
 use Rattle.archive_cli.proofs.ReadOnly.{opened_outcome}
 use Rattle.archive_cli.proofs.scan_command.Scanned.{moment_of}
-use Rattle.archive_cli.proofs.load_command.Sessions.{ran_session}
+use Rattle.archive_cli.proofs.load_command.Sessions.{ran_load}
 use Rattle.outer_ledgers.proofs.Ledgers.{clock_unused, inputs_unused}
 use Rattle.load_session.specs.Receiving.{Receiving, receiving}
 use Rattle.archive_cli.proofs.load.load_archive.Goals as goal
@@ -23,10 +22,10 @@ use Rattle.archive_cli.proofs.load.load_archive.Goals.{in-Ok-received, in-Err-re
 abbrev named : Option (Bor (List ℕ)) → Option (List ℕ)
 named = option_map (λ (text : Bor (List ℕ)). text.now)
 
--- an opened archive has no fault
+-- an opened archive has fills alone in its fill list
 
-pub load_dump-report-requires-clause-no_fault : goal.load_dump-report-requires-clause-no_fault
-load_dump-report-requires-clause-no_fault g c = faults_in-done c.in-Ok-open-2.store.fills c.in-Ok-open-2.ensures.opened.fills
+pub load_dump-report-requires-clause-opened : goal.load_dump-report-requires-clause-opened
+load_dump-report-requires-clause-opened g c = c.in-Ok-open-2.ensures.opened.fills
 
 -- and no ask is refused
 
@@ -100,12 +99,12 @@ returns-clause-ran g c =
           let session : IsLoadRun device s last received.asks received.dump r (g.K.Sink.state c.args.sink.now).written (g.K.Sink.state w.load_dump-report.new.sink).written report =
           rw (to_z-of_z w64 moment fits, link.0) at w.load_dump-report.ensures.session in
           let went = effects_of c.args.disk last.disk output output' report in
-          let ran = ran_session device c.args.disk s last received.asks received.dump r output output' report
-          (λ known. opened_store device c.args.disk s (e.opened.stands known) e.reads e.opened.opening e.crash) e.opened.records
-          e.counts.faults (rw w.store-is at c.into_disk.ensures.images) (rw w.store-is at c.into_disk.ensures.faults) session (rw e.opened.no_failed_write at w.load_dump-report.ensures.disk_writes)
-          w.load_dump-report.ensures.writes_counted w.load_dump-report.ensures.writes_later in
-          let over = load_received device went files next words (named c.args.text) c.args.sheet (state c.args.inputs.now) (state c.close-2.new.self) (gives_there files c.args.words.dump.now _ source.found) (archive_of s)
-          (λ known. e.opened.stands known) received.dump moment received.graph received.asks ready (gives_input files c.args.words.dump.now _ received.dump source.found w.in-Ok-received.ensures.whole)
+          let ran = ran_load device c.args.disk s last received.asks received.dump r output output' report
+          (λ known. opened_store device c.args.disk s (e.opened.stands known) e.reads e.opened.opening e.crash) e.opened.records e.counts.faults e.opened.no_failed_write
+          (rw w.store-is at c.into_disk.ensures.images) (rw w.store-is at c.into_disk.ensures.faults) c.front-opened.ensures.bases (rw w.store-is at c.front-loaded.ensures.bases)
+          (rw w.store-is at c.front-loaded.ensures.kept) refl w.load_dump-report.ensures.writes_counted w.load_dump-report.ensures.writes_later session in
+          let over = load_received device went files next words (named c.args.text) c.args.sheet (state c.args.inputs.now) (state c.close-2.new.self) (gives_there files c.args.words.dump.now _ source.found) (filled_of s)
+          (λ known. e.opened.filled known) received.dump moment received.graph received.asks ready (gives_input files c.args.words.dump.now _ received.dump source.found w.in-Ok-received.ensures.whole)
           w.in-Ok-received.ensures.short (moment_of next moment w.now-moment.ensures.known w.now-moment.ensures.range) used ran in
           rw (c.into_disk.ensures.disk, w.sink-is, w.report-is, w.store-is) over
       | in-Err-received w ↦
@@ -118,7 +117,7 @@ returns-clause-ran g c =
           let two : (g.I.Inputs.state c.open.new.self).faults ≤ (g.I.Inputs.state c.close-2.new.self).faults = back.later in
           let disk = opened_outcome device c.args.disk s e.opened e.reads e.crash e.counts (rw w.store-is at c.into_disk.ensures.images) (rw w.store-is at c.into_disk.ensures.faults) in
           let over = load_not_received device (effects_of c.args.disk s.disk output output report) files next words (named c.args.text) c.args.sheet (state c.args.inputs.now) (state c.close-2.new.self)
-          (gives_there files c.args.words.dump.now _ source.found) (archive_of s) (λ known. e.opened.stands known) refl disk used (omega (arith, one, two)) _ 0 _ unread.refusal unread.link source.found
+          (gives_there files c.args.words.dump.now _ source.found) (filled_of s) (λ known. e.opened.filled known) refl disk used (omega (arith, one, two)) _ 0 _ unread.refusal unread.link source.found
           (rw source.fresh at w.in-Err-received.ensures.unread) (λ ending read. reads_closed ending (state c.args.inputs.now).faults (state c.open.new.self).faults _
           (state c.close-2.new.self).faults source.counted read back.kept back.risen) w.nothing_loaded-report.ensures in
           rw (c.into_disk.ensures.disk, w.sink-is, w.report-is, w.store-is) over

@@ -1,19 +1,38 @@
-use Rattle.std.proofs.Common.{◌≡◌, ◌∙◌, w64, length, refl, sym, ap, arith}
+use Rattle.std.proofs.Common.{◌≡◌, inl, inr, w64, length, refl, ap, arith}
 use Rattle.std.proofs.lemmas.Int.{to_z-of_z}
-use Rattle.load_session.specs.Receiving.{receiving}
+use Rattle.load_session.specs.Receiving.{Receiving, receiving}
 use Rattle.load_session.proofs.Sessions.{session_grew}
-use Rattle.archive_cli.specs.declared.report.Report.{Report}
-use Rattle.archive_cli.proofs.DiskWrites.{bad_writes, printed_writes, stopped_writes}
-use Rattle.archive_cli.proofs.load_command.LoadReports.{counts_whole, session_bad, session_printed, session_stopped}
+use Rattle.store_fills.proofs.Faults.{faults_in-done}
+use Rattle.archive_cli.proofs.load_command.LoadReports.{counts_whole}
+use Rattle.archive_cli.proofs.load_command.Sessions.{none_behind, idle_behind}
 use Rattle.archive_cli.proofs.load.load_dump.Goals as goal
 
-pub print-requires-clause-answerable : goal.print-requires-clause-answerable
-print-requires-clause-answerable g c =
-    let run = rw c.in-Ok.is at c.run_session.ensures.session in
-    rw (run.reached.head, c.as_slice.ensures) c.requires.answerable
+pub run_session-requires-clause-no_fault : goal.run_session-requires-clause-no_fault
+run_session-requires-clause-no_fault g c = faults_in-done c.args.store.now.fills c.requires.opened
 
-pub print-requires-clause-grown : goal.print-requires-clause-grown
-print-requires-clause-grown g c =
+-- ---- all packets were ingested
+
+pub end_load-requires-clause-idle : goal.end_load-requires-clause-idle
+end_load-requires-clause-idle g c =
+    let moment = to_z-of_z w64 c.args.moment c.ranges.moment in
+    let run = rw (moment, c.in-Ok.is) at c.run_session.ensures.session in
+    let r : Receiving = receiving c.args.store.now.head c.args.received.now.graph c.args.received.now.link c.args.moment in
+    idle_behind g.D.Disk.device c.args.store.now c.run_session.new.store r run.came_to run.reached run.answer_is c.requires.opened
+
+pub end_load-requires-clause-no_fault : goal.end_load-requires-clause-no_fault
+end_load-requires-clause-no_fault g c =
+    let moment = to_z-of_z w64 c.args.moment c.ranges.moment in
+    let run = rw (moment, c.in-Ok.is) at c.run_session.ensures.session in
+    let r : Receiving = receiving c.args.store.now.head c.args.received.now.graph c.args.received.now.link c.args.moment in
+    none_behind g.D.Disk.device c.args.store.now c.run_session.new.store r run.came_to run.reached run.answer_is c.requires.opened
+
+pub end_load-requires-clause-answerable : goal.end_load-requires-clause-answerable
+end_load-requires-clause-answerable g c =
+    let run = rw c.in-Ok.is at c.run_session.ensures.session in
+    rw run.reached.head c.requires.answerable
+
+pub end_load-requires-clause-grown : goal.end_load-requires-clause-grown
+end_load-requires-clause-grown g c =
     let moment = to_z-of_z w64 c.args.moment c.ranges.moment in
     let front = c.front-before.ensures.front in
     let run = rw (moment, c.in-Ok.is) at c.run_session.ensures.session in
@@ -21,91 +40,51 @@ print-requires-clause-grown g c =
     (receiving c.args.store.now.head c.args.received.now.graph c.args.received.now.link c.args.moment) run.came_to run.session in
     omega (arith, front, more, ap length run.reached.history)
 
-pub print-requires-clause-counts : goal.print-requires-clause-counts
-print-requires-clause-counts g c =
+pub end_load-requires-clause-counts : goal.end_load-requires-clause-counts
+end_load-requires-clause-counts g c =
     let moment = to_z-of_z w64 c.args.moment c.ranges.moment in
     let front = c.front-before.ensures.front in
     let run = rw (moment, c.in-Ok.is) at c.run_session.ensures.session in
-    let counts = counts_whole (receiving c.args.store.now.head c.args.received.now.graph c.args.received.now.link c.args.moment) c.args.received.now.asks (length c.args.store.now.history) c.args.received.now.dump run.came_to c.in-Ok.whole run.summary run.answer_is
-    (λ n. n ≡ c.args.store.now.records) c.args.store.now.history run.session refl in
+    let counts = counts_whole (receiving c.args.store.now.head c.args.received.now.graph c.args.received.now.link c.args.moment) (length c.args.store.now.history) c.args.received.now.dump run.came_to c.in-Ok.whole run.summary
+    run.answer_is (λ n. n ≡ c.args.store.now.records) c.args.store.now.history run.session refl in
     omega (arith, front, counts, ap length run.reached.history)
+
+pub returns-in-Ok-clause-session : goal.returns-in-Ok-clause-session
+returns-in-Ok-clause-session g c =
+    let moment = to_z-of_z w64 c.args.moment c.ranges.moment in
+    let front = c.front-before.ensures.front in
+    let run = rw (moment, c.in-Ok.is) at c.run_session.ensures.session in
+    let r : Receiving = receiving c.args.store.now.head c.args.received.now.graph c.args.received.now.link c.args.moment in
+    record {
+      came_to = run.came_to;
+      between = c.run_session.new.store;
+      session = run.session;
+      reached = run.reached;
+      writes = rw run.answer_is (rw c.in-Ok.is at c.run_session.ensures.disk_writes);
+      ending = inr (c.end_load.ensures.left, (rw front at c.end_load.ensures.ending) r run.came_to run.summary run.answer_is run.reached.history run.reached.head refl);
+    }
+
+-- ---- a batch was refused
 
 pub stopped-requires : goal.stopped-requires
 stopped-requires g c =
-    let moment = to_z-of_z w64 c.args.moment c.ranges.moment in
-    let front = c.front-before.ensures.front in
-    let run = rw (moment, c.in-Ok.is) at c.run_session.ensures.session in
-    let more = session_grew (λ n. n ≡ c.args.store.now.records) c.args.store.now.history c.args.received.now.dump
-    (receiving c.args.store.now.head c.args.received.now.graph c.args.received.now.link c.args.moment) run.came_to run.session in
-    omega (arith, front, more, ap length run.reached.history)
-
-pub stopped-requires-in-Err : goal.stopped-requires-in-Err
-stopped-requires-in-Err g c =
     let moment = to_z-of_z w64 c.args.moment c.ranges.moment in
     let front = c.front-before.ensures.front in
     let run = rw (moment, c.in-Err.is) at c.run_session.ensures.session in
     let more = session_grew (λ n. n ≡ c.args.store.now.records) c.args.store.now.history c.args.received.now.dump
     (receiving c.args.store.now.head c.args.received.now.graph c.args.received.now.link c.args.moment) run.came_to run.session in
     omega (arith, front, more, ap length run.reached.history)
-
-pub returns-in-None-clause-session : goal.returns-in-None-clause-session
-returns-in-None-clause-session g c =
-    let moment = to_z-of_z w64 c.args.moment c.ranges.moment in
-    let front = c.front-before.ensures.front in
-    let run = rw (moment, c.in-Ok.is) at c.run_session.ensures.session in
-    rw c.print.ensures.same (record {
-      came_to = run.came_to;
-      session = run.session;
-      reached = run.reached;
-      outcome =
-          session_printed (receiving c.args.store.now.head c.args.received.now.graph c.args.received.now.link c.args.moment)
-          c.args.received.now.asks (length c.args.store.now.history) c.args.received.now.dump run.came_to c.in-Ok.whole run.summary
-          run.answer_is (g.K.Sink.state c.args.sink.now).written (g.K.Sink.state c.print.new.sink).written c.print.result (sym c.refusal_of_rest.ensures ∙ c.in-None.is)
-          (rw (front, run.reached.history, run.reached.head, c.as_slice.ensures) at c.print.ensures.printed) (rw (front, run.reached.history) at c.print.ensures.report);
-    })
-
-pub returns-in-Some-clause-session : goal.returns-in-Some-clause-session
-returns-in-Some-clause-session g c =
-    let moment = to_z-of_z w64 c.args.moment c.ranges.moment in
-    let front = c.front-before.ensures.front in
-    let run = rw (moment, c.in-Ok.is) at c.run_session.ensures.session in
-    let rows = ap length run.reached.history in
-    let written = (g.K.Sink.state c.args.sink.now).written in record {
-      came_to = run.came_to;
-      session = run.session;
-      reached = run.reached;
-      outcome =
-          session_bad (receiving c.args.store.now.head c.args.received.now.graph c.args.received.now.link c.args.moment)
-          c.args.received.now.asks (length c.args.store.now.history) c.args.received.now.dump run.came_to c.in-Ok.whole run.summary run.answer_is written written c.in-Some.refusal
-          c.stopped.result (sym c.refusal_of_rest.ensures ∙ c.in-Some.is) refl (rw (front, rows) at c.stopped.ensures);
-    }
 
 pub returns-in-Err-clause-session : goal.returns-in-Err-clause-session
 returns-in-Err-clause-session g c =
     let moment = to_z-of_z w64 c.args.moment c.ranges.moment in
     let front = c.front-before.ensures.front in
     let run = rw (moment, c.in-Err.is) at c.run_session.ensures.session in
-    let rows = ap length run.reached.history in
-    let written = (g.K.Sink.state c.args.sink.now).written in record {
+    let rows = ap length run.reached.history in record {
       came_to = run.came_to;
+      between = c.run_session.new.store;
       session = run.session;
       reached = run.reached;
-      outcome =
-          session_stopped (receiving c.args.store.now.head c.args.received.now.graph c.args.received.now.link c.args.moment) c.args.received.now.asks
-          (λ n. n ≡ c.args.store.now.records) c.args.store.now.history (length c.args.store.now.history) c.args.received.now.dump run.came_to run.session written written c.in-Err.refusal c.stopped-in-Err.result run.answer_is refl (rw (front, rows) at c.stopped-in-Err.ensures);
+      writes = rw run.answer_is (rw c.in-Err.is at c.run_session.ensures.disk_writes);
+      ending = inl (record { refusal = c.in-Err.refusal; refused = run.answer_is; left = refl; silent = refl; report_is = rw (front, rows) at c.stopped.ensures });
     }
-
--- how many writes of the disk failed
-
-pub returns-in-None-clause-disk_writes : goal.returns-in-None-clause-disk_writes
-returns-in-None-clause-disk_writes g c =
-    rw c.print.ensures.same (printed_writes c.args.received.now.asks c.print.result.refusal _ _ _ _ _ (rw c.as_slice.ensures at c.print.ensures.printed) (rw c.in-Ok.is at c.run_session.ensures.disk_writes))
-
-pub returns-in-Some-clause-disk_writes : goal.returns-in-Some-clause-disk_writes
-returns-in-Some-clause-disk_writes g c =
-    bad_writes c.in-Ok.whole.why c.in-Ok.whole.at c.in-Some.refusal c.stopped.result _ _ (sym c.refusal_of_rest.ensures ∙ c.in-Some.is) (ap (λ (r : Report). r.refusal) c.stopped.ensures)
-    (rw c.in-Ok.is at c.run_session.ensures.disk_writes)
-
-pub returns-in-Err-clause-disk_writes : goal.returns-in-Err-clause-disk_writes
-returns-in-Err-clause-disk_writes g c =
-    stopped_writes c.in-Err.refusal c.stopped-in-Err.result _ _ (ap (λ (r : Report). r.refusal) c.stopped-in-Err.ensures) (rw c.in-Err.is at c.run_session.ensures.disk_writes)

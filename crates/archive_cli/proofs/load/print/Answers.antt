@@ -1,6 +1,7 @@
 use Rattle.std.proofs.Common.{◌∙◌, rules, sym, ap}
 use Rattle.dump_lines.proofs.LineBuffers.{wrote_front}
-use Rattle.retrieval.specs.AskText.{asks_text}
+use Rattle.archive_store.specs.StoreView.{filled_of}
+use Rattle.archive_cli.specs.Asks.{archive_asks_text}
 use Rattle.archive_cli.specs.declared.report.Report.{Report}
 use Rattle.archive_cli.proofs.AskSheets.{finished_count, finished_line, unfinished_count, unfinished_text}
 use Rattle.archive_cli.proofs.load_command.LoadReports.{not_printed, printed}
@@ -31,7 +32,7 @@ returns-in-Some g c =
 pub returns-in-Err : goal.returns-in-Err
 returns-in-Err g c =
     let is = ap (λ (r : Report). r.refusal) c.stopped-in-Err.ensures in
-    let answers = asks_text c.args.store.now.head c.args.store.now.history 1 c.args.asks.now in record {
+    let answers = archive_asks_text (filled_of c.args.store.now) 1 c.args.asks.now in record {
       printed = rw (is, c.print_refusal.ensures) (unfinished_text c.args.asks.now c.in-Err.fault _ _ _ c.in-Err.ensures.asked (wrote_front _ _ answers _ c.in-Err.ensures.some));
       report = not_printed c.stopped-in-Err.result c.print_refusal.result c.args.before _ c.args.whole.packets c.args.whole.routed c.args.whole.idle (rw c.print_asks.ensures.same at c.stopped-in-Err.ensures);
       writes_counted = rw (is, c.print_refusal.ensures) (unfinished_count c.in-Err.fault _ _ c.in-Err.ensures.counted);

@@ -1,7 +1,7 @@
 use Rattle.std.proofs.lemmas.Result.{err_from_is_err_and}
 use Rattle.std.proofs.Common.{◌≡◌, ◌∙◌, length, sym, ap, subst}
 use Rattle.std.specs.Prelude.{IsTrue}
-use Rattle.archive_store.specs.StoreView.{StoreView, CrashInvariant, FaultInvariant, archive_of}
+use Rattle.archive_store.specs.StoreView.{StoreView, CrashInvariant, FaultInvariant, filled_of}
 use Rattle.command_plans.specs.Plan.{OfMemory, and_then}
 use Rattle.archive_cli.specs.Command.{Ran, effects_of, nothing_done, opening_plan}
 use Rattle.archive_cli.specs.query_command.Query.{answering_plan, archive_asks_plan}
@@ -39,5 +39,5 @@ returns g c =
     let back = c.into_disk.ensures.disk ∙ ap (λ (x : StoreView g.row.D.Denot). x.disk) same in
     subst (λ (d : g.row.D.Denot). Ran device (archive_asks_plan device c.args.disk c.args.sheet) (effects_of c.args.disk d output output' report)) (sym back)
     (ran_later device went OfMemory (nothing_done 0) (and_then (opening_plan 0 device c.args.disk) (answering_plan c.args.sheet))
-    (ran_opened device went (answering_plan c.args.sheet) 0 (archive_of s) (λ known. e.opened.stands known)
-    (ran_replied device went (archive_of s) c.answer_sheet-refusal.ensures.writes_later disk c.args.sheet refusal c.answer_sheet-refusal.ensures.reply is)))
+    (ran_opened device went (answering_plan c.args.sheet) 0 (filled_of s) (λ known. e.opened.filled known)
+    (ran_replied device went (filled_of s) c.answer_sheet-refusal.ensures.writes_later disk c.args.sheet refusal c.answer_sheet-refusal.ensures.reply is)))

@@ -1,8 +1,9 @@
 use Rattle.archive_cli.specs.Command.{effects_of}
 use Rattle.outer_ledgers.proofs.Ledgers.{clock_unused}
-use Rattle.archive_cli.specs.recover_command.Recover.{recover_line, recover_plan}
-use Rattle.archive_cli.specs.verify_command.Verify.{verify_line, verify_plan}
-use Rattle.archive_cli.proofs.ArchiveLine.{line_reads}
+use Rattle.archive_cli.specs.recover_command.Recover.{recover_plan}
+use Rattle.archive_cli.specs.verify_command.Verify.{verify_plan}
+use Rattle.archive_cli.proofs.Recovered.{recover_reads}
+use Rattle.archive_cli.proofs.Comparing.{verify_reads}
 use Rattle.archive_cli.proofs.OverInputs.{over_any_inputs}
 use Rattle.archive_cli.proofs.RunPlan.{job_due, job_ran}
 use Rattle.archive_cli.proofs.run.run_job.Goals as goal
@@ -76,24 +77,24 @@ returns-in-Sql-clause-due g c = λ transparent known.
 pub returns-in-Recover-clause-ran : goal.returns-in-Recover-clause-ran
 returns-in-Recover-clause-ran g c =
     let state = g.I.Inputs.state in
-    let went = effects_of c.args.disk c.print_archive_line.result.disk (g.K.Sink.state c.args.sink.now)
-    (g.K.Sink.state c.print_archive_line.new.sink) c.print_archive_line.result.report in
-    job_ran g.D.Disk.device went (g.I.Inputs.state c.args.inputs.now).files (g.C.Clock.state c.args.clock.now).next (state c.args.inputs.now) (state c.args.inputs.now) c.args.job _ c.in-Recover.is (over_any_inputs g.D.Disk.device went (recover_plan g.D.Disk.device c.args.disk) (line_reads recover_line g.D.Disk.device c.args.disk) c.print_archive_line.ensures.ran (state c.args.inputs.now))
+    let went = effects_of c.args.disk c.recover.result.disk (g.K.Sink.state c.args.sink.now)
+    (g.K.Sink.state c.recover.new.sink) c.recover.result.report in
+    job_ran g.D.Disk.device went (g.I.Inputs.state c.args.inputs.now).files (g.C.Clock.state c.args.clock.now).next (state c.args.inputs.now) (state c.args.inputs.now) c.args.job _ c.in-Recover.is (over_any_inputs g.D.Disk.device went (recover_plan g.D.Disk.device c.args.disk) (recover_reads g.D.Disk.device c.args.disk) c.recover.ensures.ran (state c.args.inputs.now))
 
 pub returns-in-Recover-clause-due : goal.returns-in-Recover-clause-due
 returns-in-Recover-clause-due g c = λ transparent known.
-    job_due g.D.Disk.device c.args.disk (g.I.Inputs.state c.args.inputs.now).files (g.C.Clock.state c.args.clock.now).next c.args.job _ c.print_archive_line.result.report.refusal c.in-Recover.is (c.print_archive_line.ensures.due transparent)
+    job_due g.D.Disk.device c.args.disk (g.I.Inputs.state c.args.inputs.now).files (g.C.Clock.state c.args.clock.now).next c.args.job _ c.recover.result.report.refusal c.in-Recover.is (c.recover.ensures.due transparent)
 
 pub returns-in-Verify-clause-ran : goal.returns-in-Verify-clause-ran
 returns-in-Verify-clause-ran g c =
     let state = g.I.Inputs.state in
-    let went = effects_of c.args.disk c.print_archive_line-in-Verify.result.disk (g.K.Sink.state c.args.sink.now)
-    (g.K.Sink.state c.print_archive_line-in-Verify.new.sink) c.print_archive_line-in-Verify.result.report in
-    job_ran g.D.Disk.device went (g.I.Inputs.state c.args.inputs.now).files (g.C.Clock.state c.args.clock.now).next (state c.args.inputs.now) (state c.args.inputs.now) c.args.job _ c.in-Verify.is (over_any_inputs g.D.Disk.device went (verify_plan g.D.Disk.device c.args.disk) (line_reads verify_line g.D.Disk.device c.args.disk) c.print_archive_line-in-Verify.ensures.ran (state c.args.inputs.now))
+    let went = effects_of c.args.disk c.verify.result.disk (g.K.Sink.state c.args.sink.now)
+    (g.K.Sink.state c.verify.new.sink) c.verify.result.report in
+    job_ran g.D.Disk.device went (g.I.Inputs.state c.args.inputs.now).files (g.C.Clock.state c.args.clock.now).next (state c.args.inputs.now) (state c.args.inputs.now) c.args.job _ c.in-Verify.is (over_any_inputs g.D.Disk.device went (verify_plan g.D.Disk.device c.args.disk) (verify_reads g.D.Disk.device c.args.disk) c.verify.ensures.ran (state c.args.inputs.now))
 
 pub returns-in-Verify-clause-due : goal.returns-in-Verify-clause-due
 returns-in-Verify-clause-due g c = λ transparent known.
-    job_due g.D.Disk.device c.args.disk (g.I.Inputs.state c.args.inputs.now).files (g.C.Clock.state c.args.clock.now).next c.args.job _ c.print_archive_line-in-Verify.result.report.refusal c.in-Verify.is (c.print_archive_line-in-Verify.ensures.due transparent)
+    job_due g.D.Disk.device c.args.disk (g.I.Inputs.state c.args.inputs.now).files (g.C.Clock.state c.args.clock.now).next c.args.job _ c.verify.result.report.refusal c.in-Verify.is (c.verify.ensures.due transparent)
 
 pub returns-in-Create-clause-clock : goal.returns-in-Create-clause-clock
 returns-in-Create-clause-clock g c = clock_unused (g.C.Clock.state c.args.clock.now)

@@ -1,0 +1,135 @@
+-- The disk of a call that fills what is late.
+use Rattle.std.proofs.Common.{◌≡◌, inl, inr, ℕ, ◌≤◌, true, false, List, [], ◌∷◌, Bool, Option, Some, None, refl, sym, ◌∙◌, ap, subst, arith}
+use Rattle.std.specs.Prelude.{IsTrue, filter, fold, if◌then◌else◌}
+use Rattle.std.specs.List.{AllByRecursion}
+use Rattle.std.specs.Option.{option_map_or}
+use Rattle.std.proofs.Math.Path.{fun_ext}
+use Rattle.arch_disk.specs.Image.{Image}
+use Rattle.arch_disk.specs.Disk.{Device, raised}
+use Rattle.arch_types.specs.declared.interval.Interval.{Interval}
+use Rattle.history_items.specs.declared.fills.Addition.TheVariants.{Nothing}
+use Rattle.history_items.specs.declared.fills.Fill.{Fill}
+use Rattle.history_items.specs.declared.fills.Fill.TheVariants.{Begun, Done, Fault, Freed}
+use Rattle.history_items.specs.Fills.{Rising, above, base_in, flight_after, in_flight, is_same, pending_fault_of, rows_of_faults, unacknowledged_rows}
+use Rattle.history_items.specs.Items.{Item}
+use Rattle.history_items.specs.Late.{IsLate, last_in}
+use Rattle.interval_walks.specs.Counts.{intervals_in, late_intervals}
+use Rattle.interval_walks.proofs.Counts.{none_late}
+use Rattle.late_marks.specs.Mark.{is_late_by}
+use Rattle.store_fills.specs.Faults.{IsDone, faults_in}
+use Rattle.store_fills.proofs.Faults.{Rising-in, pending_fault_of-in, rows_of_faults-in, unacknowledged_rows-in}
+use Rattle.store_fills.specs.FilledSets.{fillings_in}
+use Rattle.store_fills.specs.Sound.{base_of_filling}
+use Rattle.archive_store.specs.declared.head.Head.{Head}
+use Rattle.archive_store.specs.Entries.{FilledArchive, archive, filled_archive}
+use Rattle.archive_store.specs.Stands.{StandsFilled, StandsFor}
+use Rattle.archive_store.specs.StoreView.{CrashInvariant, FaultInvariant, IsNow, StoreView, archive_of, filled_of}
+use Rattle.archive_verify.specs.Verified.{late_in_archive}
+use Rattle.arch_types.specs.declared.refusal.Refusal.TheVariants.{DiskFault}
+use Rattle.load_session.specs.Session.{OneOrTwo}
+use Rattle.outer_ledgers.specs.Ledger.{UsedDisk}
+use Rattle.archive_cli.specs.Command.{AllFilled, Extended, FillingFailed, HasDiskOutcome}
+use Rattle.archive_cli.specs.Durable.{IsDurableAs}
+use Rattle.archive_cli.specs.Filling.{HasNoneLate}
+use Rattle.archive_cli.specs.load_command.Extension.{IsExtended}
+use Rattle.archive_cli.proofs.load_command.During.{IsOpened, load_images}
+
+-- ---- a store that was opened
+
+idle_from : (j : Interval) (fills : List Fill) → AllByRecursion IsDone fills → (o : Option ℕ) → o ≡ None → fold (flight_after j) o fills ≡ None
+idle_from j [] all o none = none
+idle_from j (Begun i b ∷ fills) all o none = absurd all.0
+idle_from j (Done i b ∷ fills) all o none = idle_from j fills all.1 (if is_same j i then None else o) (go (is_same j i))
+  where
+    go : (t : Bool) → (if t then None else o) ≡ None
+    go true = refl
+    go false = none
+idle_from j (Freed i ∷ fills) all o none = absurd all.0
+idle_from j (Fault count wrote unacknowledged ∷ fills) all o none = absurd all.0
+
+-- has no flight
+pub idle_done : (fills : List Fill) → AllByRecursion IsDone fills → (j : Interval) → in_flight j fills ≡ None
+idle_done fills all j = idle_from j fills all None refl
+
+-- ---- late intervals by the fill list are those by the fills
+
+pub late_as_filled : (filled : FilledArchive) (fills : List Fill) → ((i : Interval) → base_in i fills ≡ base_of_filling filled.fillings i) → late_intervals 22 filled.plain.history fills ≡ late_in_archive filled
+late_as_filled filled fills bases =
+    ap (λ (p : Interval → Bool). filter p (intervals_in 22 filled.plain.history))
+    (fun_ext (λ i. ap (λ (b : Option ℕ). option_map_or (λ last. is_late_by last b) (last_in 22 i filled.plain.history) false) (bases i)))
+
+module _ {D : Type 0} (device : Device D) (disk : D) (old new : StoreView D) (head : new.head ≡ old.head) (opening : new.opened ≡ old.opened)
+    (opened : IsTrue device.is_transparent → IsOpened device disk old) (first : device.fault_count disk ≤ device.fault_count old.opened)
+    (keeps : IsTrue device.is_transparent → CrashInvariant device new) (faults : FaultInvariant device new) where
+  -- the rows stand
+  durable_rows : IsTrue device.is_transparent → unacknowledged_rows new.fills ≡ None → IsDurableAs device new.disk new.head new.history
+  durable_rows known nothing =
+      let now : (c : Image) → device.images new.disk c → StandsFor c (archive new.head new.history) =
+      subst (λ (o : Option (List Item)). (c : Image) → device.images new.disk c → IsNow new.head new.history o c) nothing (keeps known).now in
+      record { reads = now (device.reads new.disk) (device.reads_as_image new.disk known); now = now }
+
+  extended : rows_of_faults new.fills ≡ [] → unacknowledged_rows new.fills ≡ None → IsTrue device.is_transparent → IsExtended device disk new.disk (archive_of old) new.history
+  extended none nothing known = record {
+    stands = (opened known).stands;
+    images = load_images device disk old new (opened known) [] none head opening (keeps known);
+    durable = subst (λ (h : Head). IsDurableAs device new.disk h new.history) head (durable_rows known nothing);
+  }
+
+  extended_still : faults_in new.fills ≡ [] → IsTrue device.is_transparent → IsExtended device disk new.disk (archive_of old) new.history
+  extended_still none = extended (rows_of_faults-in new.fills ∙ ap rows_of_faults none) (unacknowledged_rows-in new.fills ∙ ap unacknowledged_rows none)
+
+  -- no call failed
+  pub still_extended : faults_in new.fills ≡ [] → device.failed_writes new.disk ≡ device.failed_writes disk → HasDiskOutcome device disk new.disk false (Extended (archive_of old) new.history)
+  still_extended none writes =
+      let later = faults.later in
+      (record { faults = omega (arith, first, ap device.fault_count opening, later); writes = (0, omega arith, omega arith, writes) }, extended_still none)
+
+  -- a fill did
+  no_rows : (count : ℕ) (wrote : Bool) → (rows_of_faults (Fault count wrote Nothing ∷ []) ≡ []) × (unacknowledged_rows (Fault count wrote Nothing ∷ []) ≡ None)
+  no_rows count true = (refl, refl)
+  no_rows count false = (refl, refl)
+
+  used_failed : raised (device.fault_count disk) ≤ device.fault_count new.disk → OneOrTwo (Some DiskFault) (device.failed_writes disk) (device.failed_writes new.disk)
+      → UsedDisk device disk new.disk true 1 2
+  used_failed rose (inl one) = record { faults = rose; writes = (1, omega arith, omega arith, one) }
+  used_failed rose (inr two) = record { faults = rose; writes = (2, omega arith, omega arith, two) }
+
+  pub fill_has_failed : (count : ℕ) (wrote : Bool) → faults_in new.fills ≡ Fault count wrote Nothing ∷ [] → OneOrTwo (Some DiskFault) (device.failed_writes disk) (device.failed_writes new.disk)
+      → HasDiskOutcome device disk new.disk true (FillingFailed (archive_of old) new.history)
+  fill_has_failed count wrote one writes =
+      let rising = subst (λ (fills : List Fill). Rising (above (device.fault_count new.opened)) (device.fault_count new.disk) fills) one (Rising-in new.fills (above (device.fault_count new.opened)) (device.fault_count new.disk) faults.rising) in
+      let low = rising.0 in
+      let high = rising.1 in
+      let later = faults.later in
+      let none = no_rows count wrote in (
+        used_failed (omega (arith, low, high, later, first, ap device.fault_count opening)) writes,
+        extended (rows_of_faults-in new.fills ∙ ap rows_of_faults one ∙ none.0) (unacknowledged_rows-in new.fills ∙ ap unacknowledged_rows one ∙ none.1),
+      )
+
+  -- no interval is late
+  module _ (none : (i : Interval) → IsLate 22 i new.history new.fills → ⊥) (bases : (i : Interval) → base_in i new.fills ≡ base_of_filling (fillings_in new.filled) i) where
+    none_by_fills : late_in_archive (filled_archive old.head new.history (fillings_in new.filled)) ≡ []
+    none_by_fills = sym (late_as_filled (filled_archive old.head new.history (fillings_in new.filled)) new.fills bases) ∙ none_late 22 new.history new.fills none
+
+    has_none_late : (c : Image) → StandsFilled c (filled_of new) → HasNoneLate old.head new.history c
+    has_none_late c stands = record {
+      fillings = fillings_in new.filled;
+      stands = subst (λ (h : Head). StandsFilled c (filled_archive h new.history (fillings_in new.filled))) head stands;
+      none_late = none_by_fills;
+    }
+
+    pub all_are_filled : faults_in new.fills ≡ [] → device.failed_writes new.disk ≡ device.failed_writes disk
+        → (IsTrue device.is_transparent → pending_fault_of new.fills ≡ None → (c : Image) → device.images new.disk c → StandsFilled c (filled_of new))
+        → HasDiskOutcome device disk new.disk false (AllFilled (archive_of old) new.history)
+    all_are_filled no_fault writes kept =
+        let used = still_extended no_fault writes in (
+          used.0,
+          λ known.
+              let healed = pending_fault_of-in new.fills ∙ ap pending_fault_of no_fault in (
+                used.1 known,
+                record {
+                  reads = has_none_late (device.reads new.disk) (kept known healed (device.reads new.disk) (device.reads_as_image new.disk known));
+                  now = λ c leaves. has_none_late c (kept known healed c leaves);
+                },
+              ),
+        )

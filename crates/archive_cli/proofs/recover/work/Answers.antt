@@ -1,0 +1,106 @@
+use Rattle.std.proofs.lemmas.Result.{err_from_is_err_and}
+use Rattle.std.proofs.Common.{◌≡◌, ◌∙◌, ℕ, ◌++◌, List, Some, true, false, length, refl, sym, ap, subst}
+use Rattle.std.specs.Prelude.{IsTrue, codes, decimal}
+use Rattle.arch_types.specs.declared.refusal.Refusal.TheVariants.{DiskFault}
+use Rattle.load_session.specs.Session.{OneOrTwo}
+use Rattle.history_items.specs.Items.{Item}
+use Rattle.store_fills.proofs.Faults.{faults_in-done}
+use Rattle.archive_store.specs.StoreView.{archive_of, filled_of}
+use Rattle.archive_verify.specs.Verified.{late_in_archive}
+use Rattle.command_plans.specs.Plan.{OfMemory, and_then}
+use Rattle.dump_lines.specs.Output.{IsFinished}
+use Rattle.archive_cli.specs.Command.{AllFilled, Extended, FillingFailed, HasDiskOutcome, Ran, effects_of, nothing_done, opening_plan, printing_plan}
+use Rattle.archive_cli.specs.Filling.{AllLateFilled, filling_refusal}
+use Rattle.archive_cli.specs.FillingPlan.{IsRecordCount, all_filled}
+use Rattle.archive_cli.specs.recover_command.Recover.{archive_with_fills, recover_line, recover_plan, recovering_plan}
+use Rattle.archive_cli.specs.Report.{read_only}
+use Rattle.archive_cli.proofs.Commands.{no_text, ran_later, ran_opened, ran_printed, ran_refused_opening, ran_without_memory}
+use Rattle.archive_cli.proofs.FilledDisks.{all_are_filled, fill_has_failed, idle_done, late_as_filled, still_extended}
+use Rattle.archive_cli.proofs.FillingPlan.{ran_all_filled, ran_unfilled}
+use Rattle.archive_cli.proofs.load_command.During.{IsOpened, opened_store}
+use Rattle.archive_cli.proofs.recover.work.Goals as goal
+
+pub returns-in_default : goal.returns-in_default
+returns-in_default g c =
+    let device = g.D.Disk.device in
+    ran_without_memory device c.args.disk (g.K.Sink.state c.args.sink.now) 0 (and_then (opening_plan 0 device c.args.disk) (recovering_plan (IsRecordCount device c.args.disk)))
+
+pub returns-in_err-store : goal.returns-in_err-store
+returns-in_err-store g c =
+    let device = g.D.Disk.device in
+    let e = c.in_err-store.ensures in
+    let p = err_from_is_err_and c.from_residual.result c.from_residual.ensures.1 in
+    rw (p.1, p.2) (ran_refused_opening device c.args.disk (g.K.Sink.state c.args.sink.now) 0 (recovering_plan (IsRecordCount device c.args.disk)) c.in_err-store.field-0.0 e.refused e.reads e.crash e.counts)
+
+-- ---- the archive was opened
+
+pub fill_late-requires-clause-idle : goal.fill_late-requires-clause-idle
+fill_late-requires-clause-idle g c = idle_done c.in_ok-store.store.fills c.in_ok-store.ensures.opened.fills
+
+pub fill_late-requires-clause-no_fault : goal.fill_late-requires-clause-no_fault
+fill_late-requires-clause-no_fault g c = faults_in-done c.in_ok-store.store.fills c.in_ok-store.ensures.opened.fills
+
+-- each late interval was filled
+pub returns-in-Ok-fill_late : goal.returns-in-Ok-fill_late
+returns-in-Ok-fill_late g c =
+    let device = g.D.Disk.device in
+    let s = c.in_ok-store.store in
+    let e = c.in_ok-store.ensures in
+    let new = c.fill_late.new.store in
+    let filled = c.in-Ok-fill_late.filled in
+    let done : AllLateFilled device s new filled = c.in-Ok-fill_late.ensures.filled in
+    let left = c.in-Ok-fill_late.ensures.left in
+    let refusal = c.finish-refusal.result in
+    let report = c.read_only.result in
+    let output = g.K.Sink.state c.args.sink.now in
+    let output' = g.K.Sink.state c.finish-refusal.new.sink in
+    let went = effects_of c.args.disk new.disk output output' report in
+    let R = IsRecordCount device c.args.disk in
+    let late = length (late_in_archive (filled_of s)) in
+    let as_filled : filled ≡ late = done.count ∙ ap length (late_as_filled (filled_of s) s.fills c.front-rows.ensures.bases) in
+    let is : report ≡ read_only refusal (length s.history) = c.read_only.ensures ∙ ap (read_only refusal) c.front-rows.ensures.front in
+    let line : c.put_recovered.new.line_buffer ≡ recover_line (filled_of s) =
+    c.put_recovered.ensures ∙ ap (λ (n : ℕ). codes "recovered rows " ++ decimal n ++ codes " filled " ++ decimal filled ++ codes "\n") c.front-rows.ensures.front
+    ∙ ap (λ (n : ℕ). codes "recovered rows " ++ decimal (length s.history) ++ codes " filled " ++ decimal n ++ codes "\n") as_filled in
+    let text = subst (IsFinished refusal output.written output'.written) line c.finish-refusal.ensures.finished in
+    let disk =
+    all_are_filled device c.args.disk s new left.head left.opened (λ known. opened_store device c.args.disk s (e.opened.stands known) e.reads e.opened.opening e.crash) e.counts.faults c.into_disk.ensures.images c.into_disk.ensures.faults
+    done.none_late c.front.ensures.bases done.unfailed.no_fault (done.unfailed.no_failed_write ∙ e.opened.no_failed_write) c.front.ensures.kept in
+    let rows = subst (λ (h : List Item). HasDiskOutcome device c.args.disk new.disk false (AllFilled (archive_of s) h)) left.rows disk in
+    let st = archive_with_fills (archive_of s) in
+    let end = all_filled (archive_of s) s.history st in
+    subst (λ (d : g.row.D.Denot). Ran device (recover_plan device c.args.disk) (effects_of c.args.disk d output output' report)) (sym c.into_disk.ensures.disk)
+    (ran_later device went OfMemory (nothing_done 0) (and_then (opening_plan 0 device c.args.disk) (recovering_plan R))
+    (ran_opened device went (recovering_plan R) 0 (filled_of s) (λ known. e.opened.filled known)
+    (ran_all_filled R (archive_of s) s.history late st (printing_plan end (recover_line (filled_of s))) device went s.records e.opened.records (ap (filling_refusal s.records) (sym as_filled) ∙ done.fits)
+    (ran_printed device went end (recover_line (filled_of s)) refusal refl refl text c.finish-refusal.ensures.later c.finish-refusal.ensures.counted is rows))))
+
+-- not each was
+pub returns-in-Err : goal.returns-in-Err
+returns-in-Err g c =
+    let device = g.D.Disk.device in
+    let s = c.in_ok-store.store in
+    let e = c.in_ok-store.ensures in
+    let new = c.fill_late.new.store in
+    let left = c.in-Err.ensures.left in
+    let refusal = c.in-Err.refusal in
+    let report = c.read_only-in-Err.result in
+    let output = g.K.Sink.state c.args.sink.now in
+    let went = effects_of c.args.disk new.disk output output report in
+    let R = IsRecordCount device c.args.disk in
+    let late = length (late_in_archive (filled_of s)) in
+    let is : report ≡ read_only (Some refusal) (length s.history) = c.read_only-in-Err.ensures ∙ ap (read_only (Some refusal)) c.front-rows.ensures.front in
+    let opened : IsTrue device.is_transparent → IsOpened device c.args.disk s = λ known. opened_store device c.args.disk s (e.opened.stands known) e.reads e.opened.opening e.crash in
+    let st = archive_with_fills (archive_of s) in
+    let end = all_filled (archive_of s) s.history st in
+    subst (λ (d : g.row.D.Denot). Ran device (recover_plan device c.args.disk) (effects_of c.args.disk d output output report)) (sym c.into_disk-in-Err.ensures.disk)
+    (ran_later device went OfMemory (nothing_done 0) (and_then (opening_plan 0 device c.args.disk) (recovering_plan R))
+    (ran_opened device went (recovering_plan R) 0 (filled_of s) (λ known. e.opened.filled known)
+    (ran_unfilled R (archive_of s) s.history late st (printing_plan end (recover_line (filled_of s))) device went s new e.opened.records (ap length (late_as_filled (filled_of s) s.fills c.front-rows.ensures.bases)) refl refl
+    (no_text output.written) (record { counted = refl })
+    (λ unfailed. subst (λ (h : List Item). HasDiskOutcome device c.args.disk new.disk false (Extended (archive_of s) h)) left.rows
+    (still_extended device c.args.disk s new left.head left.opened opened e.counts.faults c.into_disk-in-Err.ensures.images c.into_disk-in-Err.ensures.faults unfailed.no_fault (unfailed.no_failed_write ∙ e.opened.no_failed_write)))
+    (λ failed. subst (λ (h : List Item). HasDiskOutcome device c.args.disk new.disk true (FillingFailed (archive_of s) h)) left.rows
+    (fill_has_failed device c.args.disk s new left.head left.opened opened e.counts.faults c.into_disk-in-Err.ensures.images c.into_disk-in-Err.ensures.faults failed.count failed.wrote failed.fault
+    (subst (λ (n : ℕ). OneOrTwo (Some DiskFault) n (device.failed_writes new.disk)) e.opened.no_failed_write failed.writes)))
+    refusal c.in-Err.ensures.refused is)))
