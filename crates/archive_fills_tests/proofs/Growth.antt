@@ -1,0 +1,29 @@
+-- Stores whose history goes on, and fills that stay right for them.
+use Rattle.std.proofs.Common.{◌≡◌, List, ◌++◌, refl, sym, ◌∙◌, ap, subst, append_assoc}
+use mathlib.Core.List.{IsPrefix}
+use Rattle.store_fills.specs.Built.{BuiltFill}
+use Rattle.store_fills.specs.Filled.{IsRightFill}
+use Rattle.store_fills.proofs.RightFills.{right_fill_stays}
+use Rattle.archive_store.specs.declared.head.Head.{Head}
+use Rattle.archive_store.specs.StoreView.{StoreView}
+use Rattle.archive_store.proofs.PendingFaults.{prefix_self}
+use Rattle.archive_fills_tests.specs.Growth.{GoesOnFrom, IsRightFor}
+
+prefix_on : {A : Type 0} (xs ys zs : List A) → IsPrefix xs ys → IsPrefix ys zs → IsPrefix xs zs
+prefix_on {A = A} xs ys zs first next = (first.0 ++ next.0, sym (append_assoc xs first.0 next.0) ∙ ap (λ (l : List A). l ++ next.0) first.1 ∙ next.1)
+
+module _ {D : Type 0} where
+  pub stays : (store : StoreView D) → GoesOnFrom store store
+  stays store = record { history = prefix_self store.history; head = refl }
+
+  pub goes_on : (old mid new : StoreView D) → GoesOnFrom old mid → GoesOnFrom mid new → GoesOnFrom old new
+  goes_on old mid new first next = record {
+    history = prefix_on old.history mid.history new.history first.history next.history;
+    head = next.head ∙ first.head;
+  }
+
+  pub stays_right : (old new : StoreView D) (done : BuiltFill) → GoesOnFrom old new → IsRightFor old done → IsRightFor new done
+  stays_right old new done on right =
+      subst (λ (h : Head). IsRightFill 22 h.mdb new.history done.interval done.base done.set) (sym on.head)
+      (subst (λ l. IsRightFill 22 old.head.mdb l done.interval done.base done.set) on.history.1
+      (right_fill_stays 22 old.head.mdb old.history on.history.0 done.interval done.base done.set right))

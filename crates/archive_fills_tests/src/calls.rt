@@ -1,0 +1,247 @@
+// Single calls of a store, each with its answer. Each is made in one function, since its clauses stand in the goals of each that makes it.
+ghost use Rattle.std.specs.Prelude.{IfOk, IfSome};
+ghost use Rattle.archive_fills_tests.specs.Growth.{GoesOnFrom, IsRightFor};
+
+use crate::parts::{Incoming, batch, packet_octets, text_of};
+use crate::plans::{Over, shows};
+use arch_disk::Disk;
+use arch_types::cell::Cell;
+use arch_types::inserted::{Inserted, Installed};
+use arch_types::interval::Interval;
+use arch_types::row::Row;
+use archive_store::{FillTask, Filled, Store};
+use std::alloc::Global;
+use std::test::Fail;
+
+/// The interval, the base and the packets of a fill that begins.
+pub type Task = (i64, u64, &'static [usize]);
+
+/// What becomes of a fill that is installed, or why it is refused.
+pub type Outcome = Result<Installed, &'static str>;
+
+/// A call of a store, and what it answers.
+pub enum Call {
+    /// What becomes of a packet.
+    Ingest(Incoming, Inserted),
+    /// Why a packet is refused.
+    Refused(Incoming, &'static str),
+    /// A fill that begins, where there is one.
+    Begin(Option<Task>),
+    /// A fill that begins and is given up.
+    GiveUp(Task),
+    /// A fill that begins and is installed.
+    Fill(Task, Outcome),
+    /// Each flight ends.
+    Settle,
+    /// A reopen that succeeds.
+    Reopen,
+    /// A reopen that is refused.
+    NoReopen,
+    /// Whether an interval is late.
+    Late(i64, bool),
+    /// The values of a parameter in the set that stands for an interval.
+    Set(i64, u16, &'static [i128]),
+    /// An interval for which no set stands.
+    NoSet(i64),
+    /// The front, and what a plan over a range has of each interval that the range meets.
+    Plan(i64, i64, u64, &'static [Over]),
+}
+
+/// What becomes of a packet, or why it is refused.
+fn ingested<D: Disk>(
+    alloc: Global,
+    store: &mut Store<D>,
+    incoming: Incoming,
+) -> Result<Result<Inserted, &'static str>, Fail>
+    ensures { GoesOnFrom store.old store.new }
+{
+    let batch = batch(alloc, store.head(), incoming)?;
+    match store.ingest(alloc, &batch) {
+        Ok(ingested) => match ingested.outcomes.as_slice() {
+            [outcome] => Ok(Ok(*outcome)),
+            _ => Err(Fail::from("an outcome")),
+        },
+        Err(refusal) => Ok(Err(text_of(&refusal))),
+    }
+}
+
+/// Whether a packet is answered so.
+fn is_ingested<D: Disk>(
+    alloc: Global,
+    store: &mut Store<D>,
+    incoming: Incoming,
+    answer: Result<Inserted, &'static str>,
+) -> Result<bool, Fail>
+    ensures { GoesOnFrom store.old store.new }
+{
+    Ok(ingested(alloc, store, incoming)? == answer)
+}
+
+/// Whether a reopen succeeds.
+fn is_reopened<D: Disk>(store: &mut Store<D>) -> bool
+    ensures { GoesOnFrom store.old store.new }
+{
+    store.reopen().is_ok()
+}
+
+/// Whether rows are the packets of these numbers.
+pub(crate) fn are_packets(rows: &[Row], numbers: &[usize]) -> bool {
+    for (row, number) in rows.iter().zip(numbers) {
+        if row.packet.as_slice() != packet_octets(*number) {
+            return false;
+        }
+    }
+    rows.len() == numbers.len()
+}
+
+/// Whether a fill is this one.
+fn is_task(task: &FillTask, expected: &Task) -> bool {
+    let (interval, base, packets) = *expected;
+    task.interval.0 == interval && task.base == base && are_packets(task.rows.as_slice(), packets)
+}
+
+/// Whether this fill begins, or none. It stays in flight.
+fn begins<D: Disk>(
+    alloc: Global,
+    store: &mut Store<D>,
+    expected: &Option<Task>,
+) -> Result<bool, Fail>
+    ensures { GoesOnFrom store.old store.new }
+{
+    match (store.begin(alloc)?, expected) {
+        (Some(task), Some(expected)) => Ok(is_task(&task, expected)),
+        (task, expected) => Ok(task.is_none() && expected.is_none()),
+    }
+}
+
+/// Whether this fill begins. It is given up.
+fn gives_up<D: Disk>(alloc: Global, store: &mut Store<D>, expected: &Task) -> Result<bool, Fail>
+    ensures { GoesOnFrom store.old store.new }
+{
+    let Some(task) = store.begin(alloc)? else {
+        return Ok(false);
+    };
+    let is_expected = is_task(&task, expected);
+    store.abandon(task);
+    Ok(is_expected)
+}
+
+/// The fill of a task that begins, where it is this one.
+pub(crate) fn built<D: Disk>(
+    alloc: Global,
+    store: &mut Store<D>,
+    expected: &Task,
+) -> Result<Option<Filled>, Fail>
+    ensures right { IfOk result (λ built. IfSome built (IsRightFor store.new)) }
+    ensures goes_on { GoesOnFrom store.old store.new }
+{
+    let Some(task) = store.begin(alloc)? else {
+        return Ok(None);
+    };
+    if !is_task(&task, expected) {
+        store.abandon(task);
+        return Ok(None);
+    }
+    match Filled::of(alloc, task, &store.head().mdb) {
+        Ok(filled) => Ok(Some(filled)),
+        Err((task, error)) => {
+            store.abandon(task);
+            Err(Fail::from(error))
+        }
+    }
+}
+
+/// Whether the installing of a fill is answered so.
+pub(crate) fn is_installed<D: Disk>(store: &mut Store<D>, filled: Filled, outcome: Outcome) -> bool
+    requires { IsRightFor store.old filled }
+    ensures { GoesOnFrom store.old store.new }
+{
+    match store.install(filled) {
+        Ok(installed) => outcome == Ok(installed),
+        Err(refusal) => outcome == Err(text_of(&refusal)),
+    }
+}
+
+/// Whether this fill begins, and its installing is answered so.
+fn fills<D: Disk>(
+    alloc: Global,
+    store: &mut Store<D>,
+    expected: &Task,
+    outcome: Outcome,
+) -> Result<bool, Fail>
+    ensures { GoesOnFrom store.old store.new }
+{
+    match built(alloc, store, expected)? {
+        Some(filled) => Ok(is_installed(store, filled, outcome)),
+        None => Ok(false),
+    }
+}
+
+/// Whether cells have these raw values.
+fn are_raws(cells: &[Cell], raws: &[i128]) -> bool {
+    cells.len() == raws.len() && cells.iter().zip(raws).all(|(cell, raw)| cell.raw == *raw)
+}
+
+/// Whether the set that stands for an interval has these values of a parameter.
+fn has_values<D: Disk>(
+    alloc: Global,
+    store: &Store<D>,
+    interval: i64,
+    parameter: u16,
+    raws: &[i128],
+) -> Result<bool, Fail> {
+    match store.segments(Interval(interval))? {
+        Some(set) => {
+            let cells = set.cells(alloc, &store.head().mdb, parameter)?;
+            Ok(are_raws(cells.as_slice(), raws))
+        }
+        None => Ok(false),
+    }
+}
+
+/// Whether no set stands for an interval.
+fn has_none<D: Disk>(store: &Store<D>, interval: i64) -> Result<bool, Fail> {
+    Ok(store.segments(Interval(interval))?.is_none())
+}
+
+/// Whether a call is answered as it is to be.
+fn is_answered<D: Disk>(alloc: Global, store: &mut Store<D>, call: &Call) -> Result<bool, Fail>
+    ensures { GoesOnFrom store.old store.new }
+{
+    match call {
+        Call::Ingest(incoming, outcome) => is_ingested(alloc, store, *incoming, Ok(*outcome)),
+        Call::Refused(incoming, why) => is_ingested(alloc, store, *incoming, Err(*why)),
+        Call::Begin(task) => begins(alloc, store, task),
+        Call::GiveUp(task) => gives_up(alloc, store, task),
+        Call::Fill(task, outcome) => fills(alloc, store, task, *outcome),
+        Call::Settle => {
+            store.settle();
+            Ok(true)
+        }
+        Call::Reopen => Ok(is_reopened(store)),
+        Call::NoReopen => Ok(!is_reopened(store)),
+        Call::Late(interval, late) => Ok(store.is_late(Interval(*interval)) == *late),
+        Call::Set(interval, parameter, raws) => {
+            has_values(alloc, store, *interval, *parameter, raws)
+        }
+        Call::NoSet(interval) => has_none(store, *interval),
+        Call::Plan(from, to, front, parts) => shows(alloc, store, *from, *to, *front, parts),
+    }
+}
+
+/// Whether each of these calls is answered as it is to be.
+#[tactic(auto, using(crate::proofs::Growth::stays, crate::proofs::Growth::goes_on))]
+pub(crate) fn are_answered<D: Disk>(
+    alloc: Global,
+    store: &mut Store<D>,
+    calls: &[Call],
+) -> Result<bool, Fail>
+    ensures { GoesOnFrom store.old store.new }
+{
+    for call in calls {
+        if !is_answered(alloc, store, call)? {
+            return Ok(false);
+        }
+    }
+    Ok(true)
+}

@@ -1,0 +1,299 @@
+// Fills from their beginning to their end, while other calls come between; and in archives that are opened again.
+use crate::calls::Call;
+use crate::plans::Over;
+use crate::steps::{Step, of_new, of_opened, other_of_new};
+use arch_disk::{Disk, MemDisk};
+use arch_types::inserted::{Inserted, Installed};
+use std::alloc::Global;
+use std::test::Fail;
+
+/// The last moment of an interval and the first of the next are apart, in ranges and in fills. Neither packet has a `v`.
+const BORDER: &[Step] = &[Step::Calls(&[
+    Call::Ingest((5, 0), Inserted::New(0)),
+    Call::Ingest((6, 0), Inserted::New(1)),
+    Call::Late(0, true),
+    Call::Late(1, true),
+    Call::Plan(4_194_303, 4_194_304, 2, &[Over::Rows(0, &[5])]),
+    Call::Plan(4_194_304, 4_194_305, 2, &[Over::Rows(1, &[6])]),
+    Call::Fill((0, 2, &[5]), Ok(Installed::Done)),
+    Call::Late(0, false),
+    Call::Late(1, true),
+    Call::Plan(4_194_303, 4_194_304, 2, &[Over::Set(0)]),
+    Call::Plan(
+        4_194_303,
+        4_194_305,
+        2,
+        &[Over::Set(0), Over::Rows(1, &[6])],
+    ),
+    Call::Set(0, 0, &[100]),
+    Call::Set(0, 1, &[]),
+    Call::NoSet(1),
+    Call::Fill((1, 2, &[6]), Ok(Installed::Done)),
+    Call::Plan(0, 9_000_000, 2, &[Over::Set(0), Over::Set(1)]),
+    Call::Set(1, 0, &[100]),
+    Call::Late(2, false),
+    Call::NoSet(2),
+    Call::Late(-1, false),
+])];
+
+/// A packet that comes while its interval is in flight makes the fill stale. The next fill has both packets.
+const STALE: &[Step] = &[
+    Step::Calls(&[
+        Call::Ingest((4, 0), Inserted::New(0)),
+        Call::Late(0, true),
+        Call::NoSet(0),
+    ]),
+    Step::Fill(
+        (0, 1, &[4]),
+        &[
+            Call::Begin(None),
+            Call::Ingest((1, 0), Inserted::New(1)),
+            Call::Begin(None),
+        ],
+        Ok(Installed::Stale { position: 1 }),
+    ),
+    Step::Calls(&[
+        Call::Late(0, true),
+        Call::NoSet(0),
+        Call::Fill((0, 2, &[4, 1]), Ok(Installed::Done)),
+        Call::Late(0, false),
+        Call::Set(0, 0, &[100, 101]),
+        Call::Set(0, 1, &[42, 7]),
+        Call::Plan(0, 2_000, 2, &[Over::Set(0)]),
+        Call::Begin(None),
+    ]),
+];
+
+/// A packet that is there already, or another of its key, doesn't.
+const DUPLICATES: &[Step] = &[
+    Step::Calls(&[Call::Ingest((4, 0), Inserted::New(0))]),
+    Step::Fill(
+        (0, 1, &[4]),
+        &[
+            Call::Ingest((4, 0), Inserted::Duplicate(0)),
+            Call::Ingest((0, 0), Inserted::Duplicate(0)),
+        ],
+        Ok(Installed::Done),
+    ),
+    Step::Calls(&[
+        Call::Late(0, false),
+        Call::Set(0, 1, &[42]),
+        Call::Ingest((4, 0), Inserted::Duplicate(0)),
+        Call::Late(0, false),
+    ]),
+];
+
+/// Neither does one of another interval or of another table. A fill is stale by the last packet of its own.
+const OTHER_PACKETS: &[Step] = &[
+    Step::Calls(&[Call::Ingest((0, 0), Inserted::New(0))]),
+    Step::Fill(
+        (0, 1, &[0]),
+        &[
+            Call::Ingest((7, 0), Inserted::New(1)),
+            Call::Ingest((1, 1), Inserted::New(2)),
+        ],
+        Ok(Installed::Done),
+    ),
+    Step::Calls(&[
+        Call::Late(0, false),
+        Call::Late(1, true),
+        Call::Set(0, 1, &[42]),
+        Call::Ingest((1, 0), Inserted::New(3)),
+        Call::Late(0, true),
+        Call::NoSet(0),
+    ]),
+    Step::Fill(
+        (0, 4, &[0, 1]),
+        &[
+            Call::Ingest((2, 0), Inserted::New(4)),
+            Call::Ingest((3, 0), Inserted::New(5)),
+            Call::Ingest((8, 0), Inserted::New(6)),
+            Call::Ingest((3, 1), Inserted::New(7)),
+        ],
+        Ok(Installed::Stale { position: 5 }),
+    ),
+];
+
+/// The least late interval that is free begins; one with packets of the second table alone isn't late. Others stay in flight while one ends, and are free
+/// once all flights end.
+const FLIGHTS: &[Step] = &[Step::Calls(&[
+    Call::Begin(None),
+    Call::Ingest((0, 1), Inserted::New(0)),
+    Call::Late(0, false),
+    Call::Begin(None),
+    Call::Ingest((9, 0), Inserted::New(1)),
+    Call::Late(0, false),
+    Call::Late(2, true),
+    Call::Ingest((7, 0), Inserted::New(2)),
+    Call::Ingest((0, 0), Inserted::New(3)),
+    Call::Begin(Some((0, 4, &[0]))),
+    Call::Fill((1, 4, &[7]), Ok(Installed::Done)),
+    Call::GiveUp((2, 4, &[9])),
+    Call::Ingest((1, 0), Inserted::New(4)),
+    Call::Begin(Some((2, 5, &[9]))),
+    Call::Begin(None),
+    Call::Settle,
+    Call::Late(0, true),
+    Call::Late(1, false),
+    Call::Late(2, true),
+    Call::Begin(Some((0, 5, &[0, 1]))),
+    Call::Fill((2, 5, &[9]), Ok(Installed::Done)),
+    Call::Begin(None),
+    Call::Settle,
+    Call::Fill((0, 5, &[0, 1]), Ok(Installed::Done)),
+    Call::Begin(None),
+    Call::Plan(
+        0,
+        10_000_000,
+        5,
+        &[Over::Set(0), Over::Set(1), Over::Set(2)],
+    ),
+])];
+
+/// A fill whose flight has ended is installed too, also one that another took the place of: it is stale where a packet
+/// came since it began, whatever other fill has that packet.
+const WITHOUT_FLIGHT: &[Step] = &[
+    Step::Calls(&[Call::Ingest((0, 0), Inserted::New(0))]),
+    Step::Fill((0, 1, &[0]), &[Call::Settle], Ok(Installed::Done)),
+    Step::Calls(&[Call::Late(0, false), Call::Ingest((1, 0), Inserted::New(1))]),
+    Step::Fill(
+        (0, 2, &[0, 1]),
+        &[
+            Call::Settle,
+            Call::Fill((0, 2, &[0, 1]), Ok(Installed::Done)),
+            Call::Late(0, false),
+        ],
+        Ok(Installed::Done),
+    ),
+    Step::Calls(&[
+        Call::Late(0, false),
+        Call::Set(0, 1, &[42, 7]),
+        Call::Ingest((2, 0), Inserted::New(2)),
+    ]),
+    Step::Fill(
+        (0, 3, &[0, 1, 2]),
+        &[
+            Call::Settle,
+            Call::Ingest((3, 0), Inserted::New(3)),
+            Call::Fill((0, 4, &[0, 1, 2, 3]), Ok(Installed::Done)),
+        ],
+        Ok(Installed::Stale { position: 3 }),
+    ),
+    Step::Calls(&[Call::Late(0, false), Call::Set(0, 1, &[42, 7, 8, 9])]),
+];
+
+/// The tables, by name. A function, so that they stand in no goal of its callers.
+fn fills() -> [(&'static str, &'static [Step]); 6] {
+    [
+        ("border", BORDER),
+        ("stale", STALE),
+        ("duplicates", DUPLICATES),
+        ("other packets", OTHER_PACKETS),
+        ("flights", FLIGHTS),
+        ("without flight", WITHOUT_FLIGHT),
+    ]
+}
+
+#[test]
+fn fills_of_intervals(rt: HostRuntime) -> Result<(), Fail> {
+    for (name, steps) in fills() {
+        let other = other_of_new(rt.alloc(), MemDisk::new(rt.alloc()), steps)?;
+        assert_eq!(rt; other, None, "{name}");
+    }
+    Ok(())
+}
+
+/// An archive whose two intervals are filled.
+const FILLED: &[Step] = &[Step::Calls(&[
+    Call::Ingest((0, 0), Inserted::New(0)),
+    Call::Ingest((7, 0), Inserted::New(1)),
+    Call::Plan(0, 9_000_000, 2, &[Over::Rows(0, &[0]), Over::Rows(1, &[7])]),
+    Call::Fill((0, 2, &[0]), Ok(Installed::Done)),
+    Call::Fill((1, 2, &[7]), Ok(Installed::Done)),
+    Call::Plan(0, 9_000_000, 2, &[Over::Set(0), Over::Set(1)]),
+])];
+
+/// Opened again it has the fills, until a late packet comes to one of the intervals.
+const LATE_PACKET: &[Step] = &[Step::Calls(&[
+    Call::Late(0, false),
+    Call::Late(1, false),
+    Call::Begin(None),
+    Call::Plan(0, 9_000_000, 2, &[Over::Set(0), Over::Set(1)]),
+    Call::Set(0, 1, &[42]),
+    Call::Set(1, 1, &[5]),
+    Call::Ingest((7, 0), Inserted::Duplicate(1)),
+    Call::Late(1, false),
+    Call::Ingest((1, 0), Inserted::New(2)),
+    Call::Late(0, true),
+    Call::Late(1, false),
+    Call::NoSet(0),
+    Call::Plan(0, 9_000_000, 3, &[Over::Rows(0, &[0, 1]), Over::Set(1)]),
+])];
+
+/// The interval is late again in the archive that is opened then, and is filled anew.
+const FILLED_ANEW: &[Step] = &[Step::Calls(&[
+    Call::Late(0, true),
+    Call::Late(1, false),
+    Call::NoSet(0),
+    Call::Set(1, 1, &[5]),
+    Call::Plan(0, 9_000_000, 3, &[Over::Rows(0, &[0, 1]), Over::Set(1)]),
+    Call::Fill((0, 3, &[0, 1]), Ok(Installed::Done)),
+    Call::Plan(0, 9_000_000, 3, &[Over::Set(0), Over::Set(1)]),
+    Call::Set(0, 1, &[42, 7]),
+])];
+
+/// And stays so.
+const KEPT: &[Step] = &[Step::Calls(&[
+    Call::Late(0, false),
+    Call::Late(1, false),
+    Call::Begin(None),
+    Call::Plan(0, 9_000_000, 3, &[Over::Set(0), Over::Set(1)]),
+    Call::Set(0, 0, &[100, 101]),
+    Call::Set(0, 1, &[42, 7]),
+    Call::Set(1, 1, &[5]),
+])];
+
+/// What is done with the new archive. A function, as that of the openings.
+fn filled() -> &'static [Step] {
+    FILLED
+}
+
+/// What is done with it once it is opened again, and again.
+fn openings() -> [&'static [Step]; 3] {
+    [LATE_PACKET, FILLED_ANEW, KEPT]
+}
+
+/// The number of the first opening of an archive in which a step goes otherwise, where the making is number 0.
+fn other_opening<D: Disk + Drop>(
+    alloc: Global,
+    disk: D,
+    new: &[Step],
+    openings: &[&'static [Step]],
+) -> Result<Option<usize>, Fail> {
+    let (other, mut disk) = of_new(alloc, disk, new)?;
+    if other.is_some() {
+        return Ok(Some(0));
+    }
+    let mut number = 1usize;
+    for steps in openings {
+        let (other, left) = of_opened(alloc, disk, steps)?;
+        disk = left;
+        if other.is_some() {
+            return Ok(Some(number));
+        }
+        number = number.saturating_add(1);
+    }
+    Ok(None)
+}
+
+#[test]
+fn a_filled_archive_is_opened_again(rt: HostRuntime) -> Result<(), Fail> {
+    let other = other_opening(
+        rt.alloc(),
+        MemDisk::new(rt.alloc()),
+        filled(),
+        openings().as_slice(),
+    )?;
+    assert_eq!(rt; other, None);
+    Ok(())
+}
