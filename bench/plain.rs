@@ -310,6 +310,7 @@ impl<'a> Archive<'a> {
             match body.number(1) {
                 1 => archive.head(&mut body),
                 2 => archive.batch(&mut body),
+                3 => {} // a fill, of which rows say the same
                 kind => panic!("an entry of kind {kind}"),
             }
         }
