@@ -10,7 +10,7 @@ fn power(exponent: u8) -> i128
     requires { exponent ≤ 64 }
     ensures { result ≡ pos (2 ^ exponent) }
 {
-    2_i128.pow(exponent as u32)
+    1_i128 << exponent
 }
 
 fn is_unsigned(bits: u8, raw: i128) -> bool

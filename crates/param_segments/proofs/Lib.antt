@@ -21,3 +21,4 @@ pub mod Known
 pub mod Decoded
 pub mod Placed
 pub mod Asked
+pub mod SegmentValues

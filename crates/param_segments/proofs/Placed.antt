@@ -21,7 +21,6 @@ use Rattle.segment_codec.specs.Segment.{IsSegment}
 use Rattle.segment_codec.specs.declared.segment.Segment.{Segment}
 use Rattle.mdb_items.specs.Database.{Database}
 use Rattle.container_extract.specs.declared.values.RawValue.{RawValue}
-use Rattle.container_extract.specs.Values.{IsRawValue}
 use Rattle.param_segments.specs.declared.row_place.RowPlace.{RowPlace}
 use Rattle.param_segments.specs.Cells.{AreValuesOf}
 use Rattle.param_segments.specs.Extracted.{IsSetOf}
@@ -290,16 +289,6 @@ rows_with_next segments places i p old all inside up lt is so_far each =
       each = put_last IsSetRow old (placed_row segments p) each (placed_is_row segments p all (place_at segments places i p inside lt is));
       rising = subst (IsStrictlySortedBy key_cmp) (sym keys) (front_rises (i + 1) (map key places) up);
     }
-
-values_at : (db : Database) (segments : List Segment) (ps : List RowPlace) (i : ℕ) (p : RowPlace) → i < length ps → AreValuesOf db (map (placed_row segments) ps) → AllByRecursion (IsRawValue db) (placed_row segments (get_or ps i p)).values
-values_at db segments [] i p lt all = absurd (omega arith)
-values_at db segments (q ∷ qs) zero p lt all = all.0
-values_at db segments (q ∷ qs) (suc i) p lt all = values_at db segments qs i p (omega arith) all.1
-
--- where all rows have values of the database, the next one has
-pub next_values : (db : Database) (segments : List Segment) (places : List RowPlace) (i : ℕ) (p : RowPlace) → i < length places → p ≡ get_or places i p → AreValuesOf db (map (placed_row segments) places) → AllByRecursion (IsRawValue db) (placed_row segments p).values
-next_values db segments places i p lt is all =
-    subst (λ (q : RowPlace). AllByRecursion (IsRawValue db) (placed_row segments q).values) (sym is) (values_at db segments places i p lt all)
 
 -- ---- the set
 

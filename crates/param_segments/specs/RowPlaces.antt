@@ -1,8 +1,9 @@
 -- Where rows stand in segments, and which segments a set of a database has.
-use Rattle.std.specs.Prelude.{◌≡◌, ℕ, ℤ, pos, ◌+◌, ◌<◌, Bool, true, nat_lt, List, [], ◌∷◌, ◌++◌, length, map, slice_index_or}
-use Rattle.std.specs.List.{list_all}
+use Rattle.std.specs.Prelude.{⊤, ◌≡◌, ℕ, ℤ, pos, ◌+◌, ◌<◌, Bool, true, nat_lt, List, [], ◌∷◌, ◌++◌, length, map, slice_index_or}
+use Rattle.std.specs.List.{AllByRecursion, list_all}
 use Rattle.arch_types.specs.declared.key.Key.{Key}
 use Rattle.container_extract.specs.declared.values.RawValue.{RawValue}
+use Rattle.container_extract.specs.Values.{IsRawValue}
 use Rattle.mdb_items.specs.Database.{Database}
 use Rattle.segment_codec.specs.KeyColumn.{IsKey}
 use Rattle.segment_codec.specs.Segment.{IsSegment}
@@ -25,6 +26,22 @@ are_known_parameters db parameters = list_all (is_known_parameter db) parameters
 -- a segment of parameters of the database
 abbrev pub IsKnownSegment : Database → Segment → Type 0
 IsKnownSegment db s = IsSegment s × (are_known_parameters db s.parameters ≡ true)
+
+-- ---- columns
+
+-- each raw number of a column is one of a parameter of the database, of the parameter's width
+abbrev pub IsColumnOf : Database → ℕ → List ℤ → Type 0
+IsColumnOf db parameter column = AllByRecursion (λ raw. IsRawValue db (record { parameter = parameter; raw = raw })) column
+
+-- each column is one of its parameter
+abbrev pub AreColumnsOf : Database → List ℕ → List (List ℤ) → Type 0
+AreColumnsOf db [] columns = ⊤
+AreColumnsOf db (p ∷ ps) [] = ⊤
+AreColumnsOf db (p ∷ ps) (c ∷ cs) = IsColumnOf db p c × AreColumnsOf db ps cs
+
+-- a segment of values of the database
+abbrev pub IsSegmentOf : Database → Segment → Type 0
+IsSegmentOf db s = AreColumnsOf db s.parameters s.columns
 
 -- ---- places
 

@@ -1,18 +1,20 @@
 //! Asks what the octets of a set may hold of an interval and a database.
 
-ghost use Rattle.std.specs.Prelude.{◌≡◌, ◌↔◌, map, true};
+ghost use Rattle.std.specs.Prelude.{◌≡◌, ◌↔◌, length, map, true};
 ghost use Rattle.std.specs.List.{AllByRecursion};
 ghost use Rattle.std.specs.List.Sorted.{IsStrictlySortedBy};
 ghost use Rattle.arch_types.specs.Interval.{interval_of};
 ghost use Rattle.arch_types.specs.Order.{key_cmp};
 ghost use Rattle.container_extract.specs.Values.{IsRawValue};
-ghost use Rattle.param_segments.specs.RowPlaces.{are_known_parameters, is_known_parameter};
+ghost use Rattle.param_segments.specs.RowPlaces.{AreColumnsOf, IsColumnOf, IsSegmentOf, are_known_parameters, is_known_parameter};
+ghost use Rattle.segment_codec.specs.Segment.{IsSegment};
 
 use crate::row_place::RowPlace;
 use arch_types::interval::Interval;
 use calibration::is_in_width;
 use container_extract::values::RawValue;
 use mdb_model::Mdb;
+use segment_codec::{RawColumn, Segment};
 
 /// The parameter is one of the database.
 fn is_known_parameter(mdb: &Mdb, parameter: u16) -> bool
@@ -43,12 +45,48 @@ fn is_raw_value(mdb: &Mdb, value: RawValue) -> bool
     is_in_width(mdb.parameter(parameter), value.raw)
 }
 
-/// Each value is that of a parameter of the database, its raw number of the parameter's width.
-pub(crate) fn are_raw_values(mdb: &Mdb, values: &[RawValue]) -> bool
-    ensures { (result ≡ true) ↔ AllByRecursion (IsRawValue mdb.now) values.now }
+/// Each raw number of a column is one of its parameter.
+fn is_column_of(mdb: &Mdb, parameter: u16, column: &[i128]) -> bool
+    ensures { (result ≡ true) ↔ IsColumnOf mdb.now parameter column.now }
 {
-    for value in values {
-        if !is_raw_value(mdb, *value) {
+    for raw in column {
+        if !is_raw_value(
+            mdb,
+            RawValue {
+                parameter,
+                raw: *raw,
+            },
+        ) {
+            return false;
+        }
+    }
+    true
+}
+
+/// Each column is one of its parameter.
+fn are_columns_of(mdb: &Mdb, parameters: &[u16], columns: &[RawColumn]) -> bool
+    requires { length columns.now ≡ length parameters.now }
+    ensures { (result ≡ true) ↔ AreColumnsOf mdb.now parameters.now columns.now }
+{
+    for i in 0..parameters.len() {
+        if !is_column_of(mdb, parameters[i], columns[i].as_slice()) {
+            return false;
+        }
+    }
+    true
+}
+
+/// The segments have values of the database.
+pub(crate) fn are_segments_of(mdb: &Mdb, segments: &[Segment]) -> bool
+    requires { AllByRecursion IsSegment segments.now }
+    ensures { (result ≡ true) ↔ AllByRecursion (IsSegmentOf mdb.now) segments.now }
+{
+    for segment in segments {
+        if !are_columns_of(
+            mdb,
+            segment.parameters.as_slice(),
+            segment.columns.as_slice(),
+        ) {
             return false;
         }
     }

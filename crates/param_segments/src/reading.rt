@@ -1,12 +1,11 @@
 //! Reads a set back: the set of the rows that octets hold is built again, and has to be spelled by just these octets.
 //! So no rule of groups and pieces is asked by itself, and none can be forgotten.
 
-ghost use Rattle.std.specs.Prelude.{◌≡◌, ◌<◌, ◌^◌, List, length, map, slice_get, true, Some, IfOk, IfErr, MatchResult};
+ghost use Rattle.std.specs.Prelude.{◌≡◌, ◌<◌, ◌^◌, List, length, map, slice_get, true, Some, IfOk, MatchResult};
 ghost use Rattle.std.specs.List.{AllByRecursion};
 ghost use Rattle.std.specs.List.Sorted.{IsStrictlySortedBy};
 ghost use Rattle.arch_types.specs.Order.{key_cmp};
 ghost use Rattle.octet_fields.specs.Answers.{ReadsEach, ReadsOnly};
-ghost use Rattle.param_segments.specs.Cells.{AreValuesOf};
 ghost use Rattle.param_segments.specs.Extracted.{IsSetOf};
 ghost use Rattle.param_segments.specs.Groups.{set_of};
 ghost use Rattle.param_segments.specs.Octets.{rows_in_octets, set_octets};
@@ -15,7 +14,7 @@ ghost use Rattle.param_segments.specs.Rows.{SetRow};
 ghost use Rattle.segment_codec.specs.Segment.{IsSegment};
 ghost use Rattle.segment_codec.specs.declared.fault.NotASegment.TheVariants.{OutOfMemory};
 
-use crate::asking::{are_inside, are_raw_values, are_rising};
+use crate::asking::{are_inside, are_rising, are_segments_of};
 use crate::builder::SetBuilder;
 use crate::decoding::{counted_segments, places_of, write_values};
 use crate::row_place::RowPlace;
@@ -24,7 +23,7 @@ use arch_types::interval::Interval;
 use arch_types::octets::Octets;
 use mdb_model::Mdb;
 use segment_codec::{NotASegment, Segment};
-use std::alloc::Global;
+use std::alloc::{AllocError, Global};
 
 /// The segment with a number.
 fn numbered_segment(segments: &[Segment], number: u32) -> &Segment
@@ -34,20 +33,16 @@ fn numbered_segment(segments: &[Segment], number: u32) -> &Segment
     &segments[number as usize]
 }
 
-/// A builder of the rows at places of segments, where their values are the database's.
+/// A builder of the rows at places of segments.
 fn rows_built(
     alloc: Global,
     segments: &[Segment],
     places: &[RowPlace],
-    mdb: &Mdb,
-) -> Result<SetBuilder, NotASegment>
+) -> Result<SetBuilder, AllocError>
     requires sound { AllByRecursion IsSegment segments.now }
     requires placed { AllByRecursion (IsRowPlace segments.now) places.now }
     requires rising { IsStrictlySortedBy key_cmp (map (λ p. p.key) places.now) }
-    ensures rows { IfOk result (λ built. built ≡ map (placed_row segments.now) places.now) }
-    ensures values { IfOk result (AreValuesOf mdb.now) }
-    ensures memory { AreValuesOf mdb.now (map (placed_row segments.now) places.now) →
-        IfErr result (λ e. e ≡ OutOfMemory) }
+    ensures { IfOk result (λ built. built ≡ map (placed_row segments.now) places.now) }
 {
     let mut builder = SetBuilder::new(alloc);
     let mut values = Vec::new(alloc);
@@ -59,9 +54,6 @@ fn rows_built(
             segment.columns.as_slice(),
             usize::from(place.row),
         )?;
-        if !are_raw_values(mdb, &values) {
-            return Err(NotASegment::Malformed);
-        }
         builder.rows_are_sound();
         builder.push(alloc, place.key, &values)?;
     }
@@ -81,6 +73,10 @@ fn built_again(
     ensures each { (rows : List SetRow) → IsSetOf mdb.now 22 interval.0 rows → segments.now ≡ set_of rows →
         MatchResult result (λ set. set ≡ rows) (λ e. e ≡ OutOfMemory) }
 {
+    // by columns, along which the parameter and its width stay the same
+    if !are_segments_of(mdb, segments) {
+        return Err(NotASegment::Malformed);
+    }
     let mut places = places_of(alloc, segments)?;
     places.sort()?;
     if !are_rising(&places) {
@@ -89,7 +85,7 @@ fn built_again(
     if !are_inside(interval, &places) {
         return Err(NotASegment::Malformed);
     }
-    let builder = rows_built(alloc, segments, &places, mdb)?;
+    let builder = rows_built(alloc, segments, &places)?;
     builder.rows_are_sound();
     let set = builder.set(alloc)?;
     Ok(set)

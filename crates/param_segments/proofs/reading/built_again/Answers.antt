@@ -1,16 +1,23 @@
 use Rattle.std.proofs.Common.{◌≡◌, ◌∙◌, List, ap, map, subst, sym}
 use Rattle.std.specs.List.{AllByRecursion}
 use Rattle.std.specs.List.Sorted.{IsSortedBy, IsStrictlySortedBy}
-use Rattle.std.proofs.lemmas.Result.{err_from_is_err_and}
 use Rattle.arch_types.specs.Interval.{interval_of}
 use Rattle.arch_types.specs.Order.{key_cmp}
 use Rattle.param_segments.specs.declared.row_place.RowPlace.{RowPlace}
 use Rattle.param_segments.specs.Cells.{AreValuesOf}
-use Rattle.param_segments.specs.RowPlaces.{IsRowPlace, placed_row}
+use Rattle.param_segments.specs.RowPlaces.{IsRowPlace, IsSegmentOf, placed_row}
 use Rattle.param_segments.specs.Rows.{AreSetRows, SetRow}
 use Rattle.param_segments.proofs.Placed.{inside_as_rows, is_place_earlier, rise_as_rows, rows_again_sorted, set_is, sorted_inside}
 use Rattle.param_segments.proofs.SegmentCells.{then_false}
+use Rattle.param_segments.proofs.SegmentValues.{placed_values, set_of_values}
 use Rattle.param_segments.proofs.reading.built_again.Goals as goal
+
+-- the segments of rows of a set have values of its database
+pub returns-then-not-are_segments_of-clause-each : goal.returns-then-not-are_segments_of-clause-each
+returns-then-not-are_segments_of-clause-each c = λ rows is of. absurd (
+    let told = c.are_segments_of.ensures.1 (subst (AllByRecursion (IsSegmentOf c.args.mdb.now)) (sym of) (set_of_values c.args.mdb.now rows is.values)) in
+    let not_so = c.if-not-are_segments_of.true in
+    cc)
 
 -- rows whose segments these are stand at the sorted places
 pub returns-then-not-are_rising-clause-each : goal.returns-then-not-are_rising-clause-each
@@ -45,30 +52,25 @@ rows_built-requires c =
       rising = subst (λ (ps : List RowPlace). IsStrictlySortedBy key_cmp (map (λ (p : RowPlace). p.key) ps)) (c.deref.ensures.value ∙ sym c.deref-3.ensures.value) rising;
     }
 
-pub returns-in_err-builder-clause-each : goal.returns-in_err-builder-clause-each
-returns-in_err-builder-clause-each c = λ rows is of.
-    let segments = c.args.segments.now in
-    let sorted = c.sort.new.self.items in
-    let up : IsSortedBy is_place_earlier sorted = λ k d low high. then_false _ _ (c.in_ok-sort.ensures.sorted k d low high) in
-    let are = rows_again_sorted segments rows c.in_ok-places.places.items sorted is.rows of c.in_ok-places.ensures c.sort.ensures.permutation up in
-    let p = err_from_is_err_and c.from_residual-in_err-builder.result c.from_residual-in_err-builder.ensures.1 in
-    rw (p.1, p.2) (c.in_err-builder.ensures.memory (subst (AreValuesOf c.args.mdb.now) (sym (ap (map (placed_row segments)) c.deref-3.ensures.value ∙ are)) is.values))
-
 pub returns-clause-sound : goal.returns-clause-sound
 returns-clause-sound c =
     let db = c.args.mdb.now in
     let n = c.args.interval.0 in
     let segments = c.args.segments.now in
+    let places = c.deref-3.result.now in
     let set = c.in_ok-set.set in
     let same = c.in_ok-set.ensures in
+    let are = same ∙ c.in_ok-builder.ensures in
     let inside = c.are_inside.ensures.0 c.if-not-are_inside.false in
-    set_is db 22 n segments c.deref-3.result.now set (same ∙ c.in_ok-builder.ensures.rows) (subst AreSetRows (sym same) c.rows_are_sound.ensures)
-    (subst (AllByRecursion (λ (p : RowPlace). interval_of 22 p.key.time ≡ n)) (c.deref-2.ensures.value ∙ sym c.deref-3.ensures.value) inside) (subst (AreValuesOf db) (sym same) c.in_ok-builder.ensures.values)
+    let placed : AllByRecursion (IsRowPlace segments) places = subst (AllByRecursion (IsRowPlace segments)) (sym c.deref-3.ensures.value) (sorted_inside segments c.in_ok-places.places.items c.sort.new.self.items c.requires.sound c.in_ok-places.ensures c.sort.ensures.permutation) in
+    let values = placed_values db segments places c.requires.sound (c.are_segments_of.ensures.0 c.if-not-are_segments_of.false) placed in
+    set_is db 22 n segments places set are (subst AreSetRows (sym same) c.rows_are_sound.ensures)
+    (subst (AllByRecursion (λ (p : RowPlace). interval_of 22 p.key.time ≡ n)) (c.deref-2.ensures.value ∙ sym c.deref-3.ensures.value) inside) (subst (AreValuesOf db) (sym are) values)
 
 pub returns-clause-each : goal.returns-clause-each
 returns-clause-each c = λ rows is of.
     let segments = c.args.segments.now in
     let sorted = c.sort.new.self.items in
     let up : IsSortedBy is_place_earlier sorted = λ k d low high. then_false _ _ (c.in_ok-sort.ensures.sorted k d low high) in
-    c.in_ok-set.ensures ∙ c.in_ok-builder.ensures.rows ∙ ap (map (placed_row segments)) c.deref-3.ensures.value
+    c.in_ok-set.ensures ∙ c.in_ok-builder.ensures ∙ ap (map (placed_row segments)) c.deref-3.ensures.value
     ∙ rows_again_sorted segments rows c.in_ok-places.places.items sorted is.rows of c.in_ok-places.ensures c.sort.ensures.permutation up
