@@ -1,12 +1,18 @@
 //! Ranges of times within days.
 
-ghost use Rattle.std.specs.Prelude.{◌≡◌, ℤ, ◌<ℤ◌, ◌≤ℤ◌, true};
+ghost use Rattle.std.specs.Prelude.{◌≡◌, ℤ, ◌<ℤ◌, ◌≤ℤ◌, true, IfOk, IfErr, IfSome};
+ghost use Rattle.std.specs.List.{AllByRecursion};
 ghost use Rattle.arch_types.specs.declared.row.Row.{Row as ARow};
 ghost use Rattle.arch_types.specs.Table.{is_in_time_range};
 ghost use Rattle.partitions.specs.Partitions.{AreRising};
-ghost use Rattle.partitions.specs.Rows.{is_of_parts};
+ghost use Rattle.partitions.specs.Rows.{is_of_parts, parts_between};
+ghost use Rattle.replay_merge.specs.Source.{AreInKeyOrder, IsRowBetween, IsRowSourceRefusal, UsedRowSource};
 
+use crate::source::RowSource;
+use arch_types::refusal::Refusal;
+use arch_types::row::Rows;
 use partitions::partition::Partition;
+use std::alloc::Global;
 
 const MILLIS_PER_DAY: i64 = 86_400_000;
 
@@ -28,7 +34,7 @@ fn earlier(a: i64, b: i64) -> i64
 }
 
 /// The part of a range that lies in the days of some partitions, which rise. That of far days isn't cut.
-pub(crate) fn cut_to_days(parts: &[Partition], from: i64, to: i64) -> (i64, i64)
+fn cut_to_days(parts: &[Partition], from: i64, to: i64) -> (i64, i64)
     requires { AreRising parts.now }
     ensures { (row : ARow) → is_of_parts parts.now row ≡ true
         → is_in_time_range result.0 result.1 row ≡ is_in_time_range from to row }
@@ -44,4 +50,27 @@ pub(crate) fn cut_to_days(parts: &[Partition], from: i64, to: i64) -> (i64, i64)
     let start = first * MILLIS_PER_DAY;
     let end = (last + 1) * MILLIS_PER_DAY;
     (later(from, start), earlier(to, end))
+}
+
+/// The rows of some partitions that a source gives of a range (`RowSource::rows_between`), asked for the part of it that lies in the
+/// partitions' days: so a source that finds a range by keys meets no rows of other days.
+pub fn rows_on_days<R: RowSource>(
+    alloc: Global,
+    source: &mut R,
+    table: u8,
+    parts: &[Partition],
+    from: i64,
+    to: i64,
+    front: u64,
+) -> Result<Rows, Refusal>
+    requires { AreRising parts.now }
+    ensures told { IfOk result (λ rows. IfSome (R.state source.old).history (λ history.
+        rows ≡ parts_between front table parts.now from to history)) }
+    ensures each { IfOk result (AllByRecursion (IsRowBetween table parts.now from to)) }
+    ensures in_key_order { IfOk result AreInKeyOrder }
+    ensures refused { IfErr result (IsRowSourceRefusal (R.state source.old) (R.state source.new)) }
+    ensures source { UsedRowSource (R.state source.old) (R.state source.new) }
+{
+    let (start, end) = cut_to_days(parts, from, to);
+    source.rows_between(alloc, table, parts, start, end, front)
 }

@@ -7,7 +7,7 @@ ghost use Rattle.replay_merge.specs.Replay.{is_listed_name};
 ghost use Rattle.replay_merge.specs.Source.{AreInKeyOrder, IsRowSourceRefusal, UsedRowSource};
 ghost use Rattle.replay_merge.specs.Fetch.{wanted_in, IsWanted, EndsDay};
 
-use crate::day_range::cut_to_days;
+use crate::day_range::rows_on_days;
 use crate::source::RowSource;
 use crate::wanted::Wanted;
 use arch_types::refusal::Refusal;
@@ -65,9 +65,15 @@ fn read_day<R: RowSource>(
 {
     let count = first_day(parts);
     let listed = listed_parts(alloc, wanted, &parts[..count])?;
-    let listed = listed.as_slice();
-    let (from, to) = cut_to_days(listed, wanted.from, wanted.to);
-    let rows = source.rows_between(alloc, wanted.table, listed, from, to, wanted.front)?;
+    let rows = rows_on_days(
+        alloc,
+        source,
+        wanted.table,
+        listed.as_slice(),
+        wanted.from,
+        wanted.to,
+        wanted.front,
+    )?;
     Ok((count, rows))
 }
 

@@ -15,7 +15,7 @@
 
 mod ahead;
 pub mod cursor;
-mod day_range;
+pub mod day_range;
 mod fetch;
 pub mod laws;
 mod names;

@@ -1,5 +1,5 @@
 -- Conditions as formulas: what a condition says, without the tokens in which it is written.
-use Rattle.std.specs.Prelude.{ℕ, zero, suc, ◌+◌, ◌-◌, nat_lt, List, [], ◌∷◌, Bool, true, ◌&&◌}
+use Rattle.std.specs.Prelude.{ℕ, zero, suc, ◌+◌, ◌-◌, nat_lt, List, [], ◌∷◌, Bool, true, false, ◌&&◌}
 use Rattle.ssql_conditions.specs.declared.predicate.TypedPredicate.{TypedPredicate}
 use Rattle.ssql_conditions.specs.declared.condition.TypedPiece.{TypedPiece}
 use Rattle.ssql_conditions.specs.declared.condition.TypedPiece.TheVariants as p
@@ -94,6 +94,17 @@ formulas = record { always_is = always; never_is = never; of_predicate = meets; 
 -- the formula of a condition's pieces
 abbrev pub formula_of : List TypedPiece → Formula
 formula_of pieces = pieces_meaning formulas pieces
+
+-- ---- parentheses
+
+-- a piece opens or closes one
+abbrev pub is_paren : TypedPiece → Bool
+is_paren p.Open = true
+is_paren p.Close = true
+is_paren p.Not = false
+is_paren p.And = false
+is_paren p.Or = false
+is_paren (p.Predicate x) = false
 
 -- ---- how many parentheses are open
 

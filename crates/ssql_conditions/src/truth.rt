@@ -1,12 +1,12 @@
 //! Whether a condition is true of a row, piece by piece. It takes no memory: what is known inside each open
 //! parenthesis stands in a fixed array.
 
-ghost use Rattle.std.specs.Prelude.{◌≡◌, ◌+◌, ◌<◌, ◌≤◌, ◌^◌, ◌&&◌, ◌||◌, true, false};
+ghost use Rattle.std.specs.Prelude.{◌≡◌, ◌+◌, ◌<◌, ◌≤◌, ◌^◌, ◌&&◌, ◌||◌, Bool, List, ◌∷◌, true, false};
 ghost use Rattle.std.specs.List.{list_any};
 ghost use Rattle.std.specs.Ordering.{int_eq};
 ghost use Rattle.arch_types.specs.Packet.{IsPacket, apid_of};
 ghost use Rattle.arrayvec.specs.ArrayVec.{array_vec_len};
-ghost use Rattle.ssql_conditions.specs.Formulas.{groups_behind, has_paren_room, parens_behind, parens_fit, pieces_meaning};
+ghost use Rattle.ssql_conditions.specs.Formulas.{OpenGroup, groups_behind, has_paren_room, is_paren, parens_behind, parens_fit, pieces_meaning};
 ghost use Rattle.ssql_conditions.specs.Truth as spec;
 
 use crate::condition::{Condition, TypedPiece};
@@ -153,6 +153,31 @@ impl TruthGroup {
     }
 }
 
+/// What is known inside a parenthesis behind a piece that neither opens nor closes one.
+fn inside(piece: &TypedPiece, row: &Row, group: TruthGroup) -> TruthGroup
+    requires packet { IsPacket row.now.packet }
+    requires few { group.nots + 1 < 2 ^ 64 }
+    ensures groups { is_paren piece.now ≡ false → (outer : List (OpenGroup Bool)) → spec.truth_group result ∷ outer ≡
+        groups_behind (spec.truth row.now) piece.now (spec.truth_group group ∷ outer) }
+    ensures nots { result.nots ≤ group.nots + 1 }
+{
+    match piece {
+        TypedPiece::Not => TruthGroup {
+            any: group.any,
+            all: group.all,
+            nots: group.nots + 1,
+        },
+        TypedPiece::And => group,
+        TypedPiece::Or => TruthGroup {
+            any: group.value(),
+            all: true,
+            nots: 0,
+        },
+        TypedPiece::Predicate(predicate) => group.with_term(is_met_by(row, predicate)),
+        TypedPiece::Open | TypedPiece::Close => group,
+    }
+}
+
 /// What is known behind a piece, inside the innermost parenthesis and in those around it.
 fn behind(
     piece: &TypedPiece,
@@ -169,11 +194,6 @@ fn behind(
     ensures nots { result.nots ≤ group.nots + 1 }
 {
     match piece {
-        TypedPiece::Not => TruthGroup {
-            any: group.any,
-            all: group.all,
-            nots: group.nots + 1,
-        },
         TypedPiece::Open => {
             outer.push(group);
             TruthGroup::default()
@@ -182,16 +202,11 @@ fn behind(
             None => group,
             Some(around) => around.with_term(group.value()),
         },
-        TypedPiece::And => group,
-        TypedPiece::Or => TruthGroup {
-            any: group.value(),
-            all: true,
-            nots: 0,
-        },
-        TypedPiece::Predicate(predicate) => group.with_term(is_met_by(row, predicate)),
+        _ => inside(piece, row, group),
     }
 }
 
+/// What pieces say of a row.
 fn are_true(pieces: &[TypedPiece], row: &Row) -> bool
     requires packet { IsPacket row.now.packet }
     requires room { parens_fit pieces.now 0 ≡ true }
@@ -205,12 +220,43 @@ fn are_true(pieces: &[TypedPiece], row: &Row) -> bool
     group.value()
 }
 
+/// The same of pieces among which no parenthesis stands: no array is made for what stands around one.
+fn are_true_flat(pieces: &[TypedPiece], row: &Row) -> bool
+    requires packet { IsPacket row.now.packet }
+    requires flat { list_any is_paren pieces.now ≡ false }
+    ensures { result ≡ pieces_meaning (spec.truth row.now) pieces.now }
+{
+    let mut group = TruthGroup::default();
+    for piece in pieces {
+        group = inside(piece, row, group);
+    }
+    group.value()
+}
+
+/// Whether a piece opens or closes a parenthesis.
+fn is_paren(piece: &TypedPiece) -> bool
+    ensures { result ≡ is_paren piece.now }
+{
+    matches!(piece, TypedPiece::Open | TypedPiece::Close)
+}
+
+/// Whether a parenthesis stands among pieces.
+fn has_paren(pieces: &[TypedPiece]) -> bool
+    ensures { result ≡ list_any is_paren pieces.now }
+{
+    pieces.iter().any(is_paren)
+}
+
 /// Whether a condition is true of a row. Takes no memory.
 pub fn is_true(condition: &Condition, row: &Row) -> bool
     requires { IsPacket row.now.packet }
     ensures { result ≡ spec.is_true row.now condition.now }
 {
-    are_true(condition.pieces(), row)
+    let pieces = condition.pieces();
+    if has_paren(pieces) {
+        return are_true(pieces, row);
+    }
+    are_true_flat(pieces, row)
 }
 
 /// Whether a condition is true of a row with a whole packet, counted as one step. Takes no memory.

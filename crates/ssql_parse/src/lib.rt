@@ -1,7 +1,7 @@
 //! StreamSQL scripts: what the grammar has, read and printed.
 //!
 //! Stands for: what each rule of the grammar spells in tokens (`specs/Grammar.antt`), and which text is a script, or where it
-//! stops being one and by which rule (`specs/Parsing.antt`). Called by no command yet. A rule is a function from what is
+//! stops being one and by which rule (`specs/Parsing.antt`). Called by `ssql_types` and the commands. A rule is a function from what is
 //! written to its tokens, and nothing else; a reader is exact for it (`specs/Exact.antt`): it reads what the rule spells, and
 //! stops at the first token with which the rule can't go on, whatever comes behind. Exactness of a whole follows from that of
 //! its parts, so a new form of the grammar takes its spelling, its reader of the same parts, and one term in `proofs/`.

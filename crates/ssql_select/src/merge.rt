@@ -12,6 +12,7 @@ use arch_types::row::{Row, Rows};
 use partitions::bounds::Bounds;
 use partitions::partition::Partition;
 use partitions::rows::merged_by_key;
+use replay_merge::day_range::rows_on_days;
 use replay_merge::source::RowSource;
 use std::alloc::{AllocError, Global};
 
@@ -47,7 +48,7 @@ fn rows_by_table<R: RowSource>(
 {
     let mut rows = Vec::new(alloc);
     for table in tables {
-        let more = source.rows_between(alloc, *table, parts, bounds.from, bounds.to, front)?;
+        let more = rows_on_days(alloc, source, *table, parts, bounds.from, bounds.to, front)?;
         rows = with_rows(rows, more)?;
     }
     Ok(rows)
@@ -71,7 +72,7 @@ pub(crate) fn merged_rows<R: RowSource>(
     ensures source { UsedRowSource (R.state source.old) (R.state source.new) }
 {
     if let [table] = tables {
-        let rows = source.rows_between(alloc, *table, parts, bounds.from, bounds.to, front)?;
+        let rows = rows_on_days(alloc, source, *table, parts, bounds.from, bounds.to, front)?;
         return Ok(rows.into_vec());
     }
     let rows = rows_by_table(alloc, source, tables, parts, bounds, front)?;
