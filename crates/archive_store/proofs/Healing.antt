@@ -13,13 +13,12 @@ use Rattle.disk_journal.specs.State.{unhealed_fault, file_of, IsOldBut}
 use Rattle.disk_journal.specs.declared.journal.Journal.{Journal}
 use Rattle.field_codec.specs.Spelling.{entry_octets}
 use Rattle.archive_store.specs.declared.head.Head.{Head}
-use Rattle.param_segments.specs.Rows.{SetRow}
 use Rattle.store_fills.specs.FilledSets.{FilledIntervals, fillings_in}
-use Rattle.store_fills.specs.Sound.{Fillings}
 use Rattle.archive_store.specs.Entries.{FilledArchive, archive, filled_archive, Applies}
 use Rattle.archive_store.specs.Images.{ArchiveInvariant, IsPlainLog}
 use Rattle.archive_store.specs.Inside.{StoreInvariant}
-use Rattle.archive_store.specs.PlainLog.{IsUnacknowledged, IsSinceArchive}
+use Rattle.archive_store.specs.PlainLog.{IsSinceArchive}
+use Rattle.archive_store.specs.Unacknowledged.{IsUnacknowledged}
 use Rattle.archive_store.specs.StoreView.{IsNow}
 use Rattle.archive_store.proofs.Kept.{unacknowledged_in_faults}
 use Rattle.archive_store.proofs.OneJournal as one
@@ -39,9 +38,8 @@ module _ {D : Type 0} (device : Device D) where
       (IsSinceArchive (filled_archive head k.before k.fillings) (archive head history) (rows_of_faults fills)) k.archives run elsewhere no_call transparent
 
   -- as contracts say it
-  pub moments_for : (disk new : D) (head : Head) (history : List Item) (fills : List Fill) (fillings : Fillings (List SetRow)) → LeavesOnly device disk new (PlainNow (filled_archive head history fillings) (unacknowledged_rows fills))
-      → LeavesOnly device disk new (IsNow head history (unacknowledged_rows fills))
-  moments_for disk new head history fills fillings moments = weakens device disk new _ _ moments (λ c now. now_for head history fillings (unacknowledged_rows fills) c now)
+  pub moments_for : (disk new : D) (now : FilledArchive) (pending : Option (List Item)) → LeavesOnly device disk new (PlainNow now pending) → LeavesOnly device disk new (IsNow now pending)
+  moments_for disk new now pending moments = weakens device disk new _ _ moments (now_for now pending)
 
   pub kept_healed : (disk new opened : D) (journal next : Journal) (head : Head) (history : List Item) (fills : List Fill) (filled : FilledIntervals) (pending_fault : Option ℕ)
       → StoreInvariant device disk opened journal head history fills filled pending_fault

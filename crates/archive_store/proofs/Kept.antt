@@ -25,7 +25,8 @@ use Rattle.store_fills.specs.Sound.{Fillings}
 use Rattle.archive_store.specs.Entries.{FilledArchive, IsSoundArchive, archive, filled_archive, AreAdmitted, Applies}
 use Rattle.archive_store.specs.Images.{IsPlainLog}
 use Rattle.archive_store.specs.Inside.{StoreInvariant}
-use Rattle.archive_store.specs.PlainLog.{IsUnacknowledged, IsSinceArchive}
+use Rattle.archive_store.specs.PlainLog.{IsSinceArchive}
+use Rattle.archive_store.specs.Unacknowledged.{IsUnacknowledged}
 use Rattle.archive_store.proofs.Archived.{more_archived}
 use Rattle.archive_store.proofs.OneJournal as one
 use Rattle.archive_store.proofs.PendingFaults.{prefix_self, prefix_more}

@@ -19,6 +19,7 @@ use Rattle.disk_journal.specs.declared.journal.Journal.{Journal}
 use Rattle.field_codec.specs.declared.entry.Entry.TheVariants as entries
 use Rattle.field_codec.specs.Entries.{IsArchiveEntry}
 use Rattle.field_codec.specs.Spelling.{entry_octets}
+use Rattle.interval_fills.specs.Intervals.{NoRowSince}
 use Rattle.interval_fills.proofs.Growing.{stored_base}
 use Rattle.param_segments.specs.Extracted.{IsSetOf}
 use Rattle.param_segments.specs.Octets.{rows_in_octets, set_octets}
@@ -30,7 +31,8 @@ use Rattle.archive_store.specs.declared.head.Head.{Head}
 use Rattle.archive_store.specs.Entries.{FilledArchive, IsSoundArchive, archive, filled_archive, Applies}
 use Rattle.archive_store.specs.Images.{ArchiveInvariant, IsPlainLog}
 use Rattle.archive_store.specs.Inside.{StoreInvariant}
-use Rattle.archive_store.specs.PlainLog.{IsFilledOnce, IsUnacknowledged, IsSinceArchive}
+use Rattle.archive_store.specs.PlainLog.{IsSinceArchive}
+use Rattle.archive_store.specs.Unacknowledged.{IsFilledOnce, IsUnacknowledged}
 use Rattle.archive_store.specs.Stands.{StandsFilled}
 use Rattle.archive_store.proofs.Kept.{hand-append, healthy}
 use Rattle.archive_store.proofs.OneJournal as one
@@ -127,8 +129,8 @@ module _ {D : Type 0} (device : Device D) (disk new opened : D) (journal next : 
   no_rows : (count : ℕ) → rows_of_faults (fills ++ empty_fault count ∷ []) ≡ rows_of_faults fills
   no_rows count = rows_of_faults-append fills (empty_fault count ∷ []) ∙ append-nil (rows_of_faults fills)
 
-  -- an append failed
-  pub fill_err : (count : ℕ) → file_of next ≡ file_of journal
+  -- an append failed, of a fill over all rows of its interval
+  pub fill_err : (count : ℕ) → NoRowSince 22 i base history → file_of next ≡ file_of journal
       → unhealed_fault next ≡ Some (min (device.fault_count new) (2 ^ 64 - 1))
       → count ≡ min (device.fault_count new) (2 ^ 64 - 1)
       → (IsTrue device.is_transparent → (bodies : List (List ℕ)) (pending : List ℕ) → JournalHasOnDisk device journal bodies pending disk →
@@ -138,11 +140,11 @@ module _ {D : Type 0} (device : Device D) (disk new opened : D) (journal next : 
       → raised (device.fault_count disk) ≤ device.fault_count new
       → device.failed_writes new ≡ raised (device.failed_writes disk)
       → StoreInvariant device new opened next head history (fills ++ empty_fault count ∷ []) filled (Some count)
-  fill_err count file unhealed_fault_is count_is keeps moments elsewhere rose writes =
+  fill_err count since file unhealed_fault_is count_is keeps moments elsewhere rose writes =
       let more : List Fill = fills ++ empty_fault count ∷ [] in
       let pending_now : pending_fault_of more ≡ Some count = pending_fault_of-append fills (empty_fault count ∷ []) ∙ ap (λ (o : Option ℕ). option_or o (Some count)) healed in
       let none : unacknowledged_rows more ≡ None = hand-append fills (empty_fault count ∷ []) healed in
-      let once : IsFilledOnce now after = record { interval = i; base = base; set = set; right = right; after_is = refl } in record {
+      let once : IsFilledOnce now after = record { interval = i; base = base; set = set; right = right; none_since = since; after_is = refl } in record {
         faults = record {
           rising = Rising-append (above (device.fault_count opened)) (device.fault_count disk) (device.fault_count new) fills (empty_fault count ∷ []) (omega (arith, k.faults.later)) (omega (arith, rose)) k.faults.rising
               (omega (arith, rose, count_is), omega (arith, count_is), tt);

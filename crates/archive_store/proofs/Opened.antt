@@ -3,7 +3,7 @@ use Rattle.std.proofs.Common.{◌≡◌, ◌⊎◌, inl, inr, ℕ, List, [], ◌
 use Rattle.std.specs.Prelude.{IsTrue}
 use Rattle.std.specs.List.{AllByRecursion}
 use Rattle.arch_disk.specs.Image.{Image}
-use Rattle.arch_disk.specs.Disk.{Device, IsDurable, OnlyReads}
+use Rattle.arch_disk.specs.Disk.{Device, IsDurable, LeavesOnly, OnlyReads}
 use Rattle.arch_disk.proofs.Moments.{weakens, started}
 use Rattle.history_items.specs.declared.fills.Fill.{Fill}
 use Rattle.history_items.specs.Fills.{above, pending_fault_of, rows_of_faults}
@@ -60,6 +60,12 @@ making before head c fits (inr (inl none)) = inr (inl none)
 making before head c fits (inr (inr has)) = inr (inr (record { filled = filled_archive head [] no_fillings; plain_is = refl; stands = stands_head c head fits has }))
 
 module _ {D : Type 0} (device : Device D) where
+  -- reading it leaves what was read
+  pub stands_since : (disk opened : D) (journal : Journal) (a : FilledArchive) → IsReadArchive (device.reads opened 0) journal a → IsDurable device 0 (device.reads opened 0) opened → OnlyReads device opened disk
+      → LeavesOnly device opened disk (λ c. StandsFilled c a)
+  stands_since disk opened journal a found only looked =
+      weakens device opened disk (device.images opened) (λ c. StandsFilled c a) looked.moments (λ c left. stands_found c (device.reads opened 0) journal a (only c left) found)
+
   without_fault : (t : PendingFault) (file : ℕ) (bodies : List (List ℕ)) (disk : D) → faults_of t ≡ None → HasRecords (device.reads disk file) bodies → IsDurable device file (device.reads disk file) disk → StateIs device t file bodies [] disk
   without_fault Absent file bodies disk is has only = (has, only)
   without_fault (GateClosed faults) file bodies disk is has only = absurd (cc (is))

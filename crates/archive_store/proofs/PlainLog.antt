@@ -21,9 +21,10 @@ use Rattle.archive_store.specs.declared.head.Head.{Head}
 use Rattle.archive_store.specs.Entries.{Archive, FilledArchive, IsSoundArchive, archive, filled_archive, Applies, Replays}
 use Rattle.archive_store.specs.Images.{IsSaidByLowerFiles, StandsOver, StandsForSome, StandsNow, IsPlainLog}
 use Rattle.archive_store.specs.Inside.{StoreInvariant, view_of}
-use Rattle.archive_store.specs.PlainLog.{IsUnacknowledged, IsSinceArchive}
+use Rattle.archive_store.specs.PlainLog.{IsSinceArchive}
+use Rattle.archive_store.specs.Unacknowledged.{IsUnacknowledged, with_rows}
 use Rattle.archive_store.specs.Stands.{IsSoundImage, StandsFilled, StandsFor}
-use Rattle.archive_store.specs.StoreView.{CrashInvariant, IsNow, IsSince}
+use Rattle.archive_store.specs.StoreView.{CrashInvariant, IsNow, IsSince, StoreView, archive_of, filled_of}
 use Rattle.archive_store.proofs.Exact.{filled_once}
 use Rattle.archive_store.proofs.PendingFaults.{prefix_self}
 
@@ -76,11 +77,19 @@ sound_image c a s sound other stands = subst IsSoundArchive (filled_once c a oth
 
 -- ---- what a crash now may leave
 
-pub now_for : (head : Head) (history : List Item) (fillings : Fillings (List SetRow)) (o : Option (List Item)) (c : Image) → PlainNow (filled_archive head history fillings) o c → IsNow head history o c
-now_for head history fillings None c (inl old) = stands_for c (filled_archive head history fillings) old
-now_for head history fillings None c (inr new) = subst (λ (a : FilledArchive). StandsFor c a.plain) new.holds.after_is (stands_for c new.found new.stands)
-now_for head history fillings (Some more) c (inl old) = inl (stands_for c (filled_archive head history fillings) old)
-now_for head history fillings (Some more) c (inr new) = inr (stands_for c (filled_archive head (history ++ more) fillings) (subst (StandsPlain c) new.holds new.stands))
+pub now_for : (now : FilledArchive) (o : Option (List Item)) (c : Image) → PlainNow now o c → IsNow now o c
+now_for now o c (inl old) = inl (stands_filled c now old)
+now_for now o c (inr new) = inr (new.found, new.holds, stands_filled c new.found new.stands)
+
+-- without unacknowledged rows, an image of now has those of the archive, whatever its fills
+pub now_unfilled : (now : FilledArchive) (c : Image) → IsNow now None c → StandsFor c now.plain
+now_unfilled now c (inl old) = stands_unfilled c now old
+now_unfilled now c (inr new) = subst (λ (a : FilledArchive). StandsFor c a.plain) new.1.after_is (stands_unfilled c new.0 new.2)
+
+-- and with some, those of the archive, or these behind them
+pub now_with_rows : (now : FilledArchive) (more : List Item) (c : Image) → IsNow now (Some more) c → StandsFor c now.plain ⊎ StandsFor c (archive now.plain.head (now.plain.history ++ more))
+now_with_rows now more c (inl old) = inl (stands_unfilled c now old)
+now_with_rows now more c (inr new) = inr (stands_unfilled c (with_rows now more) (subst (StandsFilled c) new.1 new.2))
 
 -- what a crash since the opening may have left
 pub since_for : (before : FilledArchive) (now : Archive) (in_faults : List (List Item)) (c : Image) → PlainSince before now in_faults c → IsSince now.head before.plain.history now.history in_faults c
@@ -145,10 +154,14 @@ module _ {D : Type 0} (device : Device D) where
     before = k.before;
     opening = record { filled = filled_archive head k.before k.fillings; plain_is = refl; stands = k.opening transparent };
     begins = k.begins;
-    now = λ c left. now_for head history (fillings_in filled) (unacknowledged_rows fills) c (i.now c left);
+    now = λ c left. now_for (filled_archive head history (fillings_in filled)) (unacknowledged_rows fills) c (i.now c left);
     since = weakens device opened disk _ _ i.since (λ c s. since_for (filled_archive head k.before k.fillings) (archive head history) (rows_of_faults fills) c s);
     sound = λ image. weakens device opened disk _ _ i.since (λ c s. sound_image c s.found s.stands (s.holds.sound (image (filled_archive head k.before k.fillings) (k.opening transparent))));
   }
+
+  -- without unacknowledged rows each image of now has the rows of the store
+  pub kept_rows : (store : StoreView D) → CrashInvariant device store → unacknowledged_rows store.fills ≡ None → (c : Image) → device.images store.disk c → StandsFor c (archive_of store)
+  kept_rows store keeps none c left = now_unfilled (filled_of store) c (subst (λ (o : Option (List Item)). IsNow (filled_of store) o c) none (keeps.now c left))
 
   -- the fills are sound if those of the opening were
   pub sound_of : (disk opened : D) (journal : Journal) (head : Head) (history : List Item) (fills : List Fill) (filled : FilledIntervals) (pending_fault : Option ℕ)

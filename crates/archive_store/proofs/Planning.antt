@@ -1,11 +1,10 @@
 -- Parts by interval: what they are over, and which rows they leave to extract.
-use Rattle.std.proofs.Common.{◌≡◌, ℤ, ◌≤ℤ◌, ◌<ℤ◌, ◌+◌, ◌≤◌, List, [], ◌∷◌, ◌++◌, length, length-append, Bool, true, false, cond, refl, sym, ◌∙◌, ap, subst, arith}
+use Rattle.std.proofs.Common.{◌≡◌, ℤ, ◌≤ℤ◌, ◌<ℤ◌, ◌≤◌, List, [], ◌∷◌, ◌++◌, length, Bool, true, false, cond, refl, sym, ◌∙◌, ap, subst, arith}
 use Rattle.std.specs.Prelude.{filter, int_lt, ◌&&◌, IsSome}
 use Rattle.std.specs.Arc.{arc_value}
 use Rattle.std.specs.List.{AllByRecursion}
 use Rattle.std.proofs.lemmas.Bool.{false_from_ne_true}
 use Rattle.std.proofs.lemmas.Int.{ints}
-use Rattle.std.proofs.lemmas.List.Elements.{filter-append}
 use Rattle.arch_types.specs.declared.interval.Interval.{Interval}
 use Rattle.arch_types.specs.declared.row.Row.{Row}
 use Rattle.arch_types.specs.Table.{is_in_time_range, range_of, table_of}
@@ -174,26 +173,3 @@ module _ {D : Type 0} (store : StoreView D) (low high : ℤ) where
       let left = ap length (rows_left plan.parts planned.each planned.meets) in
       let few = few_in_turn 22 test (filter test is) store.history (rise_filtered test is planned.rising) (pass_filtered test is) in
       omega (arith, left, few)
-
-  -- ---- of them no more lie in the range than there are rows of the range
-
-  abbrev in_range : Row → Bool
-  in_range = is_in_time_range low high
-
-  counted : (first behind : List Row) → length (filter in_range (first ++ behind)) ≡ length (filter in_range first) + length (filter in_range behind)
-  counted first behind = ap length (filter-append in_range first behind) ∙ length-append (filter in_range first) (filter in_range behind)
-
-  fewer : (parts : List Part) → AllByRecursion (IsPlanPart store) parts → length (filter in_range (rows_of_parts parts)) ≤ length (filter in_range (rows_in_turn 22 (plan_intervals parts) store.history))
-  fewer [] all = omega arith
-  fewer (Set interval set ∷ parts) all =
-      omega (arith, fewer parts all.1, counted (rows_of_interval 22 interval store.history) (rows_in_turn 22 (plan_intervals parts) store.history))
-  fewer (Rows interval rows ∷ parts) all =
-      let own = counted rows (rows_of_parts parts) in
-      let whole = counted (rows_of_interval 22 interval store.history) (rows_in_turn 22 (plan_intervals parts) store.history) in
-      let same = ap (λ (l : List Row). length (filter in_range l)) all.0.1 in
-      omega (arith, fewer parts all.1, own, whole, same)
-
-  pub few_in_range : (plan : Plan) → IsPlan store low high plan → length (filter in_range (rows_of_parts plan.parts)) ≤ length (range_of 0 low high (rows_in store.history))
-  few_in_range plan planned =
-      let turns = ap length (turns_in_range (plan_intervals plan.parts) low high store.history planned.rising planned.cover) in
-      omega (arith, turns, fewer plan.parts planned.each)

@@ -20,7 +20,8 @@ use Rattle.store_fills.specs.FilledSets.{FilledIntervals, fillings_in}
 use Rattle.archive_store.specs.Entries.{FilledArchive, archive, filled_archive, Applies}
 use Rattle.archive_store.specs.Images.{ArchiveInvariant, IsPlainLog}
 use Rattle.archive_store.specs.Inside.{StoreInvariant}
-use Rattle.archive_store.specs.PlainLog.{IsUnacknowledged, IsSinceArchive}
+use Rattle.archive_store.specs.PlainLog.{IsSinceArchive}
+use Rattle.archive_store.specs.Unacknowledged.{IsUnacknowledged}
 use Rattle.archive_store.specs.StoreView.{StoreView}
 
 -- two fill lists tell the same of faults

@@ -35,12 +35,12 @@ abbrev pub CrashLeavesEither : {D : Type 0} → Device D → D → D → FilledA
 CrashLeavesEither device before after old new =
     IsTrue device.is_transparent → LeavesOnly device before after (λ c. StandsFilled c old ⊎ StandsFilled c new)
 
--- Where the disk is transparent, power lost at any moment of a call leaves the store's archive, or after a failed write
--- also the one with the unacknowledged rows.
+-- Where the disk is transparent, power lost at any moment of a call leaves the store's archive with its fills, or what a
+-- failed write may have made of it.
 abbrev pub CrashLeavesNow : {D : Type 0} → Device D → StoreView D → D → Type 0
 CrashLeavesNow device store after =
     IsTrue device.is_transparent →
-    LeavesOnly device store.disk after (IsNow store.head store.history (unacknowledged_rows store.fills))
+    LeavesOnly device store.disk after (IsNow (filled_of store) (unacknowledged_rows store.fills))
 
 -- an image of before, or one that holds no archive, or one of the head alone
 abbrev pub IsCreateImage : (Image → Type 0) → Head → Image → Type 0
@@ -140,7 +140,8 @@ abbrev pub opened_disk_of : {D : Type 0} → Result (StoreView D) (D × Refusal)
 opened_disk_of (Ok store) = store.opened
 opened_disk_of (Err refused) = refused.0
 
--- the store is what the disk stands for, of as many records as file 0 has, without a fault or a flight
+-- The store is what the disk stands for, of as many records as file 0 has, without a fault or a flight; and power lost at
+-- any moment from the opening's syncs on leaves that, with its fills.
 pub record IsStoreOpened {D : Type 0} (device : Device D) (disk : D) (store : StoreView D) : Type 0 where
   pub stands : IsTrue device.is_transparent → StandsFor (device.reads disk) (archive_of store)
   pub records : IsTrue device.is_transparent →
@@ -148,6 +149,8 @@ pub record IsStoreOpened {D : Type 0} (device : Device D) (disk : D) (store : St
   pub fills : AllByRecursion IsDone store.fills
   pub filled : IsTrue device.is_transparent → StandsFilled (device.reads disk) (filled_of store)
   pub opening : device.reads store.opened ≡ device.reads disk
+  pub since : IsTrue device.is_transparent →
+      LeavesOnly device store.opened store.disk (λ c. StandsFilled c (filled_of store))
   pub no_failed_write : NoWriteFailed device disk store.disk
 
 -- the disk holds no archive

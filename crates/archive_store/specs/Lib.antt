@@ -14,3 +14,4 @@ pub mod Stands
 pub mod Tasks
 pub mod CurrentSets
 pub mod Installs
+pub mod Unacknowledged

@@ -1,39 +1,16 @@
 -- The archive of rows over the general form: file 0 is the log, and what a failed write may have left are the rows
 -- that a fault holds.
-use Rattle.std.specs.Prelude.{◌≡◌, ◌⊎◌, ℕ, List, ◌++◌, Contains, Option, Some, None}
+use Rattle.std.specs.Prelude.{◌≡◌, ◌⊎◌, List, ◌++◌, Contains}
 use mathlib.Core.List.{IsPrefix}
 use Rattle.arch_disk.specs.Disk.{Device}
 use Rattle.history_items.specs.Fills.{rows_of_faults, unacknowledged_rows}
 use Rattle.history_items.specs.Items.{Item}
 use Rattle.disk_journal.specs.declared.journal.Journal.{Journal}
 use Rattle.field_codec.specs.Spelling.{entry_octets}
-use Rattle.arch_types.specs.declared.interval.Interval.{Interval}
-use Rattle.param_segments.specs.Rows.{SetRow}
-use Rattle.store_fills.specs.Filled.{IsRightFill}
-use Rattle.store_fills.specs.FilledSets.{fill_over}
-use Rattle.store_fills.specs.Sound.{with_filling}
-use Rattle.archive_store.specs.Entries.{Archive, FilledArchive, IsSoundArchive, archive, filled_archive, Applies}
+use Rattle.archive_store.specs.Entries.{Archive, FilledArchive, IsSoundArchive, archive, Applies}
 use Rattle.archive_store.specs.Images.{ArchiveInvariant, IsPlainLog}
 use Rattle.archive_store.specs.StoreView.{StoreView, archive_of, filled_of}
-
--- an archive with more rows, and the fills that it has
-abbrev pub with_rows : FilledArchive → List Item → FilledArchive
-with_rows now more = filled_archive now.plain.head (now.plain.history ++ more) now.fillings
-
--- an archive with one fill more, which is right for its history
-pub record IsFilledOnce (now after : FilledArchive) : Type 0 where
-  pub interval : Interval
-  pub base : ℕ
-  pub set : List SetRow
-  pub right : IsRightFill 22 now.plain.head.mdb now.plain.history interval base set
-  pub after_is : after ≡ filled_archive now.plain.head now.plain.history
-      (with_filling now.fillings interval (fill_over base set))
-
--- what a failed write made, where it did: the archive with the unacknowledged rows, or, where there are none, one with a
--- fill more
-abbrev pub IsUnacknowledged : FilledArchive → Option (List Item) → FilledArchive → Type 0
-IsUnacknowledged now None after = IsFilledOnce now after
-IsUnacknowledged now (Some more) after = after ≡ with_rows now more
+use Rattle.archive_store.specs.Unacknowledged.{IsUnacknowledged}
 
 -- An archive of a prefix of the history that holds the history of the opening, or of such a prefix followed by the rows
 -- that one fault holds. Its fills are sound if those of the opening were.

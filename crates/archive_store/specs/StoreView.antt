@@ -1,5 +1,5 @@
 -- What contracts see of a store, and what its type keeps.
-use Rattle.std.specs.Prelude.{◌≡◌, ◌⊎◌, ℕ, ◌^◌, ◌≤◌, ◌-◌, true, List, [], ◌∷◌, ◌++◌, min, Contains, Option, Some, None}
+use Rattle.std.specs.Prelude.{◌≡◌, ◌⊎◌, ℕ, ◌^◌, ◌≤◌, ◌-◌, true, List, [], ◌∷◌, ◌++◌, min, Contains, Option, Some}
 use mathlib.Core.List.{IsPrefix}
 use Rattle.arch_disk.specs.Image.{Image}
 use Rattle.arch_disk.specs.Disk.{Device, LeavesOnly, raised}
@@ -12,6 +12,7 @@ use Rattle.archive_store.specs.declared.head.Head.{Head}
 use Rattle.store_fills.specs.FilledSets.{FilledIntervals, fillings_in}
 use Rattle.archive_store.specs.Entries.{Archive, FilledArchive, archive, filled_archive}
 use Rattle.archive_store.specs.Stands.{StandsFilled, StandsFor, IsSoundImage}
+use Rattle.archive_store.specs.Unacknowledged.{IsUnacknowledged}
 
 -- the history and the fill list, the fills that are there, the head, how many records the journal has, the disk, and the
 -- disk as it was at the opening
@@ -42,12 +43,12 @@ pub record IsSince (head : Head) (before history : List Item) (in_faults : List 
   pub stands : StandsFor image (archive head front)
       ⊎ ((more : List Item) × Contains in_faults more × StandsFor image (archive head (front ++ more)))
 
--- What a crash now may leave: what stands for the history, and after a failed write also for the history with the
--- unacknowledged rows.
-abbrev pub IsNow : Head → List Item → Option (List Item) → Image → Type 0
-IsNow head history None image = StandsFor image (archive head history)
-IsNow head history (Some more) image =
-    StandsFor image (archive head history) ⊎ StandsFor image (archive head (history ++ more))
+-- What a crash now may leave: the archive with its fills, or what a failed write may have made of it: that with the
+-- unacknowledged rows, or, where there are none, with one fill more over all rows of its interval.
+abbrev pub IsNow : FilledArchive → Option (List Item) → Image → Type 0
+IsNow filled pending image =
+    StandsFilled image filled
+    ⊎ ((after : FilledArchive) × IsUnacknowledged filled pending after × StandsFilled image after)
 
 -- where the disk is transparent: what a crash now may leave, and what a crash at any moment since the opening's syncs
 -- may have left, which has sound fills if the disk of the opening had
@@ -56,7 +57,7 @@ pub record CrashInvariant {D : Type 0} (device : Device D) (store : StoreView D)
   pub opening : StandsFor (device.reads store.opened) (archive store.head before)
   pub begins : IsPrefix before store.history
   pub now : (c : Image) → device.images store.disk c →
-      IsNow store.head store.history (unacknowledged_rows store.fills) c
+      IsNow (filled_of store) (unacknowledged_rows store.fills) c
   pub since : LeavesOnly device store.opened store.disk
       (IsSince store.head before store.history (rows_of_faults store.fills))
   pub sound : IsSoundImage (device.reads store.opened) → LeavesOnly device store.opened store.disk IsSoundImage

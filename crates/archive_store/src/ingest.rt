@@ -63,7 +63,7 @@ fn prepare(
 }
 
 impl<D: Disk> Store<D> {
-    ghost use Rattle.archive_store.specs.PlainLog.{with_rows};
+    ghost use Rattle.archive_store.specs.Unacknowledged.{with_rows};
     ghost use Rattle.archive_store.specs.StoreView.{archive_of, filled_of, OnlyAppends};
     ghost use Rattle.disk_journal.specs.Calls.{CountsNeverFall};
     ghost use Rattle.archive_store.specs.Calls.{AreAppended, AreIngested, CrashLeavesEither, CrashLeavesNow, IsIngestRefusal, IsRowsRefusal, IsStoreReopened, IsStoreReopenRefusal, archive_with};
@@ -180,7 +180,7 @@ impl<D: Disk> Store<D> {
         // Refused, for a fault of the disk alone, all but the disk is as it was.
         ensures refused { IfErr result (IsStoreReopenRefusal D.device self.old self.new) }
 
-        // Power lost at any moment of the call leaves what it could have left before.
+        // Power lost at any moment of the call leaves the archive with its fills, or what the failed write may have made of it.
         ensures crash { CrashLeavesNow D.device self.old self.new.disk }
         ensures counts { CountsNeverFall D.device self.old.disk self.new.disk }
     {

@@ -6,7 +6,6 @@ ghost use Rattle.arch_disk.specs.Disk.{OnlyReads};
 ghost use Rattle.disk_journal.specs.Calls.{BeginsOpen};
 ghost use Rattle.disk_journal.specs.Reading.{IsAt, file_read, IsReadJournal};
 ghost use Rattle.arch_types.specs.declared.refusal.Refusal.TheVariants.{Damaged};
-ghost use Rattle.arch_types.specs.declared.row.Row.{Row as ARow};
 ghost use Rattle.octet_fields.specs.Exact.{IsOctets};
 ghost use Rattle.std.specs.Arc.{arc_value};
 ghost use Rattle.history_items.specs.declared.fills.Fill.TheVariants as noted;

@@ -5,8 +5,6 @@ ghost use Rattle.std.specs.Arc.{arc_value};
 ghost use Rattle.std.specs.List.{AllByRecursion};
 ghost use Rattle.std.specs.Option.{is_some};
 ghost use Rattle.arch_types.specs.declared.refusal.Refusal.TheVariants.{UnknownParameter, BadRange, OutOfMemory};
-ghost use Rattle.arch_types.specs.Table.{range_of};
-ghost use Rattle.history_items.specs.Items.{rows_in};
 ghost use Rattle.history_items.specs.Late.{last_in};
 ghost use Rattle.interval_walks.specs.Turns.{CoverRange, IntervalsRise};
 ghost use Rattle.mdb_items.specs.Texts.{place_of};
@@ -29,7 +27,6 @@ use mdb_model::Mdb;
 use param_segments::{Part, Parts, Plan};
 use std::alloc::{AllocError, Global};
 use std::sync::Arc;
-use yarch_table::rows::TableRows;
 
 /// Whether the database has a parameter of that name.
 fn has_parameter(mdb: &Mdb, name: &Name) -> bool
@@ -152,13 +149,6 @@ impl<D: Disk> Store<D> {
             Ok(plan) => Ok(plan),
             Err(_) => Err(Refusal::OutOfMemory),
         }
-    }
-
-    /// The rows of table `tm` with `from <= time < to`, in the order of their keys, as they stand in the history. Times are in milliseconds.
-    pub fn range(&self, from: i64, to: i64) -> TableRows<'_>
-        ensures { result ≡ range_of 0 from to (rows_in self.now.history) }
-    {
-        self.history.range(from, to)
     }
 
     /// The head's database, shared. The one error is want of memory.

@@ -257,7 +257,7 @@ impl<D: Disk> Store<D> {
         ensures images { IsTrue D.device.is_transparent → CrashInvariant D.device self.now }
         ensures faults { FaultInvariant D.device self.now }
 
-        // While no failed write is pending, each image of now has the fills too.
+        // While no failed write is pending, each image of now stands for the history with its fills, and nothing more.
         ensures kept { IsTrue D.device.is_transparent → pending_fault_of self.now.fills ≡ None →
             IsKeptWithFills D.device self.now }
 

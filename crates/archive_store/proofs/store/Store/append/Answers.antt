@@ -17,7 +17,7 @@ use Rattle.fill_tracker.specs.FillTracker.{AreMarksOf}
 use Rattle.store_fills.specs.FilledSets.{fillings_in}
 use Rattle.archive_store.specs.Entries.{archive, filled_archive, AreAdmitted}
 use Rattle.archive_store.specs.Inside.{HoldsFills, StoreInvariant}
-use Rattle.archive_store.specs.PlainLog.{with_rows}
+use Rattle.archive_store.specs.Unacknowledged.{with_rows}
 use Rattle.archive_store.specs.StoreView.{StoreView, filled_of}
 use Rattle.archive_store.specs.Stands.{StandsFilled}
 use Rattle.archive_store.proofs.Batching.{placed_tables}

@@ -112,8 +112,9 @@ invariant_of-self-in-Err-append g c =
     let keeps = λ (transparent : IsTrue device.is_transparent) (bodies : List (List ℕ)) (pending : List ℕ) (keeps : JournalHasOnDisk device mid bodies pending s.disk).
     subst (λ (b : List ℕ). JournalHasOnDisk device c.append.new.self bodies b c.append.new.disk) parts.frame (append_failed_on device mid bodies pending s.disk transparent keeps c.append.new.self c.append.new.disk c.into_parts-parts.result.0 failed) in
     let count = c.faults-count.result in
+    let since : NoRowSince 22 i base s.history.items = subst (λ (x : StoreView g.row.D.Denot). NoRowSince 22 i base x.history) (sym c.self.view_is) c.requires.none in
     let noted = fill_err device s.disk c.append.new.disk s.opened.value mid c.append.new.self s.head s.history.items s.tracker.fills s.sets.filled s.pending_fault i base set k_mid right parts.fits parts.value healed
-    count c.append.ensures.file failed.pending_fault c.faults-count.ensures keeps moments elsewhere failed.rose failed.wrote in
+    count since c.append.ensures.file failed.pending_fault c.faults-count.ensures keeps moments elsewhere failed.rose failed.wrote in
     let fills : c.note_fault.new.self.fills ≡ s.tracker.fills ++ empty_fault count ∷ [] = c.note_fault.ensures.fills ∙ ap (λ (l : List Fill). l ++ empty_fault count ∷ []) prepared.tracker.0 in
     let before = subst (λ (m : Marks). AreMarksOf 22 s.history.items c.prepare_fill-prepared.new.tracker.fills m) (sym prepared.tracker.1) (subst (λ (l : List Fill). AreMarksOf 22 s.history.items l s.tracker.marks) (sym prepared.tracker.0) c.self.invariant.3) in
     let same = holds_same s.head s.tracker.fills c.note_fault.new.self.fills s.sets.filled c.self.invariant.4 (λ j. ap (base_in j) fills ∙ base_after_item j s.tracker.fills (empty_fault count)) in (

@@ -1,14 +1,16 @@
 use Rattle.std.proofs.Common.{None, refl, sym, subst, ap, ◌∙◌, length, map}
 use Rattle.std.specs.Prelude.{IsTrue}
+use Rattle.arch_disk.specs.Disk.{LeavesOnly}
 use Rattle.arch_disk.specs.Image.{Image}
 use Rattle.disk_journal.specs.Format.{HasRecords}
 use Rattle.disk_journal.proofs.Bodies.{length-extents}
 use Rattle.field_codec.specs.Spelling.{entry_octets}
 use Rattle.archive_store.specs.Calls.{IsStoreOpenRefusal}
 use Rattle.archive_store.specs.PartialArchive.{filled_made}
+use Rattle.archive_store.specs.Stands.{StandsFilled}
 use Rattle.archive_store.specs.Inside.{StoreInvariant}
 use Rattle.archive_store.proofs.Calls.{decided_refused, decided_opened}
-use Rattle.archive_store.proofs.Opened.{kept_open, stands_found}
+use Rattle.archive_store.proofs.Opened.{kept_open, stands_found, stands_since}
 use Rattle.archive_store.proofs.Refusals.{begin_refused, read_refused}
 use Rattle.archive_store.proofs.store.Store.open.Goals as goal
 
@@ -65,6 +67,8 @@ returns-clause-opened g c =
       fills = c.in-Ok-read_archive.ensures.read.marks.0;
       filled = stands;
       opening = ap device.reads c.of-opened.ensures ∙ same;
+      since = λ transparent. subst (λ o. LeavesOnly device o c.read_archive.new.disk (λ (x : Image). StandsFilled x (filled_made made))) (sym c.of-opened.ensures)
+          (stands_since device c.read_archive.new.disk c.begin.new.disk c.in-Ok-read_archive.found.journal (filled_made made) (found transparent) c.in-Ok.ensures.begun.durable c.read_archive.ensures.looked);
       no_failed_write = c.read_archive.ensures.looked.no_write ∙ c.in-Ok.ensures.begun.no_failed_write;
     }
 

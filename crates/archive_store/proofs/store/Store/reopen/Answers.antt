@@ -9,8 +9,9 @@ use Rattle.disk_journal.specs.State.{HasOnDisk as JournalHasOnDisk}
 use Rattle.disk_journal.specs.State.{unhealed_fault, count_of}
 use Rattle.disk_journal.proofs.Calls.{healed_on, heal_failed_on, heal_crash_on, heal_refusal_failed}
 use Rattle.store_fills.specs.FilledSets.{FilledIntervals, fillings_in}
-use Rattle.archive_store.specs.StoreView.{StoreView, IsNow}
+use Rattle.archive_store.specs.StoreView.{StoreView, IsNow, filled_of}
 use Rattle.archive_store.specs.declared.head.Head.{Head}
+use Rattle.archive_store.specs.Entries.{filled_archive}
 use Rattle.archive_store.specs.Inside.{StoreInvariant, view_of}
 use Rattle.archive_store.proofs.Fillable.{holds_same}
 use Rattle.archive_store.proofs.Kept.{healthy}
@@ -101,8 +102,8 @@ returns-in-Ok-clause-crash g c =
     let run = λ (transparent : IsTrue device.is_transparent) (bodies : List (List ℕ)) (pending : List ℕ) (keeps : JournalHasOnDisk device s.journal bodies pending s.disk).
     heal_crash_on device s.journal bodies pending s.disk transparent keeps c.heal.new.disk c.heal.ensures.crash in
     let moments = heal_moments device s.disk c.heal.new.disk s.opened.value s.journal s.head s.history.items s.tracker.fills s.sets.filled s.pending_fault k run c.heal.ensures.others.crash c.in-Ok.ensures.healed.no_call in
-    subst (λ (x : StoreView g.row.D.Denot). IsTrue device.is_transparent → LeavesOnly device x.disk c.heal.new.disk (IsNow x.head x.history (unacknowledged_rows x.fills))) c.self.view_is
-    (λ transparent. moments_for device s.disk c.heal.new.disk s.head s.history.items s.tracker.fills (fillings_in s.sets.filled) (moments transparent))
+    subst (λ (x : StoreView g.row.D.Denot). IsTrue device.is_transparent → LeavesOnly device x.disk c.heal.new.disk (IsNow (filled_of x) (unacknowledged_rows x.fills))) c.self.view_is
+    (λ transparent. moments_for device s.disk c.heal.new.disk (filled_archive s.head s.history.items (fillings_in s.sets.filled)) (unacknowledged_rows s.tracker.fills) (moments transparent))
 
 pub returns-in-Err-clause-crash : goal.returns-in-Err-clause-crash
 returns-in-Err-clause-crash g c =
@@ -114,5 +115,5 @@ returns-in-Err-clause-crash g c =
     let failed = (heal_refusal_failed device s.journal c.heal.new.self s.disk c.heal.new.disk c.in-Err.field-0 c.in-Err.ensures.refused).1 in
     let no_call = λ (none : unhealed_fault s.journal ≡ None). absurd (failed.unhealed none) in
     let moments = heal_moments device s.disk c.heal.new.disk s.opened.value s.journal s.head s.history.items s.tracker.fills s.sets.filled s.pending_fault k run c.heal.ensures.others.crash no_call in
-    subst (λ (x : StoreView g.row.D.Denot). IsTrue device.is_transparent → LeavesOnly device x.disk c.heal.new.disk (IsNow x.head x.history (unacknowledged_rows x.fills))) c.self.view_is
-    (λ transparent. moments_for device s.disk c.heal.new.disk s.head s.history.items s.tracker.fills (fillings_in s.sets.filled) (moments transparent))
+    subst (λ (x : StoreView g.row.D.Denot). IsTrue device.is_transparent → LeavesOnly device x.disk c.heal.new.disk (IsNow (filled_of x) (unacknowledged_rows x.fills))) c.self.view_is
+    (λ transparent. moments_for device s.disk c.heal.new.disk (filled_archive s.head s.history.items (fillings_in s.sets.filled)) (unacknowledged_rows s.tracker.fills) (moments transparent))
