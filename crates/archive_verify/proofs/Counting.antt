@@ -1,5 +1,5 @@
 -- The intervals that a store tells are those that have rows, and as many of them are late.
-use Rattle.std.proofs.Common.{◌≡◌, ◌∙◌, ◌⊎◌, inl, inr, ℕ, zero, suc, ◌+◌, ℤ, ◌<ℤ◌, List, [], ◌∷◌, ◌++◌, length, take, Bool, true, false, true≢false, cond, Option, Some, None, refl, sym, ap, subst, arith, add-one}
+use Rattle.std.proofs.Common.{◌≡◌, ◌∙◌, ◌⊎◌, inl, inr, ℕ, zero, suc, ◌+◌, ◌<ℤ◌, List, [], ◌∷◌, ◌++◌, length, take, Bool, true, false, true≢false, cond, Option, Some, None, refl, sym, ap, subst, arith, add-one}
 use Rattle.std.specs.Prelude.{◌↔◌, slice_get, ◌==◌, ◌&&◌, ◌||◌, not, filter, fold, IsSome, if◌then◌else◌}
 use Rattle.std.specs.List.{list_any, AllByRecursion}
 use Rattle.std.specs.Option.{option_map_or}

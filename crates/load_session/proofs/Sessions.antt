@@ -7,6 +7,7 @@ use Rattle.arch_types.specs.declared.refusal.Refusal.{Refusal}
 use Rattle.arch_types.specs.declared.refusal.Refusal.TheVariants.{DiskFault, Limit, OutOfMemory}
 use Rattle.arch_types.specs.declared.row.Row.{Row}
 use Rattle.arch_types.specs.History.{ingested}
+use Rattle.history_items.specs.declared.fills.Addition.{Addition}
 use Rattle.history_items.specs.declared.fills.Addition.TheVariants.{Rows}
 use Rattle.history_items.specs.declared.fills.Fill.{Fill}
 use Rattle.history_items.specs.declared.fills.Fill.TheVariants.{Begun, Done, Fault, Freed}
@@ -26,16 +27,16 @@ use Rattle.load_session.specs.Session.{HoldsFailedWrite, IsLimitOf, IsSession, I
 -- ---- counts of faults
 
 -- a store that holds a fault has more faults than at its opening
-pub more_faults : {D : Type 0} (device : Device D) (store : StoreView D) (count : ℕ) (wrote : Bool) (rows : List Row) → FaultInvariant device store
-    → faults_in store.fills ≡ Fault count wrote (Rows rows) ∷ [] → raised (device.fault_count store.opened) ≤ device.fault_count store.disk
-more_faults device store count wrote rows keeps one =
+pub more_faults : {D : Type 0} (device : Device D) (store : StoreView D) (count : ℕ) (wrote : Bool) (addition : Addition) → FaultInvariant device store
+    → faults_in store.fills ≡ Fault count wrote addition ∷ [] → raised (device.fault_count store.opened) ≤ device.fault_count store.disk
+more_faults device store count wrote addition keeps one =
     let rising = subst (λ (fills : List Fill). Rising (above (device.fault_count store.opened)) (device.fault_count store.disk) fills) one (Rising-in store.fills (above (device.fault_count store.opened)) (device.fault_count store.disk) keeps.rising) in
     let low = rising.0 in
     let high = rising.1 in
     let later = keeps.later in
     omega (arith, low, high, later)
 
-twice : (first then last : ℕ) → raised first ≤ then → raised then ≤ last → raised (raised first) ≤ last
+pub twice : (first then last : ℕ) → raised first ≤ then → raised then ≤ last → raised (raised first) ≤ last
 twice first then last once again = omega (arith, once, again)
 
 -- ---- the fill list
@@ -127,7 +128,7 @@ module _ {D : Type 0} (device : Device D) (old new : StoreView D) (dump : List �
 
         rose : raised (device.fault_count new.disk) ≤ device.fault_count last.disk → raised (raised (device.fault_count last.opened)) ≤ device.fault_count last.disk
         rose failed =
-            let once = more_faults device new s.cause.0 true (next_fresh_rows r (stopped_result DiskFault s)) again.counted s.cause.1 in
+            let once = more_faults device new s.cause.0 true (Rows (next_fresh_rows r (stopped_result DiskFault s))) again.counted s.cause.1 in
             subst (λ (d : D). raised (raised (device.fault_count d)) ≤ device.fault_count last.disk) (sym again.opened)
             (twice (device.fault_count new.opened) (device.fault_count new.disk) (device.fault_count last.disk) once failed)
 

@@ -17,8 +17,8 @@ use std::alloc::Global;
 use stream_graph::graph::Graph;
 
 /// Ingests the packets of a dump that came by a link and was received at a moment, in milliseconds since 1970, in batches of 64, each packet into the
-/// tables of the archive that its row reaches by a route. At the first batch that is refused it stops. Where that is because the disk failed, the write is taken back, so that a program that opens the archive after it reads no
-/// gate that the medium may lack.
+/// tables of the archive that its row reaches by a route. At the first batch that is refused it stops. Where that is because the disk failed, the write is
+/// taken back, so that a program that opens the archive after it reads no gate that the medium may lack.
 ///
 /// Refuses by a `Limit` of the history, by `DiskFault` or by `OutOfMemory`.
 pub fn run_session<D: Disk>(
@@ -48,8 +48,9 @@ pub fn run_session<D: Disk>(
     }
 }
 
-/// Takes a failed write back where the disk failed. It is tried once, and the refusal stays, whether it succeeds or not.
-fn heal<D: Disk>(store: &mut Store<D>, refusal: &Refusal)
+/// Takes a failed write back where the disk failed, so that a program that opens the archive after it reads no gate that the
+/// medium may lack. It is tried once, and the refusal stays, whether it succeeds or not.
+pub fn heal<D: Disk>(store: &mut Store<D>, refusal: &Refusal)
     ensures same { refusal.now ≢ Refusal.DiskFault → store.new ≡ store.old }
     ensures reopened { refusal.now ≡ Refusal.DiskFault → IsReopened D.device store.old store.new }
     ensures disk_writes { OneAtMost (Some refusal.now) (D.device.failed_writes store.old.disk)

@@ -11,3 +11,5 @@ pub mod Timely
 pub mod OverRows
 pub mod OneList
 pub mod FilledAnswers
+pub mod LateRows
+pub mod AddedFills

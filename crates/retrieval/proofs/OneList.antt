@@ -277,7 +277,7 @@ member_has P i (j ∷ is) all has = go (is_same i j) refl has (member_has P i is
     go true same e deep = subst P (sym (same_interval i j same)) here
     go false other e deep = deep e
 
-meets_true : (low high : ℤ) (i : Interval) → MeetsRange 22 low high i → meets_range 22 low high i ≡ true
+pub meets_true : (low high : ℤ) (i : Interval) → MeetsRange 22 low high i → meets_range 22 low high i ≡ true
 meets_true low high i meets =
     let one = meets.begins in
     let two = meets.ends in

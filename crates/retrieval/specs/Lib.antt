@@ -6,4 +6,5 @@ pub mod ReplayText
 pub mod AskText
 pub mod PartCells
 pub mod FilledAnswer
+pub mod AddedFills
 pub mod Laws

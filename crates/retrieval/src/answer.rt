@@ -3,10 +3,11 @@
 ghost use Rattle.std.specs.Prelude.{◌≡◌, ◌+◌, ◌≤◌, IfOk, IsSome, IsTrue, List, None, Some, filter, length};
 ghost use Rattle.std.specs.List.{AllByRecursion};
 ghost use Rattle.arch_types.specs.declared.row.Row.{Row};
-ghost use Rattle.arch_types.specs.Table.{is_in_time_range, range_of};
+ghost use Rattle.arch_types.specs.Table.{is_in_time_range};
 ghost use Rattle.history_items.specs.Items.{rows_in};
 ghost use Rattle.param_segments.specs.Plans.{ArePartsOver, HasValuesOf, rows_of_parts};
 ghost use Rattle.store_fills.specs.FilledSets.{fillings_in};
+ghost use Rattle.archive_store.specs.Plans.{late_rows_of_range};
 ghost use Rattle.archive_store.specs.Stands.{IsSoundImage};
 ghost use Rattle.retrieval.specs.AnswerText.{answered, request_refusal};
 ghost use Rattle.retrieval.specs.FilledAnswer.{IsParameterAnswer, filled_answer};
@@ -67,8 +68,8 @@ pub fn answer<L: Ledger>(
     })
 }
 
-/// The answer to a request over the whole history of a store, whose database has the parameter, in a step for each row
-/// of the range at most: over the sets of the intervals that it meets, and the rows of those that are late.
+/// The answer to a request over the whole history of a store, whose database has the parameter: over the sets of the
+/// intervals that its range meets, and the rows of those that are late, in a step for each late row of the range at most.
 pub fn answer_request<D: Disk, L: Ledger>(
     alloc: Global,
     store: &mut Store<D>,
@@ -84,8 +85,10 @@ pub fn answer_request<D: Disk, L: Ledger>(
         IsTrue D.device.is_transparent → IsSoundImage (D.device.reads store.old.opened) → found.answer.cells ≡
         answered store.old.head.mdb found.number request.now (rows_in store.old.history)) }
     ensures same { store.new ≡ store.old }
-    ensures steps { steps.new ≤ steps.old + length (range_of 0 request.now.from request.now.to
-        (rows_in store.old.history)) }
+
+    // No row of a filled interval takes one.
+    ensures steps { steps.new ≤ steps.old + length (filter (is_in_time_range request.now.from request.now.to)
+        (late_rows_of_range store.old.history store.old.fills request.now.from request.now.to)) }
 {
     let Some(number) = number_of(&store.head().mdb, &request.parameter) else {
         unreachable!();
@@ -125,8 +128,8 @@ fn planned_answer<D: Disk, L: Ledger>(
         IsTrue D.device.is_transparent → IsSoundImage (D.device.reads store.old.opened) → answer.cells ≡
         answered store.old.head.mdb number request.now (rows_in store.old.history)) }
     ensures same { store.new ≡ store.old }
-    ensures steps { steps.new ≤ steps.old + length (range_of 0 request.now.from request.now.to
-        (rows_in store.old.history)) }
+    ensures steps { steps.new ≤ steps.old + length (filter (is_in_time_range request.now.from request.now.to)
+        (late_rows_of_range store.old.history store.old.fills request.now.from request.now.to)) }
 {
     // It tells the proof that the fill list has the bases of the fills that are there.
     let _bases = store.front();

@@ -1,6 +1,6 @@
 //! Laws of the definitions, carried by functions that do nothing.
 
-ghost use Rattle.retrieval.specs.Laws.{FilledIsAnswered, PlannedIsAnswered};
+ghost use Rattle.retrieval.specs.Laws.{AddedFillsAnswerAlike, FilledIsAnswered, PlannedIsAnswered};
 
 /// What is answered over the parts of a store's plan is the answer over its whole history.
 pub fn planned_is_answered()
@@ -10,4 +10,9 @@ pub fn planned_is_answered()
 /// Where the fills of a history are sound, what is answered over it with them is the answer over the history.
 pub fn filled_is_answered()
     ensures { FilledIsAnswered }
+{}
+
+/// Fills of late intervals, over the whole history, change nothing of what asks are answered.
+pub fn added_fills_answer_alike()
+    ensures { AddedFillsAnswerAlike }
 {}

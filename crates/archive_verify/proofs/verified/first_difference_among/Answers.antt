@@ -1,4 +1,4 @@
-use Rattle.std.proofs.Common.{◌≡◌, length, Some, get_or, pos, subst}
+use Rattle.std.proofs.Common.{◌≡◌, Some, get_or, pos, subst}
 use Rattle.std.specs.Prelude.{slice_get, IfNone, IfSome}
 use Rattle.std.proofs.lemmas.Option.{slice_get-get_or}
 use Rattle.arch_types.specs.declared.interval.Interval.{Interval}

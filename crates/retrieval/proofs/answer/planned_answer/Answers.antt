@@ -7,7 +7,6 @@ use Rattle.archive_store.specs.declared.head.Head.{Head}
 use Rattle.archive_store.specs.Plans.{IsPlanOver}
 use Rattle.archive_store.specs.Stands.{IsSoundImage}
 use Rattle.archive_store.specs.StoreView.{StoreView}
-use Rattle.archive_store.proofs.Planning.{few_in_range}
 use Rattle.mdb_items.specs.Database.{Database}
 use Rattle.param_segments.specs.declared.plan.Plan.{Plan}
 use Rattle.param_segments.specs.Plans.{ArePartsOver, HasValuesOf}
@@ -17,6 +16,7 @@ use Rattle.retrieval.specs.Parameter.{number_named}
 use Rattle.retrieval.specs.FilledAnswer.{filled_answer}
 use Rattle.retrieval.specs.PartCells.{answer_over_parts, answer_over_rows}
 use Rattle.retrieval.proofs.FilledAnswers.{plan_filled}
+use Rattle.retrieval.proofs.LateRows.{late_in_range}
 use Rattle.retrieval.proofs.OverRows.{answer_of_history, same_cells, same_front, where_known}
 use Rattle.retrieval.proofs.answer.planned_answer.Goals as goal
 
@@ -64,5 +64,5 @@ returns-in-Ok-clause-answered g c =
 pub returns-in-Ok-clause-steps : goal.returns-in-Ok-clause-steps
 returns-in-Ok-clause-steps g c =
     let request = c.args.request.now in
-    let few = few_in_range c.args.store.now request.from request.to c.in-Ok.plan c.in-Ok.ensures.planned in
-    omega (arith, c.answer.ensures.steps, few)
+    let late = ap length (late_in_range c.args.store.now request.from request.to c.in-Ok.plan c.in-Ok.ensures.planned) in
+    omega (arith, c.answer.ensures.steps, late)
