@@ -79,16 +79,16 @@ pub counted_line : {D : Type 0} (store : StoreView D) (sound : Sound) → IsCoun
 counted_line store sound counted bases =
     rw (counted.rows, counted.intervals, counted.late, late_by_bases (filled_of store) store.fills bases) refl
 
-module _ {D : Type 0} (device : Device D) (e : Effects D) (filled : FilledArchive) (disk : HasDiskOutcome device e.disk e.disk' false (Opened filled.plain)) where
+module _ {D : Type 0} (device : Device D) (e : Effects D) (filled : FilledArchive) (disk : HasDiskOutcome device e.disk e.disk' false (Opened filled)) where
   -- it wasn't found sound
   ran_unsound : (refusal : Refusal) → IsVerifyRefusal filled refusal → e.report ≡ read_only (Some refusal) (length filled.plain.history) → e.output' ≡ e.output → Ran device (compare_plan filled) e
   ran_unsound OutOfMemory is report silent = record {
-    way = Interrupted (archive_opened 0 filled.plain) OfMemory;
+    way = Interrupted (archive_opened 0 filled) OfMemory;
     allows = inl refl;
     did = record { report = report; printed = rw silent (no_text e.output.written); output = record { counted = rw silent refl }; disk = disk };
   }
   ran_unsound (Mismatch i n k s r) is report silent = record {
-    way = Stopped (archive_opened 0 filled.plain) (Some (Mismatch i n k s r));
+    way = Stopped (archive_opened 0 filled) (Some (Mismatch i n k s r));
     allows = inr (Some (Mismatch i n k s r), is, refl);
     did = record { report = report; printed = rw silent (no_text e.output.written); output = record { counted = rw silent refl }; disk = disk };
   }
@@ -99,5 +99,5 @@ module _ {D : Type 0} (device : Device D) (e : Effects D) (filled : FilledArchiv
   ran_compared None (inr refused) report = absurd refused.0
   ran_compared (Some refusal) (inr refused) report = ran_unsound refusal refused.0 report refused.1
   ran_compared refusal (inl found) report =
-      let printed = ran_printed device e (archive_opened 0 filled.plain) (verify_line filled) refusal refl refl found.printed found.later found.counted report disk in
+      let printed = ran_printed device e (archive_opened 0 filled) (verify_line filled) refusal refl refl found.printed found.later found.counted report disk in
       record { way = printed.way; allows = inr (None, found.sound, printed.allows); did = printed.did }

@@ -1,5 +1,5 @@
 -- The disk of a call that fills what is late.
-use Rattle.std.proofs.Common.{◌≡◌, inl, inr, ℕ, ◌≤◌, true, false, List, [], ◌∷◌, Bool, Option, Some, None, refl, sym, ◌∙◌, ap, subst, arith}
+use Rattle.std.proofs.Common.{◌≡◌, ◌⊎◌, inl, inr, ℕ, ◌≤◌, true, false, List, [], ◌∷◌, Bool, Option, Some, None, refl, sym, ◌∙◌, ap, subst, arith}
 use Rattle.std.specs.Prelude.{IsTrue, filter, fold, if◌then◌else◌}
 use Rattle.std.specs.List.{AllByRecursion}
 use Rattle.std.specs.Option.{option_map_or}
@@ -11,7 +11,6 @@ use Rattle.history_items.specs.declared.fills.Addition.TheVariants.{Nothing}
 use Rattle.history_items.specs.declared.fills.Fill.{Fill}
 use Rattle.history_items.specs.declared.fills.Fill.TheVariants.{Begun, Done, Fault, Freed}
 use Rattle.history_items.specs.Fills.{Rising, above, base_in, flight_after, in_flight, is_same, pending_fault_of, rows_of_faults, unacknowledged_rows}
-use Rattle.history_items.specs.Items.{Item}
 use Rattle.history_items.specs.Late.{IsLate, last_in}
 use Rattle.interval_walks.specs.Counts.{intervals_in, late_intervals}
 use Rattle.interval_walks.proofs.Counts.{none_late}
@@ -22,16 +21,18 @@ use Rattle.store_fills.specs.FilledSets.{fillings_in}
 use Rattle.store_fills.specs.Sound.{base_of_filling}
 use Rattle.archive_store.specs.declared.head.Head.{Head}
 use Rattle.archive_store.specs.Entries.{FilledArchive, archive, filled_archive}
-use Rattle.archive_store.specs.Stands.{StandsFilled, StandsFor}
-use Rattle.archive_store.specs.StoreView.{CrashInvariant, FaultInvariant, IsNow, StoreView, archive_of, filled_of}
+use Rattle.archive_store.specs.Stands.{StandsFor}
+use Rattle.archive_store.specs.StoreView.{CrashInvariant, FaultInvariant, IsKeptWithFills, StoreView, archive_of, filled_of}
+use Rattle.archive_store.proofs.PlainLog.{kept_rows}
 use Rattle.archive_verify.specs.Verified.{late_in_archive}
 use Rattle.arch_types.specs.declared.refusal.Refusal.TheVariants.{DiskFault}
 use Rattle.load_session.specs.Session.{OneOrTwo}
-use Rattle.outer_ledgers.specs.Ledger.{UsedDisk}
+use Rattle.outer_ledgers.specs.Ledger.{UsedDisk, UsedWithoutFailedWrite}
 use Rattle.archive_cli.specs.Command.{AllFilled, Extended, FillingFailed, HasDiskOutcome}
-use Rattle.archive_cli.specs.Durable.{IsDurableAs}
-use Rattle.archive_cli.specs.Filling.{HasNoneLate}
-use Rattle.archive_cli.specs.load_command.Extension.{IsExtended}
+use Rattle.archive_cli.specs.Durable.{FailedAtMostOnce, IsDurableAs, IsDurableWithFills}
+use Rattle.retrieval.specs.AddedFills.{AddsWholeFills}
+use Rattle.archive_cli.specs.load_command.Extension.{IsDuring, KeepsFills}
+use Rattle.archive_cli.specs.ReadOnly.{IsOpenedThen}
 use Rattle.archive_cli.proofs.load_command.During.{IsOpened, load_images}
 
 -- ---- a store that was opened
@@ -60,50 +61,77 @@ late_as_filled filled fills bases =
 
 module _ {D : Type 0} (device : Device D) (disk : D) (old new : StoreView D) (head : new.head ≡ old.head) (opening : new.opened ≡ old.opened)
     (opened : IsTrue device.is_transparent → IsOpened device disk old) (first : device.fault_count disk ≤ device.fault_count old.opened)
-    (keeps : IsTrue device.is_transparent → CrashInvariant device new) (faults : FaultInvariant device new) where
-  -- the rows stand
-  durable_rows : IsTrue device.is_transparent → unacknowledged_rows new.fills ≡ None → IsDurableAs device new.disk new.head new.history
-  durable_rows known nothing =
-      let now : (c : Image) → device.images new.disk c → StandsFor c (archive new.head new.history) =
-      subst (λ (o : Option (List Item)). (c : Image) → device.images new.disk c → IsNow new.head new.history o c) nothing (keeps known).now in
-      record { reads = now (device.reads new.disk) (device.reads_as_image new.disk known); now = now }
+    (keeps : IsTrue device.is_transparent → CrashInvariant device new) (faults : FaultInvariant device new)
+    (kept : IsTrue device.is_transparent → pending_fault_of new.fills ≡ None → IsKeptWithFills device new)
+    (adds : AddsWholeFills old.head new.history (fillings_in old.filled) (fillings_in new.filled)) where
+  -- the fills stand, where no failed write is pending
+  pub with_fills : IsTrue device.is_transparent → pending_fault_of new.fills ≡ None → IsDurableWithFills device new.disk (filled_archive old.head new.history (fillings_in new.filled))
+  with_fills known healed =
+      subst (λ (h : Head). IsDurableWithFills device new.disk (filled_archive h new.history (fillings_in new.filled))) head
+      (record { reads = kept known healed (device.reads new.disk) (device.reads_as_image new.disk known); now = kept known healed })
 
-  extended : rows_of_faults new.fills ≡ [] → unacknowledged_rows new.fills ≡ None → IsTrue device.is_transparent → IsExtended device disk new.disk (archive_of old) new.history
-  extended none nothing known = record {
-    stands = (opened known).stands;
-    images = load_images device disk old new (opened known) [] none head opening (keeps known);
-    durable = subst (λ (h : Head). IsDurableAs device new.disk h new.history) head (durable_rows known nothing);
-  }
-
-  extended_still : faults_in new.fills ≡ [] → IsTrue device.is_transparent → IsExtended device disk new.disk (archive_of old) new.history
-  extended_still none = extended (rows_of_faults-in new.fills ∙ ap rows_of_faults none) (unacknowledged_rows-in new.fills ∙ ap unacknowledged_rows none)
+  keeps_fills : IsTrue device.is_transparent → pending_fault_of new.fills ≡ None → KeepsFills device new.disk (filled_of old) new.history
+  keeps_fills known healed = record { fillings = fillings_in new.filled; adds = adds; durable = with_fills known healed }
 
   -- no call failed
-  pub still_extended : faults_in new.fills ≡ [] → device.failed_writes new.disk ≡ device.failed_writes disk → HasDiskOutcome device disk new.disk false (Extended (archive_of old) new.history)
-  still_extended none writes =
+  no_failed_write : faults_in new.fills ≡ [] → pending_fault_of new.fills ≡ None
+  no_failed_write none = pending_fault_of-in new.fills ∙ ap pending_fault_of none
+
+  images : rows_of_faults new.fills ≡ [] → IsTrue device.is_transparent → IsOpenedThen device disk new.disk (IsDuring (archive_of old) new.history [])
+  images none known = load_images device disk old new (opened known) [] none head opening (keeps known)
+
+  images_still : faults_in new.fills ≡ [] → IsTrue device.is_transparent → IsOpenedThen device disk new.disk (IsDuring (archive_of old) new.history [])
+  images_still none = images (rows_of_faults-in new.fills ∙ ap rows_of_faults none)
+
+  used_still : device.failed_writes new.disk ≡ device.failed_writes disk → UsedWithoutFailedWrite device disk new.disk false
+  used_still writes =
       let later = faults.later in
-      (record { faults = omega (arith, first, ap device.fault_count opening, later); writes = (0, omega arith, omega arith, writes) }, extended_still none)
+      record { faults = omega (arith, first, ap device.fault_count opening, later); writes = (0, omega arith, omega arith, writes) }
+
+  pub still_extended : faults_in new.fills ≡ [] → device.failed_writes new.disk ≡ device.failed_writes disk → HasDiskOutcome device disk new.disk false (Extended (filled_of old) new.history)
+  still_extended none writes =
+      (used_still writes, λ known. record { stands = (opened known).stands; images = images_still none known; kept = keeps_fills known (no_failed_write none) })
+
+  -- a failed write was taken back, unless a call failed again
+  pub taken_back_once : (wrote : Bool) → (wrote ≡ false) ⊎ (raised (raised (device.fault_count new.opened)) ≤ device.fault_count new.disk) → FailedAtMostOnce device disk new.disk → wrote ≡ false
+  taken_back_once wrote (inl back) once = back
+  taken_back_once wrote (inr twice) once =
+      let most = once.most in
+      let below = once.below in
+      absurd (omega (arith, first, ap device.fault_count opening, twice, most, below))
 
   -- a fill did
   no_rows : (count : ℕ) (wrote : Bool) → (rows_of_faults (Fault count wrote Nothing ∷ []) ≡ []) × (unacknowledged_rows (Fault count wrote Nothing ∷ []) ≡ None)
   no_rows count true = (refl, refl)
   no_rows count false = (refl, refl)
 
+  durable_rows : unacknowledged_rows new.fills ≡ None → IsTrue device.is_transparent → IsDurableAs device new.disk old.head new.history
+  durable_rows nothing known =
+      let now : (c : Image) → device.images new.disk c → StandsFor c (archive new.head new.history) = kept_rows device new (keeps known) nothing in
+      subst (λ (h : Head). IsDurableAs device new.disk h new.history) head (record { reads = now (device.reads new.disk) (device.reads_as_image new.disk known); now = now })
+
   used_failed : raised (device.fault_count disk) ≤ device.fault_count new.disk → OneOrTwo (Some DiskFault) (device.failed_writes disk) (device.failed_writes new.disk)
       → UsedDisk device disk new.disk true 1 2
   used_failed rose (inl one) = record { faults = rose; writes = (1, omega arith, omega arith, one) }
   used_failed rose (inr two) = record { faults = rose; writes = (2, omega arith, omega arith, two) }
 
-  pub fill_has_failed : (count : ℕ) (wrote : Bool) → faults_in new.fills ≡ Fault count wrote Nothing ∷ [] → OneOrTwo (Some DiskFault) (device.failed_writes disk) (device.failed_writes new.disk)
-      → HasDiskOutcome device disk new.disk true (FillingFailed (archive_of old) new.history)
-  fill_has_failed count wrote one writes =
+  pub fill_has_failed : (count : ℕ) (wrote : Bool) → faults_in new.fills ≡ Fault count wrote Nothing ∷ [] → (wrote ≡ false) ⊎ (raised (raised (device.fault_count new.opened)) ≤ device.fault_count new.disk)
+      → OneOrTwo (Some DiskFault) (device.failed_writes disk) (device.failed_writes new.disk) → HasDiskOutcome device disk new.disk true (FillingFailed (filled_of old) new.history)
+  fill_has_failed count wrote one tried writes =
       let rising = subst (λ (fills : List Fill). Rising (above (device.fault_count new.opened)) (device.fault_count new.disk) fills) one (Rising-in new.fills (above (device.fault_count new.opened)) (device.fault_count new.disk) faults.rising) in
       let low = rising.0 in
       let high = rising.1 in
       let later = faults.later in
       let none = no_rows count wrote in (
         used_failed (omega (arith, low, high, later, first, ap device.fault_count opening)) writes,
-        extended (rows_of_faults-in new.fills ∙ ap rows_of_faults one ∙ none.0) (unacknowledged_rows-in new.fills ∙ ap unacknowledged_rows one ∙ none.1),
+        λ known. record {
+          stands = (opened known).stands;
+          images = images (rows_of_faults-in new.fills ∙ ap rows_of_faults one ∙ none.0) known;
+          durable = durable_rows (unacknowledged_rows-in new.fills ∙ ap unacknowledged_rows one ∙ none.1) known;
+          healed = λ once.
+              let back : faults_in new.fills ≡ Fault count false Nothing ∷ [] = subst (λ (b : Bool). faults_in new.fills ≡ Fault count b Nothing ∷ []) (taken_back_once wrote tried once) one in
+              keeps_fills known (pending_fault_of-in new.fills ∙ ap pending_fault_of back);
+        },
       )
 
   -- no interval is late
@@ -111,25 +139,15 @@ module _ {D : Type 0} (device : Device D) (disk : D) (old new : StoreView D) (he
     none_by_fills : late_in_archive (filled_archive old.head new.history (fillings_in new.filled)) ≡ []
     none_by_fills = sym (late_as_filled (filled_archive old.head new.history (fillings_in new.filled)) new.fills bases) ∙ none_late 22 new.history new.fills none
 
-    has_none_late : (c : Image) → StandsFilled c (filled_of new) → HasNoneLate old.head new.history c
-    has_none_late c stands = record {
-      fillings = fillings_in new.filled;
-      stands = subst (λ (h : Head). StandsFilled c (filled_archive h new.history (fillings_in new.filled))) head stands;
-      none_late = none_by_fills;
-    }
-
-    pub all_are_filled : faults_in new.fills ≡ [] → device.failed_writes new.disk ≡ device.failed_writes disk
-        → (IsTrue device.is_transparent → pending_fault_of new.fills ≡ None → (c : Image) → device.images new.disk c → StandsFilled c (filled_of new))
-        → HasDiskOutcome device disk new.disk false (AllFilled (archive_of old) new.history)
-    all_are_filled no_fault writes kept =
-        let used = still_extended no_fault writes in (
-          used.0,
-          λ known.
-              let healed = pending_fault_of-in new.fills ∙ ap pending_fault_of no_fault in (
-                used.1 known,
-                record {
-                  reads = has_none_late (device.reads new.disk) (kept known healed (device.reads new.disk) (device.reads_as_image new.disk known));
-                  now = λ c leaves. has_none_late c (kept known healed c leaves);
-                },
-              ),
-        )
+    pub all_are_filled : faults_in new.fills ≡ [] → device.failed_writes new.disk ≡ device.failed_writes disk → HasDiskOutcome device disk new.disk false (AllFilled (filled_of old) new.history)
+    all_are_filled no_fault writes = (
+      used_still writes,
+      λ known. record {
+        extended = record {
+          stands = (opened known).stands;
+          images = images_still no_fault known;
+          kept = record { fillings = fillings_in new.filled; adds = adds; durable = with_fills known (no_failed_write no_fault) };
+        };
+        none_late = none_by_fills;
+      },
+    )

@@ -43,7 +43,9 @@ use Rattle.archive_store.specs.Tasks.{BeginsTask, IsFillBegun, machine_state}
 use Rattle.archive_verify.specs.Verified.{is_late_in_archive}
 use Rattle.load_session.specs.Healing.{IsReopened}
 use Rattle.load_session.specs.Session.{OneAtMost, OneOrTwo}
-use Rattle.archive_cli.specs.Filling.{AddsWholeFills, AllLateFilled, IsBegunTask, IsFillFailed, IsFillTakenBack, IsFilledOn, IsFillingRefusal, IsTaskFilled, IsTaskRefusal, IsUnfailed, IsWholeFill, filling_refusal}
+use Rattle.load_session.proofs.Sessions.{more_faults, twice}
+use Rattle.retrieval.specs.AddedFills.{AddsWholeFills, IsWholeFill}
+use Rattle.archive_cli.specs.Filling.{AllLateFilled, IsBegunTask, IsFillFailed, IsFillTakenBack, IsFilledOn, IsFillingRefusal, IsTaskFilled, IsTaskRefusal, IsUnfailed, filling_refusal}
 
 abbrev pub begun : List Fill → Interval → ℕ → List Fill
 begun fills i base = fills ++ Begun i base ∷ []
@@ -200,6 +202,7 @@ pub record IsFilling {D : Type 0} (device : Device D) (old now : StoreView D) (f
   pub sets : AddsWholeFills old.head old.history (fillings_in old.filled) (fillings_in now.filled)
   pub head : now.head ≡ old.head
   pub opened : now.opened ≡ old.opened
+  pub unchanged : filled ≡ 0 → now ≡ old
 
 pub filling_first : {D : Type 0} (device : Device D) (store : StoreView D) → ((i : Interval) → in_flight i store.fills ≡ None) → faults_in store.fills ≡ [] → IsFilling device store store 0
 filling_first device store idle no_fault = record {
@@ -212,6 +215,7 @@ filling_first device store idle no_fault = record {
   sets = λ i. inl refl;
   head = refl;
   opened = refl;
+  unchanged = λ none. refl;
 }
 
 -- no interval is late any more
@@ -302,6 +306,7 @@ module _ {D : Type 0} (device : Device D) (old now begun_store : StoreView D) (f
             (one_whole old.head old.history (fillings_in old.filled) (fillings_in now.filled) f.sets i task.base done.set (began.step.base_is ∙ ap length f.history) late_now held);
         head = same.0 ∙ same_head ∙ f.head;
         opened = same.1 ∙ same_opened ∙ f.opened;
+        unchanged = λ none. absurd (omega (arith, none));
       }
         where
           late_now : is_late_in_archive (filled_archive old.head old.history (fillings_in now.filled)) i ≡ true
@@ -321,6 +326,7 @@ module _ {D : Type 0} (device : Device D) (old now begun_store : StoreView D) (f
       head = same.0 ∙ same_head ∙ f.head;
       opened = same.1 ∙ same_opened ∙ f.opened;
       sets = subst (λ (x : FilledIntervals). AddsWholeFills old.head old.history (fillings_in old.filled) (fillings_in x)) (sym (refused_filled device begun_store new task e refused ∙ same_filled)) f.sets;
+      unchanged = λ none. absurd (omega (arith, f.count, ap length none, some_left));
     }
 
     unfailed_still : IsAbandoned begun_store new i → IsUnfailed device old new
@@ -351,7 +357,13 @@ module _ {D : Type 0} (device : Device D) (old now begun_store : StoreView D) (f
 
 -- what is left where filling goes no further
 pub filled_so_far : {D : Type 0} (device : Device D) (old now : StoreView D) (filled : ℕ) → IsFilling device old now filled → IsFilledOn old now
-filled_so_far device old now filled f = record { rows = f.history; head = f.head; opened = f.opened; sets = f.sets }
+filled_so_far device old now filled f = record {
+  rows = f.history;
+  head = f.head;
+  opened = f.opened;
+  sets = f.sets;
+  unchanged = λ none. f.unchanged (omega (arith, f.count, ap length none));
+}
 
 -- ---- a failed write is taken back
 
@@ -362,11 +374,18 @@ module _ {D : Type 0} (device : Device D) (old mid new : StoreView D) where
       count = failed.count;
       wrote = false;
       fault = ap faults_in healed ∙ faults_in-reopened mid.fills ∙ ap reopened failed.fault;
+      tried = inl refl;
       writes = once_more writes;
     }
-    | inr still ↦ record { count = failed.count; wrote = true; fault = ap faults_in still.0 ∙ failed.fault; writes = once_more writes }
+    | inr still ↦ record { count = failed.count; wrote = true; fault = ap faults_in still.0 ∙ failed.fault; tried = inr (rose still.1); writes = once_more writes }
   ]
     where
+      rose : raised (device.fault_count mid.disk) ≤ device.fault_count new.disk → raised (raised (device.fault_count new.opened)) ≤ device.fault_count new.disk
+      rose more =
+          let once = more_faults device mid failed.count true Nothing again.counted failed.fault in
+          subst (λ (d : D). raised (raised (device.fault_count d)) ≤ device.fault_count new.disk) (sym again.opened)
+          (twice (device.fault_count mid.opened) (device.fault_count mid.disk) (device.fault_count new.disk) once more)
+
       once_more : OneAtMost (Some DiskFault) (device.failed_writes mid.disk) (device.failed_writes new.disk) → OneOrTwo (Some DiskFault) (device.failed_writes old.disk) (device.failed_writes new.disk)
       once_more (inl same) = inl (same ∙ failed.wrote)
       once_more (inr more) = inr (more ∙ ap raised failed.wrote)
@@ -378,12 +397,18 @@ module _ {D : Type 0} (device : Device D) (old mid new : StoreView D) where
   healed_refusal DiskFault r same again writes = taken_back r (again refl) writes
   healed_refusal _ r same again writes = absurd r
 
-  pub healed_on : (e : Refusal) → IsFilledOn old mid → (e ≢ DiskFault → new ≡ mid) → (e ≡ DiskFault → IsReopened device mid new) → IsFilledOn old new
-  healed_on DiskFault on same again =
+  -- where the disk failed an interval was late
+  some_late : faults_in old.fills ≡ [] → IsFillFailed device old mid → mid ≡ old → ⊥
+  some_late no_fault failed same = let none = sym failed.fault ∙ ap (λ (s : StoreView D). faults_in s.fills) same ∙ no_fault in cc
+
+  pub healed_on : (e : Refusal) → faults_in old.fills ≡ [] → IsFillingRefusal device old mid (IsFillFailed device old mid) e → IsFilledOn old mid → (e ≢ DiskFault → new ≡ mid)
+      → (e ≡ DiskFault → IsReopened device mid new) → IsFilledOn old new
+  healed_on DiskFault no_fault failed on same again =
       let re = again refl in record {
         rows = re.history ∙ on.rows;
         head = re.head ∙ on.head;
         opened = re.opened ∙ on.opened;
         sets = subst (λ (x : FilledIntervals). AddsWholeFills old.head old.history (fillings_in old.filled) (fillings_in x)) (sym re.filled) on.sets;
+        unchanged = λ none. absurd (some_late no_fault failed (on.unchanged none));
       }
-  healed_on other on same again = subst (IsFilledOn old) (sym (same (λ is. cc))) on
+  healed_on other no_fault refused on same again = subst (IsFilledOn old) (sym (same (λ is. cc))) on

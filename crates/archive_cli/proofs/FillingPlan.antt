@@ -7,16 +7,16 @@ use Rattle.command_plans.specs.Plan.{OfMemory, OfDisk, OfOutput, Allows, Command
 use Rattle.history_items.specs.Items.{Item}
 use Rattle.interval_walks.specs.Counts.{late_intervals}
 use Rattle.outer_ledgers.specs.Ledger.{UsedOutput}
-use Rattle.archive_store.specs.Entries.{Archive}
+use Rattle.archive_store.specs.Entries.{FilledArchive}
 use Rattle.archive_store.specs.StoreView.{StoreView}
 use Rattle.archive_cli.specs.Command.{AppendsAs, Effects, FillingFailed, HasDiskOutcome, Progress, Ran}
 use Rattle.archive_cli.specs.Filling.{IsFillTakenBack, IsFillingRefusal, IsUnfailed, filling_refusal}
 use Rattle.archive_cli.specs.FillingPlan.{after_filling, fill_failed, filling_plan}
 use Rattle.archive_cli.proofs.OverInputs.{HasRead}
 
-module _ (Recorded : ℕ → Type 0) (archive : Archive) (reached : List Item) (late : ℕ) (s : Progress) (next : CommandPlan Progress ⊥) where
+module _ (Recorded : ℕ → Type 0) (opened : FilledArchive) (reached : List Item) (late : ℕ) (s : Progress) (next : CommandPlan Progress ⊥) where
   -- one answer is due
-  pub filling_determined : IsDetermined next → IsDetermined (filling_plan Recorded archive reached late s next)
+  pub filling_determined : IsDetermined next → IsDetermined (filling_plan Recorded opened reached late s next)
   filling_determined d records is = each (filling_refusal records late)
     where
       each : (found : Option Refusal) → IsDetermined (after_filling s next found)
@@ -24,7 +24,7 @@ module _ (Recorded : ℕ → Type 0) (archive : Archive) (reached : List Item) (
       each (Some refusal) = tt
 
   -- as many sources are given at each end of it as before
-  pub filling_reads : (n : ℕ) → HasRead n (Stopped s None) → EachEnd (HasRead n) next → EachEnd (HasRead n) (filling_plan Recorded archive reached late s next)
+  pub filling_reads : (n : ℕ) → HasRead n (Stopped s None) → EachEnd (HasRead n) next → EachEnd (HasRead n) (filling_plan Recorded opened reached late s next)
   filling_reads n before rest = (before, (before, λ records is. each (filling_refusal records late)))
     where
       each : (found : Option Refusal) → EachEnd (HasRead n) (after_filling s next found)
@@ -33,7 +33,7 @@ module _ (Recorded : ℕ → Type 0) (archive : Archive) (reached : List Item) (
 
   module _ {D : Type 0} (device : Device D) (e : Effects D) where
     -- each was filled, and what follows ran
-    pub ran_all_filled : (records : ℕ) → Recorded records → filling_refusal records late ≡ None → Ran device next e → Ran device (filling_plan Recorded archive reached late s next) e
+    pub ran_all_filled : (records : ℕ) → Recorded records → filling_refusal records late ≡ None → Ran device next e → Ran device (filling_plan Recorded opened reached late s next) e
     ran_all_filled records is fits ran = record {
       way = ran.way;
       allows = inr (inr (records, is, subst (λ (o : Option Refusal). Allows (after_filling s next o) ran.way) (sym fits) ran.allows));
@@ -43,8 +43,8 @@ module _ (Recorded : ℕ → Type 0) (archive : Archive) (reached : List Item) (
     -- not each was
     module _ (old new : StoreView D) (recorded : Recorded old.records) (counted : length (late_intervals 22 old.history old.fills) ≡ late) (no_output : s.failed OfOutput ≡ false) (no_disk : s.failed OfDisk ≡ false)
         (printed : AppendsAs s.is_whole e.output.written e.output'.written s.text) (output : UsedOutput e.output e.output' false) (still : IsUnfailed device old new → HasDiskOutcome device e.disk e.disk' false s.disk)
-        (failed : IsFillTakenBack device old new → HasDiskOutcome device e.disk e.disk' true (FillingFailed archive reached)) where
-      pub ran_unfilled : (refusal : Refusal) → IsFillingRefusal device old new (IsFillTakenBack device old new) refusal → e.report ≡ record s.report { refusal = Some refusal } → Ran device (filling_plan Recorded archive reached late s next) e
+        (failed : IsFillTakenBack device old new → HasDiskOutcome device e.disk e.disk' true (FillingFailed opened reached)) where
+      pub ran_unfilled : (refusal : Refusal) → IsFillingRefusal device old new (IsFillTakenBack device old new) refusal → e.report ≡ record s.report { refusal = Some refusal } → Ran device (filling_plan Recorded opened reached late s next) e
       ran_unfilled OutOfMemory r report = record {
         way = Interrupted s OfMemory;
         allows = inl refl;
@@ -56,7 +56,7 @@ module _ (Recorded : ℕ → Type 0) (archive : Archive) (reached : List Item) (
         did = record { report = report; printed = printed; output = rw no_output output; disk = rw no_disk (still r.1) };
       }
       ran_unfilled DiskFault r report = record {
-        way = Interrupted (fill_failed archive reached s) OfDisk;
+        way = Interrupted (fill_failed opened reached s) OfDisk;
         allows = inr (inl refl);
         did = record { report = report; printed = printed; output = rw no_output output; disk = failed r };
       }

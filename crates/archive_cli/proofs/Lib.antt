@@ -4,7 +4,6 @@ pub mod DumpRest
 pub mod Filling
 pub mod FillingPlan
 pub mod FilledDisks
-pub mod FilledAsks
 pub mod Recovered
 pub mod scan_command
 pub mod values_command

@@ -13,14 +13,13 @@ use Rattle.dump_lines.specs.Output.{Appends}
 use Rattle.command_plans.specs.Plan.{FailedCalls, OfMemory, OfInputs, OfOutput, OfDisk, interruption_refusal, no_failed_calls, with_failed_call, CommandPlan, Return, Stop, May, Question, Way, Returned, Stopped, Interrupted, Allows}
 use Rattle.archive_store.specs.declared.head.Head.{Head}
 use Rattle.history_items.specs.Items.{Item}
-use Rattle.archive_store.specs.Entries.{Archive, FilledArchive}
+use Rattle.archive_store.specs.Entries.{FilledArchive}
 use Rattle.archive_store.specs.Stands.{StandsFilled, IsArchiveDamagedAt}
 use Rattle.archive_cli.specs.declared.report.Report.{Report}
 use Rattle.archive_cli.specs.create_command.Creation.{IsMade, IsMakingFailed}
 use Rattle.archive_cli.specs.ReadOnly.{IsReadAsBefore, IsReadOnly}
 use Rattle.archive_cli.specs.Report.{unopened, read_only}
-use Rattle.archive_cli.specs.load_command.Extension.{IsExtended, IsExtensionFailed}
-use Rattle.archive_cli.specs.Filling.{LeavesNoneLate}
+use Rattle.archive_cli.specs.load_command.Extension.{IsAllFilled, IsExtended, IsExtensionFailed, IsFillingFailed}
 
 -- ---- what was done
 
@@ -32,38 +31,37 @@ pub data DiskOutcome : Type 0 where
   ArchiveSought : DiskOutcome
   -- an archive was looked for, and a call of the disk failed
   SeekingFailed : DiskOutcome
-  -- this archive was opened, and left as it was
-  Opened : Archive → DiskOutcome
+  -- this archive was opened, and left as it was with its fills
+  Opened : FilledArchive → DiskOutcome
   -- the making of an archive of this head failed
   MakingFailed : Head → DiskOutcome
   -- an archive of this head was made
   Made : Head → DiskOutcome
   -- this archive was opened, and its history extended to this
-  Extended : Archive → List Item → DiskOutcome
+  Extended : FilledArchive → List Item → DiskOutcome
   -- it was extended to this, and the disk failed as these rows were to stand behind it
-  ExtensionFailed : Archive → List Item → List Row → DiskOutcome
+  ExtensionFailed : FilledArchive → List Item → List Row → DiskOutcome
   -- it was extended to this, and each late interval was filled
-  AllFilled : Archive → List Item → DiskOutcome
+  AllFilled : FilledArchive → List Item → DiskOutcome
   -- it was extended to this, and the disk failed at the fill of a late interval
-  FillingFailed : Archive → List Item → DiskOutcome
+  FillingFailed : FilledArchive → List Item → DiskOutcome
 
 -- a disk has this outcome: what it holds by then is known where it is transparent, and its counts on any disk
 abbrev pub HasDiskOutcome : {D : Type 0} → Device D → D → D → Bool → DiskOutcome → Type 0
 HasDiskOutcome device old new failed NotAsked = new ≡ old
 HasDiskOutcome device old new failed ArchiveSought = UsedWithoutFailedWrite device old new failed × (IsTrue device.is_transparent → IsReadAsBefore device old new)
 HasDiskOutcome device old new failed SeekingFailed = WritesFailedAtMost 1 device old new failed × (IsTrue device.is_transparent → IsReadAsBefore device old new)
-HasDiskOutcome device old new failed (Opened archive) = UsedWithoutFailedWrite device old new failed × (IsTrue device.is_transparent → IsReadOnly device old new archive)
+HasDiskOutcome device old new failed (Opened filled) = UsedWithoutFailedWrite device old new failed × (IsTrue device.is_transparent → IsReadOnly device old new filled)
 HasDiskOutcome device old new failed (MakingFailed head) = WritesFailedAtMost 2 device old new failed × (IsTrue device.is_transparent → IsMakingFailed device old new head)
 HasDiskOutcome device old new failed (Made head) = UsedWithoutFailedWrite device old new failed × (IsTrue device.is_transparent → IsMade device old new head)
-HasDiskOutcome device old new failed (Extended archive reached) =
-    UsedWithoutFailedWrite device old new failed × (IsTrue device.is_transparent → IsExtended device old new archive reached)
-HasDiskOutcome device old new failed (ExtensionFailed archive reached rows) =
-    UsedDisk device old new failed 1 2 × (IsTrue device.is_transparent → IsExtensionFailed device old new archive reached rows)
-HasDiskOutcome device old new failed (AllFilled archive reached) =
-    UsedWithoutFailedWrite device old new failed
-    × (IsTrue device.is_transparent → IsExtended device old new archive reached × LeavesNoneLate device new archive.head reached)
-HasDiskOutcome device old new failed (FillingFailed archive reached) =
-    UsedDisk device old new failed 1 2 × (IsTrue device.is_transparent → IsExtended device old new archive reached)
+HasDiskOutcome device old new failed (Extended before reached) =
+    UsedWithoutFailedWrite device old new failed × (IsTrue device.is_transparent → IsExtended device old new before reached)
+HasDiskOutcome device old new failed (ExtensionFailed before reached rows) =
+    UsedDisk device old new failed 1 2 × (IsTrue device.is_transparent → IsExtensionFailed device old new before reached rows)
+HasDiskOutcome device old new failed (AllFilled before reached) =
+    UsedWithoutFailedWrite device old new failed × (IsTrue device.is_transparent → IsAllFilled device old new before reached)
+HasDiskOutcome device old new failed (FillingFailed before reached) =
+    UsedDisk device old new failed 1 2 × (IsTrue device.is_transparent → IsFillingFailed device old new before reached)
 
 -- What a command has done so far: the text that it printed, whole, or that it was printing; the report but for its refusal; the outcome of the disk; how
 -- many sources the inputs gave; and which calls of the outside failed before, though it went on.
@@ -88,9 +86,9 @@ abbrev pub seeking_failed : ℕ → Progress
 seeking_failed sources = record { text = []; is_whole = true; report = unopened None; disk = SeekingFailed; sources = sources; failed = no_failed_calls }
 
 -- this archive was opened after so many sources were given
-abbrev pub archive_opened : ℕ → Archive → Progress
-archive_opened sources archive =
-    record { text = []; is_whole = true; report = read_only None (length archive.history); disk = Opened archive; sources = sources; failed = no_failed_calls }
+abbrev pub archive_opened : ℕ → FilledArchive → Progress
+archive_opened sources filled =
+    record { text = []; is_whole = true; report = read_only None (length filled.plain.history); disk = Opened filled; sources = sources; failed = no_failed_calls }
 
 -- What a call of the program did: the disk that was handed in and the one that is handed back, the output before and after, and the report.
 pub record Effects (D : Type 0) : Type 0 where

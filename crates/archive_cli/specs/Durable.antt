@@ -4,8 +4,8 @@ use Rattle.arch_disk.specs.Image.{Image}
 use Rattle.arch_disk.specs.Disk.{Device}
 use Rattle.history_items.specs.Items.{Item}
 use Rattle.archive_store.specs.declared.head.Head.{Head}
-use Rattle.archive_store.specs.Entries.{archive}
-use Rattle.archive_store.specs.Stands.{StandsFor}
+use Rattle.archive_store.specs.Entries.{FilledArchive, archive}
+use Rattle.archive_store.specs.Stands.{StandsFilled, StandsFor}
 
 -- the disk's count of faults stands at most one above its value at entry, and below its last value
 pub record FailedAtMostOnce {D : Type 0} (device : Device D) (old new : D) : Type 0 where
@@ -16,3 +16,8 @@ pub record FailedAtMostOnce {D : Type 0} (device : Device D) (old new : D) : Typ
 pub record IsDurableAs {D : Type 0} (device : Device D) (new : D) (head : Head) (history : List Item) : Type 0 where
   pub reads : StandsFor (device.reads new) (archive head history)
   pub now : (c : Image) → device.images new c → StandsFor c (archive head history)
+
+-- every image that a crash now leaves stands for this archive with its fills, and so does the disk as it reads
+pub record IsDurableWithFills {D : Type 0} (device : Device D) (new : D) (filled : FilledArchive) : Type 0 where
+  pub reads : StandsFilled (device.reads new) filled
+  pub now : (c : Image) → device.images new c → StandsFilled c filled

@@ -1,8 +1,7 @@
 -- What becomes of the late intervals of a store.
-use Rattle.std.specs.Prelude.{◌≡◌, ◌⊎◌, ℕ, zero, suc, ◌+◌, ◌≤◌, Bool, true, List, [], ◌∷◌, length, nat_lt, Option, Some, None, if◌then◌else◌}
+use Rattle.std.specs.Prelude.{◌≡◌, ◌⊎◌, ℕ, zero, suc, ◌+◌, ◌≤◌, Bool, true, false, List, [], ◌∷◌, length, nat_lt, Option, Some, None, if◌then◌else◌}
 use Rattle.std.specs.Arc.{arc_value}
 use Rattle.arch_disk.specs.Disk.{Device, NoWriteFailed, raised}
-use Rattle.arch_disk.specs.Image.{Image}
 use Rattle.arch_types.specs.declared.interval.Interval.{Interval}
 use Rattle.arch_types.specs.declared.refusal.Refusal.{Refusal}
 use Rattle.arch_types.specs.declared.refusal.Refusal.TheVariants.{DiskFault, Limit, OutOfMemory}
@@ -10,7 +9,6 @@ use Rattle.arch_types.specs.declared.refusal.Which.TheVariants.{Records}
 use Rattle.arch_types.specs.Limits.{limit_of}
 use Rattle.history_items.specs.declared.fills.Addition.TheVariants.{Nothing}
 use Rattle.history_items.specs.declared.fills.Fill.TheVariants.{Fault}
-use Rattle.history_items.specs.Items.{Item}
 use Rattle.history_items.specs.Late.{IsLate}
 use Rattle.interval_fills.specs.Intervals.{rows_of_interval}
 use Rattle.interval_walks.specs.Counts.{late_intervals}
@@ -18,16 +16,12 @@ use Rattle.param_segments.specs.Rows.{SetRow}
 use Rattle.store_fills.specs.Built.{IsTaskRows, built_fill}
 use Rattle.store_fills.specs.Faults.{faults_in}
 use Rattle.store_fills.specs.Filled.{HoldsRows}
-use Rattle.store_fills.specs.FilledSets.{fill_over, fillings_in}
-use Rattle.store_fills.specs.Sound.{Filling, Fillings}
+use Rattle.store_fills.specs.FilledSets.{fillings_in}
 use Rattle.store_fills.specs.declared.task.FillTask.{FillTask}
-use Rattle.archive_store.specs.declared.head.Head.{Head}
-use Rattle.archive_store.specs.Entries.{filled_archive}
 use Rattle.archive_store.specs.Installs.{FillIsAppended, IsAbandoned, IsInstallable}
-use Rattle.archive_store.specs.Stands.{StandsFilled}
 use Rattle.archive_store.specs.StoreView.{AddsFault, StoreView}
 use Rattle.load_session.specs.Session.{OneOrTwo}
-use Rattle.archive_verify.specs.Verified.{is_late_in_archive, late_in_archive}
+use Rattle.retrieval.specs.AddedFills.{AddsWholeFills}
 
 -- ---- one task
 
@@ -57,18 +51,6 @@ IsTaskRefusal device old new task _ = ⊥
 
 -- ---- all late intervals
 
--- the fill of an interval that was late by these fills, over the whole history: its set holds the cells that the
--- interval's rows give
-abbrev pub IsWholeFill : Head → List Item → Fillings (List SetRow) → Interval → Option (Filling (List SetRow)) → Type 0
-IsWholeFill head history fillings interval fill =
-    (is_late_in_archive (filled_archive head history fillings) interval ≡ true)
-    × ((set : List SetRow) × (fill ≡ Some (fill_over (length history) set)) × HoldsRows head.mdb set (rows_of_interval 22 interval history))
-
--- each interval has the fill that it had, or was late and has one over the whole history
-abbrev pub AddsWholeFills : Head → List Item → Fillings (List SetRow) → Fillings (List SetRow) → Type 0
-AddsWholeFills head history old new =
-    (interval : Interval) → (new interval ≡ old interval) ⊎ IsWholeFill head history old interval (new interval)
-
 -- why a log of so many records can't take so many fills, each of which is a record
 abbrev pub filling_refusal : ℕ → ℕ → Option Refusal
 filling_refusal records zero = None
@@ -85,11 +67,12 @@ pub record IsFillFailed {D : Type 0} (device : Device D) (old new : StoreView D)
   pub fault : faults_in new.fills ≡ Fault count true Nothing ∷ []
   pub wrote : device.failed_writes new.disk ≡ raised (device.failed_writes old.disk)
 
--- it was tried once to take that write back, and a second one may have failed then
+-- it was tried once to take that write back, which succeeded unless the disk had failed twice since the opening; a second write may have failed then
 pub record IsFillTakenBack {D : Type 0} (device : Device D) (old new : StoreView D) : Type 0 where
   pub count : ℕ
   pub wrote : Bool
   pub fault : faults_in new.fills ≡ Fault count wrote Nothing ∷ []
+  pub tried : (wrote ≡ false) ⊎ (raised (raised (device.fault_count new.opened)) ≤ device.fault_count new.disk)
   pub writes : OneOrTwo (Some DiskFault) (device.failed_writes old.disk) (device.failed_writes new.disk)
 
 -- each late interval was filled, so many were there, and each took a record
@@ -108,22 +91,11 @@ IsFillingRefusal device old new Failed (Limit which number) =
 IsFillingRefusal device old new Failed DiskFault = Failed
 IsFillingRefusal device old new Failed _ = ⊥
 
--- what filling leaves whatever it came to: the rows of the same archive since the same opening, and the fills that were there, but where a late interval got one
+-- What filling leaves whatever it came to: the rows of the same archive since the same opening, and the fills that were there, but where a late interval got one;
+-- and where none was late, all as it was.
 pub record IsFilledOn {D : Type 0} (old new : StoreView D) : Type 0 where
   pub rows : new.history ≡ old.history
   pub head : new.head ≡ old.head
   pub opened : new.opened ≡ old.opened
   pub sets : AddsWholeFills old.head old.history (fillings_in old.filled) (fillings_in new.filled)
-
--- ---- the disk
-
--- an image stands for a history of a head, with fills by which no interval is late
-pub record HasNoneLate (head : Head) (history : List Item) (image : Image) : Type 0 where
-  pub fillings : Fillings (List SetRow)
-  pub stands : StandsFilled image (filled_archive head history fillings)
-  pub none_late : late_in_archive (filled_archive head history fillings) ≡ []
-
--- so does each that a crash now leaves, and the disk as it reads
-pub record LeavesNoneLate {D : Type 0} (device : Device D) (new : D) (head : Head) (history : List Item) : Type 0 where
-  pub reads : HasNoneLate head history (device.reads new)
-  pub now : (c : Image) → device.images new c → HasNoneLate head history c
+  pub unchanged : late_intervals 22 old.history old.fills ≡ [] → new ≡ old

@@ -2,8 +2,8 @@
 use Rattle.std.specs.Prelude.{◌≡◌}
 use Rattle.arch_disk.specs.Image.{Image}
 use Rattle.arch_disk.specs.Disk.{Device, LeavesOnly}
-use Rattle.archive_store.specs.Entries.{Archive}
-use Rattle.archive_store.specs.Stands.{IsSoundImage, StandsFor}
+use Rattle.archive_store.specs.Entries.{FilledArchive}
+use Rattle.archive_store.specs.Stands.{IsSoundImage, StandsFilled}
 
 -- The disk of a call that opened no archive: it reads as before, and a crash leaves what it could have left before.
 pub record IsReadAsBefore {D : Type 0} (device : Device D) (old new : D) : Type 0 where
@@ -18,9 +18,9 @@ pub record IsOpenedThen {D : Type 0} (device : Device D) (old new : D) (P : Imag
   pub since : LeavesOnly device opened new P
   pub sound : IsSoundImage (device.reads old) → LeavesOnly device opened new IsSoundImage
 
--- An archive that was opened and left as it was: each image from the opening's syncs on stands for it, and so does each that a crash now leaves.
-pub record IsReadOnly {D : Type 0} (device : Device D) (old new : D) (archive : Archive) : Type 0 where
-  pub stands : StandsFor (device.reads old) archive
+-- An archive that was opened and left as it was: each image from the opening's syncs on stands for it with its fills, and so does each that a crash now leaves.
+pub record IsReadOnly {D : Type 0} (device : Device D) (old new : D) (filled : FilledArchive) : Type 0 where
+  pub stands : StandsFilled (device.reads old) filled
   pub reads : device.reads new ≡ device.reads old
-  pub images : IsOpenedThen device old new (λ c. StandsFor c archive)
-  pub now : (c : Image) → device.images new c → StandsFor c archive
+  pub images : IsOpenedThen device old new (λ c. StandsFilled c filled)
+  pub now : (c : Image) → device.images new c → StandsFilled c filled

@@ -1,16 +1,15 @@
 //! Late intervals, filled one after the other.
 
-ghost use Rattle.std.specs.Prelude.{◌≡◌, ◌≢◌, [], None, Some, IfErr, IfOk, OnOk};
+ghost use Rattle.std.specs.Prelude.{◌≡◌, [], None, IfErr, IfOk, OnOk};
 ghost use Rattle.arch_types.specs.declared.interval.Interval.{Interval as AnInterval};
 ghost use Rattle.history_items.specs.Fills.{in_flight, pending_fault_of};
 ghost use Rattle.store_fills.specs.Faults.{faults_in};
-ghost use Rattle.load_session.specs.Healing.{IsReopened};
-ghost use Rattle.load_session.specs.Session.{OneAtMost};
 ghost use Rattle.archive_cli.specs.Filling.{AllLateFilled, IsBegunTask, IsFillFailed, IsFillTakenBack, IsFilledOn, IsFillingRefusal, IsTaskFilled, IsTaskRefusal};
 
 use arch_disk::Disk;
 use arch_types::refusal::Refusal;
 use archive_store::{FillTask, Filled, Store};
+use load_session::heal;
 use std::alloc::Global;
 
 /// Fills the interval of a task that just began. Refused, it has given the task up.
@@ -54,23 +53,9 @@ fn fill_each<D: Disk>(alloc: Global, store: &mut Store<D>) -> Result<u64, Refusa
     }
 }
 
-/// Takes a failed write back where the disk failed. It is tried once.
-fn heal<D: Disk>(store: &mut Store<D>, refusal: &Refusal)
-    ensures same { refusal.now ≢ Refusal.DiskFault → store.new ≡ store.old }
-    ensures reopened { refusal.now ≡ Refusal.DiskFault → IsReopened D.device store.old store.new }
-    ensures disk_writes { OneAtMost (Some refusal.now) (D.device.failed_writes store.old.disk)
-        (D.device.failed_writes store.new.disk) }
-{
-    // This tells the proof that the fault is counted.
-    let _rows = store.front();
-    if matches!(refusal, Refusal::DiskFault) {
-        let _ = store.reopen();
-    }
-}
-
 /// Fills each late interval, and tells how many there were. Refuses by `Limit` Records, `OutOfMemory` or `DiskFault` at
-/// the first that can't be filled; those before it stay filled. Where the disk failed, the write is taken back, so that a
-/// program that opens the archive after it reads no gate that the medium may lack.
+/// the first that can't be filled; those before it stay filled. Where the disk failed, the write is taken back, in one
+/// attempt, so that a program that opens the archive after it reads no gate that the medium may lack.
 pub fn fill_late<D: Disk>(alloc: Global, store: &mut Store<D>) -> Result<u64, Refusal>
     requires idle { (i : AnInterval) → in_flight i store.old.fills ≡ None }
     requires no_fault { faults_in store.old.fills ≡ [] }
@@ -82,7 +67,8 @@ pub fn fill_late<D: Disk>(alloc: Global, store: &mut Store<D>) -> Result<u64, Re
     ensures refused { IfErr result (IsFillingRefusal D.device store.old store.new
         (IsFillTakenBack D.device store.old store.new)) }
 
-    // The rows stay, and each fill that came is that of a late interval, whatever it answers.
+    // The rows stay, and each fill that came is that of a late interval, whatever it answers; where none was late all is as it
+    // was.
     ensures left { IsFilledOn store.old store.new }
 {
     match fill_each(alloc, store) {

@@ -55,14 +55,14 @@ use stream_graph::graph::Graph;
 /// `tm`, fills each late interval, answers the asks of a sheet, where one is given, over the history after them, and prints what became of the packets. Room
 /// for the line is taken before.
 ///
-/// Refuses, in this order: by `Missing`, `ReadFault` or `Limit` ScriptOctets of the route; by `Missing`, `ReadFault` or `Limit` SheetOctets of the sheet; by
-/// `Missing` or `ReadFault` where the dump isn't opened; by `DiskFault`, `NoArchive` or `Damaged`; by `Limit` Links; by `BadSql` of rule 1 or 2; by `Limit`
-/// Statements or SqlDepth; at the first token with which something is wrong by `BadSql` or `UnknownTable`; by `BadSheet`; by `Limit` Asks; each ask in turn
-/// by `UnknownParameter` or `UnknownTable`, then by `BadRange`; by `ReadFault` or `Limit` DumpOctets; batch by batch by a `Limit` of the history or by `DiskFault`; by `BadPacket`; by `DiskFault`
-/// of a fill, or by `Limit` Records; by `WriteFault`. `OutOfMemory` may come anywhere before the line.
+/// Refuses, in this order: by `Missing`, `ReadFault` or `Limit` ScriptOctets of the route; by `Missing`, `ReadFault` or `Limit` SheetOctets of the sheet;
+/// by `Missing` or `ReadFault` where the dump isn't opened; by `DiskFault`, `NoArchive` or `Damaged`; by `Limit` Links; by `BadSql` of rule 1 or 2; by
+/// `Limit` Statements or SqlDepth; at the first token with which something is wrong by `BadSql` or `UnknownTable`; by `BadSheet`; by `Limit` Asks; each ask
+/// in turn by `UnknownParameter` or `UnknownTable`, then by `BadRange`; by `ReadFault` or `Limit` DumpOctets; batch by batch by a `Limit` of the history or
+/// by `DiskFault`; by `BadPacket`; fill by fill by `Limit` Records or by `DiskFault`; by `WriteFault`. `OutOfMemory` may come anywhere before the line.
 ///
-/// Where a call of the disk failed in a batch, the write is taken back before it ends, as far as the disk lets it. Behind packets that were all ingested what
-/// is late is filled, also where a rest of the dump is left that is no packet.
+/// Where a call of the disk failed in a batch or at a fill, the write is taken back before it ends, as far as the disk lets it. Behind packets that were
+/// all ingested what is late is filled, also where a rest of the dump is left that is no packet.
 pub fn load<D: Disk, I: Inputs, K: Sink, C: Clock>(
     alloc: Global,
     words: LoadWords<'_>,

@@ -18,8 +18,9 @@ use std::alloc::Global;
 /// Opens the archive of a disk, fills each late interval, and prints how many rows there are and how many intervals it
 /// filled. Room for the line is taken before.
 ///
-/// Refuses, in this order: by `DiskFault`, `NoArchive` or `Damaged`; by `DiskFault` of a fill, or by `Limit` Records; by
-/// `WriteFault`. `OutOfMemory` may come anywhere before the line. What was filled before a refusal stays filled.
+/// Refuses, in this order: by `DiskFault`, `NoArchive` or `Damaged`; fill by fill by `Limit` Records or by `DiskFault`; by
+/// `WriteFault`. `OutOfMemory` may come anywhere before the line. What was filled before a refusal stays filled, and where no
+/// interval is late the disk is left as it was.
 pub fn recover<D: Disk, K: Sink>(alloc: Global, disk: D, sink: &mut K) -> Ended<D>
     // It took a way through its plan: where that ends stands what was printed, what became of the disk, what is reported,
     // and which calls failed.
@@ -53,7 +54,11 @@ fn work<D: Disk, K: Sink>(alloc: Global, disk: D, sink: &mut K) -> Result<(D, Re
             store.front();
             Ok((store.into_disk(), Report::read_only(refusal, rows)))
         }
-        Err(refusal) => Ok((store.into_disk(), Report::read_only(Some(refusal), rows))),
+        Err(refusal) => {
+            // It tells the proof which fills a crash leaves now.
+            store.front();
+            Ok((store.into_disk(), Report::read_only(Some(refusal), rows)))
+        }
     }
 }
 

@@ -8,7 +8,6 @@ use Rattle.arch_disk.proofs.Moments.{at_end}
 use Rattle.arch_types.specs.declared.refusal.Refusal.{Refusal}
 use Rattle.arch_types.specs.declared.refusal.Refusal.TheVariants.{OutOfMemory}
 use Rattle.history_items.specs.Fills.{unacknowledged_rows}
-use Rattle.history_items.specs.declared.fills.Fill.{Fill}
 use Rattle.history_items.specs.Items.{Item}
 use Rattle.disk_journal.specs.Format.{HoldsNone}
 use Rattle.disk_journal.specs.State.{IsUntouched as JournalLeft}
@@ -22,7 +21,8 @@ use Rattle.mdb_model.specs.Sheets.{IsCheckResult, sheets_database}
 use Rattle.archive_store.specs.declared.head.Head.{Head}
 use Rattle.archive_store.specs.Calls.{IsCreateImage}
 use Rattle.archive_store.specs.Entries.{archive}
-use Rattle.archive_store.specs.StoreView.{StoreView, IsNow, CrashInvariant}
+use Rattle.archive_store.specs.StoreView.{StoreView, CrashInvariant, archive_of}
+use Rattle.archive_store.proofs.PlainLog.{kept_rows}
 use Rattle.archive_store.specs.Stands.{IsSoundImage, StandsFor}
 use Rattle.archive_cli.specs.ReadOnly.{IsReadAsBefore}
 use Rattle.archive_cli.specs.create_command.Create.{IsHeadAnswer, IsTablesAnswer}
@@ -99,8 +99,7 @@ made_store {D = D} device disk s head none history fills is opened sound images 
     let before : keeps.before ≡ [] = no_front keeps.before begins.0 begins.1 in
     let first : StandsFor (device.reads s.opened) (archive s.head []) = subst (λ (h : List Item). StandsFor (device.reads s.opened) (archive s.head h)) before keeps.opening in
     let second : StandsFor (device.reads s.disk) (archive s.head []) = subst (λ (d : D). StandsFor (device.reads d) (archive s.head [])) opened first in
-    let no_failed_write : (c : Image) → device.images s.disk c → IsNow s.head s.history None c =
-    subst (λ (f : List Fill). (c : Image) → device.images s.disk c → IsNow s.head s.history (unacknowledged_rows f) c) fills keeps.now in
+    let no_failed_write : (c : Image) → device.images s.disk c → StandsFor c (archive_of s) = kept_rows device s keeps (ap unacknowledged_rows fills) in
     let empty : (c : Image) → device.images s.disk c → StandsFor c (archive s.head []) =
     subst (λ (h : List Item). (c : Image) → device.images s.disk c → StandsFor c (archive s.head h)) history no_failed_write in
     let now : (c : Image) → device.images s.disk c → StandsFor c (archive head []) =

@@ -1,6 +1,6 @@
 -- The disk during a load, and after it.
-use Rattle.std.proofs.Common.{◌≡◌, ◌⊎◌, inl, inr, ℕ, Bool, true, false, List, [], ◌∷◌, ◌++◌, Option, ap, subst, sym, ◌∙◌}
-use Rattle.std.specs.Prelude.{Contains, IsTrue}
+use Rattle.std.proofs.Common.{◌≡◌, ◌⊎◌, inl, inr, ℕ, Bool, true, false, List, [], ◌∷◌, ◌++◌, Option, None, Some, ap, subst, sym, ◌∙◌}
+use Rattle.std.specs.Prelude.{Contains}
 use mathlib.Core.List.{IsPrefix}
 use Rattle.arch_disk.specs.Image.{Image}
 use Rattle.arch_disk.specs.Disk.{Device, LeavesOnly}
@@ -8,27 +8,28 @@ use Rattle.arch_disk.proofs.Moments.{weakens}
 use Rattle.arch_types.specs.declared.row.Row.{Row}
 use Rattle.history_items.specs.declared.fills.Addition.TheVariants.{Rows}
 use Rattle.history_items.specs.declared.fills.Fill.TheVariants.{Fault}
-use Rattle.history_items.specs.Fills.{rows_of_faults, unacknowledged_rows}
+use Rattle.history_items.specs.Fills.{pending_fault_of, rows_of_faults, unacknowledged_rows}
 use Rattle.store_fills.specs.Faults.{faults_in}
-use Rattle.store_fills.proofs.Faults.{unacknowledged_rows-in}
+use Rattle.store_fills.proofs.Faults.{pending_fault_of-in, unacknowledged_rows-in}
 use Rattle.history_items.specs.Items.{Item, items_of}
 use Rattle.archive_store.specs.declared.head.Head.{Head}
-use Rattle.archive_store.specs.Entries.{Archive, archive}
-use Rattle.archive_store.specs.StoreView.{StoreView, archive_of, IsNow, IsSince, CrashInvariant}
-use Rattle.archive_store.specs.Stands.{IsSoundImage, StandsFor}
+use Rattle.archive_store.specs.Entries.{Archive, FilledArchive, archive}
+use Rattle.archive_store.specs.StoreView.{StoreView, archive_of, filled_of, IsKeptWithFills, IsNow, IsSince, CrashInvariant}
+use Rattle.archive_store.specs.Unacknowledged.{with_rows}
+use Rattle.archive_store.specs.Stands.{IsSoundImage, StandsFilled, StandsFor}
 use Rattle.archive_store.proofs.Exact.{stands_once}
 use Rattle.archive_cli.specs.ReadOnly.{IsOpenedThen}
 use Rattle.archive_cli.specs.load_command.Extension.{IsDuring}
-use Rattle.archive_cli.specs.Durable.{IsDurableAs}
+use Rattle.archive_cli.proofs.Openings.{plain_stands}
 
 -- a store that was opened on a disk
 pub record IsOpened {D : Type 0} (device : Device D) (disk : D) (store : StoreView D) : Type 0 where
-  pub stands : StandsFor (device.reads disk) (archive_of store)
+  pub stands : StandsFilled (device.reads disk) (filled_of store)
   pub reads : device.reads store.disk ≡ device.reads disk
   pub opening : device.reads store.opened ≡ device.reads disk
   pub before : LeavesOnly device disk store.opened (device.images disk)
 
-pub opened_store : {D : Type 0} (device : Device D) (disk : D) (s : StoreView D) → StandsFor (device.reads disk) (archive_of s) → device.reads s.disk ≡ device.reads disk →
+pub opened_store : {D : Type 0} (device : Device D) (disk : D) (s : StoreView D) → StandsFilled (device.reads disk) (filled_of s) → device.reads s.disk ≡ device.reads disk →
     device.reads s.opened ≡ device.reads disk → LeavesOnly device disk s.opened (device.images disk) → IsOpened device disk s
 opened_store device disk s stands same opening handed_in = record { stands = stands; reads = same; opening = opening; before = handed_in }
 
@@ -56,7 +57,7 @@ module _ {D : Type 0} (device : Device D) (disk : D) (old new : StoreView D) (op
   load_images head same keeps =
       let first : device.reads new.opened ≡ device.reads disk = ap device.reads same ∙ opened.opening in
       let began : StandsFor (device.reads disk) (archive new.head keeps.before) = subst (λ (image : Image). StandsFor image (archive new.head keeps.before)) first keeps.opening in
-      let before : keeps.before ≡ old.history = ap (λ (a : Archive). a.history) (stands_once (device.reads disk) (archive new.head keeps.before) (archive old.head old.history) began opened.stands) in
+      let before : keeps.before ≡ old.history = ap (λ (a : Archive). a.history) (stands_once (device.reads disk) (archive new.head keeps.before) (archive old.head old.history) began (plain_stands (device.reads disk) (filled_of old) opened.stands)) in
       record {
         opened = old.opened;
         before = opened.before;
@@ -67,23 +68,14 @@ module _ {D : Type 0} (device : Device D) (disk : D) (old new : StoreView D) (op
         sound = λ handed. subst (λ (d : D). LeavesOnly device d new.disk IsSoundImage) same (keeps.sound (subst IsSoundImage (sym first) handed));
       }
 
--- a crash now leaves the history of a store without faults
-pub durable : {D : Type 0} (device : Device D) (store : StoreView D) → IsTrue device.is_transparent → CrashInvariant device store → faults_in store.fills ≡ [] → IsDurableAs device store.disk store.head store.history
-durable device store is_transparent keeps none =
-    let now : (c : Image) → device.images store.disk c → StandsFor c (archive store.head store.history) =
-    subst (λ (o : Option (List Item)). (c : Image) → device.images store.disk c → IsNow store.head store.history o c) (unacknowledged_rows-in store.fills ∙ ap unacknowledged_rows none) keeps.now in
-    record { reads = now (device.reads store.disk) (device.reads_as_image store.disk is_transparent); now = now }
+-- after a failed write it may be the archive with its fills, or that with the rows of the write
+now_with_fills : (filled : FilledArchive) (more : List Item) (c : Image) → IsNow filled (Some more) c → StandsFilled c filled ⊎ StandsFilled c (with_rows filled more)
+now_with_fills filled more c (inl stands) = inl stands
+now_with_fills filled more c (inr after) = inr (subst (StandsFilled c) after.1 after.2)
 
--- and after a fault whose write stands it may also leave the rows that the fault holds
-pub left : {D : Type 0} (device : Device D) (store : StoreView D) (count : ℕ) (wrote : Bool) (rows : List Row) → CrashInvariant device store → faults_in store.fills ≡ Fault count wrote (Rows rows) ∷ [] → (c : Image) → device.images store.disk c
-    → StandsFor c (archive store.head store.history) ⊎ StandsFor c (archive store.head (store.history ++ items_of rows))
-left device store count true rows keeps one c leaves = subst (λ (o : Option (List Item)). IsNow store.head store.history o c) (unacknowledged_rows-in store.fills ∙ ap unacknowledged_rows one) (keeps.now c leaves)
-left device store count false rows keeps one c leaves = inl (subst (λ (o : Option (List Item)). IsNow store.head store.history o c) (unacknowledged_rows-in store.fills ∙ ap unacknowledged_rows one) (keeps.now c leaves))
-
--- but not after one whose write was healed
-pub durable_again : {D : Type 0} (device : Device D) (store : StoreView D) (count : ℕ) (rows : List Row) → IsTrue device.is_transparent → CrashInvariant device store → faults_in store.fills ≡ Fault count false (Rows rows) ∷ []
-    → IsDurableAs device store.disk store.head store.history
-durable_again device store count rows is_transparent keeps one =
-    let now : (c : Image) → device.images store.disk c → StandsFor c (archive store.head store.history) =
-    subst (λ (o : Option (List Item)). (c : Image) → device.images store.disk c → IsNow store.head store.history o c) (unacknowledged_rows-in store.fills ∙ ap unacknowledged_rows one) keeps.now in
-    record { reads = now (device.reads store.disk) (device.reads_as_image store.disk is_transparent); now = now }
+-- after a fault whose write stands a crash may also leave the rows that the fault holds, with the fills that there are
+pub left : {D : Type 0} (device : Device D) (store : StoreView D) (count : ℕ) (wrote : Bool) (rows : List Row) → CrashInvariant device store → (pending_fault_of store.fills ≡ None → IsKeptWithFills device store)
+    → faults_in store.fills ≡ Fault count wrote (Rows rows) ∷ [] → (c : Image) → device.images store.disk c → StandsFilled c (filled_of store) ⊎ StandsFilled c (with_rows (filled_of store) (items_of rows))
+left device store count true rows keeps kept one c leaves =
+    now_with_fills (filled_of store) (items_of rows) c (subst (λ (o : Option (List Item)). IsNow (filled_of store) o c) (unacknowledged_rows-in store.fills ∙ ap unacknowledged_rows one) (keeps.now c leaves))
+left device store count false rows keeps kept one c leaves = inl (kept (pending_fault_of-in store.fills ∙ ap pending_fault_of one) c leaves)

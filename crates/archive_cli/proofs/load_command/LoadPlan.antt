@@ -64,18 +64,18 @@ closed_again a m b first next gave closed reliable failed counted = record {
 pub session_after : (Began : ℕ → Type 0) (filled : FilledArchive) (r : Receiving) (asks : List Ask) (dump : List ℕ) → EachEnd (HasRead 1) (session_plan Began filled r asks dump)
 session_after Began filled r asks dump = λ s h. each s s.refusal
   where
-    printing : (asks : List Ask) (s : SessionResult) → EachEnd (HasRead 1) (load_printing_plan filled.plain r asks s filled.fillings)
+    printing : (asks : List Ask) (s : SessionResult) → EachEnd (HasRead 1) (load_printing_plan filled r asks s)
     printing [] s = ((refl, refl), (refl, refl))
     printing (ask ∷ asks) s = ((refl, refl), ((refl, refl), (refl, refl)))
 
-    left : (s : SessionResult) (failed : Bool) → HasRead 1 (Stopped (bad_packet_left filled.plain r.link s failed) None)
+    left : (s : SessionResult) (failed : Bool) → HasRead 1 (Stopped (bad_packet_left filled r.link s failed) None)
     left s false = (refl, refl)
     left s true = (refl, refl)
 
     whole : (s : SessionResult) (rest : Option Refusal) → EachEnd (HasRead 1) (after_packets Began filled r asks s rest)
     whole s None =
-        filling_reads (IsRecordedBehind Began filled.plain.history s.reached) filled.plain s.reached (length (late_behind filled s)) (history_extended filled.plain None s)
-        (load_printing_plan filled.plain r asks s filled.fillings) 1 (refl, refl) (printing asks s)
+        filling_reads (IsRecordedBehind Began filled.plain.history s.reached) filled s.reached (length (late_behind filled s)) (history_extended filled None s)
+        (load_printing_plan filled r asks s) 1 (refl, refl) (printing asks s)
     whole s (Some refusal) = λ failed h. left s failed
 
     each : (s : SessionResult) (refusal : Option Refusal) → EachEnd (HasRead 1) (after_session Began filled r asks dump s refusal)
@@ -163,12 +163,12 @@ module _ {D : Type 0} (device : Device D) (e : Effects D) (files : Option Files)
       routes_on : (route : List RouteStatement) → link_refusal words.link ≡ None → IsRouteAnswer archive.head text (Ok route) → (way : Way Progress ⊥)
           → Allows (after_route Began files next words sheet filled route) way → Allows (loading_plan Began files next words text sheet filled) way
       routes_on route near is way goes =
-          (None, sym near, gave (route_plan (archive_opened 1 archive) archive.head text) (after_route Began files next words sheet filled) route way (inr (Ok route, is, refl)) goes)
+          (None, sym near, gave (route_plan (archive_opened 1 filled) archive.head text) (after_route Began files next words sheet filled) route way (inr (Ok route, is, refl)) goes)
 
       reads_on : (route : List RouteStatement) (asks : List Ask) → IsReady archive.head text sheet words.link route asks → (way : Way Progress ⊥)
           → Allows (reading_plan Began files next words filled route asks) way → Allows (loading_plan Began files next words text sheet filled) way
       reads_on route asks ready way goes =
-          let s = archive_opened 1 archive in
+          let s = archive_opened 1 filled in
           routes_on route ready.0 ready.1 way (gave (asks_check_plan s archive.head sheet) (reading_plan Began files next words filled route) asks way (checked s archive.head sheet asks ready.2) goes)
 
       abbrev reports : Refusal → Option ℕ → Type 0
@@ -178,10 +178,10 @@ module _ {D : Type 0} (device : Device D) (e : Effects D) (files : Option Files)
       named refusal link other is report = report ∙ ap (λ (l : Option ℕ). record (read_only (Some refusal) (length archive.history)) { link = l }) is
 
       -- it was left as it was, and the report may name the link
-      module _ (silent : e.output' ≡ e.output) (disk : HasDiskOutcome device e.disk e.disk' false (Opened archive)) (used : (failed : Bool) → Counted failed a.faults b.faults → UsedInputs a b 1 failed)
+      module _ (silent : e.output' ≡ e.output) (disk : HasDiskOutcome device e.disk e.disk' false (Opened filled)) (used : (failed : Bool) → Counted failed a.faults b.faults → UsedInputs a b 1 failed)
           (later : a.faults ≤ b.faults) where
         abbrev unloaded : Option ℕ → Progress
-        unloaded link = record (archive_opened 1 archive) { report = record (read_only None (length archive.history)) { link = link } }
+        unloaded link = record (archive_opened 1 filled) { report = record (read_only None (length archive.history)) { link = link } }
 
         left : (link : Option ℕ) (refusal : Refusal) (failed : FailedCalls) → failed OfOutput ≡ false → failed OfDisk ≡ false → reports refusal link
             → EndedAt device e (unloaded link) (Some refusal) failed
@@ -195,23 +195,23 @@ module _ {D : Type 0} (device : Device D) (e : Effects D) (files : Option Files)
             record { ran = record { way = way; allows = goes_on way goes; did = left link refusal no_failed_calls refl refl report }; inputs = used false counted }
 
         cut_short : (failed : Bool) → reports (interruption_refusal (reading_fault failed)) None → Counted failed a.faults b.faults
-            → Allows (loading_plan Began files next words text sheet filled) (Interrupted (archive_opened 1 archive) (reading_fault failed)) → RanOver device plan e a b
+            → Allows (loading_plan Began files next words text sheet filled) (Interrupted (archive_opened 1 filled) (reading_fault failed)) → RanOver device plan e a b
         cut_short true report counted goes =
-            let way : Way Progress ⊥ = Interrupted (archive_opened 1 archive) OfInputs in
+            let way : Way Progress ⊥ = Interrupted (archive_opened 1 filled) OfInputs in
             record { ran = record { way = way; allows = goes_on way goes; did = left None refused.ReadFault (with_failed_call OfInputs no_failed_calls) refl refl report }; inputs = used true counted }
         cut_short false report counted goes =
-            let way : Way Progress ⊥ = Interrupted (archive_opened 1 archive) OfMemory in
+            let way : Way Progress ⊥ = Interrupted (archive_opened 1 filled) OfMemory in
             record { ran = record { way = way; allows = goes_on way goes; did = left None refused.OutOfMemory (with_failed_call OfMemory no_failed_calls) refl refl report }; inputs = used false counted }
 
         -- the route was refused
         load_unrouted : (refusal : Refusal) → link_refusal words.link ≡ None → OrNoMemory (IsRouteAnswer archive.head text) (Err refusal) → reports refusal None → Counted false a.faults b.faults
             → RanOver device plan e a b
         load_unrouted refusal near (inl memory) report counted =
-            let s = archive_opened 1 archive in
+            let s = archive_opened 1 filled in
             cut_short false (subst (λ (r : Refusal). reports r None) memory report) counted
             (None, sym near, cut (route_plan s archive.head text) (after_route Began files next words sheet filled) s OfMemory (inl refl))
         load_unrouted refusal near (inr is) report counted =
-            let s = archive_opened 1 archive in
+            let s = archive_opened 1 filled in
             stopped None refusal report counted
             (None, sym near, ended (route_plan s archive.head text) (after_route Began files next words sheet filled) s (Some refusal) (inr (Err refusal, is, refl)))
 
@@ -220,7 +220,7 @@ module _ {D : Type 0} (device : Device D) (e : Effects D) (files : Option Files)
         load_unready refusal (inl far) report counted = stopped None refusal report counted (Some refusal, sym far, refl)
         load_unready refusal (inr (inl near)) report counted = load_unrouted refusal near.0 near.1 report counted
         load_unready refusal (inr (inr near)) report counted =
-            let s = archive_opened 1 archive in
+            let s = archive_opened 1 filled in
             let route = near.1.0 in
             let f = reading_plan Began files next words filled route in
             elim (check_refused s archive.head sheet refusal near.1.2) [
@@ -238,12 +238,12 @@ module _ {D : Type 0} (device : Device D) (e : Effects D) (files : Option Files)
             let is : refused.Limit DumpOctets most ≡ limit = ap (λ (n : ℕ). refused.Limit DumpOctets n) u.0 in
             let long = subst (λ (n : ℕ). IfSome files (λ all. IsSomeAnd (get all words.dump) (λ octets. n < length octets))) u.0 (gives_long files words.dump left most gives u.2) in
             stopped (Some words.link) limit (named limit link (Some words.link) u.1 (subst (λ (r : Refusal). reports r link) is report)) counted
-            (reads_on route asks ready (Stopped (dump_too_long words.link archive) (Some limit)) (inr (inr (OverLimit, long, refl))))
+            (reads_on route asks ready (Stopped (dump_too_long words.link filled) (Some limit)) (inr (inr (OverLimit, long, refl))))
         load_unread left refused.ReadFault link route asks gives ready u counted report =
             cut_short true (named refused.ReadFault link None u report) (risen_counted a.faults b.faults later counted)
-            (reads_on route asks ready (Interrupted (archive_opened 1 archive) OfInputs) (inr (inl refl)))
+            (reads_on route asks ready (Interrupted (archive_opened 1 filled) OfInputs) (inr (inl refl)))
         load_unread left refused.OutOfMemory link route asks gives ready u counted report =
-            cut_short false (named refused.OutOfMemory link None u report) counted (reads_on route asks ready (Interrupted (archive_opened 1 archive) OfMemory) (inl refl))
+            cut_short false (named refused.OutOfMemory link None u report) counted (reads_on route asks ready (Interrupted (archive_opened 1 filled) OfMemory) (inl refl))
         load_unread left other link route asks gives ready u counted report = absurd u
 
         -- nothing was ingested
@@ -276,14 +276,14 @@ module _ {D : Type 0} (device : Device D) (e : Effects D) (files : Option Files)
 session_determined : (is : ℕ → Type 0) (filled : FilledArchive) (r : Receiving) (asks : List Ask) (dump : List ℕ) → IsDetermined (session_plan is filled r asks dump)
 session_determined is filled r asks dump = λ s h. each s s.refusal
   where
-    printing : (asks : List Ask) (s : SessionResult) → IsDetermined (load_printing_plan filled.plain r asks s filled.fillings)
+    printing : (asks : List Ask) (s : SessionResult) → IsDetermined (load_printing_plan filled r asks s)
     printing [] s = tt
     printing (ask ∷ asks) s = tt
 
     whole : (s : SessionResult) (rest : Option Refusal) → IsDetermined (after_packets is filled r asks s rest)
     whole s None =
-        filling_determined (IsRecordedBehind is filled.plain.history s.reached) filled.plain s.reached (length (late_behind filled s)) (history_extended filled.plain None s)
-        (load_printing_plan filled.plain r asks s filled.fillings) (printing asks s)
+        filling_determined (IsRecordedBehind is filled.plain.history s.reached) filled s.reached (length (late_behind filled s)) (history_extended filled None s)
+        (load_printing_plan filled r asks s) (printing asks s)
     whole s (Some refusal) = λ failed h. tt
 
     each : (s : SessionResult) (refusal : Option Refusal) → IsDetermined (after_session is filled r asks dump s refusal)
@@ -299,7 +299,7 @@ module _ (Began : ℕ → Type 0) (all : Files) (next : Option ℤ) (words : Loa
   routed_determined : IsThere (Some all) words.dump → (sheet : Result (List Ask) Refusal) (filled : FilledArchive) (route : List RouteStatement) →
       IsDetermined (after_route Began (Some all) next words sheet filled route)
   routed_determined there sheet filled route =
-      determined (asks_check_plan (archive_opened 1 filled.plain) filled.plain.head sheet) (reading_plan Began (Some all) next words filled route) (check_determined (archive_opened 1 filled.plain) filled.plain.head sheet)
+      determined (asks_check_plan (archive_opened 1 filled) filled.plain.head sheet) (reading_plan Began (Some all) next words filled route) (check_determined (archive_opened 1 filled) filled.plain.head sheet)
       (λ asks. (((reads_determined DumpOctets (λ octets. octets) all words.dump 0).1 true there).0, λ read h. dump_determined filled route asks read))
 
   loading_determined : IsThere (Some all) words.dump → (text : Option (List ℕ)) (sheet : Result (List Ask) Refusal) (filled : FilledArchive) →
@@ -308,7 +308,7 @@ module _ (Began : ℕ → Type 0) (all : Files) (next : Option ℤ) (words : Loa
     where
       each : (found : Option Refusal) → IsDetermined (after_link Began (Some all) next words text sheet filled found)
       each None =
-          determined (route_plan (archive_opened 1 filled.plain) filled.plain.head text) (after_route Began (Some all) next words sheet filled) (route_determined (archive_opened 1 filled.plain) filled.plain.head text)
+          determined (route_plan (archive_opened 1 filled) filled.plain.head text) (after_route Began (Some all) next words sheet filled) (route_determined (archive_opened 1 filled) filled.plain.head text)
           (routed_determined there sheet filled)
       each (Some refusal) = tt
 

@@ -1,9 +1,8 @@
 -- How the session of a load went, what was filled behind it, and what it leaves of the disk.
-use Rattle.std.proofs.Common.{◌≡◌, ◌⊎◌, inl, inr, ℕ, ◌+◌, ◌-◌, ◌<◌, ◌≤◌, Bool, true, false, List, [], ◌∷◌, ◌++◌, length, Some, None, Option, refl, sym, ap, ◌∙◌, subst, arith, append-nil}
+use Rattle.std.proofs.Common.{◌≡◌, inl, inr, ℕ, ◌+◌, ◌-◌, ◌<◌, ◌≤◌, Bool, true, false, List, [], ◌∷◌, ◌++◌, length, Some, None, Option, refl, sym, ap, ◌∙◌, subst, arith, append-nil}
 use Rattle.std.specs.Prelude.{IsTrue}
 use Rattle.std.specs.List.{AllByRecursion}
 use Rattle.arch_disk.specs.Disk.{Device, raised}
-use Rattle.arch_disk.specs.Image.{Image}
 use Rattle.arch_types.specs.declared.ask.Ask.{Ask}
 use Rattle.arch_types.specs.declared.interval.Interval.{Interval}
 use Rattle.arch_types.specs.declared.refusal.Refusal.{Refusal}
@@ -17,12 +16,13 @@ use Rattle.interval_walks.specs.Counts.{late_intervals}
 use Rattle.store_fills.specs.Faults.{IsDone, faults_in}
 use Rattle.store_fills.specs.FilledSets.{FilledIntervals, fillings_in}
 use Rattle.store_fills.specs.Sound.{base_of_filling}
-use Rattle.store_fills.proofs.Faults.{rows_of_faults-in}
+use Rattle.store_fills.proofs.Faults.{pending_fault_of-in, rows_of_faults-in}
 use Rattle.history_items.specs.Items.{Item, items_of}
 use Rattle.archive_store.specs.declared.head.Head.{Head}
-use Rattle.archive_store.specs.Entries.{archive, filled_archive}
-use Rattle.archive_store.specs.StoreView.{StoreView, archive_of, filled_of, FaultInvariant, CrashInvariant}
-use Rattle.archive_store.specs.Stands.{StandsFilled, StandsFor}
+use Rattle.archive_store.specs.Entries.{FilledArchive, filled_archive}
+use Rattle.archive_store.specs.StoreView.{StoreView, filled_of, FaultInvariant, CrashInvariant, IsKeptWithFills}
+use Rattle.archive_store.specs.Stands.{StandsFilled}
+use Rattle.archive_store.specs.Unacknowledged.{with_rows}
 use Rattle.command_plans.specs.Plan.{OfMemory, OfOutput, CommandPlan, Stop, May, Way, Stopped, Interrupted, Allows}
 use Rattle.dump_lines.specs.Output.{WritesCounted}
 use Rattle.load_session.specs.Receiving.{Receiving, arrived, rows_received}
@@ -31,11 +31,13 @@ use Rattle.load_session.proofs.Sessions.{more_faults, session_from}
 use Rattle.outer_traits.specs.States.{OutputState}
 use Rattle.outer_ledgers.specs.Ledger.{UsedDisk, UsedOutput}
 use Rattle.outer_ledgers.proofs.Ledgers.{risen_counted}
+use Rattle.retrieval.specs.AddedFills.{AddsWholeFills}
+use Rattle.retrieval.proofs.AddedFills.{same_texts}
 use Rattle.archive_cli.specs.declared.report.Report.{Report}
 use Rattle.archive_cli.specs.Asks.{ArePrinted}
 use Rattle.archive_cli.specs.Command.{AllFilled, Progress, Effects, Extended, ExtensionFailed, FillingFailed, HasDiskOutcome, Ran, effects_of}
-use Rattle.archive_cli.specs.Durable.{FailedAtMostOnce, IsDurableAs}
-use Rattle.archive_cli.specs.Filling.{AddsWholeFills, IsFillTakenBack, IsFilledOn, IsFillingRefusal, IsUnfailed, filling_refusal}
+use Rattle.archive_cli.specs.Durable.{FailedAtMostOnce, IsDurableWithFills}
+use Rattle.archive_cli.specs.Filling.{IsFillTakenBack, IsFilledOn, IsFillingRefusal, IsUnfailed, filling_refusal}
 use Rattle.archive_cli.specs.FillingPlan.{IsRecordCount, all_filled, filling_plan}
 use Rattle.archive_cli.specs.load_command.Extension.{IsExtensionFailed, batch_left}
 use Rattle.archive_cli.specs.load_command.Load.{IsRecordedBehind, after_packets, after_session, answering_asks_plan, bad_packet_left, extension_failed, history_extended, late_behind, load_printing_plan, session_plan}
@@ -44,10 +46,9 @@ use Rattle.archive_cli.specs.load_command.Loading.{IsBadLoad, IsLoadRun, IsPrint
 use Rattle.archive_cli.specs.DumpRest.{ending_of_rest}
 use Rattle.archive_cli.specs.Report.{loaded}
 use Rattle.archive_cli.proofs.Commands.{no_text}
-use Rattle.archive_cli.proofs.FilledAsks.{same_texts}
-use Rattle.archive_cli.proofs.FilledDisks.{all_are_filled, fill_has_failed, idle_done, late_as_filled, still_extended}
+use Rattle.archive_cli.proofs.FilledDisks.{all_are_filled, fill_has_failed, idle_done, late_as_filled, still_extended, taken_back_once, with_fills}
 use Rattle.archive_cli.proofs.FillingPlan.{ran_all_filled, ran_unfilled}
-use Rattle.archive_cli.proofs.load_command.During.{load_images, durable_again, left, IsOpened}
+use Rattle.archive_cli.proofs.load_command.During.{load_images, left, IsOpened}
 use Rattle.archive_cli.proofs.DumpRest.{bad_ending}
 
 no_rest : (dump rest : List ℕ) → rest ≡ [] → ending_of_rest dump rest ≡ None
@@ -85,40 +86,42 @@ module _ {D : Type 0} (device : Device D) (disk : D) (old : StoreView D) (r : Re
 
 module _ {D : Type 0} (device : Device D) (disk : D) (old new : StoreView D) (r : Receiving) (s : SessionResult) (reached : HasReached device old new r s)
     (opened : IsTrue device.is_transparent → IsOpened device disk old) (first : device.fault_count disk ≤ device.fault_count old.opened)
-    (keeps : IsTrue device.is_transparent → CrashInvariant device new) (faults : FaultInvariant device new) where
+    (keeps : IsTrue device.is_transparent → CrashInvariant device new) (faults : FaultInvariant device new)
+    (kept : IsTrue device.is_transparent → pending_fault_of new.fills ≡ None → IsKeptWithFills device new) where
   -- ---- the disk
 
   abbrev rows : List Row
   rows = next_fresh_rows r s
 
+  -- no fill came
+  no_more : AddsWholeFills old.head new.history (fillings_in old.filled) (fillings_in new.filled)
+  no_more i = inl (ap (λ (f : FilledIntervals). fillings_in f i) reached.filled)
+
+  as_before : filled_of new ≡ filled_archive old.head new.history (fillings_in old.filled)
+  as_before =
+      ap (λ (h : Head). filled_archive h new.history (fillings_in new.filled)) reached.head ∙ ap (λ (f : FilledIntervals). filled_archive old.head new.history (fillings_in f)) reached.filled
+
   -- no call of it failed in a batch
-  still : faults_in new.fills ≡ [] → device.failed_writes new.disk ≡ device.failed_writes disk → HasDiskOutcome device disk new.disk false (Extended (archive_of old) s.reached)
+  still : faults_in new.fills ≡ [] → device.failed_writes new.disk ≡ device.failed_writes disk → HasDiskOutcome device disk new.disk false (Extended (filled_of old) s.reached)
   still none writes =
-      subst (λ (h : List Item). HasDiskOutcome device disk new.disk false (Extended (archive_of old) h)) reached.history
-      (still_extended device disk old new reached.head reached.opened opened first keeps faults none writes)
+      subst (λ (h : List Item). HasDiskOutcome device disk new.disk false (Extended (filled_of old) h)) reached.history
+      (still_extended device disk old new reached.head reached.opened opened first keeps faults kept no_more none writes)
 
   -- one failed in the batch that held these rows
   stopped_by : (count : ℕ) (wrote : Bool) → faults_in new.fills ≡ Fault count wrote (Rows rows) ∷ [] → (FailedAtMostOnce device disk new.disk → wrote ≡ false) → IsTrue device.is_transparent
-      → IsExtensionFailed device disk new.disk (archive_of old) new.history rows
+      → IsExtensionFailed device disk new.disk (filled_of old) new.history rows
   stopped_by count wrote fills once known = record {
     stands = (opened known).stands;
     images = load_images device disk old new (opened known) (batch_left rows) (rows_of_faults-in new.fills ∙ ap rows_of_faults fills) reached.head reached.opened (keeps known);
-    now = λ c leaves. elim (left device new count wrote rows (keeps known) fills c leaves) [
-      | inl stands ↦ inl (subst (λ (h : Head). StandsFor c (archive h new.history)) reached.head stands)
-      | inr more ↦ inr (subst (λ (h : Head). StandsFor c (archive h (new.history ++ items_of rows))) reached.head more)
+    now = λ c leaves. elim (left device new count wrote rows (keeps known) (kept known) fills c leaves) [
+      | inl stands ↦ inl (subst (StandsFilled c) as_before stands)
+      | inr more ↦ inr (subst (StandsFilled c) (ap (λ (a : FilledArchive). with_rows a (items_of rows)) as_before) more)
     ];
     durable = λ one.
-        subst (λ (h : Head). IsDurableAs device new.disk h new.history) reached.head
-        (durable_again device new count rows known (keeps known) (subst (λ (b : Bool). faults_in new.fills ≡ Fault count b (Rows rows) ∷ []) (once one) fills));
+        let back : faults_in new.fills ≡ Fault count false (Rows rows) ∷ [] = subst (λ (b : Bool). faults_in new.fills ≡ Fault count b (Rows rows) ∷ []) (once one) fills in
+        subst (λ (f : FilledIntervals). IsDurableWithFills device new.disk (filled_archive old.head new.history (fillings_in f))) reached.filled
+        (with_fills device disk old new reached.head reached.opened opened first keeps faults kept no_more known (pending_fault_of-in new.fills ∙ ap pending_fault_of back));
   }
-
-  -- the write was taken back, unless a call failed again
-  taken_back_once : (wrote : Bool) → (wrote ≡ false) ⊎ (raised (raised (device.fault_count new.opened)) ≤ device.fault_count new.disk) → FailedAtMostOnce device disk new.disk → wrote ≡ false
-  taken_back_once wrote (inl back) one = back
-  taken_back_once wrote (inr twice) one =
-      let most = one.most in
-      let below = one.below in
-      absurd (omega (arith, first, ap device.fault_count reached.opened, twice, most, below))
 
   used_failed : raised (device.fault_count disk) ≤ device.fault_count new.disk → OneOrTwo (Some DiskFault) (device.failed_writes disk) (device.failed_writes new.disk)
       → UsedDisk device disk new.disk true 1 2
@@ -126,12 +129,12 @@ module _ {D : Type 0} (device : Device D) (disk : D) (old new : StoreView D) (r 
   used_failed rose (inr two) = record { faults = rose; writes = (2, omega arith, omega arith, two) }
 
   fails : HoldsFailedWrite device new rows (Some DiskFault) → OneOrTwo (Some DiskFault) (device.failed_writes disk) (device.failed_writes new.disk)
-      → HasDiskOutcome device disk new.disk true (ExtensionFailed (archive_of old) s.reached rows)
+      → HasDiskOutcome device disk new.disk true (ExtensionFailed (filled_of old) s.reached rows)
   fails held writes =
-      let more = more_faults device new held.0 held.1 rows faults held.2 in (
+      let more = more_faults device new held.0 held.1 (Rows rows) faults held.2 in (
         used_failed (omega (arith, first, ap device.fault_count reached.opened, more)) writes,
-        λ known. subst (λ (h : List Item). IsExtensionFailed device disk new.disk (archive_of old) h rows) reached.history
-            (stopped_by held.0 held.1 held.2 (taken_back_once held.1 held.3) known),
+        λ known. subst (λ (h : List Item). IsExtensionFailed device disk new.disk (filled_of old) h rows) reached.history
+            (stopped_by held.0 held.1 held.2 (taken_back_once device disk old new reached.head reached.opened opened first keeps faults kept no_more held.1 held.3) known),
       )
 
   module _ (asks : List Ask) (dump : List ℕ) (began : IsRecordCount device disk old.records) (session : IsSession (λ n. n ≡ old.records) old.history dump r s) (output output' : OutputState) (report : Report)
@@ -144,11 +147,11 @@ module _ {D : Type 0} (device : Device D) (disk : D) (old new : StoreView D) (r 
     holds refusal is = subst (HoldsFailedWrite device new rows) is reached.failed_write
 
     -- no call of the disk failed
-    refused_by : (refusal : Refusal) → Allows (after_session (IsRecordCount device disk) (filled_of old) r asks dump s (Some refusal)) (Stopped (history_extended (archive_of old) None s) (Some refusal))
+    refused_by : (refusal : Refusal) → Allows (after_session (IsRecordCount device disk) (filled_of old) r asks dump s (Some refusal)) (Stopped (history_extended (filled_of old) None s) (Some refusal))
         → faults_in new.fills ≡ [] → s.refusal ≡ Some refusal → report ≡ loaded (Some refusal) None (length old.history) (length s.reached) 0 0 0
         → device.failed_writes new.disk ≡ device.failed_writes disk → Ran device (session_plan (IsRecordCount device disk) (filled_of old) r asks dump) went
     refused_by refusal allows none is report_is writes =
-        let way : Way Progress ⊥ = Stopped (history_extended (archive_of old) None s) (Some refusal) in
+        let way : Way Progress ⊥ = Stopped (history_extended (filled_of old) None s) (Some refusal) in
         record {
           way = way;
           allows = goes_on device disk old r s asks dump began session (Some refusal) way is allows;
@@ -162,7 +165,7 @@ module _ {D : Type 0} (device : Device D) (disk : D) (old new : StoreView D) (r 
     batch_refused OutOfMemory is cause report_is writes = refused_by OutOfMemory refl (holds (Some OutOfMemory) is) is report_is writes
     batch_refused (Limit which number) is cause report_is writes = refused_by (Limit which number) refl (holds (Some (Limit which number)) is) is report_is writes
     batch_refused DiskFault is cause report_is writes =
-        let way : Way Progress ⊥ = Stopped (extension_failed (archive_of old) r s) (Some DiskFault) in
+        let way : Way Progress ⊥ = Stopped (extension_failed (filled_of old) r s) (Some DiskFault) in
         record {
           way = way;
           allows = goes_on device disk old r s asks dump began session (Some DiskFault) way is refl;
@@ -186,7 +189,8 @@ module _ {D : Type 0} (device : Device D) (old between : StoreView D) (r : Recei
 
 module _ {D : Type 0} (device : Device D) (disk : D) (old between new : StoreView D) (r : Receiving) (s : SessionResult) (reached : HasReached device old between r s) (all : s.refusal ≡ None)
     (opened : IsTrue device.is_transparent → IsOpened device disk old) (first : device.fault_count disk ≤ device.fault_count old.opened) (keeps : IsTrue device.is_transparent → CrashInvariant device new)
-    (faults : FaultInvariant device new) (filled_on : IsFilledOn between new) (writes : device.failed_writes between.disk ≡ device.failed_writes disk) where
+    (faults : FaultInvariant device new) (kept : IsTrue device.is_transparent → pending_fault_of new.fills ≡ None → IsKeptWithFills device new) (filled_on : IsFilledOn between new)
+    (writes : device.failed_writes between.disk ≡ device.failed_writes disk) where
   none_before : faults_in between.fills ≡ []
   none_before = subst (HoldsFailedWrite device between (next_fresh_rows r s)) all reached.failed_write
 
@@ -202,16 +206,23 @@ module _ {D : Type 0} (device : Device D) (disk : D) (old between new : StoreVie
   same_rows : new.history ≡ s.reached
   same_rows = filled_on.rows ∙ reached.history
 
-  -- the disk
-  unfailed_disk : IsUnfailed device between new → HasDiskOutcome device disk new.disk false (Extended (archive_of old) s.reached)
-  unfailed_disk unfailed =
-      subst (λ (h : List Item). HasDiskOutcome device disk new.disk false (Extended (archive_of old) h)) same_rows
-      (still_extended device disk old new same_head same_opening opened first keeps faults unfailed.no_fault (unfailed.no_failed_write ∙ writes))
+  -- what was added to the fills since the opening
+  sets_added : AddsWholeFills old.head new.history (fillings_in old.filled) (fillings_in new.filled)
+  sets_added =
+      subst (λ (h : Head). AddsWholeFills h new.history (fillings_in old.filled) (fillings_in new.filled)) reached.head
+      (subst (λ (h : List Item). AddsWholeFills between.head h (fillings_in old.filled) (fillings_in new.filled)) (sym filled_on.rows)
+      (subst (λ (f : FilledIntervals). AddsWholeFills between.head between.history (fillings_in f) (fillings_in new.filled)) reached.filled filled_on.sets))
 
-  failed_disk : IsFillTakenBack device between new → HasDiskOutcome device disk new.disk true (FillingFailed (archive_of old) s.reached)
+  -- the disk
+  unfailed_disk : IsUnfailed device between new → HasDiskOutcome device disk new.disk false (Extended (filled_of old) s.reached)
+  unfailed_disk unfailed =
+      subst (λ (h : List Item). HasDiskOutcome device disk new.disk false (Extended (filled_of old) h)) same_rows
+      (still_extended device disk old new same_head same_opening opened first keeps faults kept sets_added unfailed.no_fault (unfailed.no_failed_write ∙ writes))
+
+  failed_disk : IsFillTakenBack device between new → HasDiskOutcome device disk new.disk true (FillingFailed (filled_of old) s.reached)
   failed_disk failed =
-      subst (λ (h : List Item). HasDiskOutcome device disk new.disk true (FillingFailed (archive_of old) h)) same_rows
-      (fill_has_failed device disk old new same_head same_opening opened first keeps faults failed.count failed.wrote failed.fault
+      subst (λ (h : List Item). HasDiskOutcome device disk new.disk true (FillingFailed (filled_of old) h)) same_rows
+      (fill_has_failed device disk old new same_head same_opening opened first keeps faults kept sets_added failed.count failed.wrote failed.fault failed.tried
       (subst (λ (n : ℕ). OneOrTwo (Some DiskFault) n (device.failed_writes new.disk)) writes failed.writes))
 
   -- which intervals were late behind the session
@@ -220,12 +231,10 @@ module _ {D : Type 0} (device : Device D) (disk : D) (old between new : StoreVie
       ap (λ (l : List Fill). late_intervals 22 between.history l) same_fills ∙ ap (λ (h : List Item). late_intervals 22 h old.fills) reached.history
       ∙ late_as_filled (filled_archive old.head s.reached (fillings_in old.filled)) old.fills bases
 
-  -- what was added to the fills since the opening
-  sets_added : r.head ≡ old.head → AddsWholeFills r.head s.reached (fillings_in old.filled) (fillings_in new.filled)
-  sets_added of_head =
-      subst (λ (h : Head). AddsWholeFills h s.reached (fillings_in old.filled) (fillings_in new.filled)) (reached.head ∙ sym of_head)
-      (subst (λ (h : List Item). AddsWholeFills between.head h (fillings_in old.filled) (fillings_in new.filled)) reached.history
-      (subst (λ (f : FilledIntervals). AddsWholeFills between.head between.history (fillings_in f) (fillings_in new.filled)) reached.filled filled_on.sets))
+  added_behind : r.head ≡ old.head → AddsWholeFills r.head s.reached (fillings_in old.filled) (fillings_in new.filled)
+  added_behind of_head =
+      subst (λ (h : Head). AddsWholeFills h s.reached (fillings_in old.filled) (fillings_in new.filled)) (sym of_head)
+      (subst (λ (h : List Item). AddsWholeFills old.head h (fillings_in old.filled) (fillings_in new.filled)) same_rows sets_added)
 
   module _ (asks : List Ask) (dump : List ℕ) (began : IsRecordCount device disk old.records) (session : IsSession (λ n. n ≡ old.records) old.history dump r s) (output output' : OutputState) (report : Report)
       (bases : (i : Interval) → base_in i old.fills ≡ base_of_filling (fillings_in old.filled) i) where
@@ -239,12 +248,12 @@ module _ {D : Type 0} (device : Device D) (disk : D) (old between new : StoreVie
     went_on = effects_of disk new.disk output output' report
 
     abbrev st : Progress
-    st = history_extended (archive_of old) None s
+    st = history_extended (filled_of old) None s
 
     abbrev printing_next : CommandPlan Progress ⊥
-    printing_next = load_printing_plan (archive_of old) r asks s (fillings_in old.filled)
+    printing_next = load_printing_plan (filled_of old) r asks s
 
-    on_plan : s.rest ≡ [] → Ran device (filling_plan Recorded (archive_of old) s.reached (length (late_behind (filled_of old) s)) st printing_next) went_on
+    on_plan : s.rest ≡ [] → Ran device (filling_plan Recorded (filled_of old) s.reached (length (late_behind (filled_of old) s)) st printing_next) went_on
         → Ran device (session_plan (IsRecordCount device disk) (filled_of old) r asks dump) went_on
     on_plan rest ran = record { way = ran.way; allows = goes_on_whole device disk old r s asks dump began session None ran.way all (no_rest dump s.rest rest) ran.allows; did = ran.did }
 
@@ -253,14 +262,14 @@ module _ {D : Type 0} (device : Device D) (disk : D) (old between new : StoreVie
         → Ran device (session_plan (IsRecordCount device disk) (filled_of old) r asks dump) went_on
     bad_rest_left b counted = elim b.filling [
       | inl unfailed ↦ (
-          let way : Way Progress ⊥ = Stopped (bad_packet_left (archive_of old) r.link s false) (Some (BadPacket b.at b.kind)) in
+          let way : Way Progress ⊥ = Stopped (bad_packet_left (filled_of old) r.link s false) (Some (BadPacket b.at b.kind)) in
           record {
             way = way;
             allows = goes_on_whole device disk old r s asks dump began session (Some (BadPacket b.at b.kind)) way all (sym (bad_ending dump s.rest b.at b.kind b.bad)) (false, tt, refl);
             did = record { report = b.report_is; printed = rw b.silent (no_text output.written); output = counted; disk = unfailed_disk unfailed };
           })
       | inr failed ↦ (
-          let way : Way Progress ⊥ = Stopped (bad_packet_left (archive_of old) r.link s true) (Some (BadPacket b.at b.kind)) in
+          let way : Way Progress ⊥ = Stopped (bad_packet_left (filled_of old) r.link s true) (Some (BadPacket b.at b.kind)) in
           record {
             way = way;
             allows = goes_on_whole device disk old r s asks dump began session (Some (BadPacket b.at b.kind)) way all (sym (bad_ending dump s.rest b.at b.kind b.bad)) (true, tt, refl);
@@ -273,12 +282,12 @@ module _ {D : Type 0} (device : Device D) (disk : D) (old between new : StoreVie
         → Ran device (session_plan (IsRecordCount device disk) (filled_of old) r asks dump) went_on
     fill_refused u counted =
         on_plan u.rest
-        (ran_unfilled Recorded (archive_of old) s.reached (length (late_behind (filled_of old) s)) st printing_next device went_on between new recorded (ap length (late_were bases)) refl refl
+        (ran_unfilled Recorded (filled_of old) s.reached (length (late_behind (filled_of old) s)) st printing_next device went_on between new recorded (ap length (late_were bases)) refl refl
         (rw u.silent (no_text output.written)) counted unfailed_disk failed_disk u.refusal u.cause u.report_is)
 
     -- all was printed, or not to its end
     abbrev done : Progress
-    done = all_filled (archive_of old) s.reached st
+    done = all_filled (filled_of old) s.reached st
 
     abbrev printing : Progress
     printing = record done { text = load_text r asks (fillings_in old.filled) (length old.history) s.reached s.packets; is_whole = false }
@@ -294,7 +303,7 @@ module _ {D : Type 0} (device : Device D) (disk : D) (old between new : StoreVie
 
     answers_printed : (refusal : Option Refusal) → ArePrinted asks refusal output.written output'.written (load_text r asks (fillings_in old.filled) (length old.history) s.reached s.packets)
         → report ≡ printed_report refusal (length old.history) (length s.reached) (length s.packets) (length (rows_received r s.packets)) (length s.packets - arrived s.packets)
-        → HasDiskOutcome device disk new.disk false (AllFilled (archive_of old) s.reached) → WritesCounted refusal output.faults output'.faults → output.faults ≤ output'.faults → Ran device printing_next went_on
+        → HasDiskOutcome device disk new.disk false (AllFilled (filled_of old) s.reached) → WritesCounted refusal output.faults output'.faults → output.faults ≤ output'.faults → Ran device printing_next went_on
     answers_printed None w report_is disk_is counted later = record {
       way = Stopped printed None;
       allows = behind_answers asks printing line_plan (Stopped printed None) (inr refl);
@@ -314,17 +323,16 @@ module _ {D : Type 0} (device : Device D) (disk : D) (old between new : StoreVie
 
     all_printed : (p : IsPrintedLoad device between new r asks (length old.history) s output.written output'.written report) → r.head ≡ old.head
         → ((i : Interval) → base_in i new.fills ≡ base_of_filling (fillings_in new.filled) i)
-        → (IsTrue device.is_transparent → pending_fault_of new.fills ≡ None → (c : Image) → device.images new.disk c → StandsFilled c (filled_of new))
         → WritesCounted report.refusal output.faults output'.faults → output.faults ≤ output'.faults → Ran device (session_plan (IsRecordCount device disk) (filled_of old) r asks dump) went_on
-    all_printed p of_head new_bases kept counted later =
+    all_printed p of_head new_bases counted later =
         let late = length (late_behind (filled_of old) s) in
         let as_late : p.filled ≡ late = p.done.count ∙ ap length (late_were bases) in
         let text = subst (λ (t : List ℕ). ArePrinted asks report.refusal output.written output'.written (t ++ line_of_load r (length old.history) (length s.reached) s.packets))
-        (same_texts r.head s.reached (fillings_in old.filled) (fillings_in new.filled) (sets_added of_head) 1 asks) p.text in
-        let disk_is = subst (λ (h : List Item). HasDiskOutcome device disk new.disk false (AllFilled (archive_of old) h)) same_rows
-        (all_are_filled device disk old new same_head same_opening opened first keeps faults p.done.none_late new_bases p.done.unfailed.no_fault (p.done.unfailed.no_failed_write ∙ writes) kept) in
+        (same_texts r.head s.reached (fillings_in old.filled) (fillings_in new.filled) (added_behind of_head) 1 asks) p.text in
+        let disk_is = subst (λ (h : List Item). HasDiskOutcome device disk new.disk false (AllFilled (filled_of old) h)) same_rows
+        (all_are_filled device disk old new same_head same_opening opened first keeps faults kept sets_added p.done.none_late new_bases p.done.unfailed.no_fault (p.done.unfailed.no_failed_write ∙ writes)) in
         on_plan p.rest
-        (ran_all_filled Recorded (archive_of old) s.reached late st printing_next device went_on between.records recorded (ap (filling_refusal between.records) (sym as_late) ∙ p.done.fits)
+        (ran_all_filled Recorded (filled_of old) s.reached late st printing_next device went_on between.records recorded (ap (filling_refusal between.records) (sym as_late) ∙ p.done.fits)
         (answers_printed report.refusal text p.report_is disk_is counted later))
 
 -- ---- a load ran over a store that was opened
@@ -333,7 +341,7 @@ module _ {D : Type 0} (device : Device D) (disk : D) (old new : StoreView D) (as
     (opened : IsTrue device.is_transparent → IsOpened device disk old) (began : IsRecordCount device disk old.records) (first : device.fault_count disk ≤ device.fault_count old.opened)
     (unfailed : device.failed_writes old.disk ≡ device.failed_writes disk) (keeps : IsTrue device.is_transparent → CrashInvariant device new) (faults : FaultInvariant device new)
     (bases : (i : Interval) → base_in i old.fills ≡ base_of_filling (fillings_in old.filled) i) (new_bases : (i : Interval) → base_in i new.fills ≡ base_of_filling (fillings_in new.filled) i)
-    (kept : IsTrue device.is_transparent → pending_fault_of new.fills ≡ None → (c : Image) → device.images new.disk c → StandsFilled c (filled_of new)) (of_head : r.head ≡ old.head)
+    (kept : IsTrue device.is_transparent → pending_fault_of new.fills ≡ None → IsKeptWithFills device new) (of_head : r.head ≡ old.head)
     (counted : WritesCounted report.refusal output.faults output'.faults) (later : output.faults ≤ output'.faults) where
   -- the counts of the output, by a refusal that isn't that of a write
   counted_by : (refusal : Refusal) → report.refusal ≡ Some refusal → WritesCounted (Some refusal) output.faults output'.faults
@@ -350,7 +358,7 @@ module _ {D : Type 0} (device : Device D) (disk : D) (old new : StoreView D) (as
         let writes = subst (λ (x : StoreView D). OneOrTwo (Some refused.refusal) (device.failed_writes disk) (device.failed_writes x.disk)) (sym refused.left)
         (subst (λ (n : ℕ). OneOrTwo (Some refused.refusal) n (device.failed_writes run.between.disk)) unfailed
         (subst (λ (o : Option Refusal). OneOrTwo o (device.failed_writes old.disk) (device.failed_writes run.between.disk)) refused.refused run.writes)) in
-        batch_refused device disk old new r run.came_to (subst (λ (x : StoreView D). HasReached device old x r run.came_to) (sym refused.left) run.reached) opened first keeps faults asks dump began run.session output output' report
+        batch_refused device disk old new r run.came_to (subst (λ (x : StoreView D). HasReached device old x r run.came_to) (sym refused.left) run.reached) opened first keeps faults kept asks dump began run.session output output' report
         refused.silent (no_write_fault refused.refusal (session_writes refused.refusal cause) (counted_by refused.refusal (ap (λ (x : Report). x.refusal) refused.report_is))) refused.refusal refused.refused cause refused.report_is writes)
     | inr on ↦ go on.0 on.1
   ]
@@ -368,10 +376,10 @@ module _ {D : Type 0} (device : Device D) (disk : D) (old new : StoreView D) (as
 
       go : IsFilledOn run.between new → IsWholeLoadEnd device run.between new r asks (length old.history) dump run.came_to output.written output'.written report → Ran device (session_plan (IsRecordCount device disk) (filled_of old) r asks dump) (effects_of disk new.disk output output' report)
       go on (inl b) =
-          bad_rest_left device disk old run.between new r run.came_to run.reached b.all opened first keeps faults on (between_writes b.all) asks dump began run.session output output' report bases b
+          bad_rest_left device disk old run.between new r run.came_to run.reached b.all opened first keeps faults kept on (between_writes b.all) asks dump began run.session output output' report bases b
           (record { counted = counted_by (BadPacket b.at b.kind) (ap (λ (x : Report). x.refusal) b.report_is) })
       go on (inr (inl u)) =
-          fill_refused device disk old run.between new r run.came_to run.reached u.all opened first keeps faults on (between_writes u.all) asks dump began run.session output output' report bases u
+          fill_refused device disk old run.between new r run.came_to run.reached u.all opened first keeps faults kept on (between_writes u.all) asks dump began run.session output output' report bases u
           (no_write_fault u.refusal (filling_writes u.refusal u.cause) (counted_by u.refusal (ap (λ (x : Report). x.refusal) u.report_is)))
       go on (inr (inr p)) =
-          all_printed device disk old run.between new r run.came_to run.reached p.all opened first keeps faults on (between_writes p.all) asks dump began run.session output output' report bases p of_head new_bases kept counted later
+          all_printed device disk old run.between new r run.came_to run.reached p.all opened first keeps faults kept on (between_writes p.all) asks dump began run.session output output' report bases p of_head new_bases counted later

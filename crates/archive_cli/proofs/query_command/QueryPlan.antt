@@ -22,24 +22,24 @@ use Rattle.archive_cli.proofs.OverInputs.{HasRead}
 
 -- ---- an archive was opened
 
-module _ {D : Type 0} (device : Device D) (e : Effects D) (filled : FilledArchive) (later : e.output.faults ≤ e.output'.faults) (disk : HasDiskOutcome device e.disk e.disk' false (Opened filled.plain)) where
+module _ {D : Type 0} (device : Device D) (e : Effects D) (filled : FilledArchive) (later : e.output.faults ≤ e.output'.faults) (disk : HasDiskOutcome device e.disk e.disk' false (Opened filled)) where
   abbrev archive : Archive
   archive = filled.plain
 
   abbrev printing : List Ask → Progress
-  printing asks = record (archive_opened 0 archive) { text = archive_asks_text filled 1 asks; is_whole = false }
+  printing asks = record (archive_opened 0 filled) { text = archive_asks_text filled 1 asks; is_whole = false }
 
   -- the asks were answered
   ran_answered : (asks : List Ask) (refusal : Option Refusal) → ArePrinted asks refusal e.output.written e.output'.written (archive_asks_text filled 1 asks) →
       WritesCounted refusal e.output.faults e.output'.faults → e.report ≡ read_only refusal (length archive.history) → Ran device (answers_plan filled asks) e
   ran_answered asks None printed counted report =
       let text = archive_asks_text filled 1 asks in
-      ran_later device e OfMemory (printing asks) (printing_plan (archive_opened 0 archive) text)
-      (ran_printed device e (archive_opened 0 archive) text None refl refl printed later counted report disk)
+      ran_later device e OfMemory (printing asks) (printing_plan (archive_opened 0 filled) text)
+      (ran_printed device e (archive_opened 0 filled) text None refl refl printed later counted report disk)
   ran_answered asks (Some WriteFault) printed counted report =
       let text = archive_asks_text filled 1 asks in
-      ran_later device e OfMemory (printing asks) (printing_plan (archive_opened 0 archive) text)
-      (ran_printed device e (archive_opened 0 archive) text (Some WriteFault) refl refl printed later counted report disk)
+      ran_later device e OfMemory (printing asks) (printing_plan (archive_opened 0 filled) text)
+      (ran_printed device e (archive_opened 0 filled) text (Some WriteFault) refl refl printed later counted report disk)
   ran_answered asks (Some OutOfMemory) printed counted report = record {
     way = Interrupted (printing asks) OfMemory;
     allows = inl refl;
@@ -53,16 +53,16 @@ module _ {D : Type 0} (device : Device D) (e : Effects D) (filled : FilledArchiv
       e.report ≡ read_only refusal (length archive.history) → Ran device (answering_plan sheet filled) e
   ran_replied sheet None (inl refused) report = absurd refused.0
   ran_replied sheet (Some refusal) (inl refused) report =
-      ran_refused (archive_opened 0 archive) archive.head device e (answers_plan filled) sheet refusal refused.0
+      ran_refused (archive_opened 0 filled) archive.head device e (answers_plan filled) sheet refusal refused.0
       (record { report = report; printed = rw refused.1 (no_text e.output.written); output = record { counted = refused.2 }; disk = disk })
   ran_replied sheet refusal (inr reply) report =
-      ran_then device e (asks_check_plan (archive_opened 0 archive) archive.head sheet) (answers_plan filled) reply.0
-      (checked (archive_opened 0 archive) archive.head sheet reply.0 reply.1) (ran_answered reply.0 refusal reply.2 reply.3 report)
+      ran_then device e (asks_check_plan (archive_opened 0 filled) archive.head sheet) (answers_plan filled) reply.0
+      (checked (archive_opened 0 filled) archive.head sheet reply.0 reply.1) (ran_answered reply.0 refusal reply.2 reply.3 report)
 
 -- ---- over inputs
 
 -- nothing is asked of them behind the sheet
-check_reads : (opened : Archive) (sheet : Result (List Ask) Refusal) → EachEnd (HasRead 0) (asks_check_plan (archive_opened 0 opened) opened.head sheet)
+check_reads : (opened : FilledArchive) (sheet : Result (List Ask) Refusal) → EachEnd (HasRead 0) (asks_check_plan (archive_opened 0 opened) opened.plain.head sheet)
 check_reads opened (Err refusal) = (refl, refl)
 check_reads opened (Ok asks) = ((refl, refl), λ found h. each found)
   where
@@ -74,7 +74,7 @@ pub asks_read : {D : Type 0} (device : Device D) (disk : D) (sheet : Result (Lis
 asks_read device disk sheet = (
   (refl, refl),
   each_end (HasRead 0) (opening_plan 0 device disk) (answering_plan sheet) (opening_reads 0 device disk)
-      (λ filled. each_end (HasRead 0) (asks_check_plan (archive_opened 0 filled.plain) filled.plain.head sheet) (answers_plan filled) (check_reads filled.plain sheet)
+      (λ filled. each_end (HasRead 0) (asks_check_plan (archive_opened 0 filled) filled.plain.head sheet) (answers_plan filled) (check_reads filled sheet)
       (λ asks. ((refl, refl), ((refl, refl), (refl, refl))))),
 )
 
@@ -86,4 +86,4 @@ query_determined device disk None name known some = absurd (cc (some))
 query_determined device disk (Some all) name known some =
     asked_determined all (Some name) (archive_asks_plan device disk)
     (λ sheet. determined (opening_plan 0 device disk) (answering_plan sheet) (opens_determined 0 device disk known)
-    (λ filled. determined (asks_check_plan (archive_opened 0 filled.plain) filled.plain.head sheet) (answers_plan filled) (check_determined (archive_opened 0 filled.plain) filled.plain.head sheet) (λ asks. tt)))
+    (λ filled. determined (asks_check_plan (archive_opened 0 filled) filled.plain.head sheet) (answers_plan filled) (check_determined (archive_opened 0 filled) filled.plain.head sheet) (λ asks. tt)))

@@ -8,10 +8,8 @@ use Rattle.arch_types.specs.declared.refusal.Refusal.TheVariants.{Missing, DiskF
 use Rattle.arch_types.specs.declared.refusal.Which.TheVariants.{DumpOctets}
 use Rattle.outer_traits.specs.Outside.{Files}
 use Rattle.history_items.specs.Items.{Item}
-use Rattle.param_segments.specs.Rows.{SetRow}
-use Rattle.archive_store.specs.Entries.{Archive, FilledArchive, filled_archive}
+use Rattle.archive_store.specs.Entries.{FilledArchive, filled_archive}
 use Rattle.archive_verify.specs.Verified.{late_in_archive}
-use Rattle.store_fills.specs.Sound.{Fillings}
 use Rattle.command_plans.specs.Plan.{OfMemory, OfInputs, OfOutput, OfDisk, no_failed_calls, with_failed_call, CommandPlan, Stop, May, Question, Choose, and_then, map_done}
 use Rattle.command_words.specs.Job.{LoadWords}
 use Rattle.input_plans.specs.Inputs.{InputRead, OverLimit, WithinLimit, IsInputAs, IsThereAs}
@@ -33,35 +31,35 @@ use Rattle.stream_graph.specs.declared.statement.RouteStatement.{RouteStatement}
 -- ---- what was done
 
 -- an archive was opened, and the dump of a link is longer than a dump may be
-abbrev pub dump_too_long : ℕ → Archive → Progress
-dump_too_long link archive = record (archive_opened 1 archive) { report = record (read_only None (length archive.history)) { link = Some link } }
+abbrev pub dump_too_long : ℕ → FilledArchive → Progress
+dump_too_long link filled = record (archive_opened 1 filled) { report = record (read_only None (length filled.plain.history)) { link = Some link } }
 
 -- the history of an archive was extended as far as a session came; the report may name the link
-abbrev pub history_extended : Archive → Option ℕ → SessionResult → Progress
-history_extended archive link s = record {
+abbrev pub history_extended : FilledArchive → Option ℕ → SessionResult → Progress
+history_extended filled link s = record {
   text = [];
   is_whole = true;
-  report = loaded None link (length archive.history) (length s.reached) 0 0 0;
-  disk = Extended archive s.reached;
+  report = loaded None link (length filled.plain.history) (length s.reached) 0 0 0;
+  disk = Extended filled s.reached;
   sources = 1;
   failed = no_failed_calls;
 }
 
 -- it was, until the disk failed at the next batch
-abbrev pub extension_failed : Archive → Receiving → SessionResult → Progress
-extension_failed archive r s = record {
+abbrev pub extension_failed : FilledArchive → Receiving → SessionResult → Progress
+extension_failed filled r s = record {
   text = [];
   is_whole = true;
-  report = loaded None None (length archive.history) (length s.reached) 0 0 0;
-  disk = ExtensionFailed archive s.reached (next_fresh_rows r s);
+  report = loaded None None (length filled.plain.history) (length s.reached) 0 0 0;
+  disk = ExtensionFailed filled s.reached (next_fresh_rows r s);
   sources = 1;
   failed = with_failed_call OfDisk no_failed_calls;
 }
 
 -- all packets were ingested, a rest is left of the dump, and what is late was filled, as far as it came: a call of the disk may have failed then
-abbrev pub bad_packet_left : Archive → ℕ → SessionResult → Bool → Progress
-bad_packet_left archive link s false = history_extended archive (Some link) s
-bad_packet_left archive link s true = record (fill_failed archive s.reached (history_extended archive (Some link) s)) { failed = with_failed_call OfDisk no_failed_calls }
+abbrev pub bad_packet_left : FilledArchive → ℕ → SessionResult → Bool → Progress
+bad_packet_left filled link s false = history_extended filled (Some link) s
+bad_packet_left filled link s true = record (fill_failed filled s.reached (history_extended filled (Some link) s)) { failed = with_failed_call OfDisk no_failed_calls }
 
 -- ---- the session
 
@@ -78,28 +76,29 @@ abbrev pub answering_asks_plan : List Ask → Progress → CommandPlan Progress 
 answering_asks_plan [] s plan = plan
 answering_asks_plan (ask ∷ asks) s plan = May OfMemory s plan
 
--- prints the answers to asks over the history that was reached and these fills, and then the line of a load; its counts are reported once all is printed
-abbrev pub load_printing_plan : Archive → Receiving → List Ask → SessionResult → Fillings (List SetRow) → CommandPlan Progress ⊥
-load_printing_plan archive r asks s fillings =
-    let text = load_text r asks fillings (length archive.history) s.reached s.packets in
-    let done = all_filled archive s.reached (history_extended archive None s) in
+-- prints the answers to asks over the history that was reached and the fills of before, and then the line of a load; its counts are reported once all is printed
+abbrev pub load_printing_plan : FilledArchive → Receiving → List Ask → SessionResult → CommandPlan Progress ⊥
+load_printing_plan filled r asks s =
+    let before = length filled.plain.history in
+    let text = load_text r asks filled.fillings before s.reached s.packets in
+    let done = all_filled filled s.reached (history_extended filled None s) in
     let printing = record done { text = text; is_whole = false } in
     answering_asks_plan asks printing
-    (May OfOutput printing (Stop (record done { text = text; report = whole_report r (length archive.history) (length s.reached) s.packets }) None))
+    (May OfOutput printing (Stop (record done { text = text; report = whole_report r before (length s.reached) s.packets }) None))
 
 -- What a whole dump leads to, by the refusal of its rest: what is late is filled, and the asks are answered as the fills before say, since a fill holds just what
 -- the rows of a late interval give. Where a rest is left it is filled too, and the rest is what is told, whatever the filling comes to.
 abbrev pub after_packets : (ℕ → Type 0) → FilledArchive → Receiving → List Ask → SessionResult → Option Refusal → CommandPlan Progress ⊥
 after_packets Began filled r asks s None =
-    filling_plan (IsRecordedBehind Began filled.plain.history s.reached) filled.plain s.reached (length (late_behind filled s)) (history_extended filled.plain None s)
-    (load_printing_plan filled.plain r asks s filled.fillings)
-after_packets Began filled r asks s (Some refusal) = Choose (λ (failed : Bool). Unit {0}) (λ failed. Stop (bad_packet_left filled.plain r.link s failed) (Some refusal))
+    filling_plan (IsRecordedBehind Began filled.plain.history s.reached) filled s.reached (length (late_behind filled s)) (history_extended filled None s)
+    (load_printing_plan filled r asks s)
+after_packets Began filled r asks s (Some refusal) = Choose (λ (failed : Bool). Unit {0}) (λ failed. Stop (bad_packet_left filled r.link s failed) (Some refusal))
 
 -- what a session leads to, by why it ended
 abbrev pub after_session : (ℕ → Type 0) → FilledArchive → Receiving → List Ask → List ℕ → SessionResult → Option Refusal → CommandPlan Progress ⊥
 after_session Began filled r asks dump s None = after_packets Began filled r asks s (ending_of_rest dump s.rest)
-after_session Began filled r asks dump s (Some DiskFault) = Stop (extension_failed filled.plain r s) (Some DiskFault)
-after_session Began filled r asks dump s (Some refusal) = Stop (history_extended filled.plain None s) (Some refusal)
+after_session Began filled r asks dump s (Some DiskFault) = Stop (extension_failed filled r s) (Some DiskFault)
+after_session Began filled r asks dump s (Some refusal) = Stop (history_extended filled None s) (Some refusal)
 
 -- ingests the packets of a dump, and then answers: a limit of the history, or DiskFault; BadPacket; DiskFault of a fill, or Limit Records; WriteFault
 abbrev pub session_plan : (ℕ → Type 0) → FilledArchive → Receiving → List Ask → List ℕ → CommandPlan Progress ⊥
@@ -109,15 +108,15 @@ session_plan Began filled r asks dump = Choose (IsSession Began filled.plain.his
 
 -- what the reading of a dump leads to: it is received at the clock's moment, and ingested by a route
 abbrev pub after_dump : (ℕ → Type 0) → Option ℤ → ℕ → FilledArchive → List RouteStatement → List Ask → InputRead (List ℕ) → CommandPlan Progress ⊥
-after_dump Began next link filled route asks OverLimit = Stop (dump_too_long link filled.plain) (Some (Limit DumpOctets dump_limit))
+after_dump Began next link filled route asks OverLimit = Stop (dump_too_long link filled) (Some (Limit DumpOctets dump_limit))
 after_dump Began next link filled route asks (WithinLimit dump) =
     Choose (IsMomentOf next) (λ moment. session_plan Began filled (receiving filled.plain.head route link moment) asks dump)
 
 -- reads a dump whose link and asks are none that is refused: ReadFault, or the limit of its octets
 abbrev pub reading_plan : (ℕ → Type 0) → Option Files → Option ℤ → LoadWords → FilledArchive → List RouteStatement → List Ask → CommandPlan Progress ⊥
 reading_plan Began files next words filled route asks =
-    May OfMemory (archive_opened 1 filled.plain)
-    (May OfInputs (archive_opened 1 filled.plain)
+    May OfMemory (archive_opened 1 filled)
+    (May OfInputs (archive_opened 1 filled)
     (Question (IsInputAs files DumpOctets (λ octets. octets) words.dump) (after_dump Began next words.link filled route asks)))
 
 -- gives the route of a load over a head: BadSql of its script's first wrong token, UnknownTable, or a limit; memory may be wanting
@@ -126,12 +125,12 @@ route_plan s head text = May OfMemory s (Question (IsRouteAnswer head text) (aft
 
 -- what a route leads to: the asks are checked, and the dump is read, whose packets go by it
 abbrev pub after_route : (ℕ → Type 0) → Option Files → Option ℤ → LoadWords → Result (List Ask) Refusal → FilledArchive → List RouteStatement → CommandPlan Progress ⊥
-after_route Began files next words asks filled route = and_then (asks_check_plan (archive_opened 1 filled.plain) filled.plain.head asks) (reading_plan Began files next words filled route)
+after_route Began files next words asks filled route = and_then (asks_check_plan (archive_opened 1 filled) filled.plain.head asks) (reading_plan Began files next words filled route)
 
 -- what the number of a link leads to: the text of the route is looked at
 abbrev pub after_link : (ℕ → Type 0) → Option Files → Option ℤ → LoadWords → Option (List ℕ) → Result (List Ask) Refusal → FilledArchive → Option Refusal → CommandPlan Progress ⊥
-after_link Began files next words text asks filled None = and_then (route_plan (archive_opened 1 filled.plain) filled.plain.head text) (after_route Began files next words asks filled)
-after_link Began files next words text asks filled (Some refusal) = Stop (archive_opened 1 filled.plain) (Some refusal)
+after_link Began files next words text asks filled None = and_then (route_plan (archive_opened 1 filled) filled.plain.head text) (after_route Began files next words asks filled)
+after_link Began files next words text asks filled (Some refusal) = Stop (archive_opened 1 filled) (Some refusal)
 
 -- loads a dump that was opened into an archive that was: Limit Links; the refusal of the route; that of the asks; ReadFault, or the limit of its octets
 abbrev pub loading_plan : (ℕ → Type 0) → Option Files → Option ℤ → LoadWords → Option (List ℕ) → Result (List Ask) Refusal → FilledArchive → CommandPlan Progress ⊥

@@ -11,11 +11,11 @@ use Rattle.archive_cli.specs.Command.{Progress, archive_opened, nothing_done, op
 
 -- prints the answers of an archive with its fills to asks, none of which is refused
 abbrev pub answers_plan : FilledArchive → List Ask → CommandPlan Progress ⊥
-answers_plan filled asks = stepwise_printing_plan (archive_opened 0 filled.plain) (archive_asks_text filled 1 asks)
+answers_plan filled asks = stepwise_printing_plan (archive_opened 0 filled) (archive_asks_text filled 1 asks)
 
 -- checks the asks of a sheet over an archive, and answers them
 abbrev pub answering_plan : Result (List Ask) Refusal → FilledArchive → CommandPlan Progress ⊥
-answering_plan asks filled = and_then (asks_check_plan (archive_opened 0 filled.plain) filled.plain.head asks) (answers_plan filled)
+answering_plan asks filled = and_then (asks_check_plan (archive_opened 0 filled) filled.plain.head asks) (answers_plan filled)
 
 -- opens the archive, and answers the asks of a sheet that was read
 abbrev pub archive_asks_plan : {D : Type 0} → Device D → D → Result (List Ask) Refusal → CommandPlan Progress ⊥

@@ -29,13 +29,13 @@ IsCompared filled (Some other) = ⊥
 
 -- what comparing leads to: the line, or the mismatch and no text
 abbrev pub after_comparing : FilledArchive → Option Refusal → CommandPlan Progress ⊥
-after_comparing filled None = printing_plan (archive_opened 0 filled.plain) (verify_line filled)
-after_comparing filled (Some refusal) = Stop (archive_opened 0 filled.plain) (Some refusal)
+after_comparing filled None = printing_plan (archive_opened 0 filled) (verify_line filled)
+after_comparing filled (Some refusal) = Stop (archive_opened 0 filled) (Some refusal)
 
 -- compares what is stored of the intervals of an archive with what their rows give
 abbrev pub compare_plan : FilledArchive → CommandPlan Progress ⊥
 compare_plan filled =
-    May OfMemory (archive_opened 0 filled.plain) (Question (IsCompared filled) (after_comparing filled))
+    May OfMemory (archive_opened 0 filled) (Question (IsCompared filled) (after_comparing filled))
 
 -- opens the archive, and compares
 abbrev pub verify_plan : {D : Type 0} → Device D → D → CommandPlan Progress ⊥

@@ -7,4 +7,4 @@ returns-in-Err-clause-refused g c =
 
 pub returns-in-Err-clause-left : goal.returns-in-Err-clause-left
 returns-in-Err-clause-left g c =
-    healed_on g.D.Disk.device c.args.store.now c.fill_each.new.store c.heal.new.store c.in-Err.refusal c.in-Err.ensures.left c.heal.ensures.same c.heal.ensures.reopened
+    healed_on g.D.Disk.device c.args.store.now c.fill_each.new.store c.heal.new.store c.in-Err.refusal c.requires.no_fault c.in-Err.ensures.refused c.in-Err.ensures.left c.heal.ensures.same c.heal.ensures.reopened

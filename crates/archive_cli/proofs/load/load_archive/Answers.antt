@@ -100,7 +100,7 @@ returns-clause-ran g c =
           rw (to_z-of_z w64 moment fits, link.0) at w.load_dump-report.ensures.session in
           let went = effects_of c.args.disk last.disk output output' report in
           let ran = ran_load device c.args.disk s last received.asks received.dump r output output' report
-          (λ known. opened_store device c.args.disk s (e.opened.stands known) e.reads e.opened.opening e.crash) e.opened.records e.counts.faults e.opened.no_failed_write
+          (λ known. opened_store device c.args.disk s (e.opened.filled known) e.reads e.opened.opening e.crash) e.opened.records e.counts.faults e.opened.no_failed_write
           (rw w.store-is at c.into_disk.ensures.images) (rw w.store-is at c.into_disk.ensures.faults) c.front-opened.ensures.bases (rw w.store-is at c.front-loaded.ensures.bases)
           (rw w.store-is at c.front-loaded.ensures.kept) refl w.load_dump-report.ensures.writes_counted w.load_dump-report.ensures.writes_later session in
           let over = load_received device went files next words (named c.args.text) c.args.sheet (state c.args.inputs.now) (state c.close-2.new.self) (gives_there files c.args.words.dump.now _ source.found) (filled_of s)
