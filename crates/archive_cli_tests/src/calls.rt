@@ -1,7 +1,8 @@
 //! What tests of the program hand to `run`, and how its calls end.
 //!
 //! `run` is called in one function, which is generic in all that stands outside: in each function over a `MemDisk` or a `MemInputs` its clauses cost
-//! minutes to prove. Tests list their calls as data.
+//! minutes to prove. Tests list their calls as data, and `called` says of one whether it ends so. Where memory is wanting for what a call needs
+//! it ends otherwise, so that no function above has to hand on an error beside a disk.
 
 use arch_disk::Disk;
 use archive_cli::run::run;
@@ -9,40 +10,85 @@ use archive_cli::{Ended, Report};
 use dump_lines::text::FaultText;
 use outer_traits::clock::FixedClock;
 use outer_traits::inputs::Inputs;
-use outer_traits::mem_inputs::{File, MemInputs};
+use outer_traits::mem_inputs::{FailingCall, File, MemInputs};
 use outer_traits::mem_sink::MemSink;
 use outer_traits::sink::Sink;
 use std::alloc::{AllocError, Global};
+use std::fmt::Display;
+use std::test::Fail;
+
+/// A file's name and octets.
+pub type NamedFile<'a> = (&'a str, &'a [u8]);
+
+/// What a call finds outside.
+#[derive(Clone, Copy)]
+pub struct Outside<'a> {
+    pub files: &'a [NamedFile<'a>],
+    /// The reads that fail.
+    pub reads: &'a [FailingCall],
+    /// The numbers of the writes that fail, from 1.
+    pub writes: &'a [u64],
+}
+
+/// Files whose calls all succeed.
+pub fn files_alone<'a>(files: &'a [NamedFile<'a>]) -> Outside<'a> {
+    Outside {
+        files,
+        reads: &[],
+        writes: &[],
+    }
+}
+
+fn add_word(alloc: Global, words: &mut Vec<String>, word: &str) -> Result<(), AllocError> {
+    words.push(String::from_str(alloc, word)?)?;
+    Ok(())
+}
 
 /// The words of a line, between its blanks; an empty line has none.
 fn words_of(alloc: Global, line: &str) -> Result<Vec<String>, AllocError> {
     let mut words = Vec::new(alloc);
-    if line.is_empty() {
-        return Ok(words);
-    }
-    for word in line.split(' ') {
-        words.push(String::from_str(alloc, word)?)?;
+    if !line.is_empty() {
+        for word in line.split(' ') {
+            add_word(alloc, &mut words, word)?;
+        }
     }
     Ok(words)
 }
 
-/// A file with a name and octets.
-pub fn file_of(alloc: Global, name: &str, octets: &[u8]) -> Result<File, AllocError> {
+fn file_of(alloc: Global, named: &NamedFile<'_>) -> Result<File, AllocError> {
+    let (name, octets) = *named;
     let name = String::from_str(alloc, name)?;
     let octets = Vec::from_slice(alloc, octets)?;
     Ok(File { name, octets })
 }
 
-/// The text of a report's refusal.
-fn fault_of(alloc: Global, report: &Report) -> Result<String, AllocError> {
-    match &report.refusal {
-        None => String::from_str(alloc, ""),
-        Some(refusal) => format!(in alloc; "{}", FaultText(refusal)),
+fn files_of(alloc: Global, all: &[NamedFile<'_>]) -> Result<Vec<File>, AllocError> {
+    let mut files = Vec::new(alloc);
+    for named in all {
+        files.push(file_of(alloc, named)?)?;
     }
+    Ok(files)
 }
 
-/// How a call has to end: its status, what it printed, its fault, and the lengths of the history before and after, where an archive was opened.
-pub type Wanted = (u8, &'static str, &'static str, Option<(u64, u64)>);
+fn inputs_of(alloc: Global, outside: &Outside<'_>) -> Result<MemInputs, AllocError> {
+    let reads = Vec::from_slice(alloc, outside.reads)?;
+    Ok(MemInputs::failing(files_of(alloc, outside.files)?, reads))
+}
+
+fn sink_of(alloc: Global, outside: &Outside<'_>) -> Result<MemSink, AllocError> {
+    let writes = Vec::from_slice(alloc, outside.writes)?;
+    Ok(MemSink::failing(alloc, writes))
+}
+
+/// What a call takes beside a disk.
+type Taken = (Vec<String>, MemInputs, MemSink);
+
+fn taken(alloc: Global, line: &str, outside: &Outside<'_>) -> Result<Taken, AllocError> {
+    let sink = sink_of(alloc, outside)?;
+    let words = words_of(alloc, line)?;
+    let inputs = inputs_of(alloc, outside)?;
+    Ok((words, inputs, sink))
+}
 
 /// A call of the program at 9 s.
 fn ended<D: Disk, I: Inputs, K: Sink>(
@@ -56,53 +102,104 @@ fn ended<D: Disk, I: Inputs, K: Sink>(
     run(alloc, words, disk, inputs, sink, &mut clock)
 }
 
-/// The same by the words of a line, and what was printed.
-pub fn printed<D: Disk + Drop>(
-    alloc: Global,
-    line: &str,
-    disk: D,
-    inputs: MemInputs,
-    sink: MemSink,
-) -> Result<(Ended<D>, Vec<u8>), AllocError> {
-    let words = words_of(alloc, line)?;
-    let mut inputs = inputs;
-    let mut sink = sink;
+/// The same of what was taken, and what was printed.
+fn printed<D: Disk>(alloc: Global, taken: Taken, disk: D) -> (Ended<D>, Vec<u8>) {
+    let (words, mut inputs, mut sink) = taken;
     let ended = ended(alloc, words.as_slice(), disk, &mut inputs, &mut sink);
-    Ok((ended, sink.octets))
+    (ended, sink.octets)
 }
 
-/// Whether a report has this fault and these lengths.
-fn is_reported(
-    alloc: Global,
-    report: &Report,
-    fault: &str,
-    lengths: Option<(u64, u64)>,
-) -> Result<bool, AllocError> {
+/// How a call has to end: its status, what it printed, its fault, and the lengths of the history before and after, where an archive was opened.
+pub type Wanted = (u8, &'static str, &'static str, Option<(u64, u64)>);
+
+/// Whether a report's refusal has this text.
+fn is_fault(alloc: Global, report: &Report, fault: &str) -> bool {
+    match &report.refusal {
+        None => fault.is_empty(),
+        Some(refusal) => match format!(in alloc; "{}", FaultText(refusal)) {
+            Ok(text) => text.as_str() == fault,
+            Err(_) => false,
+        },
+    }
+}
+
+/// Whether a report has these lengths.
+fn has_lengths(report: &Report, lengths: Option<(u64, u64)>) -> bool {
     let (before, after) = lengths.unwrap_or((0, 0));
-    let is_told = fault_of(alloc, report)?.as_str() == fault;
-    Ok(
-        is_told
-            && report.opened == lengths.is_some()
-            && report.before == before
-            && report.after == after,
-    )
+    report.opened == lengths.is_some() && report.before == before && report.after == after
+}
+
+fn is_wanted<D>(alloc: Global, ended: &Ended<D>, octets: &[u8], want: &Wanted) -> bool {
+    let (status, text, fault, lengths) = *want;
+    ended.status == status
+        && octets == text.as_bytes()
+        && has_lengths(&ended.report, lengths)
+        && is_fault(alloc, &ended.report, fault)
 }
 
 /// Whether a call ends so, and its disk.
-pub fn called<D: Disk + Drop>(
+pub fn called<D: Disk>(
     alloc: Global,
     line: &str,
+    outside: &Outside<'_>,
     disk: D,
-    inputs: MemInputs,
-    sink: MemSink,
     want: &Wanted,
-) -> Result<(bool, D), AllocError> {
-    let (ended, octets) = printed(alloc, line, disk, inputs, sink)?;
-    let (status, text, fault, lengths) = *want;
-    let is_reported = is_reported(alloc, &ended.report, fault, lengths)?;
-    let is_printed = octets.as_slice() == text.as_bytes();
-    Ok((
-        is_reported && is_printed && ended.status == status,
-        ended.disk,
-    ))
+) -> (bool, D) {
+    match taken(alloc, line, outside) {
+        Ok(taken) => {
+            let (ended, octets) = printed(alloc, taken, disk);
+            let is_so = is_wanted(alloc, &ended, octets.as_slice(), want);
+            (is_so, ended.disk)
+        }
+        Err(_) => (false, disk),
+    }
+}
+
+/// What came of a call of which nothing is expected yet.
+#[derive(Clone, Copy)]
+pub struct Outcome {
+    pub status: u8,
+    /// The length of the history afterwards.
+    pub after: u64,
+    /// How many octets were printed.
+    pub printed: usize,
+}
+
+/// Where memory is wanting for what a call needs, as the program says it.
+const OUT_OF_MEMORY: Outcome = Outcome {
+    status: 7,
+    after: 0,
+    printed: 0,
+};
+
+/// What came of a call, and its disk.
+pub fn call<D: Disk>(alloc: Global, line: &str, outside: &Outside<'_>, disk: D) -> (Outcome, D) {
+    match taken(alloc, line, outside) {
+        Ok(taken) => {
+            let (ended, octets) = printed(alloc, taken, disk);
+            let outcome = Outcome {
+                status: ended.status,
+                after: ended.report.after,
+                printed: octets.len(),
+            };
+            (outcome, ended.disk)
+        }
+        Err(_) => (OUT_OF_MEMORY, disk),
+    }
+}
+
+/// Ends a test: with a failure where a row of its table goes otherwise, or a call by its number. In place of an assertion, which costs seconds more to prove.
+pub fn none_other<T: Display + Drop>(other: Option<T>) -> Result<(), Fail> {
+    match other {
+        None => Ok(()),
+        Some(place) => Err(Fail::new(place)),
+    }
+}
+
+/// The same of tables that have a name.
+pub fn none_other_of(other: Option<(&'static str, usize)>) -> Result<(), Fail> {
+    match other {
+        None => Ok(()),
+        Some((name, place)) => Err(Fail::new(format_args!("{name}: row {place} goes otherwise"))),
+    }
 }

@@ -3,6 +3,8 @@
 
 pub mod calls;
 #[cfg(test)]
+mod faults;
+#[cfg(test)]
 mod scan_tests;
 #[cfg(test)]
 mod values_tests;

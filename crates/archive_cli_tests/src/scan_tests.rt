@@ -1,9 +1,9 @@
 //! The text that `scan` prints, the words, and faults of the outside.
 
-use crate::calls::{Wanted, called, file_of, printed};
-use arch_disk::MemDisk;
-use outer_traits::mem_inputs::{FailingCall, File, MemInputs};
-use outer_traits::mem_sink::MemSink;
+use crate::calls::{Wanted, called, files_alone, none_other};
+use crate::faults::{Writes, other_writes, untold_read};
+use arch_disk::{Disk, MemDisk};
+use outer_traits::mem_inputs::FailingCall;
 use std::alloc::{AllocError, Global};
 use std::test::Fail;
 
@@ -92,25 +92,10 @@ fn scans() -> &'static [Scan] {
     SCANS
 }
 
-/// One file `dump`.
-fn files_of(alloc: Global, dump: &[u8]) -> Result<Vec<File>, AllocError> {
-    let mut files = Vec::new(alloc);
-    files.push(file_of(alloc, "dump", dump)?)?;
-    Ok(files)
-}
-
-/// Whether a call with one file `dump` ends so.
-fn ends_so(alloc: Global, line: &str, dump: &[u8], want: &Wanted) -> Result<bool, AllocError> {
-    let inputs = MemInputs::new(alloc, files_of(alloc, dump)?);
-    let (is_so, _disk) = called(
-        alloc,
-        line,
-        MemDisk::new(alloc),
-        inputs,
-        MemSink::new(alloc),
-        want,
-    )?;
-    Ok(is_so)
+/// Whether a call on a disk with one file `dump` ends so. Generic, so that what a disk owns stands in no goal.
+fn ends_so<D: Disk + Drop>(alloc: Global, line: &str, dump: &[u8], disk: D, want: &Wanted) -> bool {
+    let (is_so, _disk) = called(alloc, line, &files_alone(&[("dump", dump)]), disk, want);
+    is_so
 }
 
 /// Whether a dump is scanned as it is to be.
@@ -118,7 +103,13 @@ fn is_scanned(alloc: Global, scan: &Scan) -> Result<bool, AllocError> {
     let (front, length, want) = *scan;
     let mut dump = Vec::from_slice(alloc, front)?;
     dump.resize(length, 0)?;
-    ends_so(alloc, "scan dump", dump.as_slice(), &want)
+    Ok(ends_so(
+        alloc,
+        "scan dump",
+        dump.as_slice(),
+        MemDisk::new(alloc),
+        &want,
+    ))
 }
 
 /// The place of the first dump that is scanned otherwise.
@@ -135,8 +126,7 @@ fn other_scan(alloc: Global, scans: &[Scan]) -> Result<Option<usize>, AllocError
 
 #[test]
 fn prints_rows(rt: HostRuntime) -> Result<(), Fail> {
-    assert_eq!(rt; other_scan(rt.alloc(), scans())?, None);
-    Ok(())
+    none_other(other_scan(rt.alloc(), scans())?)
 }
 
 /// Words, and the fault of their call.
@@ -172,34 +162,32 @@ fn words() -> &'static [Words] {
     WORDS
 }
 
-/// The first words that are answered otherwise.
-fn other_words(alloc: Global, words: &[Words]) -> Result<Option<&'static str>, AllocError> {
+/// A function, as that of the scans.
+fn p1() -> &'static [u8] {
+    P1
+}
+
+/// The place of the first words that are answered otherwise.
+fn other_words(alloc: Global, words: &[Words]) -> Option<usize> {
+    let mut place = 0usize;
     for (line, fault) in words {
-        if !ends_so(alloc, line, P1, &(1, "", *fault, None))? {
-            return Ok(Some(*line));
+        if !ends_so(
+            alloc,
+            line,
+            p1(),
+            MemDisk::new(alloc),
+            &(1, "", *fault, None),
+        ) {
+            return Some(place);
         }
+        place = place.saturating_add(1);
     }
-    Ok(None)
+    None
 }
 
 #[test]
 fn reads_words(rt: HostRuntime) -> Result<(), Fail> {
-    assert_eq!(rt; other_words(rt.alloc(), words())?, None);
-    Ok(())
-}
-
-/// Scans `dump` where these calls fail. Answers the status, and how many octets were printed.
-fn scan_failing(
-    alloc: Global,
-    dump: &[u8],
-    reads: &[FailingCall],
-    writes: &[u64],
-) -> Result<(u8, usize), AllocError> {
-    let reads = Vec::from_slice(alloc, reads)?;
-    let inputs = MemInputs::failing(files_of(alloc, dump)?, reads);
-    let sink = MemSink::failing(alloc, Vec::from_slice(alloc, writes)?);
-    let (ended, octets) = printed(alloc, "scan dump", MemDisk::new(alloc), inputs, sink)?;
-    Ok((ended.status, octets.len()))
+    none_other(other_words(rt.alloc(), words()))
 }
 
 /// 10,000 packets of 7 octets, each of which is a line of 19.
@@ -212,36 +200,61 @@ fn many_packets(alloc: Global) -> Result<Vec<u8>, AllocError> {
     Ok(dump)
 }
 
-/// The first read that fails without being told, if any.
-fn untold_read(alloc: Global, dump: &[u8]) -> Result<Option<u64>, AllocError> {
-    for read in 0..4u64 {
-        let call = FailingCall { opening: 1, read };
-        if scan_failing(alloc, dump, &[call], &[])? != (3, 0) {
-            return Ok(Some(read));
-        }
-    }
-    Ok(None)
+/// The opening of the dump and its reads.
+const READS: &[FailingCall] = &[
+    FailingCall {
+        opening: 1,
+        read: 0,
+    },
+    FailingCall {
+        opening: 1,
+        read: 1,
+    },
+    FailingCall {
+        opening: 1,
+        read: 2,
+    },
+    FailingCall {
+        opening: 1,
+        read: 3,
+    },
+];
+
+/// A write has 65,536 octets and the rest of a line.
+const WRITES: &[Writes] = &[
+    (&[1], 4, 0, 0),
+    (&[2], 4, 65_536, 65_599),
+    (&[], 0, 190_050, 190_050),
+];
+
+fn reads() -> &'static [FailingCall] {
+    READS
+}
+
+fn writes() -> &'static [Writes] {
+    WRITES
+}
+
+/// The place of the first of these reads of a dump of many packets that fails without being told.
+fn untold_of_many(alloc: Global, reads: &[FailingCall]) -> Result<Option<usize>, AllocError> {
+    let dump = many_packets(alloc)?;
+    let files = [("dump", dump.as_slice())];
+    Ok(untold_read(alloc, "scan dump", &files, reads))
 }
 
 #[test]
 fn reads_that_fail(rt: HostRuntime) -> Result<(), Fail> {
-    let dump = many_packets(rt.alloc())?;
-    assert_eq!(rt; untold_read(rt.alloc(), dump.as_slice())?, None);
-    Ok(())
+    none_other(untold_of_many(rt.alloc(), reads())?)
+}
+
+/// The place of the first of these writes that end its scan otherwise.
+fn other_of_many(alloc: Global, rows: &[Writes]) -> Result<Option<usize>, AllocError> {
+    let dump = many_packets(alloc)?;
+    let files = [("dump", dump.as_slice())];
+    Ok(other_writes(alloc, "scan dump", &files, rows))
 }
 
 #[test]
 fn writes_that_fail(rt: HostRuntime) -> Result<(), Fail> {
-    let dump = many_packets(rt.alloc())?;
-    assert_eq!(rt;
-        scan_failing(rt.alloc(), dump.as_slice(), &[], &[1])?,
-        (4, 0)
-    );
-    let (status, second) = scan_failing(rt.alloc(), dump.as_slice(), &[], &[2])?;
-    assert!(rt; status == 4 && 65_536 <= second && second < 65_600);
-    assert_eq!(rt;
-        scan_failing(rt.alloc(), dump.as_slice(), &[], &[])?,
-        (0, 190_050)
-    );
-    Ok(())
+    none_other(other_of_many(rt.alloc(), writes())?)
 }

@@ -1,14 +1,14 @@
 //! The text that `values` prints, its refusals, and faults of the outside.
 
-use crate::calls::{Wanted, called, file_of, printed};
-use arch_disk::MemDisk;
-use outer_traits::mem_inputs::{FailingCall, File, MemInputs};
-use outer_traits::mem_sink::MemSink;
-use std::alloc::{AllocError, Global};
+use crate::calls::{NamedFile, Wanted, called, files_alone, none_other};
+use crate::faults::{Writes, other_writes, untold_read};
+use arch_disk::{Disk, MemDisk};
+use outer_traits::mem_inputs::FailingCall;
+use std::alloc::Global;
 use std::test::Fail;
 
 /// Three sheets: parameters, calibrations and containers.
-type Sheets = [&'static str; 3];
+type Sheets = &'static [&'static str; 3];
 
 const FLIGHT: &str = "name,coding,bits,calibration\napid,uint,11,\nv,uint,8,\nw,int,8,\n";
 
@@ -19,41 +19,41 @@ const WIDEST: &str = "name,kind,x,y\nk,poly,1,0.000007\n";
 const ALONE: &str = "container,parent,condition,archive,entry,position\nR,,,,big,100\n";
 
 /// A header with the APID, and below it one container of two parameters for APID 100 and one of one for APID 101.
-const TWO_GROUPS: Sheets = [
+const TWO_GROUPS: Sheets = &[
     FLIGHT,
     UNCALIBRATED,
     "container,parent,condition,archive,entry,position\nHDR,,,,apid,5\nA,HDR,apid==100,yes,v,96\n,,,,w,\nB,HDR,apid==101,yes,v,96\n",
 ];
 
 /// The same with a container below one that isn't there.
-const NO_PARENT: Sheets = [
+const NO_PARENT: Sheets = &[
     FLIGHT,
     UNCALIBRATED,
     "container,parent,condition,archive,entry,position\nHDR,,,,apid,5\nA,HDR,apid==100,yes,v,96\n,,,,w,\nB,HDR,apid==101,yes,v,96\nC,Z,,,,\n",
 ];
 
 /// One container.
-const ONE_GROUP: Sheets = [
+const ONE_GROUP: Sheets = &[
     "name,coding,bits,calibration\napid,uint,11,\nv,uint,8,\n",
     UNCALIBRATED,
     "container,parent,condition,archive,entry,position\nHDR,,,,apid,5\n,,,,v,96\n",
 ];
 
 /// The widest parameter that a polynomial of degree 1 may calibrate, and one bit more.
-const WIDE: Sheets = [
+const WIDE: Sheets = &[
     "name,coding,bits,calibration\nbig,uint,60,k\n",
     WIDEST,
     ALONE,
 ];
 
-const TOO_WIDE: Sheets = [
+const TOO_WIDE: Sheets = &[
     "name,coding,bits,calibration\nbig,uint,61,k\n",
     WIDEST,
     ALONE,
 ];
 
 /// A line through two points, and labels.
-const CALIBRATED: Sheets = [
+const CALIBRATED: Sheets = &[
     "name,coding,bits,calibration\nw,int,8,line\ns,uint,8,state\n",
     "name,kind,x,y\nline,points,0,0\nline,points,3,-1\nstate,enum,0,OFF\nstate,enum,1,ON\n",
     "container,parent,condition,archive,entry,position\nR,,,,w,96\n,,,,s,96\n",
@@ -105,44 +105,51 @@ const LABELS: &[u8] = &[
 ];
 
 /// Files `parameters`, `calibrations`, `containers` and `dump`.
-fn files_of(alloc: Global, sheets: &Sheets, dump: &[u8]) -> Result<Vec<File>, AllocError> {
+fn files_of<'a>(sheets: Sheets, dump: &'a [u8]) -> [NamedFile<'a>; 4] {
     let [parameters, calibrations, containers] = *sheets;
-    let mut files = Vec::new(alloc);
-    files.push(file_of(alloc, "parameters", parameters.as_bytes())?)?;
-    files.push(file_of(alloc, "calibrations", calibrations.as_bytes())?)?;
-    files.push(file_of(alloc, "containers", containers.as_bytes())?)?;
-    files.push(file_of(alloc, "dump", dump)?)?;
-    Ok(files)
+    [
+        ("parameters", parameters.as_bytes()),
+        ("calibrations", calibrations.as_bytes()),
+        ("containers", containers.as_bytes()),
+        ("dump", dump),
+    ]
 }
 
-/// Whether a call with these files ends so.
-fn ends_so(
+/// Whether a call with these files ends so. Generic, so that what a disk owns stands in no goal.
+fn ends_so<D: Disk + Drop>(
     alloc: Global,
     line: &str,
-    sheets: &Sheets,
-    dump: &[u8],
+    files: &[NamedFile<'_>],
+    disk: D,
     want: &Wanted,
-) -> Result<bool, AllocError> {
-    let inputs = MemInputs::new(alloc, files_of(alloc, sheets, dump)?);
-    let (is_so, _disk) = called(
-        alloc,
-        line,
-        MemDisk::new(alloc),
-        inputs,
-        MemSink::new(alloc),
-        want,
-    )?;
-    Ok(is_so)
+) -> bool {
+    let (is_so, _disk) = called(alloc, line, &files_alone(files), disk, want);
+    is_so
 }
 
-/// Sheets, a dump, the parameter that `values` of the four files is asked for, and how it has to end.
+/// `values` of the four files for each parameter.
+const V: &str = "values parameters calibrations containers dump v";
+
+const W: &str = "values parameters calibrations containers dump w";
+
+const S: &str = "values parameters calibrations containers dump s";
+
+const APID: &str = "values parameters calibrations containers dump apid";
+
+const BIG: &str = "values parameters calibrations containers dump big";
+
+const NOTHING: &str = "values parameters calibrations containers dump nothing";
+
+const NO_NAME: &str = "values parameters calibrations containers dump no!name";
+
+/// Sheets, a dump, the words, and how their call has to end.
 type Values = (Sheets, &'static [u8], &'static str, Wanted);
 
 const VALUES: &[Values] = &[
     (
         TWO_GROUPS,
         BOTH,
-        "v",
+        V,
         (
             0,
             "cell 1500 140820480 42 42\ncell 1500 140886016 7 7\nvalues 2\n",
@@ -153,21 +160,21 @@ const VALUES: &[Values] = &[
     (
         TWO_GROUPS,
         BOTH,
-        "w",
+        W,
         (0, "cell 1500 140820480 -2 -2\nvalues 1\n", "", None),
     ),
-    (TWO_GROUPS, ONE_OCTET, "w", (0, "values 0\n", "", None)),
+    (TWO_GROUPS, ONE_OCTET, W, (0, "values 0\n", "", None)),
     (
         ONE_GROUP,
         UNTIMED,
-        "apid",
+        APID,
         (0, "cell 9000 6668289 101 101\nvalues 1\n", "", None),
     ),
-    (ONE_GROUP, UNTIMED, "v", (0, "values 0\n", "", None)),
+    (ONE_GROUP, UNTIMED, V, (0, "values 0\n", "", None)),
     (
         WIDE,
         GREATEST,
-        "big",
+        BIG,
         (
             0,
             "cell 1500 140820480 1152921504606846975 8070450532247.928825\nvalues 1\n",
@@ -178,13 +185,13 @@ const VALUES: &[Values] = &[
     (
         WIDE,
         LEAST,
-        "big",
+        BIG,
         (0, "cell 1500 140820480 0 0.000000\nvalues 1\n", "", None),
     ),
     (
         CALIBRATED,
         ON_THE_LINE,
-        "w",
+        W,
         (
             0,
             "cell 1000 140820480 -5 0.000000\ncell 1000 140820481 0 0.000000\ncell 1000 140820482 1 -0.333334\ncell 1000 140820483 3 -1.000000\ncell 1000 140820484 9 -1.000000\nvalues 5\n",
@@ -195,7 +202,7 @@ const VALUES: &[Values] = &[
     (
         CALIBRATED,
         LABELS,
-        "s",
+        S,
         (
             0,
             "cell 1000 140820480 1 ON\ncell 1000 140820481 2 UNDEF\nvalues 2\n",
@@ -207,31 +214,31 @@ const VALUES: &[Values] = &[
     (
         NO_PARENT,
         BOTH,
-        "nothing",
+        NOTHING,
         (2, "", "bad sheet containers row 6 rule 16", None),
     ),
     (
         TOO_WIDE,
         GREATEST,
-        "big",
+        BIG,
         (2, "", "bad sheet parameters row 2 rule 14", None),
     ),
     (
         TWO_GROUPS,
         BOTH_AND_MORE,
-        "nothing",
+        NOTHING,
         (1, "", "unknown parameter", None),
     ),
     (
         TWO_GROUPS,
         BOTH_AND_MORE,
-        "no!name",
+        NO_NAME,
         (1, "", "unknown parameter", None),
     ),
     (
         TWO_GROUPS,
         BOTH_AND_MORE,
-        "v",
+        V,
         (
             2,
             "cell 1500 140820480 42 42\ncell 1500 140886016 7 7\n",
@@ -242,7 +249,7 @@ const VALUES: &[Values] = &[
     (
         TWO_GROUPS,
         CUT,
-        "v",
+        V,
         (
             2,
             "cell 1500 140886016 7 7\n",
@@ -258,28 +265,27 @@ fn values() -> &'static [Values] {
 }
 
 /// Whether `values` ends as it is to.
-fn is_answered(alloc: Global, values: &Values) -> Result<bool, AllocError> {
-    let (sheets, dump, name, want) = *values;
-    let line = format!(in alloc; "values parameters calibrations containers dump {name}")?;
-    ends_so(alloc, line.as_str(), &sheets, dump, &want)
+fn is_answered(alloc: Global, values: &Values) -> bool {
+    let (sheets, dump, line, want) = *values;
+    let files = files_of(sheets, dump);
+    ends_so(alloc, line, &files, MemDisk::new(alloc), &want)
 }
 
 /// The place of the first that ends otherwise.
-fn other_values(alloc: Global, all: &[Values]) -> Result<Option<usize>, AllocError> {
+fn other_values(alloc: Global, all: &[Values]) -> Option<usize> {
     let mut place = 0usize;
     for values in all {
-        if !is_answered(alloc, values)? {
-            return Ok(Some(place));
+        if !is_answered(alloc, values) {
+            return Some(place);
         }
         place = place.saturating_add(1);
     }
-    Ok(None)
+    None
 }
 
 #[test]
 fn prints_cells_or_refuses(rt: HostRuntime) -> Result<(), Fail> {
-    assert_eq!(rt; other_values(rt.alloc(), values())?, None);
-    Ok(())
+    none_other(other_values(rt.alloc(), values()))
 }
 
 /// Words that name inputs that aren't there, and the first of these.
@@ -299,89 +305,139 @@ fn missing() -> &'static [Missing] {
     MISSING
 }
 
-/// A function, as above.
-fn no_parent() -> Sheets {
-    NO_PARENT
+/// The files of these sheets with both packets. Functions, as above.
+fn no_parent() -> [NamedFile<'static>; 4] {
+    files_of(NO_PARENT, BOTH)
 }
 
-/// The first of these words that are answered otherwise.
-fn other_missing(alloc: Global, all: &[Missing]) -> Result<Option<&'static str>, AllocError> {
+fn two_groups() -> [NamedFile<'static>; 4] {
+    files_of(TWO_GROUPS, BOTH)
+}
+
+/// The place of the first of these words that are answered otherwise.
+fn other_missing(alloc: Global, files: &[NamedFile<'_>], all: &[Missing]) -> Option<usize> {
+    let mut place = 0usize;
     for (line, fault) in all {
-        if !ends_so(alloc, line, &no_parent(), BOTH, &(1, "", *fault, None))? {
-            return Ok(Some(*line));
+        if !ends_so(
+            alloc,
+            line,
+            files,
+            MemDisk::new(alloc),
+            &(1, "", *fault, None),
+        ) {
+            return Some(place);
         }
+        place = place.saturating_add(1);
     }
-    Ok(None)
+    None
 }
 
 #[test]
 fn refuses_inputs(rt: HostRuntime) -> Result<(), Fail> {
-    assert_eq!(rt; other_missing(rt.alloc(), missing())?, None);
-    Ok(())
+    none_other(other_missing(rt.alloc(), &no_parent(), missing()))
 }
 
-/// The words of `values` for `v`.
-const SOUND: &str = "values parameters calibrations containers dump v";
-
-/// The same with a last sheet that isn't there.
+/// The words of `values` for `v` with a last sheet that isn't there.
 const LACKING: &str = "values parameters calibrations x dump v";
 
-/// A function, as above.
-fn two_groups() -> Sheets {
-    TWO_GROUPS
+/// The opening of each input and its reads.
+const READS: &[FailingCall] = &[
+    FailingCall {
+        opening: 1,
+        read: 0,
+    },
+    FailingCall {
+        opening: 1,
+        read: 1,
+    },
+    FailingCall {
+        opening: 1,
+        read: 2,
+    },
+    FailingCall {
+        opening: 2,
+        read: 0,
+    },
+    FailingCall {
+        opening: 2,
+        read: 1,
+    },
+    FailingCall {
+        opening: 2,
+        read: 2,
+    },
+    FailingCall {
+        opening: 3,
+        read: 0,
+    },
+    FailingCall {
+        opening: 3,
+        read: 1,
+    },
+    FailingCall {
+        opening: 3,
+        read: 2,
+    },
+    FailingCall {
+        opening: 4,
+        read: 0,
+    },
+    FailingCall {
+        opening: 4,
+        read: 1,
+    },
+    FailingCall {
+        opening: 4,
+        read: 2,
+    },
+];
+
+/// Those of the first.
+const FIRST_READS: &[FailingCall] = &[
+    FailingCall {
+        opening: 1,
+        read: 0,
+    },
+    FailingCall {
+        opening: 1,
+        read: 1,
+    },
+    FailingCall {
+        opening: 1,
+        read: 2,
+    },
+];
+
+const WRITES: &[Writes] = &[(&[1], 4, 0, 0), (&[], 0, 59, 59)];
+
+fn reads() -> &'static [FailingCall] {
+    READS
 }
 
-/// The status of a call where these calls fail, and how many octets it printed.
-fn failing(
-    alloc: Global,
-    line: &str,
-    sheets: &Sheets,
-    reads: &[FailingCall],
-    writes: &[u64],
-) -> Result<(u8, usize), AllocError> {
-    let reads = Vec::from_slice(alloc, reads)?;
-    let inputs = MemInputs::failing(files_of(alloc, sheets, BOTH)?, reads);
-    let sink = MemSink::failing(alloc, Vec::from_slice(alloc, writes)?);
-    let (ended, octets) = printed(alloc, line, MemDisk::new(alloc), inputs, sink)?;
-    Ok((ended.status, octets.len()))
+fn first_reads() -> &'static [FailingCall] {
+    FIRST_READS
 }
 
-/// The first read of an input that fails without being told, if any: 0 is its opening.
-fn untold_read(
-    alloc: Global,
-    line: &str,
-    sheets: &Sheets,
-    opening: u64,
-) -> Result<Option<u64>, AllocError> {
-    for read in 0..3u64 {
-        let call = FailingCall { opening, read };
-        if failing(alloc, line, sheets, &[call], &[])? != (3, 0) {
-            return Ok(Some(read));
-        }
-    }
-    Ok(None)
+fn writes() -> &'static [Writes] {
+    WRITES
 }
 
 #[test]
-fn fails_with_the_outside(rt: HostRuntime) -> Result<(), Fail> {
-    for opening in 1..5u64 {
-        let untold = untold_read(rt.alloc(), SOUND, &two_groups(), opening)?;
-        assert_eq!(rt; untold, None, "input {opening}");
-    }
-    assert_eq!(rt;
-        failing(rt.alloc(), SOUND, &two_groups(), &[], &[1])?,
-        (4, 0)
-    );
-    assert_eq!(rt;
-        failing(rt.alloc(), SOUND, &two_groups(), &[], &[])?,
-        (0, 59)
-    );
-    Ok(())
+fn reads_that_fail(rt: HostRuntime) -> Result<(), Fail> {
+    none_other(untold_read(rt.alloc(), V, &two_groups(), reads()))
 }
 
 #[test]
-fn answers_the_failed_read_first(rt: HostRuntime) -> Result<(), Fail> {
-    assert_eq!(rt; untold_read(rt.alloc(), LACKING, &two_groups(), 1)?, None);
-    assert_eq!(rt; untold_read(rt.alloc(), SOUND, &no_parent(), 1)?, None);
-    Ok(())
+fn writes_that_fail(rt: HostRuntime) -> Result<(), Fail> {
+    none_other(other_writes(rt.alloc(), V, &two_groups(), writes()))
+}
+
+#[test]
+fn a_failed_read_before_a_missing_input(rt: HostRuntime) -> Result<(), Fail> {
+    none_other(untold_read(rt.alloc(), LACKING, &two_groups(), first_reads()))
+}
+
+#[test]
+fn a_failed_read_before_a_bad_sheet(rt: HostRuntime) -> Result<(), Fail> {
+    none_other(untold_read(rt.alloc(), V, &no_parent(), first_reads()))
 }

@@ -1,11 +1,9 @@
 //! Packets that come late, and archives with rows that no fill has seen: what `load` and `recover` fill, what `verify` finds, and that a query answers
-//! the same before a fill and behind it.
+//! the same before a fill and behind it. Also a fill that doesn't hold what its rows give, which is answered until a row makes it late.
 
-use crate::archive_tests::{
-    CREATE, CREATED, Call, Crashing, call, images_hold, other_call, routed,
-};
-use arch_disk::{Disk, MemDisk};
-use std::alloc::Global;
+use crate::archive_tests::{loaded, routed};
+use crate::calls::{CREATE, CREATED, Call, Overwritten, other_overwritten};
+use archive_cli_tests::calls::{Wanted, none_other_of};
 use std::test::Fail;
 
 const AT_TWO: &str = "ask 1 front 2\ncell 1500 140886016 7 7\nend 1\n";
@@ -79,15 +77,8 @@ const LATE_PACKETS: &[Call] = &[
 ];
 
 /// A function, as each table below is, so that they stand in no goal of its callers.
-fn late_packets() -> &'static [Call] {
+pub(crate) fn late_packets() -> &'static [Call] {
     LATE_PACKETS
-}
-
-#[test]
-fn loads_fill_what_is_late(rt: HostRuntime) -> Result<(), Fail> {
-    let (other, _disk) = other_call(rt.alloc(), MemDisk::new(rt.alloc()), late_packets())?;
-    assert_eq!(rt; other, None);
-    Ok(())
 }
 
 /// The record of three packets of table 0, received at 9 s by link 1, two at 1.5 s and one in the interval behind, and a closed gate.
@@ -162,44 +153,6 @@ const REFUSED_FIRST: &[Call] = &[
     ),
 ];
 
-pub(crate) fn creation() -> &'static [Call] {
-    CREATION
-}
-
-fn three_rows() -> &'static [u8] {
-    THREE_ROWS
-}
-
-fn on_unfilled() -> [&'static [Call]; 3] {
-    [UNFILLED, LOADED_AGAIN, REFUSED_FIRST]
-}
-
-/// Writes octets over file 0, from so many before its end on, and makes them durable.
-fn overwrite<D: Disk>(disk: &mut D, back: u64, octets: &[u8]) -> Result<(), Fail> {
-    let end = disk.len(0)?;
-    disk.write_at(0, end.saturating_sub(back), octets)?;
-    disk.sync(0)?;
-    Ok(())
-}
-
-/// An archive without fills on a new disk, whose rows came as they stand in a record.
-fn unfilled<D: Disk + Drop>(alloc: Global, disk: D) -> Result<D, Fail> {
-    let (_, mut disk) = other_call(alloc, disk, creation())?;
-    overwrite(&mut disk, 1, three_rows())?;
-    Ok(disk)
-}
-
-#[test]
-fn archives_without_fills(rt: HostRuntime) -> Result<(), Fail> {
-    let alloc = rt.alloc();
-    for calls in on_unfilled() {
-        let disk = unfilled(alloc, MemDisk::new(alloc))?;
-        let (other, _disk) = other_call(alloc, disk, calls)?;
-        assert_eq!(rt; other, None);
-    }
-    Ok(())
-}
-
 const ONE_PACKET: &[Call] = &[
     (CREATE, (0, CREATED, "", Some((0, 0)))),
     (
@@ -272,41 +225,6 @@ const WRONG_VALUE: &[Call] = &[
     ),
 ];
 
-fn one_packet() -> &'static [Call] {
-    ONE_PACKET
-}
-
-fn wrong_value() -> &'static [Call] {
-    WRONG_VALUE
-}
-
-/// The first of these calls that ends otherwise, on a disk behind other calls and with these octets near its end.
-fn other_behind<D: Disk + Drop>(
-    alloc: Global,
-    disk: D,
-    before: &[Call],
-    back: u64,
-    octets: &[u8],
-    calls: &[Call],
-) -> Result<Option<&'static str>, Fail> {
-    let (other, mut disk) = other_call(alloc, disk, before)?;
-    if other.is_some() {
-        return Ok(other);
-    }
-    overwrite(&mut disk, back, octets)?;
-    let (other, _disk) = other_call(alloc, disk, calls)?;
-    Ok(other)
-}
-
-// The record of the fill ends with the octet of `v`, and a closed gate stands behind it.
-#[test]
-fn a_fill_with_another_value(rt: HostRuntime) -> Result<(), Fail> {
-    let disk = MemDisk::new(rt.alloc());
-    let other = other_behind(rt.alloc(), disk, one_packet(), 2, &[43], wrong_value())?;
-    assert_eq!(rt; other, None);
-    Ok(())
-}
-
 const RECOVERED_THREE: &[Call] = &[
     (
         "recover",
@@ -318,40 +236,197 @@ const RECOVERED_THREE: &[Call] = &[
     ),
 ];
 
+/// A record behind which the file ends: a fill of interval 0 over two items, whose set has no segment.
+const EMPTY_FILL: &[u8] =
+    b"\x01\x00\x00\x00\x15\x03\x00\x00\x00\x00\x00\x00\x00\x00\x00\x00\x00\x00\x00\x00\x00\x02\x00\x00\x00\x00\x00";
+
+/// A record behind which the file ends: the first packet in `tm`, received at 9 s by link 1.
+const ONE_ROW: &[u8] =
+    b"\x01\x00\x00\x00\x1C\x02\x00\x01\x00\x00\x00\x00\x00\x00\x00\x23\x28\x01\x00\x00\x08\x64\xC0\x00\x00\x06\x00\x00\x00\x01\x80\x00\x2A\x00";
+
+const ONE_CELL: Wanted = (
+    0,
+    "ask 1 front 1\ncell 1500 140820480 42 42\nend 1\n",
+    "",
+    Some((1, 1)),
+);
+
+/// Calls on an archive of that row.
+const OVER_THE_ROW: &[Call] = &[
+    ("query --ask asks", ONE_CELL),
+    (
+        "verify",
+        (0, "sound rows 1 intervals 1 late 1\n", "", Some((1, 1))),
+    ),
+    (
+        "recover",
+        (0, "recovered rows 1 filled 1\n", "", Some((1, 1))),
+    ),
+    ("query --ask asks", ONE_CELL),
+    (
+        "verify",
+        (0, "sound rows 1 intervals 1 late 0\n", "", Some((1, 1))),
+    ),
+    (
+        "recover",
+        (0, "recovered rows 1 filled 0\n", "", Some((1, 1))),
+    ),
+];
+
+/// Calls on an archive of two rows in interval 0 and that fill of it; the load's row is in that interval too.
+const OVER_THE_FILL: &[Call] = &[
+    (
+        "query --ask asks",
+        (0, "ask 1 front 2\nend 0\n", "", Some((2, 2))),
+    ),
+    ("verify", (6, "", "mismatch in interval 0", Some((2, 2)))),
+    (
+        "recover",
+        (0, "recovered rows 2 filled 0\n", "", Some((2, 2))),
+    ),
+    (
+        "load third",
+        (
+            0,
+            "load packets 1 new 1 duplicates 0 idle 0 rows 3\n",
+            "",
+            Some((2, 3)),
+        ),
+    ),
+    (
+        "query --ask asks",
+        (
+            0,
+            "ask 1 front 3\ncell 1500 140951552 8 8\nend 1\n",
+            "",
+            Some((3, 3)),
+        ),
+    ),
+    (
+        "verify",
+        (0, "sound rows 3 intervals 1 late 0\n", "", Some((3, 3))),
+    ),
+];
+
+const RECOVERED: &[Call] = &[(
+    "recover",
+    (0, "recovered rows 2 filled 0\n", "", Some((2, 2))),
+)];
+
+fn creation() -> &'static [Call] {
+    CREATION
+}
+
+fn unfilled_calls() -> &'static [Call] {
+    UNFILLED
+}
+
+fn loaded_again() -> &'static [Call] {
+    LOADED_AGAIN
+}
+
+fn refused_first() -> &'static [Call] {
+    REFUSED_FIRST
+}
+
+fn one_packet() -> &'static [Call] {
+    ONE_PACKET
+}
+
+fn wrong_value() -> &'static [Call] {
+    WRONG_VALUE
+}
+
 fn recovered_three() -> &'static [Call] {
     RECOVERED_THREE
 }
 
-// Any gate but 1 is closed.
-#[test]
-fn another_closed_gate(rt: HostRuntime) -> Result<(), Fail> {
-    let disk = MemDisk::new(rt.alloc());
-    let other = other_behind(rt.alloc(), disk, routed(), 1, &[7], recovered_three())?;
-    assert_eq!(rt; other, None);
-    Ok(())
+fn over_the_row() -> &'static [Call] {
+    OVER_THE_ROW
 }
 
-/// Whether a `recover` of an archive without fills, on a disk that fails at one call, answers so, leaves its three rows to each kind of crash, and
-/// to a second `recover`, behind which the archive is sound.
-fn is_recovered<D: Crashing>(alloc: Global, disk: D) -> Result<bool, Fail> {
-    let before = disk.faults();
-    let (status, _, disk) = call(alloc, "recover", disk)?;
-    let is_told = status == if disk.faults() > before { 5 } else { 0 };
-    let are_kept = images_hold(alloc, &disk, 3)?;
-    let (again, rows, disk) = call(alloc, "recover", disk)?;
-    let (found, _, _disk) = call(alloc, "verify", disk)?;
-    Ok(is_told && are_kept && again == 0 && rows == 3 && found == 0)
+fn over_the_fill() -> &'static [Call] {
+    OVER_THE_FILL
 }
 
-// An opening makes four calls, and each of the two fills makes four.
+fn recovered() -> &'static [Call] {
+    RECOVERED
+}
+
+fn three_rows() -> &'static [u8] {
+    THREE_ROWS
+}
+
+fn empty_fill() -> &'static [u8] {
+    EMPTY_FILL
+}
+
+fn one_row() -> &'static [u8] {
+    ONE_ROW
+}
+
+/// An archive without fills, whose rows came as they stand in a record.
+pub(crate) fn unfilled() -> Overwritten {
+    (
+        "an archive without fills",
+        creation(),
+        1,
+        three_rows(),
+        unfilled_calls(),
+    )
+}
+
+/// Any gate but 1 is closed. The record of a fill ends with the octet of `v`, and a closed gate stands behind it.
+fn cases() -> [Overwritten; 8] {
+    [
+        (
+            "what an append may leave",
+            loaded(),
+            1,
+            b"\x07 left over",
+            recovered(),
+        ),
+        unfilled(),
+        (
+            "a load into an archive without fills",
+            creation(),
+            1,
+            three_rows(),
+            loaded_again(),
+        ),
+        (
+            "what is refused there",
+            creation(),
+            1,
+            three_rows(),
+            refused_first(),
+        ),
+        (
+            "a fill with another value",
+            one_packet(),
+            2,
+            &[43],
+            wrong_value(),
+        ),
+        ("another closed gate", routed(), 1, &[7], recovered_three()),
+        (
+            "a fill that holds nothing",
+            loaded(),
+            1,
+            empty_fill(),
+            over_the_fill(),
+        ),
+        (
+            "a row without a fill",
+            creation(),
+            1,
+            one_row(),
+            over_the_row(),
+        ),
+    ]
+}
+
 #[test]
-fn a_recover_on_a_failing_disk(rt: HostRuntime) -> Result<(), Fail> {
-    let alloc = rt.alloc();
-    let made = unfilled(alloc, MemDisk::new(alloc))?.made();
-    for fails in 1..13u64 {
-        let calls = vec![in alloc; made.saturating_add(fails); 1]?;
-        let disk = unfilled(alloc, MemDisk::failing(alloc, calls))?;
-        assert!(rt; is_recovered(alloc, disk)?, "call {fails}");
-    }
-    Ok(())
+fn octets_over_the_end_of_an_archive(rt: HostRuntime) -> Result<(), Fail> {
+    none_other_of(other_overwritten(rt.alloc(), &cases()))
 }

@@ -4,7 +4,11 @@
 #[cfg(test)]
 mod archive_tests;
 #[cfg(test)]
-mod filled_tests;
+mod calls;
+#[cfg(test)]
+mod failing_tests;
+#[cfg(test)]
+mod files;
 #[cfg(test)]
 mod late_tests;
 #[cfg(test)]

@@ -1,10 +1,9 @@
 //! Scripts that `query --sql` answers or refuses, over the archive of two named packets.
 
-use crate::archive_tests::{named_load, other_call};
+use crate::archive_tests::named_load;
+use crate::calls::other_call;
 use arch_disk::{Disk, MemDisk};
-use archive_cli_tests::calls::{Wanted, called, file_of};
-use outer_traits::mem_inputs::{File, MemInputs};
-use outer_traits::mem_sink::MemSink;
+use archive_cli_tests::calls::{Wanted, called, files_alone, none_other};
 use std::alloc::{AllocError, Global};
 use std::test::Fail;
 
@@ -99,41 +98,55 @@ fn scripts() -> &'static [Script] {
     SCRIPTS
 }
 
-/// A file `script` with this text, and blanks behind it up to so many octets.
-fn script_file(alloc: Global, text: &str, length: usize) -> Result<Vec<File>, AllocError> {
-    let mut file = file_of(alloc, "script", text.as_bytes())?;
-    if file.octets.len() < length {
-        file.octets.resize(length, b' ')?;
+/// A script with blanks behind it up to so many octets.
+fn script_of(alloc: Global, text: &str, length: usize) -> Result<Vec<u8>, AllocError> {
+    let mut script = Vec::from_slice(alloc, text.as_bytes())?;
+    if script.len() < length {
+        script.resize(length, b' ')?;
     }
-    let mut files = Vec::new(alloc);
-    files.push(file)?;
-    Ok(files)
+    Ok(script)
 }
 
-/// The first script whose query ends otherwise.
-fn other_script<D: Disk + Drop>(
-    alloc: Global,
-    disk: D,
-    scripts: &[Script],
-) -> Result<Option<&'static str>, Fail> {
+/// Whether the query of a script ends so, and the disk.
+fn is_answered<D: Disk>(alloc: Global, disk: D, script: &Script) -> (bool, D) {
+    let (text, length, want) = *script;
+    match script_of(alloc, text, length) {
+        Ok(script) => {
+            let files = [("script", script.as_slice())];
+            called(
+                alloc,
+                "query --sql script",
+                &files_alone(&files),
+                disk,
+                &want,
+            )
+        }
+        Err(_) => (false, disk),
+    }
+}
+
+/// The place of the first script whose query ends otherwise.
+fn other_script<D: Disk + Drop>(alloc: Global, disk: D, scripts: &[Script]) -> Option<usize> {
     let mut disk = disk;
-    for (script, length, want) in scripts {
-        let inputs = MemInputs::new(alloc, script_file(alloc, script, *length)?);
-        let sink = MemSink::new(alloc);
-        let (is_so, left) = called(alloc, "query --sql script", disk, inputs, sink, want)?;
+    let mut place = 0usize;
+    for script in scripts {
+        let (is_so, left) = is_answered(alloc, disk, script);
         disk = left;
         if !is_so {
-            return Ok(Some(*script));
+            return Some(place);
         }
+        place = place.saturating_add(1);
     }
-    Ok(None)
+    None
+}
+
+/// The same on the archive of two named packets.
+fn other_answer<D: Disk + Drop>(alloc: Global, disk: D, scripts: &[Script]) -> Option<usize> {
+    let (_, disk) = other_call(alloc, disk, named_load());
+    other_script(alloc, disk, scripts)
 }
 
 #[test]
 fn scripts_are_answered(rt: HostRuntime) -> Result<(), Fail> {
-    let alloc = rt.alloc();
-    let (other, disk) = other_call(alloc, MemDisk::new(alloc), named_load())?;
-    assert_eq!(rt; other, None);
-    assert_eq!(rt; other_script(alloc, disk, scripts())?, None);
-    Ok(())
+    none_other(other_answer(rt.alloc(), MemDisk::new(rt.alloc()), scripts()))
 }

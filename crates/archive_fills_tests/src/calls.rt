@@ -1,5 +1,5 @@
 // Single calls of a store, each with its answer. Each is made in one function, since its clauses stand in the goals of each that makes it.
-ghost use Rattle.std.specs.Prelude.{IfOk, IfSome};
+ghost use Rattle.std.specs.Prelude.{IfSome};
 ghost use Rattle.archive_fills_tests.specs.Growth.{GoesOnFrom, IsRightFor};
 
 use crate::parts::{Incoming, batch, packet_octets, text_of};
@@ -8,10 +8,10 @@ use arch_disk::Disk;
 use arch_types::cell::Cell;
 use arch_types::inserted::{Inserted, Installed};
 use arch_types::interval::Interval;
+use arch_types::refusal::Refusal;
 use arch_types::row::Row;
-use archive_store::{FillTask, Filled, Store};
+use archive_store::{FillTask, Filled, Ingested, Store};
 use std::alloc::Global;
-use std::test::Fail;
 
 /// The interval, the base and the packets of a fill that begins.
 pub type Task = (i64, u64, &'static [usize]);
@@ -47,21 +47,28 @@ pub enum Call {
     Plan(i64, i64, u64, &'static [Over]),
 }
 
+/// The outcome of a batch of one packet.
+fn outcome_of(ingested: &Ingested) -> Result<Inserted, &'static str> {
+    match ingested.outcomes.as_slice() {
+        [outcome] => Ok(*outcome),
+        _ => Err("no outcome"),
+    }
+}
+
 /// What becomes of a packet, or why it is refused.
 fn ingested<D: Disk>(
     alloc: Global,
     store: &mut Store<D>,
     incoming: Incoming,
-) -> Result<Result<Inserted, &'static str>, Fail>
+) -> Result<Inserted, &'static str>
     ensures { GoesOnFrom store.old store.new }
 {
-    let batch = batch(alloc, store.head(), incoming)?;
+    let Some(batch) = batch(alloc, store.head(), incoming) else {
+        return Err(text_of(&Refusal::OutOfMemory));
+    };
     match store.ingest(alloc, &batch) {
-        Ok(ingested) => match ingested.outcomes.as_slice() {
-            [outcome] => Ok(Ok(*outcome)),
-            _ => Err(Fail::from("an outcome")),
-        },
-        Err(refusal) => Ok(Err(text_of(&refusal))),
+        Ok(ingested) => outcome_of(&ingested),
+        Err(refusal) => Err(text_of(&refusal)),
     }
 }
 
@@ -71,10 +78,10 @@ fn is_ingested<D: Disk>(
     store: &mut Store<D>,
     incoming: Incoming,
     answer: Result<Inserted, &'static str>,
-) -> Result<bool, Fail>
+) -> bool
     ensures { GoesOnFrom store.old store.new }
 {
-    Ok(ingested(alloc, store, incoming)? == answer)
+    ingested(alloc, store, incoming) == answer
 }
 
 /// Whether a reopen succeeds.
@@ -100,53 +107,58 @@ fn is_task(task: &FillTask, expected: &Task) -> bool {
     task.interval.0 == interval && task.base == base && are_packets(task.rows.as_slice(), packets)
 }
 
+/// Whether it is this one, or none is there.
+fn is_begun(begun: &Option<FillTask>, expected: &Option<Task>) -> bool {
+    match (begun, expected) {
+        (Some(task), Some(expected)) => is_task(task, expected),
+        (begun, expected) => begun.is_none() && expected.is_none(),
+    }
+}
+
 /// Whether this fill begins, or none. It stays in flight.
-fn begins<D: Disk>(
-    alloc: Global,
-    store: &mut Store<D>,
-    expected: &Option<Task>,
-) -> Result<bool, Fail>
+fn begins<D: Disk>(alloc: Global, store: &mut Store<D>, expected: &Option<Task>) -> bool
     ensures { GoesOnFrom store.old store.new }
 {
-    match (store.begin(alloc)?, expected) {
-        (Some(task), Some(expected)) => Ok(is_task(&task, expected)),
-        (task, expected) => Ok(task.is_none() && expected.is_none()),
+    match store.begin(alloc) {
+        Ok(begun) => is_begun(&begun, expected),
+        Err(_) => false,
     }
 }
 
 /// Whether this fill begins. It is given up.
-fn gives_up<D: Disk>(alloc: Global, store: &mut Store<D>, expected: &Task) -> Result<bool, Fail>
+fn gives_up<D: Disk>(alloc: Global, store: &mut Store<D>, expected: &Task) -> bool
     ensures { GoesOnFrom store.old store.new }
 {
-    let Some(task) = store.begin(alloc)? else {
-        return Ok(false);
-    };
-    let is_expected = is_task(&task, expected);
-    store.abandon(task);
-    Ok(is_expected)
+    match store.begin(alloc) {
+        Ok(Some(task)) => {
+            let is_expected = is_task(&task, expected);
+            store.abandon(task);
+            is_expected
+        }
+        _ => false,
+    }
 }
 
 /// The fill of a task that begins, where it is this one.
-pub(crate) fn built<D: Disk>(
-    alloc: Global,
-    store: &mut Store<D>,
-    expected: &Task,
-) -> Result<Option<Filled>, Fail>
-    ensures right { IfOk result (λ built. IfSome built (IsRightFor store.new)) }
+pub(crate) fn built<D: Disk>(alloc: Global, store: &mut Store<D>, expected: &Task) -> Option<Filled>
+    ensures right { IfSome result (IsRightFor store.new) }
     ensures goes_on { GoesOnFrom store.old store.new }
 {
-    let Some(task) = store.begin(alloc)? else {
-        return Ok(None);
+    let Ok(begun) = store.begin(alloc) else {
+        return None;
+    };
+    let Some(task) = begun else {
+        return None;
     };
     if !is_task(&task, expected) {
         store.abandon(task);
-        return Ok(None);
+        return None;
     }
     match Filled::of(alloc, task, &store.head().mdb) {
-        Ok(filled) => Ok(Some(filled)),
-        Err((task, error)) => {
+        Ok(filled) => Some(filled),
+        Err((task, _)) => {
             store.abandon(task);
-            Err(Fail::from(error))
+            None
         }
     }
 }
@@ -163,17 +175,12 @@ pub(crate) fn is_installed<D: Disk>(store: &mut Store<D>, filled: Filled, outcom
 }
 
 /// Whether this fill begins, and its installing is answered so.
-fn fills<D: Disk>(
-    alloc: Global,
-    store: &mut Store<D>,
-    expected: &Task,
-    outcome: Outcome,
-) -> Result<bool, Fail>
+fn fills<D: Disk>(alloc: Global, store: &mut Store<D>, expected: &Task, outcome: Outcome) -> bool
     ensures { GoesOnFrom store.old store.new }
 {
-    match built(alloc, store, expected)? {
-        Some(filled) => Ok(is_installed(store, filled, outcome)),
-        None => Ok(false),
+    match built(alloc, store, expected) {
+        Some(filled) => is_installed(store, filled, outcome),
+        None => false,
     }
 }
 
@@ -189,23 +196,26 @@ fn has_values<D: Disk>(
     interval: i64,
     parameter: u16,
     raws: &[i128],
-) -> Result<bool, Fail> {
-    match store.segments(Interval(interval))? {
-        Some(set) => {
-            let cells = set.cells(alloc, &store.head().mdb, parameter)?;
-            Ok(are_raws(cells.as_slice(), raws))
-        }
-        None => Ok(false),
+) -> bool {
+    match store.segments(Interval(interval)) {
+        Ok(Some(set)) => match set.cells(alloc, &store.head().mdb, parameter) {
+            Ok(cells) => are_raws(cells.as_slice(), raws),
+            Err(_) => false,
+        },
+        _ => false,
     }
 }
 
 /// Whether no set stands for an interval.
-fn has_none<D: Disk>(store: &Store<D>, interval: i64) -> Result<bool, Fail> {
-    Ok(store.segments(Interval(interval))?.is_none())
+fn has_none<D: Disk>(store: &Store<D>, interval: i64) -> bool {
+    match store.segments(Interval(interval)) {
+        Ok(set) => set.is_none(),
+        Err(_) => false,
+    }
 }
 
 /// Whether a call is answered as it is to be.
-fn is_answered<D: Disk>(alloc: Global, store: &mut Store<D>, call: &Call) -> Result<bool, Fail>
+fn is_answered<D: Disk>(alloc: Global, store: &mut Store<D>, call: &Call) -> bool
     ensures { GoesOnFrom store.old store.new }
 {
     match call {
@@ -216,11 +226,11 @@ fn is_answered<D: Disk>(alloc: Global, store: &mut Store<D>, call: &Call) -> Res
         Call::Fill(task, outcome) => fills(alloc, store, task, *outcome),
         Call::Settle => {
             store.settle();
-            Ok(true)
+            true
         }
-        Call::Reopen => Ok(is_reopened(store)),
-        Call::NoReopen => Ok(!is_reopened(store)),
-        Call::Late(interval, late) => Ok(store.is_late(Interval(*interval)) == *late),
+        Call::Reopen => is_reopened(store),
+        Call::NoReopen => !is_reopened(store),
+        Call::Late(interval, late) => store.is_late(Interval(*interval)) == *late,
         Call::Set(interval, parameter, raws) => {
             has_values(alloc, store, *interval, *parameter, raws)
         }
@@ -231,17 +241,13 @@ fn is_answered<D: Disk>(alloc: Global, store: &mut Store<D>, call: &Call) -> Res
 
 /// Whether each of these calls is answered as it is to be.
 #[tactic(auto, using(crate::proofs::Growth::stays, crate::proofs::Growth::goes_on))]
-pub(crate) fn are_answered<D: Disk>(
-    alloc: Global,
-    store: &mut Store<D>,
-    calls: &[Call],
-) -> Result<bool, Fail>
+pub(crate) fn are_answered<D: Disk>(alloc: Global, store: &mut Store<D>, calls: &[Call]) -> bool
     ensures { GoesOnFrom store.old store.new }
 {
     for call in calls {
-        if !is_answered(alloc, store, call)? {
-            return Ok(false);
+        if !is_answered(alloc, store, call) {
+            return false;
         }
     }
-    Ok(true)
+    true
 }

@@ -2,10 +2,10 @@
 // archive of the rows, whose interval is filled where the gate of the fill's record is open, and else late.
 use crate::calls::{Call, are_answered};
 use crate::faults::failing_behind;
-use crate::parts::created;
+use crate::parts::{InMemory, created, none_other};
 use crate::plans::Over;
 use crate::steps::{Step, other_of_opened, other_step};
-use arch_disk::{Crash, Disk, MemDisk};
+use arch_disk::{Crash, Disk};
 use arch_types::inserted::{Inserted, Installed};
 use archive_store::Store;
 use std::alloc::Global;
@@ -89,42 +89,6 @@ impl Case {
     }
 }
 
-/// A disk that tells what its crashes leave.
-trait Crashing: Disk + Drop {
-    /// How many calls were kept.
-    fn kept(&self) -> usize;
-
-    /// What a crash leaves after so many of them.
-    fn image(&self, moment: usize, crash: Crash) -> Result<MemDisk, Fail>;
-
-    /// How many octets file 0 has.
-    fn octets(&self) -> usize;
-
-    /// Whether a gate of file 0 is open.
-    fn is_open(&self, gate: usize) -> bool;
-}
-
-impl Crashing for MemDisk {
-    fn kept(&self) -> usize {
-        self.moments()
-    }
-
-    fn image(&self, moment: usize, crash: Crash) -> Result<MemDisk, Fail> {
-        if moment > self.moments() {
-            return Err(Fail::from("a moment"));
-        }
-        Ok(self.crashed(moment, crash)?)
-    }
-
-    fn octets(&self) -> usize {
-        self.content(0).len()
-    }
-
-    fn is_open(&self, gate: usize) -> bool {
-        self.content(0).get(gate) == Some(&1)
-    }
-}
-
 /// How many images were seen of each kind.
 #[derive(Clone, Copy, Debug, PartialEq, Eq)]
 struct Images {
@@ -134,131 +98,145 @@ struct Images {
     wrong: u64,
 }
 
+/// Before any.
 const NO_IMAGES: Images = Images {
     late: 0,
     filled: 0,
     wrong: 0,
 };
 
-/// One image more.
-fn with_image(images: Images, is_filled: bool, is_right: bool) -> Images {
+/// One image more: late or filled, or neither.
+fn with_image(images: Images, found: Option<bool>) -> Images {
     let mut images = images;
-    if !is_right {
-        images.wrong = images.wrong.saturating_add(1);
-    } else if is_filled {
-        images.filled = images.filled.saturating_add(1);
-    } else {
-        images.late = images.late.saturating_add(1);
+    match found {
+        Some(true) => images.filled = images.filled.saturating_add(1),
+        Some(false) => images.late = images.late.saturating_add(1),
+        None => images.wrong = images.wrong.saturating_add(1),
     }
     images
 }
 
+/// Whether an image is filled, where it is as its gate says.
+fn found_in<D: InMemory>(alloc: Global, image: D, case: &Case, gate: usize) -> Option<bool> {
+    let is_filled = image.is_open(gate);
+    match other_of_opened(alloc, image, case.seen(is_filled)) {
+        None => Some(is_filled),
+        Some(_) => None,
+    }
+}
+
+/// The same of what a crash leaves of a disk.
+fn found_behind<D: InMemory>(
+    alloc: Global,
+    disk: &D,
+    case: &Case,
+    gate: usize,
+    moment: usize,
+    crash: Crash,
+) -> Option<bool> {
+    let image = disk.image(moment, crash)?;
+    found_in(alloc, image, case, gate)
+}
+
 /// The images of a moment beside others, one for each kind of crash.
-fn images_of<D: Crashing>(
+fn images_of<D: InMemory>(
     alloc: Global,
     disk: &D,
     case: &Case,
     gate: usize,
     moment: usize,
     images: Images,
-) -> Result<Images, Fail> {
+) -> Images {
     let mut images = images;
     for crash in Crash::ALL {
-        let image = disk.image(moment, crash)?;
-        let is_filled = image.is_open(gate);
-        let other = other_of_opened(alloc, image, case.seen(is_filled))?;
-        images = with_image(images, is_filled, other.is_none());
+        let found = found_behind(alloc, disk, case, gate, moment, crash);
+        images = with_image(images, found);
     }
-    Ok(images)
+    images
 }
 
 /// The same of each moment behind the first `from` kept calls.
-fn images_since<D: Crashing>(
+fn images_since<D: InMemory>(
     alloc: Global,
     disk: &D,
     case: &Case,
     gate: usize,
     from: usize,
-) -> Result<Images, Fail> {
+) -> Images {
     let mut images = NO_IMAGES;
     for moment in from..disk.kept() {
-        images = images_of(alloc, disk, case, gate, moment + 1, images)?;
+        images = images_of(alloc, disk, case, gate, moment + 1, images);
     }
-    Ok(images)
+    images
 }
 
 /// Makes the calls of a case.
-fn make_calls<D: Disk>(alloc: Global, store: &mut Store<D>, case: &Case) -> Result<(), Fail> {
+fn make_calls<D: Disk>(alloc: Global, store: &mut Store<D>, case: &Case) {
     for letter in CALLS {
-        let _ = are_answered(alloc, store, case.call(*letter))?;
+        let _ = are_answered(alloc, store, case.call(*letter));
     }
-    Ok(())
 }
 
-/// The images of all moments of a case, and whether the interval is filled in the end. The gate that ends file 0 before the fill is that of its record.
-fn made<D: Crashing>(
-    alloc: Global,
-    store: &mut Store<D>,
-    case: &Case,
-) -> Result<(Images, bool), Fail> {
-    let _ = other_step(alloc, store, case.before)?;
+/// Whether images are as their gates say, some late and some filled.
+fn are_right(images: &Images) -> bool {
+    images.wrong == 0 && images.late > 0 && images.filled > 0
+}
+
+/// Whether the images of all moments of a case are, and the interval is filled in the end. The gate that ends file 0 before the fill is that of its record.
+fn goes_so<D: InMemory>(alloc: Global, store: &mut Store<D>, case: &Case) -> bool {
+    let _ = other_step(alloc, store, case.before);
     let from = store.disk().kept();
     let gate = store.disk().octets().saturating_sub(1);
-    make_calls(alloc, store, case)?;
-    let images = images_since(alloc, store.disk(), case, gate, from)?;
-    let other = other_step(alloc, store, case.seen(true))?;
-    Ok((images, other.is_none()))
+    make_calls(alloc, store, case);
+    let images = images_since(alloc, store.disk(), case, gate, from);
+    other_step(alloc, store, case.seen(true)).is_none() && are_right(&images)
 }
 
-/// The same of a store that is given up.
-fn of_store<D: Crashing>(
-    alloc: Global,
-    store: Store<D>,
-    case: &Case,
-) -> Result<(Images, bool), Fail> {
-    let mut store = store;
-    let made = made(alloc, &mut store, case)?;
-    let _ = store.into_disk();
-    Ok(made)
+/// The same of a new archive, which is given up, and the disk too.
+fn goes_so_on<D: InMemory>(alloc: Global, disk: D, case: &Case) -> bool {
+    match created(alloc, disk) {
+        Ok(mut store) => {
+            let is_so = goes_so(alloc, &mut store, case);
+            let _ = store.into_disk();
+            is_so
+        }
+        Err(_) => false,
+    }
 }
 
-/// The same of a new archive on a disk.
-fn of_disk<D: Crashing>(alloc: Global, disk: D, case: &Case) -> Result<(Images, bool), Fail> {
-    of_store(alloc, created(alloc, disk)?, case)
+/// The same on a disk whose calls of these numbers fail, counted from the fill.
+fn is_right(alloc: Global, case: &Case, failing: &[u64]) -> bool {
+    match failing_behind(alloc, case.before, failing) {
+        Some(disk) => goes_so_on(alloc, disk, case),
+        None => false,
+    }
 }
 
-/// Whether each image of a case is as its gate says, some late and some filled, and the interval is filled in the end, on a disk whose calls of these numbers
-/// fail, counted from the fill.
-fn is_right(alloc: Global, case: &Case, failing: &[u64]) -> Result<bool, Fail> {
-    let disk = failing_behind(alloc, case.before, failing)?;
-    let (images, is_filled) = of_disk(alloc, disk, case)?;
-    Ok(is_filled && images.wrong == 0 && images.late > 0 && images.filled > 0)
+/// The same where a call fails, alone and with the one that follows it.
+fn are_right_behind(alloc: Global, case: &Case, call: u64) -> bool {
+    is_right(alloc, case, &[call]) && is_right(alloc, case, &[call, call.saturating_add(1)])
 }
 
-/// The same where no call fails, and where each does in turn, alone and with the one that follows it: of the fill, of the reopens behind it, and of the
-/// fill behind those. Gives the first call of which it isn't so.
-fn wrong_call(alloc: Global, case: &Case) -> Result<Option<u64>, Fail> {
-    if !is_right(alloc, case, &[])? {
-        return Ok(Some(0));
+/// The same where no call fails, and where each does in turn: of the fill, of the reopens behind it, and of the fill behind those. Gives the first call
+/// of which it isn't so.
+fn wrong_call(alloc: Global, case: &Case) -> Option<u64> {
+    if !is_right(alloc, case, &[]) {
+        return Some(0);
     }
     for call in 1..10u64 {
-        let both = [call, call.saturating_add(1)];
-        let alone = is_right(alloc, case, &[call])?;
-        if !(alone && is_right(alloc, case, both.as_slice())?) {
-            return Ok(Some(call));
+        if !are_right_behind(alloc, case, call) {
+            return Some(call);
         }
     }
-    Ok(None)
+    None
 }
 
 #[test]
 fn images_of_a_first_fill(rt: HostRuntime) -> Result<(), Fail> {
-    assert_eq!(rt; wrong_call(rt.alloc(), &first())?, None);
-    Ok(())
+    none_other(wrong_call(rt.alloc(), &first()))
 }
 
 #[test]
 fn images_of_a_fill_in_place_of_another(rt: HostRuntime) -> Result<(), Fail> {
-    assert_eq!(rt; wrong_call(rt.alloc(), &anew())?, None);
-    Ok(())
+    none_other(wrong_call(rt.alloc(), &anew()))
 }

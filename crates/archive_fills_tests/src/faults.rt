@@ -1,11 +1,12 @@
 // What an install answers on a disk that fails at one of its calls, and what it leaves: the interval late and free again, until the archive is reopened
 // and the fill begins anew.
 use crate::calls::Call;
+use crate::parts::{InMemory, none_other};
 use crate::plans::Over;
 use crate::steps::{Step, of_new, other_of_opened};
 use arch_disk::{Disk, MemDisk};
 use arch_types::inserted::{Inserted, Installed};
-use std::alloc::Global;
+use std::alloc::{AllocError, Global};
 use std::test::Fail;
 
 /// What stands in an archive before a disk fails: a packet in each of two intervals.
@@ -108,69 +109,120 @@ const BOTH_FILLED_LATER: &[Step] = &[Step::Calls(&[
     Call::Set(1, 1, &[5]),
 ])];
 
-/// Which calls fail, counted from the first of an install, and the steps. An append makes four calls: the record, a sync,
-/// its gate, a sync. A reopen makes the last two, or a sync alone where the gate wasn't written.
-type Faults = (&'static [u64], &'static [Step], &'static [Step]);
-
-const FAULTS: &[Faults] = &[
-    (&[1], FAILED, BOTH_FILLED),
-    (&[2], FAILED, BOTH_FILLED),
-    (&[3], FAILED, BOTH_FILLED),
-    (&[4], FAILED, BOTH_FILLED),
-    (&[1, 2], FAILED_TWICE, BOTH_FILLED),
-    (&[2, 3], FAILED_TWICE, BOTH_FILLED),
-    (&[3, 4], FAILED_TWICE, BOTH_FILLED),
-    (&[3, 5], FAILED_TWICE, BOTH_FILLED),
-    (&[4, 5], FAILED_TWICE, BOTH_FILLED),
-    (&[4, 6], FAILED_TWICE, BOTH_FILLED),
-    (&[1], STALE_FIRST, BOTH_FILLED_LATER),
-    (&[4], STALE_FIRST, BOTH_FILLED_LATER),
-    (&[2], PENDING_FIRST, BOTH_FILLED),
-    (&[3], PENDING_FIRST, BOTH_FILLED),
-];
+/// Steps, those behind them, and which calls fail, counted from the first of an install: each row on a disk of its own. An append makes four calls: the
+/// record, a sync, its gate, a sync. A reopen makes the last two, or a sync alone where the gate wasn't written.
+type Faults = (&'static [Step], &'static [Step], &'static [&'static [u64]]);
 
 /// They are functions, so that they stand in no goal of their callers.
 fn before() -> &'static [Step] {
     BEFORE
 }
 
-fn faults() -> &'static [Faults] {
-    FAULTS
+fn failed() -> &'static [Step] {
+    FAILED
+}
+
+fn failed_twice() -> &'static [Step] {
+    FAILED_TWICE
+}
+
+fn stale_first() -> &'static [Step] {
+    STALE_FIRST
+}
+
+fn pending_first() -> &'static [Step] {
+    PENDING_FIRST
+}
+
+fn both_filled() -> &'static [Step] {
+    BOTH_FILLED
+}
+
+fn both_filled_later() -> &'static [Step] {
+    BOTH_FILLED_LATER
+}
+
+const ONE_CALL: &[&[u64]] = &[&[1], &[2], &[3], &[4]];
+
+const TWO_CALLS: &[&[u64]] = &[&[1, 2], &[2, 3], &[3, 4], &[3, 5], &[4, 5], &[4, 6]];
+
+const RECORD_OR_LAST_SYNC: &[&[u64]] = &[&[1], &[4]];
+
+const SYNC_OR_GATE: &[&[u64]] = &[&[2], &[3]];
+
+fn faults() -> [Faults; 4] {
+    [
+        (failed(), both_filled(), ONE_CALL),
+        (failed_twice(), both_filled(), TWO_CALLS),
+        (stale_first(), both_filled_later(), RECORD_OR_LAST_SYNC),
+        (pending_first(), both_filled(), SYNC_OR_GATE),
+    ]
+}
+
+/// How many calls a disk has behind these steps of an archive on it.
+fn calls_behind<D: InMemory>(alloc: Global, disk: D, before: &[Step]) -> u64 {
+    let (_, disk) = of_new(alloc, disk, before);
+    disk.calls()
+}
+
+/// Numbers that are counted from behind others.
+fn numbers_behind(alloc: Global, made: u64, calls: &[u64]) -> Result<Vec<u64>, AllocError> {
+    let mut numbers = Vec::new(alloc);
+    for call in calls {
+        numbers.push(made.saturating_add(*call))?;
+    }
+    Ok(numbers)
 }
 
 /// A disk whose calls of these numbers fail, counted from what is done with an archive on it.
-pub(crate) fn failing_behind(
-    alloc: Global,
-    before: &[Step],
-    calls: &[u64],
-) -> Result<MemDisk, Fail> {
-    let (_, disk) = of_new(alloc, MemDisk::new(alloc), before)?;
-    let mut numbers = Vec::new(alloc);
-    for call in calls {
-        numbers.push(disk.made().saturating_add(*call))?;
+pub(crate) fn failing_behind(alloc: Global, before: &[Step], calls: &[u64]) -> Option<MemDisk> {
+    let made = calls_behind(alloc, MemDisk::new(alloc), before);
+    match numbers_behind(alloc, made, calls) {
+        Ok(numbers) => Some(MemDisk::failing(alloc, numbers)),
+        Err(_) => None,
     }
-    Ok(MemDisk::failing(alloc, numbers))
 }
 
 /// Whether these steps go as they are to in a new archive, and those behind them once it is opened again.
-fn goes_so<D: Disk + Drop>(
-    alloc: Global,
-    disk: D,
-    steps: &[Step],
-    after: &[Step],
-) -> Result<bool, Fail> {
-    let (other, disk) = of_new(alloc, disk, steps)?;
-    let behind = other_of_opened(alloc, disk, after)?;
-    Ok(other.is_none() && behind.is_none())
+fn goes_so<D: Disk + Drop>(alloc: Global, disk: D, steps: &[Step], after: &[Step]) -> bool {
+    let (other, disk) = of_new(alloc, disk, steps);
+    other_of_opened(alloc, disk, after).is_none() && other.is_none()
+}
+
+/// Whether it is so on a disk whose calls of these numbers fail.
+fn is_so(alloc: Global, calls: &[u64], steps: &[Step], after: &[Step]) -> bool {
+    match failing_behind(alloc, before(), calls) {
+        Some(disk) => goes_so(alloc, disk, steps, after),
+        None => false,
+    }
+}
+
+/// The place of the first of the calls of a row with which it isn't so.
+fn other_calls(alloc: Global, row: &Faults) -> Option<usize> {
+    let (steps, after, all) = *row;
+    let mut place = 0usize;
+    for calls in all {
+        if !is_so(alloc, calls, steps, after) {
+            return Some(place);
+        }
+        place = place.saturating_add(1);
+    }
+    None
+}
+
+/// The first row of which it isn't so, as ten times its place and that of the calls.
+fn other_faults(alloc: Global, rows: &[Faults]) -> Option<usize> {
+    let mut place = 0usize;
+    for row in rows {
+        if let Some(calls) = other_calls(alloc, row) {
+            return Some(place.saturating_add(calls));
+        }
+        place = place.saturating_add(10);
+    }
+    None
 }
 
 #[test]
 fn installs_on_a_failing_disk(rt: HostRuntime) -> Result<(), Fail> {
-    let mut row = 0usize;
-    for (calls, steps, after) in faults() {
-        let disk = failing_behind(rt.alloc(), before(), calls)?;
-        assert!(rt; goes_so(rt.alloc(), disk, steps, after)?, "row {row}");
-        row = row.saturating_add(1);
-    }
-    Ok(())
+    none_other(other_faults(rt.alloc(), &faults()))
 }

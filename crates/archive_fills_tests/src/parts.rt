@@ -1,12 +1,12 @@
 // What the tests are made of: a head, packets, batches, and how archives are made and opened.
-ghost use Rattle.std.specs.Prelude.{◌≡◌, ◌<◌, ◌≤◌, false, length, IfOk};
+ghost use Rattle.std.specs.Prelude.{◌≡◌, ◌<◌, ◌≤◌, false, length, IfSome};
 ghost use Rattle.std.specs.List.{AllByRecursion};
 ghost use Rattle.arch_types.specs.Packet.{IsPacket, is_idle};
 ghost use Rattle.field_codec.specs.declared.entry.Entry.TheVariants as entries;
 ghost use Rattle.field_codec.specs.Entries.{IsArchiveEntry};
 ghost use Rattle.archive_store.specs.Batches.{IsArrival, IsBatch};
 
-use arch_disk::{Disk, MemDisk};
+use arch_disk::{Crash, Disk, MemDisk};
 use arch_types::octets::Octets;
 use arch_types::refusal::Refusal;
 use arch_types::tables::TableList;
@@ -15,6 +15,7 @@ use field_codec::{Entry, read_entry};
 use space_packet::dump::first_packet;
 use space_packet::header::is_idle_packet;
 use std::alloc::Global;
+use std::fmt::Display;
 use std::test::Fail;
 
 /// The entry of the tables `tm` and `hk`, the parameters `apid` (uint of 11 bits) and `v` (uint of 8 bits), and the container `HDR`, which has
@@ -48,72 +49,82 @@ pub(crate) fn packet_octets(number: usize) -> &'static [u8] {
     if number < 10 { PACKETS[number] } else { b"" }
 }
 
-/// The head of these tests.
-pub(crate) fn head(alloc: Global) -> Result<Head, Fail>
-    ensures { IfOk result (λ head. IsArchiveEntry (entries.Head head.tables head.mdb)) }
+/// The head of these tests. Here and below there's none where memory is wanting.
+pub(crate) fn head(alloc: Global) -> Option<Head>
+    ensures { IfSome result (λ head. IsArchiveEntry (entries.Head head.tables head.mdb)) }
 {
     match read_entry(alloc, head_octets()) {
-        Ok(Entry::Head { tables, mdb }) => Ok(Head { tables, mdb }),
-        _ => Err(Fail::from("a head")),
+        Ok(Entry::Head { tables, mdb }) => Some(Head { tables, mdb }),
+        _ => None,
     }
 }
 
-fn packet(alloc: Global, number: usize) -> Result<Octets, Fail>
-    ensures packet { IfOk result IsPacket }
-    ensures carries { IfOk result (λ packet. is_idle packet ≡ false) }
+fn packet(alloc: Global, number: usize) -> Option<Octets>
+    ensures packet { IfSome result IsPacket }
+    ensures carries { IfSome result (λ packet. is_idle packet ≡ false) }
 {
     let octets = packet_octets(number);
     let Ok(len) = first_packet(octets) else {
-        return Err(Fail::from("a packet"));
+        return None;
     };
     let (packet, _) = octets.split_at(len);
     if is_idle_packet(packet) {
-        return Err(Fail::from("a packet with data"));
+        return None;
     }
-    Ok(Octets::from_slice(alloc, packet)?)
+    match Octets::from_slice(alloc, packet) {
+        Ok(octets) => Some(octets),
+        Err(_) => None,
+    }
 }
 
-fn tables_of(alloc: Global, head: &Head, table: u8) -> Result<TableList, Fail>
-    ensures few { IfOk result (λ list. length list ≤ 16) }
-    ensures each { IfOk result (λ list. AllByRecursion (λ table. table < length head.now.tables) list) }
+fn tables_of(alloc: Global, head: &Head, table: u8) -> Option<TableList>
+    ensures few { IfSome result (λ list. length list ≤ 16) }
+    ensures each { IfSome result (λ list. AllByRecursion (λ table. table < length head.now.tables) list) }
 {
     if table as usize >= head.tables.as_slice().len() {
-        return Err(Fail::from("a table"));
+        return None;
     }
     let mut list = TableList::new(alloc);
-    list.push(table)?;
-    Ok(list)
+    match list.push(table) {
+        Ok(()) => Some(list),
+        Err(_) => None,
+    }
 }
 
 /// The number of a packet, and the table that it comes into.
 pub type Incoming = (usize, u8);
 
 /// A packet of link 1 that comes into a table.
-fn arrival(alloc: Global, head: &Head, incoming: Incoming) -> Result<Arrival, Fail>
-    ensures { IfOk result (IsArrival head.now) }
+fn arrival(alloc: Global, head: &Head, incoming: Incoming) -> Option<Arrival>
+    ensures { IfSome result (IsArrival head.now) }
 {
     let (number, table) = incoming;
     if head.mdb.containers() == 0 {
-        return Err(Fail::from("a container"));
+        return None;
     }
-    Ok(Arrival {
+    let packet = packet(alloc, number)?;
+    let tables = tables_of(alloc, head, table)?;
+    Some(Arrival {
         link: 1,
         pname: 0,
-        packet: packet(alloc, number)?,
-        tables: tables_of(alloc, head, table)?,
+        packet,
+        tables,
     })
 }
 
 /// The batch of a packet that is received at 9 s.
-pub(crate) fn batch(alloc: Global, head: &Head, incoming: Incoming) -> Result<Batch, Fail>
-    ensures { IfOk result (IsBatch head.now) }
+pub(crate) fn batch(alloc: Global, head: &Head, incoming: Incoming) -> Option<Batch>
+    ensures { IfSome result (IsBatch head.now) }
 {
+    let arrival = arrival(alloc, head, incoming)?;
     let mut arrivals = Arrivals::new(alloc);
-    arrivals.push(arrival(alloc, head, incoming)?)?;
-    Ok(Batch {
-        rectime: 9_000,
-        arrivals,
-    })
+    match arrivals.push(arrival) {
+        Ok(()) => Some(Batch {
+            rectime: 9_000,
+            arrivals,
+        }),
+        Err(_) => None,
+    }
 }
 
 /// The refusals that these tests meet.
@@ -126,24 +137,74 @@ pub(crate) fn text_of(refusal: &Refusal) -> &'static str {
 }
 
 /// An archive without packets, or the disk.
-pub(crate) fn created<D: Disk + Drop>(alloc: Global, disk: D) -> Result<Store<D>, Fail> {
-    match Store::create(alloc, disk, head(alloc)?) {
+pub(crate) fn created<D: Disk>(alloc: Global, disk: D) -> Result<Store<D>, D> {
+    let Some(head) = head(alloc) else {
+        return Err(disk);
+    };
+    match Store::create(alloc, disk, head) {
         Ok(store) => Ok(store),
-        Err((_disk, refusal)) => Err(Fail::from(refusal)),
+        Err((disk, _)) => Err(disk),
     }
 }
 
-/// The archive of a disk.
-pub(crate) fn opened<D: Disk + Drop>(alloc: Global, disk: D) -> Result<Store<D>, Refusal> {
+/// The archive of a disk, or the disk.
+pub(crate) fn opened<D: Disk>(alloc: Global, disk: D) -> Result<Store<D>, D> {
     match Store::open(alloc, disk) {
         Ok(store) => Ok(store),
-        Err((_disk, refusal)) => Err(refusal),
+        Err((disk, _)) => Err(disk),
     }
 }
 
-/// A disk whose file 0 holds octets.
-pub(crate) fn holding(alloc: Global, octets: &[u8]) -> Result<MemDisk, Fail> {
-    let mut disk = MemDisk::new(alloc);
-    disk.write_at(0, 0, octets)?;
-    Ok(disk)
+/// A disk in memory, as functions see it that are generic in what a disk owns.
+pub(crate) trait InMemory: Disk + Drop {
+    /// How many calls were made.
+    fn calls(&self) -> u64;
+
+    /// How many of them were kept.
+    fn kept(&self) -> usize;
+
+    /// What a crash leaves after so many of these.
+    fn image(&self, moment: usize, crash: Crash) -> Option<MemDisk>;
+
+    /// How many octets file 0 has.
+    fn octets(&self) -> usize;
+
+    /// Whether a gate of file 0 is open.
+    fn is_open(&self, gate: usize) -> bool;
+}
+
+impl InMemory for MemDisk {
+    fn calls(&self) -> u64 {
+        self.made()
+    }
+
+    fn kept(&self) -> usize {
+        self.moments()
+    }
+
+    fn image(&self, moment: usize, crash: Crash) -> Option<MemDisk> {
+        if moment > self.moments() {
+            return None;
+        }
+        match self.crashed(moment, crash) {
+            Ok(image) => Some(image),
+            Err(_) => None,
+        }
+    }
+
+    fn octets(&self) -> usize {
+        self.content(0).len()
+    }
+
+    fn is_open(&self, gate: usize) -> bool {
+        self.content(0).get(gate) == Some(&1)
+    }
+}
+
+/// Ends a test: with a failure where a row of its table goes otherwise.
+pub(crate) fn none_other<T: Display + Drop>(other: Option<T>) -> Result<(), Fail> {
+    match other {
+        None => Ok(()),
+        Some(other) => Err(Fail::new(other)),
+    }
 }

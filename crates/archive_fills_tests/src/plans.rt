@@ -2,7 +2,6 @@
 ghost use Rattle.std.specs.Prelude.{◌≡◌};
 
 use crate::calls::are_packets;
-use crate::parts::text_of;
 use arch_disk::Disk;
 use arch_types::ask::Request;
 use arch_types::name::Name;
@@ -10,7 +9,6 @@ use arch_types::octets::Octets;
 use archive_store::Store;
 use param_segments::{Part, Plan};
 use std::alloc::Global;
-use std::test::Fail;
 
 /// What a plan has of an interval.
 pub enum Over {
@@ -20,11 +18,12 @@ pub enum Over {
 }
 
 /// The values of `v` over a range.
-fn request(alloc: Global, from: i64, to: i64) -> Result<Request, Fail> {
-    let Some(parameter) = Name::of(Octets::from_slice(alloc, b"v")?) else {
-        return Err(Fail::from("a name"));
+fn request(alloc: Global, from: i64, to: i64) -> Option<Request> {
+    let Ok(octets) = Octets::from_slice(alloc, b"v") else {
+        return None;
     };
-    Ok(Request {
+    let parameter = Name::of(octets)?;
+    Some(Request {
         parameter,
         from,
         to,
@@ -34,13 +33,13 @@ fn request(alloc: Global, from: i64, to: i64) -> Result<Request, Fail> {
 }
 
 /// The plan of `v` over a range.
-fn planned<D: Disk>(alloc: Global, store: &mut Store<D>, from: i64, to: i64) -> Result<Plan, Fail>
+fn planned<D: Disk>(alloc: Global, store: &mut Store<D>, from: i64, to: i64) -> Option<Plan>
     ensures { store.new ≡ store.old }
 {
     let request = request(alloc, from, to)?;
     match store.plan(alloc, &request) {
-        Ok(plan) => Ok(plan),
-        Err(refusal) => Err(Fail::from(text_of(&refusal))),
+        Ok(plan) => Some(plan),
+        Err(_) => None,
     }
 }
 
@@ -65,6 +64,11 @@ fn are_parts(parts: &[Part], expected: &[Over]) -> bool {
     parts.len() == expected.len()
 }
 
+/// Whether a plan has this front and these parts.
+fn is_plan(plan: &Plan, front: u64, parts: &[Over]) -> bool {
+    plan.front == front && are_parts(plan.parts.as_slice(), parts)
+}
+
 /// Whether a plan over a range has this front and these parts.
 pub(crate) fn shows<D: Disk>(
     alloc: Global,
@@ -73,9 +77,11 @@ pub(crate) fn shows<D: Disk>(
     to: i64,
     front: u64,
     parts: &[Over],
-) -> Result<bool, Fail>
+) -> bool
     ensures { store.new ≡ store.old }
 {
-    let plan = planned(alloc, store, from, to)?;
-    Ok(plan.front == front && are_parts(plan.parts.as_slice(), parts))
+    match planned(alloc, store, from, to) {
+        Some(plan) => is_plan(&plan, front, parts),
+        None => false,
+    }
 }

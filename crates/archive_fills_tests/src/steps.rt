@@ -2,11 +2,10 @@
 ghost use Rattle.archive_fills_tests.specs.Growth.{GoesOnFrom};
 
 use crate::calls::{Call, Outcome, Task, are_answered, built, is_installed};
-use crate::parts::{created, opened, text_of};
+use crate::parts::{created, opened};
 use arch_disk::Disk;
 use archive_store::Store;
 use std::alloc::Global;
-use std::test::Fail;
 
 /// What is done with a store.
 pub enum Step {
@@ -23,16 +22,16 @@ fn fills_across<D: Disk>(
     task: &Task,
     calls: &[Call],
     outcome: Outcome,
-) -> Result<bool, Fail> {
-    let Some(filled) = built(alloc, store, task)? else {
-        return Ok(false);
+) -> bool {
+    let Some(filled) = built(alloc, store, task) else {
+        return false;
     };
-    let are_answered = are_answered(alloc, store, calls)?;
-    Ok(is_installed(store, filled, outcome) && are_answered)
+    let are_answered = are_answered(alloc, store, calls);
+    is_installed(store, filled, outcome) && are_answered
 }
 
 /// Whether a step goes as it is to.
-fn is_made<D: Disk>(alloc: Global, store: &mut Store<D>, step: &Step) -> Result<bool, Fail> {
+fn is_made<D: Disk>(alloc: Global, store: &mut Store<D>, step: &Step) -> bool {
     match step {
         Step::Calls(calls) => are_answered(alloc, store, calls),
         Step::Fill(task, calls, outcome) => fills_across(alloc, store, task, calls, *outcome),
@@ -44,35 +43,35 @@ pub(crate) fn other_step<D: Disk>(
     alloc: Global,
     store: &mut Store<D>,
     steps: &[Step],
-) -> Result<Option<usize>, Fail> {
+) -> Option<usize> {
     let mut place = 0usize;
     for step in steps {
-        if !is_made(alloc, store, step)? {
-            return Ok(Some(place));
+        if !is_made(alloc, store, step) {
+            return Some(place);
         }
         place = place.saturating_add(1);
     }
-    Ok(None)
+    None
 }
 
-/// The same of a store that is given up, and its disk.
-fn of_store<D: Disk + Drop>(
+/// The same of a store that is given up, and its disk. Without a store it is the first.
+fn of_store<D: Disk>(
     alloc: Global,
-    store: Store<D>,
+    store: Result<Store<D>, D>,
     steps: &[Step],
-) -> Result<(Option<usize>, D), Fail> {
-    let mut store = store;
-    let other = other_step(alloc, &mut store, steps)?;
-    Ok((other, store.into_disk()))
+) -> (Option<usize>, D) {
+    match store {
+        Ok(mut store) => {
+            let other = other_step(alloc, &mut store, steps);
+            (other, store.into_disk())
+        }
+        Err(disk) => (Some(0), disk),
+    }
 }
 
 /// The same of a new archive.
-pub(crate) fn of_new<D: Disk + Drop>(
-    alloc: Global,
-    disk: D,
-    steps: &[Step],
-) -> Result<(Option<usize>, D), Fail> {
-    of_store(alloc, created(alloc, disk)?, steps)
+pub(crate) fn of_new<D: Disk>(alloc: Global, disk: D, steps: &[Step]) -> (Option<usize>, D) {
+    of_store(alloc, created(alloc, disk), steps)
 }
 
 /// The same, and the disk is given up too.
@@ -80,21 +79,14 @@ pub(crate) fn other_of_new<D: Disk + Drop>(
     alloc: Global,
     disk: D,
     steps: &[Step],
-) -> Result<Option<usize>, Fail> {
-    let (other, _disk) = of_new(alloc, disk, steps)?;
-    Ok(other)
+) -> Option<usize> {
+    let (other, _disk) = of_new(alloc, disk, steps);
+    other
 }
 
 /// The place of the first of these steps of the archive of a disk that goes otherwise, and the disk.
-pub(crate) fn of_opened<D: Disk + Drop>(
-    alloc: Global,
-    disk: D,
-    steps: &[Step],
-) -> Result<(Option<usize>, D), Fail> {
-    match opened(alloc, disk) {
-        Ok(store) => of_store(alloc, store, steps),
-        Err(refusal) => Err(Fail::from(text_of(&refusal))),
-    }
+pub(crate) fn of_opened<D: Disk>(alloc: Global, disk: D, steps: &[Step]) -> (Option<usize>, D) {
+    of_store(alloc, opened(alloc, disk), steps)
 }
 
 /// The same, and the disk is given up too.
@@ -102,7 +94,7 @@ pub(crate) fn other_of_opened<D: Disk + Drop>(
     alloc: Global,
     disk: D,
     steps: &[Step],
-) -> Result<Option<usize>, Fail> {
-    let (other, _disk) = of_opened(alloc, disk, steps)?;
-    Ok(other)
+) -> Option<usize> {
+    let (other, _disk) = of_opened(alloc, disk, steps);
+    other
 }

@@ -4,8 +4,8 @@ ghost use Rattle.arch_disk.specs.Image.{Image};
 ghost use Rattle.arch_disk.specs.Disk.{raised};
 ghost use Rattle.history_items.specs.Fills.{pending_fault_of};
 ghost use Rattle.archive_store.specs.Batches.{IsBatch};
-ghost use Rattle.archive_store.specs.StoreView.{archive_of};
-ghost use Rattle.archive_store.specs.Stands.{StandsFor};
+ghost use Rattle.archive_store.specs.StoreView.{filled_of};
+ghost use Rattle.archive_store.specs.Stands.{StandsFilled};
 
 use crate::parts::{batch, created, head};
 use crate::steps::{Step, of_new, other_answer};
@@ -15,13 +15,14 @@ use archive_store::{Batch, Store};
 use std::alloc::Global;
 use std::test::Fail;
 
-/// An ingest, and a reopen where it is refused. With fewer than two faults every image stands for the history that is reached.
+/// An ingest, and a reopen where it is refused. With fewer than two faults every image stands for the history that is
+/// reached, with its fills.
 fn ingest_and_reopen<D: Disk>(alloc: Global, store: &mut Store<D>, batch: &Batch)
     requires batch { IsBatch store.old.head batch.now }
     requires healed { pending_fault_of store.old.fills ≡ None }
     ensures { IsTrue D.device.is_transparent
         → D.device.fault_count store.new.disk < raised (raised (D.device.fault_count store.old.disk))
-        → (c : Image) → D.device.images store.new.disk c → StandsFor c (archive_of store.new) }
+        → (c : Image) → D.device.images store.new.disk c → StandsFilled c (filled_of store.new) }
 {
     match store.ingest(alloc, batch) {
         // It tells the proof what the type keeps.

@@ -1,8 +1,8 @@
 //! What the files of a disk hold, and the calls on them that fail.
 
-use crate::folders::{absent, fresh, has_octets, inside, write_file};
+use crate::folders::{clear, has_octets, is_there, make, make_anew, take_away, write_file};
 use crate::steps::{MANY, Step, fails_where_gone, kept_many, other_on};
-use std::fs;
+use std::io;
 use std::test::Fail;
 
 const FIRST_WRITE: &[Step] = &[
@@ -25,14 +25,15 @@ fn no_write() -> &'static [Step] {
 
 #[test]
 fn makes_its_folders_at_the_first_write(rt: HostRuntime) -> Result<(), Fail> {
-    let top = absent(&rt, "outer_real_folders")?;
-    let path = inside(&rt, top.as_str(), "a/b")?;
-    assert_eq!(rt; other_on(&rt, path.as_str(), no_write())?, None);
-    assert!(rt; !fs::exists(&rt, top.as_str())?);
-    assert_eq!(rt; other_on(&rt, path.as_str(), first_write())?, None);
-    assert!(rt; has_octets(&rt, path.as_str(), "00000012", b"ab")?);
-    fs::remove_dir_all(&rt, top.as_str())?;
-    Ok(())
+    clear(&rt, "outer_real_folders")?;
+    assert_eq!(rt; other_on(&rt, "outer_real_folders/a/b", no_write())?, None);
+    assert!(rt; !is_there(&rt, "outer_real_folders")?);
+    assert_eq!(rt;
+        other_on(&rt, "outer_real_folders/a/b", first_write())?,
+        None
+    );
+    assert!(rt; has_octets(&rt, "outer_real_folders/a/b/00000012", b"ab")?);
+    Ok(take_away(&rt, "outer_real_folders")?)
 }
 
 /// What file 1 holds, calls of a disk, and what the file holds then, where it is looked at. It isn't there where it holds nothing.
@@ -73,28 +74,37 @@ fn calls_of_file_1() -> &'static [Calls] {
     CALLS
 }
 
-/// Whether a disk over a folder with file 1 answers so.
-fn is_so(rt: &HostRuntime, path: &str, calls: &Calls) -> Result<bool, Fail> {
-    let (before, steps, after) = *calls;
-    if !before.is_empty() {
-        write_file(rt, path, "00000001", before)?;
+/// A folder in which file 1 holds these octets, and isn't there where they are none.
+fn make_with(rt: &HostRuntime, octets: &[u8]) -> io::Result<()> {
+    make_anew(rt, "outer_real_calls")?;
+    if octets.is_empty() {
+        return Ok(());
     }
-    let other = other_on(rt, path, steps)?;
-    let is_held = match after {
-        Some(octets) => has_octets(rt, path, "00000001", octets)?,
-        None => true,
-    };
-    Ok(other.is_none() && is_held)
+    write_file(rt, "outer_real_calls/00000001", octets)
+}
+
+/// Whether file 1 holds these octets, where it is looked at.
+fn is_held(rt: &HostRuntime, octets: Option<&[u8]>) -> io::Result<bool> {
+    match octets {
+        Some(octets) => has_octets(rt, "outer_real_calls/00000001", octets),
+        None => Ok(true),
+    }
+}
+
+/// Whether a disk over a folder with file 1 answers so.
+fn is_so(rt: &HostRuntime, calls: &Calls) -> io::Result<bool> {
+    let (before, steps, after) = *calls;
+    make_with(rt, before)?;
+    let other = other_on(rt, "outer_real_calls", steps)?;
+    Ok(other.is_none() && is_held(rt, after)?)
 }
 
 #[test]
 fn writes_cuts_and_reads(rt: HostRuntime) -> Result<(), Fail> {
     for calls in calls_of_file_1() {
-        let path = fresh(&rt, "outer_real_calls")?;
-        assert!(rt; is_so(&rt, path.as_str(), calls)?);
-        fs::remove_dir_all(&rt, path.as_str())?;
+        assert!(rt; is_so(&rt, calls)?);
     }
-    Ok(())
+    Ok(take_away(&rt, "outer_real_calls")?)
 }
 
 const EMPTY: &[Step] = &[Step::Len(0, Some(0)), Step::Read(0, 0, None)];
@@ -105,8 +115,8 @@ fn empty() -> &'static [Step] {
 
 #[test]
 fn file_that_is_not_there_is_empty(rt: HostRuntime) -> Result<(), Fail> {
-    let path = absent(&rt, "outer_real_absent")?;
-    assert_eq!(rt; other_on(&rt, path.as_str(), empty())?, None);
+    clear(&rt, "outer_real_absent")?;
+    assert_eq!(rt; other_on(&rt, "outer_real_absent", empty())?, None);
     Ok(())
 }
 
@@ -126,44 +136,44 @@ pub(crate) fn failures() -> &'static [Step] {
 
 #[test]
 fn folder_in_a_files_place_fails_every_call(rt: HostRuntime) -> Result<(), Fail> {
-    let path = fresh(&rt, "outer_real_folder")?;
-    fs::create_dir(&rt, inside(&rt, path.as_str(), "00000000")?)?;
-    assert_eq!(rt; other_on(&rt, path.as_str(), failures())?, None);
-    fs::remove_dir_all(&rt, path.as_str())?;
-    Ok(())
+    make_anew(&rt, "outer_real_folder")?;
+    make(&rt, "outer_real_folder/00000000")?;
+    assert_eq!(rt; other_on(&rt, "outer_real_folder", failures())?, None);
+    Ok(take_away(&rt, "outer_real_folder")?)
 }
 
 #[test]
 fn file_in_the_folders_place_fails_every_call(rt: HostRuntime) -> Result<(), Fail> {
-    let top = fresh(&rt, "outer_real_file")?;
-    write_file(&rt, top.as_str(), "file", b"ab".as_slice())?;
-    let path = inside(&rt, top.as_str(), "file")?;
-    assert_eq!(rt; other_on(&rt, path.as_str(), failures())?, None);
-    assert!(rt; has_octets(&rt, top.as_str(), "file", b"ab")?);
-    fs::remove_dir_all(&rt, top.as_str())?;
-    Ok(())
+    make_anew(&rt, "outer_real_file")?;
+    write_file(&rt, "outer_real_file/file", b"ab")?;
+    assert_eq!(rt; other_on(&rt, "outer_real_file/file", failures())?, None);
+    assert!(rt; has_octets(&rt, "outer_real_file/file", b"ab")?);
+    Ok(take_away(&rt, "outer_real_file")?)
 }
 
 #[test]
 fn many_files_in_turn(rt: HostRuntime) -> Result<(), Fail> {
-    let path = fresh(&rt, "outer_real_many")?;
-    assert_eq!(rt; kept_many(&rt, path.as_str(), true)?, (MANY, true, MANY));
-    fs::remove_dir_all(&rt, path.as_str())?;
-    Ok(())
+    make_anew(&rt, "outer_real_many")?;
+    assert_eq!(rt;
+        kept_many(&rt, "outer_real_many", true)?,
+        (MANY, true, MANY)
+    );
+    Ok(take_away(&rt, "outer_real_many")?)
 }
 
 #[test]
 fn many_files_that_are_closed_unsynced(rt: HostRuntime) -> Result<(), Fail> {
-    let path = fresh(&rt, "outer_real_unsynced")?;
-    assert_eq!(rt; kept_many(&rt, path.as_str(), false)?, (MANY, true, MANY));
-    fs::remove_dir_all(&rt, path.as_str())?;
-    Ok(())
+    make_anew(&rt, "outer_real_unsynced")?;
+    assert_eq!(rt;
+        kept_many(&rt, "outer_real_unsynced", false)?,
+        (MANY, true, MANY)
+    );
+    Ok(take_away(&rt, "outer_real_unsynced")?)
 }
 
 #[test]
 fn file_that_is_gone_when_opened_again_fails(rt: HostRuntime) -> Result<(), Fail> {
-    let path = fresh(&rt, "outer_real_gone")?;
-    assert!(rt; fails_where_gone(&rt, path.as_str())?);
-    fs::remove_dir_all(&rt, path.as_str())?;
-    Ok(())
+    make_anew(&rt, "outer_real_gone")?;
+    assert_eq!(rt; fails_where_gone(&rt)?, (MANY, true));
+    Ok(take_away(&rt, "outer_real_gone")?)
 }

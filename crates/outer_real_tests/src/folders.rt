@@ -1,43 +1,52 @@
-//! Folders and files of the tests.
+//! Folders and files of the tests, each by its name in the system's place for such: so no test owns a path.
 
-use std::alloc::AllocError;
 use std::{env, fs, io};
 
-/// The path of a file in a folder.
-pub(crate) fn inside(rt: &HostRuntime, folder: &str, name: &str) -> Result<String, AllocError> {
-    format!(in rt.alloc(); "{folder}/{name}")
+/// The path of a name.
+pub(crate) fn path_of(rt: &HostRuntime, name: &str) -> io::Result<String> {
+    let top = env::temp_dir(rt)?;
+    let top = top.as_str();
+    Ok(format!(in rt.alloc(); "{top}/{name}")?)
 }
 
-/// The path of a folder that isn't there, in the system's place for such.
-pub(crate) fn absent(rt: &HostRuntime, name: &str) -> io::Result<String> {
-    let path = inside(rt, env::temp_dir(rt)?.as_str(), name)?;
-    let _ = fs::remove_dir_all(rt, path.as_str());
-    Ok(path)
+/// Takes away what stands in the place of a folder, if anything does.
+pub(crate) fn clear(rt: &HostRuntime, folder: &str) -> io::Result<()> {
+    let _ = fs::remove_dir_all(rt, path_of(rt, folder)?);
+    Ok(())
 }
 
-/// The path of a new folder.
-pub(crate) fn fresh(rt: &HostRuntime, name: &str) -> io::Result<String> {
-    let path = absent(rt, name)?;
-    fs::create_dir(rt, path.as_str())?;
-    Ok(path)
+/// Makes a folder.
+pub(crate) fn make(rt: &HostRuntime, folder: &str) -> io::Result<()> {
+    fs::create_dir(rt, path_of(rt, folder)?)
 }
 
-/// A new file of these octets in a folder.
-pub(crate) fn write_file(
-    rt: &HostRuntime,
-    folder: &str,
-    name: &str,
-    octets: &[u8],
-) -> io::Result<()> {
-    fs::write(rt, inside(rt, folder, name)?, octets)
+/// Makes a folder in which nothing stands.
+pub(crate) fn make_anew(rt: &HostRuntime, folder: &str) -> io::Result<()> {
+    clear(rt, folder)?;
+    make(rt, folder)
 }
 
-/// Whether a file in a folder has these octets.
-pub(crate) fn has_octets(
-    rt: &HostRuntime,
-    folder: &str,
-    name: &str,
-    octets: &[u8],
-) -> io::Result<bool> {
-    Ok(fs::read(rt, inside(rt, folder, name)?)?.as_slice() == octets)
+/// Takes away a folder that is there.
+pub(crate) fn take_away(rt: &HostRuntime, folder: &str) -> io::Result<()> {
+    fs::remove_dir_all(rt, path_of(rt, folder)?)
+}
+
+/// Takes away a file that is there.
+pub(crate) fn take_file_away(rt: &HostRuntime, name: &str) -> io::Result<()> {
+    fs::remove_file(rt, path_of(rt, name)?)
+}
+
+/// A new file of these octets.
+pub(crate) fn write_file(rt: &HostRuntime, name: &str, octets: &[u8]) -> io::Result<()> {
+    fs::write(rt, path_of(rt, name)?, octets)
+}
+
+/// Whether a file has these octets.
+pub(crate) fn has_octets(rt: &HostRuntime, name: &str, octets: &[u8]) -> io::Result<bool> {
+    Ok(fs::read(rt, path_of(rt, name)?)?.as_slice() == octets)
+}
+
+/// Whether something has a name.
+pub(crate) fn is_there(rt: &HostRuntime, name: &str) -> io::Result<bool> {
+    fs::exists(rt, path_of(rt, name)?)
 }

@@ -1,9 +1,10 @@
 //! Two programs on one folder: two disks, since a lock belongs to the handle that took it.
 
 use crate::disk_tests::failures;
-use crate::folders::{fresh, has_octets, inside, write_file};
-use crate::steps::{Step, leaves_anothers, other_beside_many, other_on, other_on_two};
+use crate::folders::{has_octets, make_anew, path_of, take_away, write_file};
+use crate::steps::{MANY, Step, leaves_anothers, other_beside_many, other_on, other_on_two};
 use std::fs::{self, File, Permissions};
+use std::io;
 use std::os::unix::fs::PermissionsExt;
 use std::test::Fail;
 
@@ -28,72 +29,74 @@ fn locked() -> &'static [Step] {
 
 #[test]
 fn second_disk_fails_every_call(rt: HostRuntime) -> Result<(), Fail> {
-    let path = fresh(&rt, "outer_real_second")?;
-    write_file(&rt, path.as_str(), "00000000", b"ab".as_slice())?;
-    let others = other_on_two(&rt, path.as_str(), two_octets(), failures())?;
+    make_anew(&rt, "outer_real_second")?;
+    write_file(&rt, "outer_real_second/00000000", b"ab")?;
+    let others = other_on_two(&rt, "outer_real_second", two_octets(), failures())?;
     assert_eq!(rt; others, [None; 2]);
-    assert!(rt; has_octets(&rt, path.as_str(), "00000000", b"ab")?);
-    fs::remove_dir_all(&rt, path.as_str())?;
-    Ok(())
+    assert!(rt; has_octets(&rt, "outer_real_second/00000000", b"ab")?);
+    Ok(take_away(&rt, "outer_real_second")?)
 }
 
 #[test]
 fn new_file_is_locked(rt: HostRuntime) -> Result<(), Fail> {
-    let path = fresh(&rt, "outer_real_new")?;
-    let others = other_on_two(&rt, path.as_str(), write(), locked())?;
+    make_anew(&rt, "outer_real_new")?;
+    let others = other_on_two(&rt, "outer_real_new", write(), locked())?;
     assert_eq!(rt; others, [None; 2]);
-    fs::remove_dir_all(&rt, path.as_str())?;
-    Ok(())
+    Ok(take_away(&rt, "outer_real_new")?)
 }
 
 #[test]
 fn lock_goes_with_its_disk(rt: HostRuntime) -> Result<(), Fail> {
-    let path = fresh(&rt, "outer_real_free")?;
-    assert_eq!(rt; other_on(&rt, path.as_str(), write())?, None);
-    assert_eq!(rt; other_on(&rt, path.as_str(), two_octets())?, None);
-    fs::remove_dir_all(&rt, path.as_str())?;
-    Ok(())
+    make_anew(&rt, "outer_real_free")?;
+    for steps in [write(), two_octets()] {
+        assert_eq!(rt; other_on(&rt, "outer_real_free", steps)?, None);
+    }
+    Ok(take_away(&rt, "outer_real_free")?)
 }
 
 #[test]
 fn file_made_by_another_is_not_written(rt: HostRuntime) -> Result<(), Fail> {
-    let path = fresh(&rt, "outer_real_other")?;
-    assert!(rt; leaves_anothers(&rt, path.as_str())?);
-    assert!(rt; has_octets(&rt, path.as_str(), "00000000", b"other")?);
-    fs::remove_dir_all(&rt, path.as_str())?;
-    Ok(())
+    make_anew(&rt, "outer_real_other")?;
+    assert_eq!(rt; leaves_anothers(&rt)?, (Some(0), true));
+    assert!(rt; has_octets(&rt, "outer_real_other/00000000", b"other")?);
+    Ok(take_away(&rt, "outer_real_other")?)
 }
 
 #[test]
 fn file_0_stays_locked(rt: HostRuntime) -> Result<(), Fail> {
-    let path = fresh(&rt, "outer_real_zero")?;
-    assert_eq!(rt; other_beside_many(&rt, path.as_str(), locked())?, None);
-    fs::remove_dir_all(&rt, path.as_str())?;
-    Ok(())
+    make_anew(&rt, "outer_real_zero")?;
+    let others = other_beside_many(&rt, "outer_real_zero", locked())?;
+    assert_eq!(rt; others, (MANY, None));
+    Ok(take_away(&rt, "outer_real_zero")?)
+}
+
+/// The path of file 0 in a folder.
+fn file_0_of(rt: &HostRuntime, folder: &str) -> io::Result<String> {
+    let path = path_of(rt, folder)?;
+    let path = path.as_str();
+    Ok(format!(in rt.alloc(); "{path}/00000000")?)
 }
 
 /// A file that may be read and not written, and the folder about it likewise.
-fn make_read_only(rt: &HostRuntime, path: &str) -> Result<(), Fail> {
-    write_file(rt, path, "00000000", b"ab".as_slice())?;
-    let file = inside(rt, path, "00000000")?;
-    fs::set_permissions(rt, file, Permissions::from_mode(0o444))?;
-    fs::set_permissions(rt, path, Permissions::from_mode(0o555))?;
-    Ok(())
+fn make_read_only(rt: &HostRuntime, folder: &str) -> io::Result<()> {
+    make_anew(rt, folder)?;
+    fs::write(rt, file_0_of(rt, folder)?, b"ab".as_slice())?;
+    fs::set_permissions(rt, file_0_of(rt, folder)?, Permissions::from_mode(0o444))?;
+    fs::set_permissions(rt, path_of(rt, folder)?, Permissions::from_mode(0o555))
 }
 
 /// Whether this process may write it none the less, as root may.
-fn may_write(rt: &HostRuntime, path: &str) -> Result<bool, Fail> {
-    let file = inside(rt, path, "00000000")?;
+fn may_write(rt: &HostRuntime, folder: &str) -> io::Result<bool> {
+    let file = file_0_of(rt, folder)?;
     let mut to_write = File::options();
     to_write.write(true);
     Ok(to_write.open(rt, file).is_ok())
 }
 
 /// Takes away a folder of a file that may only be read.
-fn take_away(rt: &HostRuntime, path: &str) -> Result<(), Fail> {
-    fs::set_permissions(rt, path, Permissions::from_mode(0o755))?;
-    fs::remove_dir_all(rt, path)?;
-    Ok(())
+fn take_read_only_away(rt: &HostRuntime, folder: &str) -> io::Result<()> {
+    fs::set_permissions(rt, path_of(rt, folder)?, Permissions::from_mode(0o755))?;
+    take_away(rt, folder)
 }
 
 const READ: &[Step] = &[Step::Sync(0, true), Step::Read(0, 0, Some([b'a', b'b']))];
@@ -118,27 +121,24 @@ fn shared_where(may_write: bool) -> &'static [Step] {
 
 #[test]
 fn read_only_file_is_read_and_synced(rt: HostRuntime) -> Result<(), Fail> {
-    let path = fresh(&rt, "outer_real_read_only")?;
-    make_read_only(&rt, path.as_str())?;
-    assert_eq!(rt; other_on(&rt, path.as_str(), read())?, None);
-    take_away(&rt, path.as_str())
+    make_read_only(&rt, "outer_real_read_only")?;
+    assert_eq!(rt; other_on(&rt, "outer_real_read_only", read())?, None);
+    Ok(take_read_only_away(&rt, "outer_real_read_only")?)
 }
 
 #[test]
 fn read_only_file_is_not_written(rt: HostRuntime) -> Result<(), Fail> {
-    let path = fresh(&rt, "outer_real_unwritten")?;
-    make_read_only(&rt, path.as_str())?;
-    let steps = written_where(may_write(&rt, path.as_str())?);
-    assert_eq!(rt; other_on(&rt, path.as_str(), steps)?, None);
-    take_away(&rt, path.as_str())
+    make_read_only(&rt, "outer_real_unwritten")?;
+    let steps = written_where(may_write(&rt, "outer_real_unwritten")?);
+    assert_eq!(rt; other_on(&rt, "outer_real_unwritten", steps)?, None);
+    Ok(take_read_only_away(&rt, "outer_real_unwritten")?)
 }
 
 #[test]
 fn readers_of_a_read_only_file_share_it(rt: HostRuntime) -> Result<(), Fail> {
-    let path = fresh(&rt, "outer_real_shared")?;
-    make_read_only(&rt, path.as_str())?;
-    let steps = shared_where(may_write(&rt, path.as_str())?);
-    let others = other_on_two(&rt, path.as_str(), two_octets(), steps)?;
+    make_read_only(&rt, "outer_real_shared")?;
+    let steps = shared_where(may_write(&rt, "outer_real_shared")?);
+    let others = other_on_two(&rt, "outer_real_shared", two_octets(), steps)?;
     assert_eq!(rt; others, [None; 2]);
-    take_away(&rt, path.as_str())
+    Ok(take_read_only_away(&rt, "outer_real_shared")?)
 }

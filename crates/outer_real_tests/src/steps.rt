@@ -2,10 +2,9 @@
 //!
 //! Only the functions at the end own a disk: a test that owns one leaves it at each `?` and each assertion, and that costs seconds to prove each time.
 
-use crate::folders::{inside, write_file};
+use crate::folders::{path_of, take_file_away, write_file};
 use arch_disk::Disk;
 use outer_real::RealDisk;
-use std::alloc::AllocError;
 use std::marker::Send;
 use std::{fs, io};
 
@@ -95,72 +94,78 @@ fn carried<T: Send>(value: T) -> T {
     value
 }
 
-fn disk_in<'a>(rt: &'a HostRuntime, path: &str) -> Result<RealDisk<'a, HostRuntime>, AllocError> {
-    let path = String::from_str(rt.alloc(), path)?;
+fn disk_in<'a>(rt: &'a HostRuntime, folder: &str) -> io::Result<RealDisk<'a, HostRuntime>> {
+    let path = path_of(rt, folder)?;
     Ok(carried(RealDisk::new(rt.alloc(), rt, path)))
 }
 
 /// The place of the first of these calls that a new disk over a folder answers otherwise.
 pub(crate) fn other_on(
     rt: &HostRuntime,
-    path: &str,
+    folder: &str,
     steps: &[Step],
-) -> Result<Option<usize>, AllocError> {
-    let mut disk = disk_in(rt, path)?;
+) -> io::Result<Option<usize>> {
+    let mut disk = disk_in(rt, folder)?;
     Ok(other_answer(&mut disk, steps))
 }
 
 /// The same of two disks over one folder, as two programs would have them: the second is called while the first still stands.
 pub(crate) fn other_on_two(
     rt: &HostRuntime,
-    path: &str,
+    folder: &str,
     first: &[Step],
     second: &[Step],
-) -> Result<[Option<usize>; 2], AllocError> {
-    let mut one = disk_in(rt, path)?;
-    let mut two = disk_in(rt, path)?;
-    let first = other_answer(&mut one, first);
-    Ok([first, other_answer(&mut two, second)])
+) -> io::Result<[Option<usize>; 2]> {
+    let mut disk = disk_in(rt, folder)?;
+    let first = other_answer(&mut disk, first);
+    Ok([first, other_on(rt, folder, second)?])
 }
 
 /// How many files a disk wrote, whether then file 1 is synced, and how many hold their numbers.
 pub(crate) fn kept_many(
     rt: &HostRuntime,
-    path: &str,
+    folder: &str,
     are_synced: bool,
-) -> Result<(u16, bool, u16), AllocError> {
-    let mut disk = disk_in(rt, path)?;
+) -> io::Result<(u16, bool, u16)> {
+    let mut disk = disk_in(rt, folder)?;
     let written = write_many(&mut disk, are_synced);
     let is_synced = disk.sync(1).is_ok();
     Ok((written, is_synced, read_many(&mut disk)))
 }
 
-/// Writes many files by a disk, and then answers the place of the first call that another one answers otherwise.
+/// How many files a disk wrote, and the place of the first call that another one beside it answers otherwise.
 pub(crate) fn other_beside_many(
     rt: &HostRuntime,
-    path: &str,
+    folder: &str,
     steps: &[Step],
-) -> Result<Option<usize>, AllocError> {
-    let mut one = disk_in(rt, path)?;
-    let mut two = disk_in(rt, path)?;
-    if write_many(&mut one, false) < MANY {
-        return Ok(Some(usize::MAX));
-    }
-    Ok(other_answer(&mut two, steps))
+) -> io::Result<(u16, Option<usize>)> {
+    let mut disk = disk_in(rt, folder)?;
+    let written = write_many(&mut disk, false);
+    Ok((written, other_on(rt, folder, steps)?))
 }
 
-/// Whether a disk that wrote many files fails to open one of them again that was taken away since it was closed.
-pub(crate) fn fails_where_gone(rt: &HostRuntime, path: &str) -> io::Result<bool> {
-    let mut disk = disk_in(rt, path)?;
-    let are_written = write_many(&mut disk, false) == MANY;
-    fs::remove_file(rt, inside(rt, path, "00000001")?)?;
-    Ok(are_written && disk.len(1).is_err())
+/// Whether a disk fails to open a file again that is taken away after it was closed.
+fn fails_without(rt: &HostRuntime, disk: &mut RealDisk<'_, HostRuntime>) -> io::Result<bool> {
+    take_file_away(rt, "outer_real_gone/00000001")?;
+    Ok(disk.len(1).is_err())
 }
 
-/// Whether a disk that found no file 0 leaves one alone that another program made since then.
-pub(crate) fn leaves_anothers(rt: &HostRuntime, path: &str) -> io::Result<bool> {
-    let mut disk = disk_in(rt, path)?;
-    let is_empty = disk.len(0).ok() == Some(0);
-    write_file(rt, path, "00000000", b"other".as_slice())?;
-    Ok(is_empty && !writes(&mut disk, 0, 0, b"ab"))
+/// How many files a disk wrote, and whether it fails to open one of them again that was taken away since it was closed.
+pub(crate) fn fails_where_gone(rt: &HostRuntime) -> io::Result<(u16, bool)> {
+    let mut disk = disk_in(rt, "outer_real_gone")?;
+    let written = write_many(&mut disk, false);
+    Ok((written, fails_without(rt, &mut disk)?))
+}
+
+/// Whether a disk leaves a file alone that another program makes.
+fn leaves_alone(rt: &HostRuntime, disk: &mut RealDisk<'_, HostRuntime>) -> io::Result<bool> {
+    write_file(rt, "outer_real_other/00000000", b"other")?;
+    Ok(!writes(disk, 0, 0, b"ab"))
+}
+
+/// The length of file 0, which isn't there, and whether it is left alone where another program makes it then.
+pub(crate) fn leaves_anothers(rt: &HostRuntime) -> io::Result<(Option<u64>, bool)> {
+    let mut disk = disk_in(rt, "outer_real_other")?;
+    let len = disk.len(0).ok();
+    Ok((len, leaves_alone(rt, &mut disk)?))
 }

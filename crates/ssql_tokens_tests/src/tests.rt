@@ -1,13 +1,15 @@
 //! Texts as tables. The tokens were found by regular expressions, apart from the program.
 
 use arch_types::octets::Octets;
-use ssql_tokens::{NotTokens, Symbol, Token, tokens_of};
+use ssql_tokens::{NotTokens, ScriptTokens, Symbol, Token, tokens_of};
 use std::alloc::{AllocError, Global};
 use std::test::Fail;
 
-/// Texts, with their tokens as a line: each behind its octet, columns with a `.`, names with a `$`, numbers with a `#`, and strings with
-/// a quote.
-const TEXTS: [(&[u8], &str); 30] = [
+/// A text, and its tokens as a line: each behind its octet, columns with a `.`, names with a `$`, numbers with a `#`, and strings with a
+/// quote.
+type Text = (&'static [u8], &'static str);
+
+const TEXTS: &[Text] = &[
     (b"", ""),
     (b" \t\r\n", ""),
     (b"-- only a comment", ""),
@@ -64,8 +66,15 @@ const TEXTS: [(&[u8], &str); 30] = [
     (b"'~ \"'", "0:'~ \""),
 ];
 
-/// Texts that stop being tokens, with the octet.
-const NO_TOKENS: [(&[u8], u32); 20] = [
+// The tables stand behind functions, so that they stand in no goal of their callers.
+fn all_texts() -> &'static [Text] {
+    TEXTS
+}
+
+/// A text that stops being tokens, and the octet.
+type NoTokens = (&'static [u8], u32);
+
+const NO_TOKENS: &[NoTokens] = &[
     (b"'a''b", 3),
     (b"'''", 2),
     (b"'a", 0),
@@ -88,84 +97,123 @@ const NO_TOKENS: [(&[u8], u32); 20] = [
     (b"a/b", 1),
 ];
 
-/// A token behind what says its kind.
-fn marked(alloc: Global, token: &Token) -> Result<Vec<u8>, AllocError> {
-    let (mark, octets): (&str, &[u8]) = match token {
+fn all_stops() -> &'static [NoTokens] {
+    NO_TOKENS
+}
+
+/// What says a token's kind, and its text.
+fn marked(token: &Token) -> (&'static str, &[u8]) {
+    match token {
         Token::Symbol(symbol) => ("", symbol.text().as_bytes()),
         Token::Column(column) => (".", column.text().as_bytes()),
         Token::Operator(operator) => ("", operator.text().as_bytes()),
         Token::Name(name) => ("$", name.as_slice()),
         Token::Number(number) => ("#", number.as_slice()),
         Token::Quoted(octets) => ("'", octets.as_slice()),
-    };
-    let mut text = Vec::from_slice(alloc, mark.as_bytes())?;
-    text.extend_from_slice(octets)?;
-    Ok(text)
+    }
 }
 
-/// The tokens of a text as a line, or the octet at which none begins.
-fn line(alloc: Global, text: &[u8]) -> Result<Result<Vec<u8>, u32>, AllocError> {
-    let found = match tokens_of(alloc, &Octets::from_slice(alloc, text)?) {
-        Ok(found) => found,
-        Err(NotTokens::NoToken(at)) => return Ok(Err(at)),
-        Err(NotTokens::OutOfMemory) => return Err(AllocError),
-    };
-    let mut line = Vec::new(alloc);
-    for (token, place) in found.tokens.as_slice().iter().zip(found.places.as_slice()) {
-        let before = if line.is_empty() { "" } else { " " };
-        line.extend_from_slice(format!(in alloc; "{before}{place}:")?.as_bytes())?;
-        line.extend_from_slice(marked(alloc, token)?.as_slice())?;
-    }
-    Ok(Ok(line))
-}
-
-#[test]
-fn texts(rt: HostRuntime) -> Result<(), Fail> {
-    for (text, want) in TEXTS {
-        match line(rt.alloc(), text)? {
-            Ok(found) => assert_eq!(rt; found.as_slice(), want.as_bytes(), "{want}"),
-            Err(at) => assert_eq!(rt; Some(at), None, "{want}"),
-        }
-    }
-    for (text, want) in NO_TOKENS {
-        match line(rt.alloc(), text)? {
-            Ok(_) => assert_eq!(rt; None, Some(want)),
-            Err(at) => assert_eq!(rt; at, want),
-        }
-    }
+/// Adds the octet at which a token begins.
+fn add_place(alloc: Global, line: &mut Vec<u8>, place: u32) -> Result<(), AllocError> {
+    let before = if line.is_empty() { "" } else { " " };
+    let text = format!(in alloc; "{before}{place}:")?;
+    line.extend_from_slice(text.as_bytes())?;
     Ok(())
 }
 
-/// How many tokens so many quotes are, or the octet at which none begins.
-fn quotes(alloc: Global, count: usize) -> Result<Result<usize, u32>, AllocError> {
-    let mut text = Vec::new(alloc);
-    for _ in 0..count {
-        text.push(b'\'')?;
+/// Adds a token behind what says its kind.
+fn add_token(line: &mut Vec<u8>, token: &Token) -> Result<(), AllocError> {
+    let (mark, octets) = marked(token);
+    line.extend_from_slice(mark.as_bytes())?;
+    line.extend_from_slice(octets)?;
+    Ok(())
+}
+
+/// Tokens as a line.
+fn line_of(alloc: Global, found: &ScriptTokens) -> Result<Vec<u8>, AllocError> {
+    let mut line = Vec::new(alloc);
+    for (token, place) in found.tokens.as_slice().iter().zip(found.places.as_slice()) {
+        add_place(alloc, &mut line, *place)?;
+        add_token(&mut line, token)?;
     }
-    match tokens_of(alloc, &Octets::from_vec(alloc, text)?) {
-        Ok(found) => Ok(Ok(found.tokens.len())),
-        Err(NotTokens::NoToken(at)) => Ok(Err(at)),
+    Ok(line)
+}
+
+/// The tokens of a text.
+fn found_in(alloc: Global, text: &[u8]) -> Result<ScriptTokens, NotTokens> {
+    match Octets::from_slice(alloc, text) {
+        Ok(octets) => tokens_of(alloc, &octets),
+        Err(_) => Err(NotTokens::OutOfMemory),
+    }
+}
+
+/// Whether a text is tokens, and these are this line.
+fn is_line(alloc: Global, text: &[u8], want: &[u8]) -> Result<bool, AllocError> {
+    match found_in(alloc, text) {
+        Ok(found) => Ok(line_of(alloc, &found)?.as_slice() == want),
+        Err(NotTokens::NoToken(_)) => Ok(false),
         Err(NotTokens::OutOfMemory) => Err(AllocError),
     }
 }
 
-#[test]
-fn runs_of_quotes(rt: HostRuntime) -> Result<(), Fail> {
-    for (count, want) in [
-        (1, Err(0)),
-        (2, Ok(1)),
-        (3, Err(2)),
-        (4, Ok(1)),
-        (65_535, Err(65_534)),
-        (65_536, Ok(1)),
-    ] {
-        assert_eq!(rt; quotes(rt.alloc(), count)?, want, "{count}");
+/// The line of the first text that isn't so.
+fn other_text(alloc: Global, texts: &[Text]) -> Result<Option<&'static str>, AllocError> {
+    for (text, want) in texts {
+        if !is_line(alloc, text, want.as_bytes())? {
+            return Ok(Some(*want));
+        }
     }
+    Ok(None)
+}
+
+#[test]
+fn texts(rt: HostRuntime) -> Result<(), Fail> {
+    assert_eq!(rt; other_text(rt.alloc(), all_texts())?, None);
     Ok(())
 }
 
-/// The keywords and the columns in small letters, with what a line has for them.
-const WORDS: [(&str, &str); 30] = [
+/// The place of the first text that doesn't stop at its octet.
+fn other_stop(alloc: Global, stops: &[NoTokens]) -> Option<usize> {
+    stops.iter().position(|(text, at)| found_in(alloc, text).err() != Some(NotTokens::NoToken(*at)))
+}
+
+#[test]
+fn texts_that_stop(rt: HostRuntime) {
+    assert_eq!(rt; other_stop(rt.alloc(), all_stops()), None);
+}
+
+/// How many tokens so many quotes are.
+fn quotes(alloc: Global, count: usize) -> Result<usize, NotTokens> {
+    let Ok(text) = vec![in alloc; b'\''; count] else {
+        return Err(NotTokens::OutOfMemory);
+    };
+    let found = found_in(alloc, text.as_slice())?;
+    Ok(found.tokens.len())
+}
+
+#[test]
+fn runs_of_quotes(rt: HostRuntime) {
+    for (count, want) in runs() {
+        assert_eq!(rt; quotes(rt.alloc(), count), want, "{count}");
+    }
+}
+
+/// So many quotes, and how many tokens they are or the octet at which none begins.
+fn runs() -> [(usize, Result<usize, NotTokens>); 6] {
+    [
+        (1, Err(NotTokens::NoToken(0))),
+        (2, Ok(1)),
+        (3, Err(NotTokens::NoToken(2))),
+        (4, Ok(1)),
+        (65_535, Err(NotTokens::NoToken(65_534))),
+        (65_536, Ok(1)),
+    ]
+}
+
+/// A keyword or a column in small letters, and what a line has for it.
+type Word = (&'static str, &'static str);
+
+const WORDS: &[Word] = &[
     ("create", "CREATE"),
     ("table", "TABLE"),
     ("like", "LIKE"),
@@ -198,12 +246,8 @@ const WORDS: [(&str, &str); 30] = [
     ("packet", ".packet"),
 ];
 
-/// Whether a text has this line.
-fn is_line(alloc: Global, text: &[u8], want: &[u8]) -> Result<bool, AllocError> {
-    match line(alloc, text)? {
-        Ok(found) => Ok(found.as_slice() == want),
-        Err(_) => Ok(false),
-    }
+fn all_words() -> &'static [Word] {
+    WORDS
 }
 
 /// A word in capitals.
@@ -215,38 +259,52 @@ fn in_capitals(alloc: Global, word: &str) -> Result<Vec<u8>, AllocError> {
     Ok(capitals)
 }
 
-/// Whether a word is read in small letters and in capitals, and is a name with a letter more.
+/// Whether a word is read in small letters and in capitals.
 fn is_word(alloc: Global, word: &str, want: &str) -> Result<bool, AllocError> {
     let want = format!(in alloc; "0:{want}")?;
     let capitals = in_capitals(alloc, word)?;
-    let longer = format!(in alloc; "{word}x")?;
-    let name = format!(in alloc; "0:${word}x")?;
     let small = is_line(alloc, word.as_bytes(), want.as_bytes())?;
     let large = is_line(alloc, capitals.as_slice(), want.as_bytes())?;
-    let named = is_line(alloc, longer.as_bytes(), name.as_bytes())?;
-    Ok(small && large && named)
+    Ok(small && large)
+}
+
+/// Whether a word with a letter more is a name.
+fn is_name_when_longer(alloc: Global, word: &str) -> Result<bool, AllocError> {
+    let longer = format!(in alloc; "{word}x")?;
+    let name = format!(in alloc; "0:${word}x")?;
+    is_line(alloc, longer.as_bytes(), name.as_bytes())
+}
+
+/// The first word that isn't so.
+fn other_word(alloc: Global, words: &[Word]) -> Result<Option<&'static str>, AllocError> {
+    for (word, want) in words {
+        if !is_word(alloc, word, want)? || !is_name_when_longer(alloc, word)? {
+            return Ok(Some(*word));
+        }
+    }
+    Ok(None)
 }
 
 #[test]
 fn words(rt: HostRuntime) -> Result<(), Fail> {
-    for (word, want) in WORDS {
-        assert_eq!(rt; is_word(rt.alloc(), word, want)?, true, "{word}");
-    }
+    assert_eq!(rt; other_word(rt.alloc(), all_words())?, None);
     Ok(())
+}
+
+/// Whether each token is this symbol and not that one.
+fn are_all(tokens: &[Token], symbol: Symbol, other: Symbol) -> bool {
+    tokens
+        .iter()
+        .all(|token| token.is(symbol) && !token.is(other))
 }
 
 #[test]
 fn symbols(rt: HostRuntime) -> Result<(), Fail> {
-    match tokens_of(rt.alloc(), &Octets::from_slice(rt.alloc(), b"asc")?) {
+    match found_in(rt.alloc(), b"asc") {
         Ok(found) => {
-            for token in found.tokens.as_slice() {
-                assert_eq!(rt;
-                    (token.is(Symbol::Asc), token.is(Symbol::Desc)),
-                    (true, false)
-                );
-            }
+            assert!(rt; are_all(found.tokens.as_slice(), Symbol::Asc, Symbol::Desc));
+            Ok(())
         }
-        Err(fault) => assert_eq!(rt; Some(fault), None),
+        Err(_) => Err(Fail::from("a symbol")),
     }
-    Ok(())
 }
