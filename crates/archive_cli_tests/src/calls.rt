@@ -18,11 +18,11 @@ use std::fmt::Display;
 use std::test::Fail;
 
 /// A file's name and octets.
-pub type NamedFile<'a> = (&'a str, &'a [u8]);
+pub(crate) type NamedFile<'a> = (&'a str, &'a [u8]);
 
 /// What a call finds outside.
 #[derive(Clone, Copy)]
-pub struct Outside<'a> {
+pub(crate) struct Outside<'a> {
     pub files: &'a [NamedFile<'a>],
     /// The reads that fail.
     pub reads: &'a [FailingCall],
@@ -31,7 +31,7 @@ pub struct Outside<'a> {
 }
 
 /// Files whose calls all succeed.
-pub fn files_alone<'a>(files: &'a [NamedFile<'a>]) -> Outside<'a> {
+pub(crate) fn files_alone<'a>(files: &'a [NamedFile<'a>]) -> Outside<'a> {
     Outside {
         files,
         reads: &[],
@@ -110,7 +110,7 @@ fn printed<D: Disk>(alloc: Global, taken: Taken, disk: D) -> (Ended<D>, Vec<u8>)
 }
 
 /// How a call has to end: its status, what it printed, its fault, and the lengths of the history before and after, where an archive was opened.
-pub type Wanted = (u8, &'static str, &'static str, Option<(u64, u64)>);
+pub(crate) type Wanted = (u8, &'static str, &'static str, Option<(u64, u64)>);
 
 /// Whether a report's refusal has this text.
 fn is_fault(alloc: Global, report: &Report, fault: &str) -> bool {
@@ -138,7 +138,7 @@ fn is_wanted<D>(alloc: Global, ended: &Ended<D>, octets: &[u8], want: &Wanted) -
 }
 
 /// Whether a call ends so, and its disk.
-pub fn called<D: Disk>(
+pub(crate) fn called<D: Disk>(
     alloc: Global,
     line: &str,
     outside: &Outside<'_>,
@@ -155,9 +155,21 @@ pub fn called<D: Disk>(
     }
 }
 
+/// Whether a call on a disk with these files ends so. Generic, so that what a disk owns stands in no goal.
+pub(crate) fn ends_so<D: Disk + Drop>(
+    alloc: Global,
+    line: &str,
+    files: &[NamedFile<'_>],
+    disk: D,
+    want: &Wanted,
+) -> bool {
+    let (is_so, _disk) = called(alloc, line, &files_alone(files), disk, want);
+    is_so
+}
+
 /// What came of a call of which nothing is expected yet.
 #[derive(Clone, Copy)]
-pub struct Outcome {
+pub(crate) struct Outcome {
     pub status: u8,
     /// The length of the history afterwards.
     pub after: u64,
@@ -173,7 +185,12 @@ const OUT_OF_MEMORY: Outcome = Outcome {
 };
 
 /// What came of a call, and its disk.
-pub fn call<D: Disk>(alloc: Global, line: &str, outside: &Outside<'_>, disk: D) -> (Outcome, D) {
+pub(crate) fn call<D: Disk>(
+    alloc: Global,
+    line: &str,
+    outside: &Outside<'_>,
+    disk: D,
+) -> (Outcome, D) {
     match taken(alloc, line, outside) {
         Ok(taken) => {
             let (ended, octets) = printed(alloc, taken, disk);
@@ -189,7 +206,7 @@ pub fn call<D: Disk>(alloc: Global, line: &str, outside: &Outside<'_>, disk: D) 
 }
 
 /// Ends a test: with a failure where a row of its table goes otherwise, or a call by its number. In place of an assertion, which costs seconds more to prove.
-pub fn none_other<T: Display + Drop>(other: Option<T>) -> Result<(), Fail> {
+pub(crate) fn none_other<T: Display + Drop>(other: Option<T>) -> Result<(), Fail> {
     match other {
         None => Ok(()),
         Some(place) => Err(Fail::new(place)),
@@ -197,7 +214,7 @@ pub fn none_other<T: Display + Drop>(other: Option<T>) -> Result<(), Fail> {
 }
 
 /// The same of tables that have a name.
-pub fn none_other_of(other: Option<(&'static str, usize)>) -> Result<(), Fail> {
+pub(crate) fn none_other_of(other: Option<(&'static str, usize)>) -> Result<(), Fail> {
     match other {
         None => Ok(()),
         Some((name, place)) => Err(Fail::new(format_args!("{name}: row {place} goes otherwise"))),

@@ -1,4 +1,4 @@
-//! Calls of which a read or a write fails.
+//! Calls of which a read or a write fails, and disks that fail.
 
 use crate::calls::{NamedFile, Outside, call};
 use arch_disk::{Disk, MemDisk};
@@ -68,4 +68,12 @@ pub(crate) fn other_writes(
         place = place.saturating_add(1);
     }
     None
+}
+
+/// A disk whose calls of these numbers fail. Where memory is wanting none does.
+pub(crate) fn failing(alloc: Global, calls: &[u64]) -> MemDisk {
+    match Vec::from_slice(alloc, calls) {
+        Ok(calls) => MemDisk::failing(alloc, calls),
+        Err(_) => MemDisk::new(alloc),
+    }
 }

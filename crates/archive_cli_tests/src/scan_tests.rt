@@ -1,8 +1,8 @@
 //! The text that `scan` prints, the words, and faults of the outside.
 
-use crate::calls::{Wanted, called, files_alone, none_other};
+use crate::calls::{Wanted, ends_so, none_other};
 use crate::faults::{Writes, other_writes, untold_read};
-use arch_disk::{Disk, MemDisk};
+use arch_disk::MemDisk;
 use outer_traits::mem_inputs::FailingCall;
 use std::alloc::{AllocError, Global};
 use std::test::Fail;
@@ -92,12 +92,6 @@ fn scans() -> &'static [Scan] {
     SCANS
 }
 
-/// Whether a call on a disk with one file `dump` ends so. Generic, so that what a disk owns stands in no goal.
-fn ends_so<D: Disk + Drop>(alloc: Global, line: &str, dump: &[u8], disk: D, want: &Wanted) -> bool {
-    let (is_so, _disk) = called(alloc, line, &files_alone(&[("dump", dump)]), disk, want);
-    is_so
-}
-
 /// Whether a dump is scanned as it is to be.
 fn is_scanned(alloc: Global, scan: &Scan) -> Result<bool, AllocError> {
     let (front, length, want) = *scan;
@@ -106,7 +100,7 @@ fn is_scanned(alloc: Global, scan: &Scan) -> Result<bool, AllocError> {
     Ok(ends_so(
         alloc,
         "scan dump",
-        dump.as_slice(),
+        &[("dump", dump.as_slice())],
         MemDisk::new(alloc),
         &want,
     ))
@@ -174,7 +168,7 @@ fn other_words(alloc: Global, words: &[Words]) -> Option<usize> {
         if !ends_so(
             alloc,
             line,
-            p1(),
+            &[("dump", p1())],
             MemDisk::new(alloc),
             &(1, "", *fault, None),
         ) {

@@ -1,8 +1,8 @@
 //! The text that `values` prints, its refusals, and faults of the outside.
 
-use crate::calls::{NamedFile, Wanted, called, files_alone, none_other};
+use crate::calls::{NamedFile, Wanted, ends_so, none_other};
 use crate::faults::{Writes, other_writes, untold_read};
-use arch_disk::{Disk, MemDisk};
+use arch_disk::MemDisk;
 use outer_traits::mem_inputs::FailingCall;
 use std::alloc::Global;
 use std::test::Fail;
@@ -113,18 +113,6 @@ fn files_of<'a>(sheets: Sheets, dump: &'a [u8]) -> [NamedFile<'a>; 4] {
         ("containers", containers.as_bytes()),
         ("dump", dump),
     ]
-}
-
-/// Whether a call with these files ends so. Generic, so that what a disk owns stands in no goal.
-fn ends_so<D: Disk + Drop>(
-    alloc: Global,
-    line: &str,
-    files: &[NamedFile<'_>],
-    disk: D,
-    want: &Wanted,
-) -> bool {
-    let (is_so, _disk) = called(alloc, line, &files_alone(files), disk, want);
-    is_so
 }
 
 /// `values` of the four files for each parameter.

@@ -118,6 +118,7 @@ const OTHER_PACKETS: &[Step] = &[
 /// The least late interval that is free begins; one with packets of the second table alone isn't late. Others stay in flight while one ends, and are free
 /// once all flights end.
 const FLIGHTS: &[Step] = &[Step::Calls(&[
+    Call::Late(0, false),
     Call::Begin(None),
     Call::Ingest((0, 1), Inserted::New(0)),
     Call::Late(0, false),
@@ -276,7 +277,7 @@ const FILLED_ANEW: &[Step] = &[Step::Calls(&[
     Call::Set(0, 1, &[42, 7]),
 ])];
 
-/// And stays so.
+/// And stays so. An interval that had no packet is late once one comes.
 const KEPT: &[Step] = &[Step::Calls(&[
     Call::Late(0, false),
     Call::Late(1, false),
@@ -285,6 +286,12 @@ const KEPT: &[Step] = &[Step::Calls(&[
     Call::Set(0, 0, &[100, 101]),
     Call::Set(0, 1, &[42, 7]),
     Call::Set(1, 1, &[5]),
+    Call::Late(2, false),
+    Call::Plan(9_000_000, 10_000_000, 3, &[]),
+    Call::Ingest((9, 0), Inserted::New(3)),
+    Call::Late(2, true),
+    Call::Late(1, false),
+    Call::Plan(9_000_000, 10_000_000, 4, &[Over::Rows(2, &[9])]),
 ])];
 
 /// What is done with the new archive. A function, as that of the openings.

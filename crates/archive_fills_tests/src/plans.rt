@@ -17,9 +17,9 @@ pub enum Over {
     Rows(i64, &'static [usize]),
 }
 
-/// The values of `v` over a range.
-fn request(alloc: Global, from: i64, to: i64) -> Option<Request> {
-    let Ok(octets) = Octets::from_slice(alloc, b"v") else {
+/// The values of a parameter over a range.
+pub(crate) fn request(alloc: Global, parameter: &[u8], from: i64, to: i64) -> Option<Request> {
+    let Ok(octets) = Octets::from_slice(alloc, parameter) else {
         return None;
     };
     let parameter = Name::of(octets)?;
@@ -36,7 +36,7 @@ fn request(alloc: Global, from: i64, to: i64) -> Option<Request> {
 fn planned<D: Disk>(alloc: Global, store: &mut Store<D>, from: i64, to: i64) -> Option<Plan>
     ensures { store.new ≡ store.old }
 {
-    let request = request(alloc, from, to)?;
+    let request = request(alloc, b"v", from, to)?;
     match store.plan(alloc, &request) {
         Ok(plan) => Some(plan),
         Err(_) => None,

@@ -1,6 +1,7 @@
 // Each rule of a fill's record, broken once: the archive is damaged at the gate of that record. And fills that were spelled by hand, which are read.
 use crate::calls::Call;
-use crate::parts::{head_octets, none_other, packet_octets};
+use crate::journals::{holding, put_fill_front, put_frame, put_row};
+use crate::parts::{head_octets, none_other};
 use crate::plans::Over;
 use crate::steps::{Step, other_of_opened};
 use arch_disk::{Disk, MemDisk};
@@ -340,6 +341,19 @@ const READ: &[Read] = &[
         ])],
     ),
     (
+        "a set of none of the interval's rows",
+        Body::Fill(0, 1, &[NO_SEGMENTS]),
+        &[Step::Calls(&[
+            Call::Late(0, false),
+            Call::Set(0, 0, &[]),
+            Call::Set(0, 1, &[]),
+            Call::Plan(0, 9_000, 2, &[Over::Set(0)]),
+            Call::Late(1, true),
+            Call::NoSet(1),
+            Call::Late(2, false),
+        ])],
+    ),
+    (
         "the greatest values, and the parameters in another order",
         Body::Fill(0, 2, &[ONE_SEGMENT, TURNED, KEY, V255, V2047]),
         &[Step::Calls(&[
@@ -407,12 +421,6 @@ fn read() -> &'static [Read] {
     READ
 }
 
-fn put_row(out: &mut Vec<u8>, packet: usize, table: u8) -> Result<(), AllocError> {
-    out.extend_from_slice(&[2, 0, 1, table, 0, 0, 0, 0, 0, 0, 0x23, 0x28, 1, 0, 0])?;
-    out.extend_from_slice(packet_octets(packet))?;
-    Ok(())
-}
-
 fn put_pieces(out: &mut Vec<u8>, pieces: &[&[u8]]) -> Result<(), AllocError> {
     for piece in pieces {
         out.extend_from_slice(piece)?;
@@ -426,27 +434,17 @@ fn put_fill(
     base: u64,
     pieces: &[&[u8]],
 ) -> Result<(), AllocError> {
-    out.push(3)?;
-    out.extend_from_slice(&interval.to_be_bytes())?;
-    out.extend_from_slice(&base.to_be_bytes())?;
+    put_fill_front(out, interval, base)?;
     put_pieces(out, pieces)
 }
 
 fn put_body(out: &mut Vec<u8>, body: &Body) -> Result<(), AllocError> {
     match body {
         Body::Head => Ok(out.extend_from_slice(head_octets())?),
-        Body::Row(packet, table) => put_row(out, *packet, *table),
+        Body::Row(packet, table) => put_row(out, 9_000, *packet, *table),
         Body::Fill(interval, base, pieces) => put_fill(out, *interval, *base, pieces),
         Body::Octets(given) => Ok(out.extend_from_slice(given)?),
     }
-}
-
-/// Adds an open gate, a length and octets.
-fn put_frame(out: &mut Vec<u8>, octets: &[u8]) -> Result<(), AllocError> {
-    out.push(1)?;
-    out.extend_from_slice(&(octets.len() as u64).to_be_bytes()[4..])?;
-    out.extend_from_slice(octets)?;
-    Ok(())
 }
 
 /// Adds an open gate and a record.
@@ -481,15 +479,6 @@ fn journal_with(alloc: Global, fill: &Body) -> Result<Vec<u8>, AllocError> {
     Ok(journal)
 }
 
-/// A disk whose file 0 is to hold these, and does where memory is there.
-fn holding<D: Disk>(alloc: Global, disk: D, fill: &Body) -> D {
-    let mut disk = disk;
-    if let Ok(journal) = journal_with(alloc, fill) {
-        let _ = disk.write_at(0, 0, journal.as_slice());
-    }
-    disk
-}
-
 /// The gate of file 0 at which a refusal finds damage.
 fn damaged_gate(refusal: &Refusal) -> Option<u64> {
     match refusal {
@@ -508,7 +497,7 @@ fn damage_of<D: Disk>(alloc: Global, disk: D) -> (Option<u64>, D) {
 
 /// Whether the opening of a disk with such a fill finds damage at the fill's gate. A head is 53 octets long and a row 28, and a record has 5 more.
 fn is_damage<D: Disk + Drop>(alloc: Global, disk: D, fill: &Body) -> bool {
-    let (gate, _disk) = damage_of(alloc, holding(alloc, disk, fill));
+    let (gate, _disk) = damage_of(alloc, holding(disk, journal_with(alloc, fill)));
     gate == Some(124)
 }
 
@@ -540,7 +529,7 @@ fn fills_that_are_damage(rt: HostRuntime) -> Result<(), Fail> {
 /// The name of the first of these fills that is read otherwise.
 fn other_read(alloc: Global, fills: &[Read]) -> Option<&'static str> {
     for (name, fill, steps) in fills {
-        let disk = holding(alloc, MemDisk::new(alloc), fill);
+        let disk = holding(MemDisk::new(alloc), journal_with(alloc, fill));
         if other_of_opened(alloc, disk, steps).is_some() {
             return Some(*name);
         }

@@ -7,8 +7,8 @@ ghost use Rattle.archive_store.specs.Batches.{IsBatch};
 ghost use Rattle.archive_store.specs.StoreView.{filled_of};
 ghost use Rattle.archive_store.specs.Stands.{StandsFilled};
 
-use crate::parts::{batch, created, head};
-use crate::steps::{Step, of_new, other_answer};
+use crate::parts::{InMemory, batch, created, failing_at, none_other};
+use crate::steps::{Step, of_new, other_answer, other_of_new};
 use arch_disk::{Disk, MemDisk};
 use arch_types::inserted::Inserted;
 use archive_store::{Batch, Store};
@@ -35,56 +35,51 @@ fn ingest_and_reopen<D: Disk>(alloc: Global, store: &mut Store<D>, batch: &Batch
     }
 }
 
-/// A disk whose calls of these numbers fail, counted from the making of an archive on it.
-fn failing_after_making(alloc: Global, calls: &[u64]) -> Result<MemDisk, Fail> {
-    let (_, disk) = of_new(alloc, MemDisk::new(alloc), &[])?;
-    let mut numbers = Vec::new(alloc);
-    for call in calls {
-        numbers.push(disk.made().saturating_add(*call))?;
-    }
-    Ok(MemDisk::failing(alloc, numbers))
-}
-
 /// An ingest and a reopen in one, and then these calls: the place of the first that is answered otherwise.
-fn other_after<D: Disk>(
-    alloc: Global,
-    store: &mut Store<D>,
-    steps: &[Step],
-) -> Result<Option<usize>, Fail>
+fn other_after<D: Disk>(alloc: Global, store: &mut Store<D>, steps: &[Step]) -> Option<usize>
     requires { pending_fault_of store.old.fills ≡ None }
 {
-    let batch = batch(alloc, store.head(), &(9_000, &[0], &[0, 1]))?;
+    let Some(batch) = batch(alloc, store.head(), &(9_000, &[0], &[0, 1])) else {
+        return Some(0);
+    };
     ingest_and_reopen(alloc, store, &batch);
     other_answer(alloc, store, steps)
 }
 
-/// The same of a new archive, and its disk.
-fn of_healed<D: Disk + Drop>(
-    alloc: Global,
-    store: Store<D>,
-    steps: &[Step],
-) -> Result<(Option<usize>, D), Fail>
-    requires { pending_fault_of store.fills ≡ None }
-{
-    let mut store = store;
-    let other = other_after(alloc, &mut store, steps)?;
-    Ok((other, store.into_disk()))
-}
-
-/// The same of a new archive on a disk.
-fn of_new_healed<D: Disk + Drop>(
-    alloc: Global,
-    disk: D,
-    steps: &[Step],
-) -> Result<(Option<usize>, D), Fail> {
-    match created(alloc, disk, head(alloc)?) {
-        Ok(store) => of_healed(alloc, store, steps),
-        Err((_disk, refusal)) => Err(Fail::from(refusal)),
+/// The same of a new archive on a disk, and the disk.
+fn of_healed<D: Disk>(alloc: Global, disk: D, steps: &[Step]) -> (Option<usize>, D) {
+    match created(alloc, disk) {
+        Ok(mut store) => {
+            let other = other_after(alloc, &mut store, steps);
+            (other, store.into_disk())
+        }
+        Err((disk, _)) => (Some(0), disk),
     }
 }
 
+/// The same, and the disk is given up too.
+fn other_of_healed<D: Disk + Drop>(alloc: Global, disk: D, steps: &[Step]) -> Option<usize> {
+    let (other, _disk) = of_healed(alloc, disk, steps);
+    other
+}
+
+/// How many calls a disk has behind the making of an archive on it.
+fn calls_of_making<D: InMemory>(alloc: Global, disk: D) -> u64 {
+    let (_, disk) = of_new(alloc, disk, &[]);
+    disk.calls()
+}
+
+/// A disk two of whose calls fail, counted from the making of an archive on it.
+fn failing_after_making(alloc: Global, first: u64, second: u64) -> Option<MemDisk> {
+    let made = calls_of_making(alloc, MemDisk::new(alloc));
+    failing_at(
+        alloc,
+        &[made.saturating_add(first), made.saturating_add(second)],
+    )
+}
+
 const TAKEN_BACK: &[Step] = &[
-    Step::Plan(0, 2_000, 0, &[]),
+    Step::Holds(0, &[]),
     Step::Ingest(
         (9_000, &[0], &[1, 0]),
         &[Inserted::New(0), Inserted::New(1)],
@@ -96,18 +91,23 @@ fn taken_back() -> &'static [Step] {
     TAKEN_BACK
 }
 
-// The third call of the first ingest opens the gate.
-#[test]
-fn a_batch_that_failed_is_taken_back(rt: HostRuntime) -> Result<(), Fail> {
-    let disk = failing_after_making(rt.alloc(), &[3])?;
-    let (other, _disk) = of_new_healed(rt.alloc(), disk, taken_back())?;
-    assert_eq!(rt; other, None);
-    Ok(())
+/// The first call that is answered otherwise behind an ingest whose third call fails, which opens the gate, and a reopen.
+fn other_taken_back(alloc: Global) -> Option<usize> {
+    match failing_after_making(alloc, 3, 3) {
+        Some(disk) => other_of_healed(alloc, disk, taken_back()),
+        None => Some(0),
+    }
 }
 
+#[test]
+fn a_batch_that_failed_is_taken_back(rt: HostRuntime) -> Result<(), Fail> {
+    none_other(other_taken_back(rt.alloc()))
+}
+
+/// The first call that heals fails too. The count in the refusal stays that of the failed write.
 const GATE_FAILS: &[Step] = &[
     Step::Refused((9_000, &[0], &[0, 1]), "disk fault"),
-    Step::Plan(0, 2_000, 0, &[]),
+    Step::Holds(0, &[]),
     Step::Refused((9_000, &[0], &[0, 1]), "needs reopen 1"),
     Step::NoReopen,
     Step::Refused((9_000, &[1], &[1]), "needs reopen 1"),
@@ -116,7 +116,7 @@ const GATE_FAILS: &[Step] = &[
         (9_000, &[0], &[0, 1]),
         &[Inserted::New(0), Inserted::New(1)],
     ),
-    Step::Plan(0, 2_000, 2, &[(0, &[0])]),
+    Step::Holds(2, &[0]),
 ];
 
 /// A function, as above.
@@ -124,11 +124,15 @@ fn gate_fails() -> &'static [Step] {
     GATE_FAILS
 }
 
-// The first call that heals fails too. The count in the refusal stays that of the failed write.
+/// The first of those that is answered otherwise.
+fn other_gate_fails(alloc: Global) -> Option<usize> {
+    match failing_after_making(alloc, 3, 4) {
+        Some(disk) => other_of_new(alloc, disk, gate_fails()),
+        None => Some(0),
+    }
+}
+
 #[test]
 fn a_gate_and_a_reopen_fail(rt: HostRuntime) -> Result<(), Fail> {
-    let disk = failing_after_making(rt.alloc(), &[3, 4])?;
-    let (other, _disk) = of_new(rt.alloc(), disk, gate_fails())?;
-    assert_eq!(rt; other, None);
-    Ok(())
+    none_other(other_gate_fails(rt.alloc()))
 }

@@ -1,14 +1,13 @@
-// What the tests are made of: a head, packets, batches, requests, disks, and the words for refusals.
-ghost use Rattle.std.specs.Prelude.{◌≡◌, ◌<◌, ◌≤◌, [], false, length, IfOk};
+// What the tests are made of: heads, packets, batches, disks in memory, the words for refusals, and how archives are made and opened. Where memory is
+// wanting there's none of these.
+ghost use Rattle.std.specs.Prelude.{◌≡◌, ◌<◌, ◌≤◌, [], false, length, IfOk, IfSome};
 ghost use Rattle.std.specs.List.{AllByRecursion};
 ghost use Rattle.arch_types.specs.Packet.{IsPacket, is_idle};
 ghost use Rattle.field_codec.specs.declared.entry.Entry.TheVariants as entries;
 ghost use Rattle.field_codec.specs.Entries.{IsArchiveEntry};
-ghost use Rattle.text_forms.specs.ClockTime.{IsClockTime};
 ghost use Rattle.archive_store.specs.Batches.{IsArrival, IsBatch};
 
-use arch_disk::{Disk, MemDisk};
-use arch_types::ask::Request;
+use arch_disk::{Crash, Disk, MemDisk};
 use arch_types::name::Name;
 use arch_types::octets::Octets;
 use arch_types::refusal::{Refusal, Which};
@@ -18,6 +17,7 @@ use field_codec::{Entry, read_entry};
 use space_packet::dump::first_packet;
 use space_packet::header::is_idle_packet;
 use std::alloc::Global;
+use std::fmt::Display;
 use std::test::Fail;
 
 /// The entry of the tables `tm` and `hk`, the parameters `apid` (uint of 11 bits) and `v` (uint of 8 bits), and the container `HDR`, which has
@@ -36,7 +36,7 @@ pub(crate) fn mdb_octets() -> &'static [u8] {
 }
 
 /// Packets of time 1,500 ms in the order of their keys, and one with the key of the first and a length of its own.
-const TIMED: [&[u8]; 5] = [
+const TIMED: &[&[u8]] = &[
     b"\x08\x64\xC0\x00\x00\x06\x00\x00\x00\x01\x80\x00\x2A",
     b"\x08\x65\xC0\x00\x00\x06\x00\x00\x00\x01\x80\x00\x07",
     b"\x08\x66\xC0\x00\x00\x06\x00\x00\x00\x01\x80\x00\x08",
@@ -44,9 +44,17 @@ const TIMED: [&[u8]; 5] = [
     b"\x08\x64\xC0\x00\x00\x07\x00\x00\x00\x01\x80\x00\x2A\xFE",
 ];
 
-/// The octets of the first of them. A function, as above.
-pub(crate) fn first_octets() -> &'static [u8] {
-    TIMED[0]
+/// A function, as above.
+fn all_timed() -> &'static [&'static [u8]] {
+    TIMED
+}
+
+/// One of these, and none where there is no such.
+pub(crate) fn timed(number: u64) -> &'static [u8] {
+    match all_timed().get(number as usize) {
+        Some(octets) => octets,
+        None => b"",
+    }
 }
 
 /// A packet without a time of its own, so that the time of reception is its time, with its application process and count.
@@ -57,77 +65,97 @@ pub(crate) fn untimed(number: u64) -> [u8; 7] {
     [0, process, flags, octets[7], 0, 0, 7]
 }
 
-/// The packet of a number: those up to 4 have a time of their own.
-pub(crate) fn octets_of(alloc: Global, number: u64) -> Result<Octets, Fail> {
+/// Whether octets are the packet of a number: those up to 4 have a time of their own.
+pub(crate) fn is_packet(octets: &[u8], number: u64) -> bool {
     if number < 5 {
-        Ok(Octets::from_slice(alloc, TIMED[number as usize])?)
+        octets == timed(number)
     } else {
-        Ok(Octets::from_slice(alloc, &untimed(number))?)
+        octets == untimed(number).as_slice()
     }
 }
 
-/// The head that an entry spells.
-pub(crate) fn head_of(alloc: Global, octets: &[u8]) -> Result<Head, Fail>
-    ensures { IfOk result (λ head. IsArchiveEntry (entries.Head head.tables head.mdb)) }
+/// The head that an entry spells. It names what each entry holds, so that no mission database is dropped.
+fn head_of(alloc: Global, octets: &[u8]) -> Option<Head>
+    ensures { IfSome result (λ head. IsArchiveEntry (entries.Head head.tables head.mdb)) }
 {
     match read_entry(alloc, octets) {
-        Ok(Entry::Head { tables, mdb }) => Ok(Head { tables, mdb }),
-        _ => Err(Fail::from("a head")),
+        Ok(Entry::Head { tables, mdb }) => Some(Head { tables, mdb }),
+        Ok(Entry::Rows(_rows)) => None,
+        Ok(
+            Entry::Fill {
+                interval: _,
+                base: _,
+                set: _set,
+            },
+        ) => None,
+        Err(_) => None,
     }
 }
 
-/// The head of these tests.
-pub(crate) fn head(alloc: Global) -> Result<Head, Fail>
-    ensures { IfOk result (λ head. IsArchiveEntry (entries.Head head.tables head.mdb)) }
+/// The packet that octets begin with, which has data.
+fn first_of(alloc: Global, octets: &[u8]) -> Option<Octets>
+    ensures packet { IfSome result IsPacket }
+    ensures carries { IfSome result (λ packet. is_idle packet ≡ false) }
 {
-    head_of(alloc, head_octets())
-}
-
-fn packet(alloc: Global, number: u64) -> Result<Octets, Fail>
-    ensures packet { IfOk result IsPacket }
-    ensures carries { IfOk result (λ packet. is_idle packet ≡ false) }
-{
-    let octets = octets_of(alloc, number)?;
-    let Ok(len) = first_packet(octets.as_slice()) else {
-        return Err(Fail::from("a packet"));
+    let Ok(len) = first_packet(octets) else {
+        return None;
     };
-    let (packet, _) = octets.as_slice().split_at(len);
+    let (packet, _) = octets.split_at(len);
     if is_idle_packet(packet) {
-        return Err(Fail::from("a packet with data"));
+        return None;
     }
-    Ok(Octets::from_slice(alloc, packet)?)
+    match Octets::from_slice(alloc, packet) {
+        Ok(octets) => Some(octets),
+        Err(_) => None,
+    }
 }
 
-fn tables_of(alloc: Global, head: &Head, tables: &[u8]) -> Result<TableList, Fail>
-    ensures few { IfOk result (λ list. length list ≤ 16) }
-    ensures each { IfOk result (λ list. AllByRecursion (λ table. table < length head.now.tables) list) }
+/// The packet of a number.
+fn packet(alloc: Global, number: u64) -> Option<Octets>
+    ensures packet { IfSome result IsPacket }
+    ensures carries { IfSome result (λ packet. is_idle packet ≡ false) }
+{
+    if number < 5 {
+        first_of(alloc, timed(number))
+    } else {
+        first_of(alloc, &untimed(number))
+    }
+}
+
+fn tables_of(alloc: Global, head: &Head, tables: &[u8]) -> Option<TableList>
+    ensures few { IfSome result (λ list. length list ≤ 16) }
+    ensures each { IfSome result (λ list. AllByRecursion (λ table. table < length head.now.tables) list) }
 {
     let count = head.tables.as_slice().len();
     if tables.len() > 16 {
-        return Err(Fail::from("tables"));
+        return None;
     }
     let mut list = TableList::new(alloc);
     for table in tables {
         if *table as usize >= count {
-            return Err(Fail::from("a table"));
+            return None;
         }
-        list.push(*table)?;
+        let Ok(()) = list.push(*table) else {
+            return None;
+        };
     }
-    Ok(list)
+    Some(list)
 }
 
 /// A packet of link 1 that comes into tables.
-fn arrival(alloc: Global, head: &Head, number: u64, tables: &[u8]) -> Result<Arrival, Fail>
-    ensures { IfOk result (IsArrival head.now) }
+fn arrival(alloc: Global, head: &Head, number: u64, tables: &[u8]) -> Option<Arrival>
+    ensures { IfSome result (IsArrival head.now) }
 {
     if head.mdb.containers() == 0 {
-        return Err(Fail::from("a container"));
+        return None;
     }
-    Ok(Arrival {
+    let packet = packet(alloc, number)?;
+    let tables = tables_of(alloc, head, tables)?;
+    Some(Arrival {
         link: 1,
         pname: 0,
-        packet: packet(alloc, number)?,
-        tables: tables_of(alloc, head, tables)?,
+        packet,
+        tables,
     })
 }
 
@@ -135,54 +163,41 @@ fn arrival(alloc: Global, head: &Head, number: u64, tables: &[u8]) -> Result<Arr
 pub type Incoming = (u32, &'static [u64], &'static [u8]);
 
 /// The arrivals of packets that come into tables.
-fn arrivals(alloc: Global, head: &Head, numbers: &[u64], tables: &[u8]) -> Result<Arrivals, Fail>
+fn arrivals(alloc: Global, head: &Head, numbers: &[u64], tables: &[u8]) -> Option<Arrivals>
     requires { length numbers.now ≤ 64 }
-    ensures few { IfOk result (λ arrivals. length arrivals ≤ 64) }
-    ensures each { IfOk result (λ arrivals. AllByRecursion (IsArrival head.now) arrivals) }
+    ensures few { IfSome result (λ arrivals. length arrivals ≤ 64) }
+    ensures each { IfSome result (λ arrivals. AllByRecursion (IsArrival head.now) arrivals) }
 {
     let mut arrivals = Arrivals::new(alloc);
     for number in numbers {
-        arrivals.push(arrival(alloc, head, *number, tables)?)?;
+        let arrival = arrival(alloc, head, *number, tables)?;
+        let Ok(()) = arrivals.push(arrival) else {
+            return None;
+        };
     }
-    Ok(arrivals)
+    Some(arrivals)
 }
 
 /// The batch of at most 64 packets.
-pub(crate) fn batch(alloc: Global, head: &Head, incoming: &Incoming) -> Result<Batch, Fail>
-    ensures { IfOk result (IsBatch head.now) }
+pub(crate) fn batch(alloc: Global, head: &Head, incoming: &Incoming) -> Option<Batch>
+    ensures { IfSome result (IsBatch head.now) }
 {
     let (rectime, numbers, tables) = *incoming;
     if numbers.len() > 64 {
-        return Err(Fail::from("a batch"));
+        return None;
     }
-    Ok(Batch {
+    Some(Batch {
         rectime: rectime as i64,
         arrivals: arrivals(alloc, head, numbers, tables)?,
     })
 }
 
 /// The name of these octets.
-pub(crate) fn name(alloc: Global, octets: &[u8]) -> Result<Name, Fail> {
-    match Name::of(Octets::from_slice(alloc, octets)?) {
-        Some(name) => Ok(name),
-        None => Err(Fail::from("a name")),
+pub(crate) fn name(alloc: Global, octets: &[u8]) -> Option<Name> {
+    match Octets::from_slice(alloc, octets) {
+        Ok(octets) => Name::of(octets),
+        Err(_) => None,
     }
-}
-
-/// The values of a parameter over a range.
-pub(crate) fn request(
-    alloc: Global,
-    parameter: &[u8],
-    from: i64,
-    to: i64,
-) -> Result<Request, Fail> {
-    Ok(Request {
-        parameter: name(alloc, parameter)?,
-        from,
-        to,
-        descending: false,
-        limit: None,
-    })
 }
 
 /// The refusals that these tests meet.
@@ -191,59 +206,94 @@ pub(crate) fn text_of(refusal: &Refusal) -> &'static str {
         Refusal::NoArchive => "no archive",
         Refusal::Exists => "exists",
         Refusal::Damaged { file: 0, at: 0 } => "damaged 0 0",
-        Refusal::Damaged { file: 0, at: 58 } => "damaged 0 58",
-        Refusal::Damaged { file: 0, at: 91 } => "damaged 0 91",
-        Refusal::Damaged {
-            file: 0,
-            at: 4_982_842,
-        } => "damaged 0 4982842",
         Refusal::DiskFault => "disk fault",
         Refusal::NeedsReopen { faults: 1 } => "needs reopen 1",
         Refusal::Limit {
             which: Which::IntervalRows,
             number: 262_144,
         } => "limit IntervalRows 262144",
-        Refusal::UnknownParameter => "unknown parameter",
         Refusal::BadRange { from: 5, to: 4 } => "bad range 5 4",
         Refusal::UnknownTable { .. } => "unknown table",
         _ => "another",
     }
 }
 
-/// An archive without packets, or the disk and the refusal.
-pub(crate) fn created<D: Disk + Drop>(
+/// An archive without packets whose head these octets spell, or the disk and the refusal.
+pub(crate) fn created_with<D: Disk>(
     alloc: Global,
     disk: D,
-    head: Head,
+    octets: &[u8],
 ) -> Result<Store<D>, (D, &'static str)>
-    requires { IsArchiveEntry (entries.Head head.tables head.mdb) }
     ensures { IfOk result (λ store. store.fills ≡ []) }
 {
+    let Some(head) = head_of(alloc, octets) else {
+        return Err((disk, "no head"));
+    };
     match Store::create(alloc, disk, head) {
         Ok(store) => Ok(store),
         Err((disk, refusal)) => Err((disk, text_of(&refusal))),
     }
 }
 
-/// The archive of a disk, or the refusal.
-pub(crate) fn opened<D: Disk + Drop>(alloc: Global, disk: D) -> Result<Store<D>, &'static str> {
+/// The same with the head of these tests.
+pub(crate) fn created<D: Disk>(alloc: Global, disk: D) -> Result<Store<D>, (D, &'static str)>
+    ensures { IfOk result (λ store. store.fills ≡ []) }
+{
+    created_with(alloc, disk, head_octets())
+}
+
+/// The archive of a disk, or the disk and the refusal.
+pub(crate) fn opened<D: Disk>(alloc: Global, disk: D) -> Result<Store<D>, (D, &'static str)> {
     match Store::open(alloc, disk) {
         Ok(store) => Ok(store),
-        Err((_disk, refusal)) => Err(text_of(&refusal)),
+        Err((disk, refusal)) => Err((disk, text_of(&refusal))),
     }
 }
 
-/// What the opening of a disk answers.
-pub(crate) fn opening<D: Disk + Drop>(alloc: Global, disk: D) -> &'static str {
-    match opened(alloc, disk) {
-        Ok(_store) => "an archive",
-        Err(refusal) => refusal,
+/// A disk in memory, as functions see it that are generic in what a disk owns.
+pub(crate) trait InMemory: Disk + Drop {
+    /// How many calls were made.
+    fn calls(&self) -> u64;
+
+    /// How many of them were kept.
+    fn kept(&self) -> usize;
+
+    /// What a crash leaves after so many of these.
+    fn image(&self, moment: usize, crash: Crash) -> Option<MemDisk>;
+}
+
+impl InMemory for MemDisk {
+    fn calls(&self) -> u64 {
+        self.made()
+    }
+
+    fn kept(&self) -> usize {
+        self.moments()
+    }
+
+    fn image(&self, moment: usize, crash: Crash) -> Option<MemDisk> {
+        if moment > self.moments() {
+            return None;
+        }
+        match self.crashed(moment, crash) {
+            Ok(image) => Some(image),
+            Err(_) => None,
+        }
     }
 }
 
-/// A disk whose file 0 holds octets.
-pub(crate) fn holding(alloc: Global, octets: &[u8]) -> Result<MemDisk, Fail> {
-    let mut disk = MemDisk::new(alloc);
-    disk.write_at(0, 0, octets)?;
-    Ok(disk)
+/// A disk whose calls of these numbers fail.
+pub(crate) fn failing_at(alloc: Global, calls: &[u64]) -> Option<MemDisk> {
+    match Vec::from_slice(alloc, calls) {
+        Ok(calls) => Some(MemDisk::failing(alloc, calls)),
+        Err(_) => None,
+    }
+}
+
+/// Ends a test: with a failure where a row of its table goes otherwise.
+pub(crate) fn none_other<T: Display + Drop>(other: Option<T>) -> Result<(), Fail> {
+    match other {
+        None => Ok(()),
+        Some(other) => Err(Fail::new(other)),
+    }
 }

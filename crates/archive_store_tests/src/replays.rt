@@ -1,16 +1,14 @@
 // What replays give: packets of a table in a range, in the order of their keys, as they stood when the replay was opened.
 use crate::parts::{Incoming, name, text_of};
-use crate::steps::{Step, are_packets, ingest_answer, of_new};
-use arch_disk::{Disk, MemDisk};
+use crate::steps::{Step, are_first, becomes};
+use arch_disk::Disk;
 use arch_types::ask::ReplayRequest;
 use arch_types::inserted::Inserted;
 use arch_types::name::Names;
-use arch_types::row::Rows;
 use archive_store::Store;
 use partitions::bounds::Bounds;
 use replay_merge::cursor::Cursor;
-use std::alloc::{AllocError, Global};
-use std::test::Fail;
+use std::alloc::Global;
 
 /// A table, a range, packet names where not all are asked for, and how many rows at most.
 pub type Asked = (
@@ -21,21 +19,24 @@ pub type Asked = (
     Option<u64>,
 );
 
-fn names_of(alloc: Global, octets: &[&[u8]]) -> Result<Names, Fail> {
+/// The names of these octets.
+fn names_of(alloc: Global, octets: &[&[u8]]) -> Option<Names> {
     let mut names = Names::new(alloc);
     for one in octets {
-        names.push(name(alloc, one)?)?;
+        let Ok(()) = names.push(name(alloc, one)?) else {
+            return None;
+        };
     }
-    Ok(names)
+    Some(names)
 }
 
-fn replay_request(alloc: Global, asked: &Asked) -> Result<ReplayRequest, Fail> {
+fn replay_request(alloc: Global, asked: &Asked) -> Option<ReplayRequest> {
     let (table, from, to, names, limit) = *asked;
     let names = match names {
         Some(names) => Some(names_of(alloc, names)?),
         None => None,
     };
-    Ok(ReplayRequest {
+    Some(ReplayRequest {
         table: name(alloc, table)?,
         from,
         to,
@@ -49,11 +50,13 @@ fn opened_replay<D: Disk>(
     alloc: Global,
     store: &mut Store<D>,
     asked: &Asked,
-) -> Result<Result<Cursor, &'static str>, Fail> {
-    let request = replay_request(alloc, asked)?;
+) -> Result<Cursor, &'static str> {
+    let Some(request) = replay_request(alloc, asked) else {
+        return Err("no request");
+    };
     match store.replay_open(alloc, &request) {
-        Ok(cursor) => Ok(Ok(cursor)),
-        Err(refusal) => Ok(Err(text_of(&refusal))),
+        Ok(cursor) => Ok(cursor),
+        Err(refusal) => Err(text_of(&refusal)),
     }
 }
 
@@ -62,70 +65,50 @@ pub(crate) fn replay_answer<D: Disk>(
     alloc: Global,
     store: &mut Store<D>,
     asked: &Asked,
-) -> Result<&'static str, Fail> {
-    match opened_replay(alloc, store, asked)? {
-        Ok(_cursor) => Ok("a replay"),
-        Err(why) => Ok(why),
+) -> &'static str {
+    match opened_replay(alloc, store, asked) {
+        Ok(_cursor) => "a replay",
+        Err(why) => why,
     }
 }
 
-/// The rows of a step of at most so many.
-fn step_rows<D: Disk>(
+/// How many rows a step of at most so many gives, where they are the first of these packets.
+fn step_of<D: Disk>(
     alloc: Global,
     store: &mut Store<D>,
     cursor: &mut Cursor,
     limit: u64,
-) -> Result<Rows, Fail> {
-    Ok(store.replay_step(alloc, cursor, limit)?)
-}
-
-/// Rows behind others.
-fn put_all(all: &mut Rows, rows: Rows) -> Result<(), AllocError> {
-    for row in rows.into_vec() {
-        all.push(row)?;
-    }
-    Ok(())
-}
-
-/// The rows that steps of at most so many give, until one gives none.
-fn rest<D: Disk>(
-    alloc: Global,
-    store: &mut Store<D>,
-    cursor: &mut Cursor,
-    limit: u64,
-) -> Result<Rows, Fail> {
-    let mut all = Rows::new(alloc);
-    for _ in 0..20 {
-        let rows = step_rows(alloc, store, cursor, limit)?;
-        if rows.len() == 0 {
-            break;
+    packets: &[u64],
+) -> Option<usize> {
+    match store.replay_step(alloc, cursor, limit) {
+        Ok(rows) => {
+            if are_first(rows.as_slice(), packets) {
+                Some(rows.len())
+            } else {
+                None
+            }
         }
-        put_all(&mut all, rows)?;
+        Err(_) => None,
     }
-    Ok(all)
 }
 
-/// Whether the rest of a replay is these packets.
+/// Whether steps of at most so many give these packets, until one gives none.
 fn gives_rest<D: Disk>(
     alloc: Global,
     store: &mut Store<D>,
     cursor: &mut Cursor,
     limit: u64,
     packets: &[u64],
-) -> Result<bool, Fail> {
-    let rows = rest(alloc, store, cursor, limit)?;
-    are_packets(alloc, rows.as_slice(), packets)
-}
-
-/// Whether a step of at most two rows gives these packets.
-fn gives_step<D: Disk>(
-    alloc: Global,
-    store: &mut Store<D>,
-    cursor: &mut Cursor,
-    packets: &[u64],
-) -> Result<bool, Fail> {
-    let rows = step_rows(alloc, store, cursor, 2)?;
-    are_packets(alloc, rows.as_slice(), packets)
+) -> bool {
+    let mut left = packets;
+    for _ in 0..20 {
+        match step_of(alloc, store, cursor, limit, left) {
+            None => return false,
+            Some(0) => break,
+            Some(count) => left = left.get(count..).unwrap_or(&[]),
+        }
+    }
+    left.is_empty()
 }
 
 /// Whether a replay gives these packets.
@@ -135,41 +118,72 @@ pub(crate) fn gives<D: Disk>(
     asked: &Asked,
     limit: u64,
     packets: &[u64],
-) -> Result<bool, Fail> {
-    let mut cursor = opened_replay(alloc, store, asked)??;
-    gives_rest(alloc, store, &mut cursor, limit, packets)
+) -> bool {
+    match opened_replay(alloc, store, asked) {
+        Ok(mut cursor) => gives_rest(alloc, store, &mut cursor, limit, packets),
+        Err(_) => false,
+    }
 }
 
-/// Whether a replay gives some packets, and others after packets came.
+/// Whether a step of at most two rows gives some packets, and the steps after packets came the others.
+fn goes_on_across<D: Disk>(
+    alloc: Global,
+    store: &mut Store<D>,
+    cursor: &mut Cursor,
+    first: &[u64],
+    incoming: &Incoming,
+    outcomes: &[Inserted],
+    others: &[u64],
+) -> bool {
+    step_of(alloc, store, cursor, 2, first) == Some(first.len())
+        && becomes(alloc, store, incoming, outcomes)
+        && gives_rest(alloc, store, cursor, 2, others)
+}
+
+/// The same of a replay that is opened.
 pub(crate) fn gives_across<D: Disk>(
     alloc: Global,
     store: &mut Store<D>,
     asked: &Asked,
     first: &[u64],
     incoming: &Incoming,
+    outcomes: &[Inserted],
     others: &[u64],
-) -> Result<bool, Fail> {
-    let mut cursor = opened_replay(alloc, store, asked)??;
-    let are_first = gives_step(alloc, store, &mut cursor, first)?;
-    let is_taken = ingest_answer(alloc, store, incoming)? == "an ingest";
-    let are_others = gives_rest(alloc, store, &mut cursor, 2, others)?;
-    Ok(are_first && is_taken && are_others)
+) -> bool {
+    match opened_replay(alloc, store, asked) {
+        Ok(mut cursor) => goes_on_across(
+            alloc,
+            store,
+            &mut cursor,
+            first,
+            incoming,
+            outcomes,
+            others,
+        ),
+        Err(_) => false,
+    }
 }
 
 /// How many partitions in a range a table has, where there is such a table.
-fn part_count<D: Disk>(store: &Store<D>, table: u8, bounds: &Bounds) -> Result<usize, Fail> {
+fn part_count<D: Disk>(store: &Store<D>, table: u8, bounds: &Bounds) -> Option<usize> {
     if table as usize >= store.head().tables.as_slice().len() {
-        return Err(Fail::from("a table"));
+        return None;
     }
-    Ok(store.parts(table, bounds)?.len())
+    match store.parts(table, bounds) {
+        Ok(parts) => Some(parts.len()),
+        Err(_) => None,
+    }
 }
 
 /// How many spans of time the packet name has in a table.
-fn span_count<D: Disk>(store: &Store<D>, table: u8) -> Result<usize, Fail> {
+fn span_count<D: Disk>(store: &Store<D>, table: u8) -> Option<usize> {
     if table as usize >= store.head().tables.as_slice().len() {
-        return Err(Fail::from("a table"));
+        return None;
     }
-    Ok(store.histogram(table, 0)?.len())
+    match store.histogram(table, 0) {
+        Ok(spans) => Some(spans.len()),
+        Err(_) => None,
+    }
 }
 
 /// Whether a table has so many partitions in a range, and the packet name so many spans of time in the table.
@@ -180,19 +194,24 @@ pub(crate) fn has_parts<D: Disk>(
     to: i64,
     parts: usize,
     spans: usize,
-) -> Result<bool, Fail> {
+) -> bool {
     let bounds = Bounds {
         from,
         to,
         names: None,
     };
-    Ok(part_count(store, table, &bounds)? == parts && span_count(store, table)? == spans)
+    part_count(store, table, &bounds) == Some(parts) && span_count(store, table) == Some(spans)
 }
 
 const DAY: i64 = 86_400_000;
 
 /// All packets of `tm`.
 const ALL: Asked = (b"tm", 0, 9 * DAY, None, None);
+
+/// A function, so that it stands in no goal of its callers.
+pub(crate) fn all_of() -> Asked {
+    ALL
+}
 
 /// Packets of two days, in two tables: those from 5 on have the time of their reception.
 const REPLAYS: &[Step] = &[
@@ -239,23 +258,28 @@ const REPLAYS: &[Step] = &[
     Step::Parts(0, 0, DAY + 1, 2, 2),
     Step::Parts(1, 0, DAY, 0, 1),
     // packets that come in the middle of a replay are none of its, wherever their keys stand
-    Step::ReplayAcross(ALL, &[0, 1], (86_399_000, &[2, 9], &[0]), &[7, 6, 8]),
+    Step::ReplayAcross(
+        ALL,
+        &[0, 1],
+        (86_399_000, &[2, 9], &[0]),
+        &[Inserted::New(6), Inserted::New(7)],
+        &[7, 6, 8],
+    ),
     Step::Replay(ALL, 3, &[0, 1, 2, 9, 7, 6, 8]),
     // nor do those of a day that isn't reached yet
-    Step::ReplayAcross(ALL, &[0, 1], (86_400_002, &[10], &[0]), &[2, 9, 7, 6, 8]),
+    Step::ReplayAcross(
+        ALL,
+        &[0, 1],
+        (86_400_002, &[10], &[0]),
+        &[Inserted::New(8)],
+        &[2, 9, 7, 6, 8],
+    ),
     Step::NoReplay((b"TM", 5, 4, None, None), "unknown table"),
     Step::NoReplay((b"tm", 5, 4, None, None), "bad range 5 4"),
     Step::NoReplay((b"tm", 4, 4, None, None), "a replay"),
 ];
 
 /// They are a function, so that they stand in no goal of its callers.
-fn replays() -> &'static [Step] {
+pub(crate) fn replays() -> &'static [Step] {
     REPLAYS
-}
-
-#[test]
-fn replays_and_their_refusals(rt: HostRuntime) -> Result<(), Fail> {
-    let (other, _disk) = of_new(rt.alloc(), MemDisk::new(rt.alloc()), replays())?;
-    assert_eq!(rt; other, None);
-    Ok(())
 }

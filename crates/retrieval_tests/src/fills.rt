@@ -1,10 +1,10 @@
-// Answers over an archive with fills: one interval whose set stands for it, and one that is late.
+//! Answers over an archive with fills: one interval whose set stands for it, and one that is late.
 ghost use Rattle.std.specs.Prelude.{◌≡◌, ◌<◌, None, true};
 ghost use Rattle.retrieval.specs.AnswerText.{request_refusal};
 ghost use Rattle.retrieval.specs.Parameter.{number_named};
 
 use crate::parts::{
-    Asked, AskedValues, FLIGHT, Packet, are_raws, database, packet_of, request, rows_of,
+    AskedValues, Other, Packet, are_raws, flight, none_other, packet_of, request, rows_of, set_of,
 };
 use arch_disk::{Disk, MemDisk};
 use arch_types::ask::Request;
@@ -12,15 +12,16 @@ use arch_types::interval::Interval;
 use arch_types::steps::Steps;
 use archive_store::{Head, Store};
 use mdb_model::Mdb;
-use param_segments_tests::ordered::built;
+use param_segments::SegSet;
 use retrieval::answer::{answer_request, number_of};
-use std::alloc::Global;
+use std::alloc::{AllocError, Global};
 use std::marker::Brand;
 use std::sync::ledger::{Blank, Ledger};
-use std::test::Fail;
+use std::test::*;
 
-/// The body of a record behind the head.
+/// The body of a record.
 enum Body {
+    Head,
     /// Packets of table `tm`.
     Rows(&'static [Packet]),
     /// A fill of an interval over so many items, and the packets of its set.
@@ -30,6 +31,7 @@ enum Body {
 /// The set of interval 0 has 43 where its packet has 42, so that a cell tells where it was read. Interval 1 has a packet
 /// since its fill.
 const FILLED: &[Body] = &[
+    Body::Head,
     Body::Rows(&[(1_500, 100, 42), (3_000, 101, 7), (4_194_304, 100, 9)]),
     Body::Fill(0, 3, &[(1_500, 100, 43), (3_000, 101, 7)]),
     Body::Fill(1, 3, &[(4_194_304, 100, 9)]),
@@ -64,24 +66,44 @@ fn asks() -> &'static [AskedValues] {
     ASKS
 }
 
-/// The version, the exponent of intervals, the table `tm` and the database.
-fn put_head(alloc: Global, mdb: &Mdb, out: &mut Vec<u8>) -> Result<(), Fail> {
+/// A head: the version, the exponent of intervals, the table `tm` and the database.
+fn put_head(out: &mut Vec<u8>) -> Result<(), AllocError> {
     out.extend_from_slice(b"\x01\x01\x16\x01\x02tm")?;
-    out.extend_from_slice(mdb.to_bytes(alloc)?.as_slice())?;
-    Ok(())
+    out.extend_from_slice(flight())
 }
 
-/// Rows of table 0 and link 1, and of the first packet name.
-fn put_rows(out: &mut Vec<u8>, packets: &[Packet]) -> Result<(), Fail> {
+/// Adds a row of table 0 and link 1, and of the first packet name.
+fn put_packet(out: &mut Vec<u8>, time: i64, packet: &[u8]) -> Result<(), AllocError> {
+    out.push(0)?;
+    out.extend_from_slice(&time.to_be_bytes())?;
+    out.extend_from_slice(&[1, 0, 0])?;
+    out.extend_from_slice(packet)
+}
+
+/// Rows of packets.
+fn put_rows(out: &mut Vec<u8>, packets: &[Packet]) -> Result<(), AllocError> {
     let count = (packets.len() as u64).to_be_bytes();
     out.extend_from_slice(&[2, count[6], count[7]])?;
     for (time, process, value) in packets {
-        out.push(0)?;
-        out.extend_from_slice(&time.to_be_bytes())?;
-        out.extend_from_slice(&[1, 0, 0])?;
-        out.extend_from_slice(&packet_of(*process, *value))?;
+        put_packet(out, *time, &packet_of(*process, *value))?;
     }
     Ok(())
+}
+
+/// The set of packets of an interval.
+fn set_of_packets(alloc: Global, mdb: &Mdb, interval: i64, packets: &[Packet]) -> Option<SegSet> {
+    match rows_of(alloc, packets) {
+        Ok(rows) => set_of(alloc, mdb, Interval(interval), &rows),
+        Err(_) => None,
+    }
+}
+
+/// Adds the octets of a set.
+fn put_set(out: &mut Vec<u8>, set: Option<SegSet>) -> Result<(), AllocError> {
+    match set {
+        Some(set) => out.extend_from_slice(set.to_bytes()?.as_slice()),
+        None => Err(AllocError),
+    }
 }
 
 /// A fill with the set of packets.
@@ -92,58 +114,70 @@ fn put_fill(
     interval: i64,
     base: u64,
     packets: &[Packet],
-) -> Result<(), Fail> {
-    let rows = rows_of(alloc, packets)?;
-    let Some(set) = built(alloc, Interval(interval), &rows, mdb)? else {
-        return Err(Fail::from("rows of the interval"));
-    };
+) -> Result<(), AllocError> {
     out.push(3)?;
     out.extend_from_slice(&interval.to_be_bytes())?;
     out.extend_from_slice(&base.to_be_bytes())?;
-    out.extend_from_slice(set.to_bytes()?.as_slice())?;
-    Ok(())
+    put_set(out, set_of_packets(alloc, mdb, interval, packets))
 }
 
-fn octets_in(alloc: Global, mdb: &Mdb, body: &Body) -> Result<Vec<u8>, Fail> {
-    let mut octets = Vec::new(alloc);
+fn put_body(alloc: Global, mdb: &Mdb, out: &mut Vec<u8>, body: &Body) -> Result<(), AllocError> {
     match body {
-        Body::Rows(packets) => put_rows(&mut octets, packets)?,
+        Body::Head => put_head(out),
+        Body::Rows(packets) => put_rows(out, packets),
         Body::Fill(interval, base, packets) => {
-            put_fill(alloc, mdb, &mut octets, *interval, *base, packets)?
+            put_fill(alloc, mdb, out, *interval, *base, packets)
         }
     }
-    Ok(octets)
 }
 
 /// Adds a record: its open gate, its length and its body.
-fn put_record(journal: &mut Vec<u8>, body: &[u8]) -> Result<(), Fail> {
+fn put_octets(journal: &mut Vec<u8>, body: &[u8]) -> Result<(), AllocError> {
     journal.push(1)?;
     journal.extend_from_slice(&(body.len() as u64).to_be_bytes()[4..])?;
-    journal.extend_from_slice(body)?;
+    journal.extend_from_slice(body)
+}
+
+/// Adds the record with a body.
+fn put_record(
+    alloc: Global,
+    mdb: &Mdb,
+    journal: &mut Vec<u8>,
+    body: &Body,
+) -> Result<(), AllocError> {
+    let mut octets = Vec::new(alloc);
+    match put_body(alloc, mdb, &mut octets, body) {
+        Ok(()) => put_octets(journal, &octets),
+        Err(_) => Err(AllocError),
+    }
+}
+
+/// Adds the records with these bodies, and a closed gate.
+fn put_records(
+    alloc: Global,
+    mdb: &Mdb,
+    journal: &mut Vec<u8>,
+    bodies: &[Body],
+) -> Result<(), AllocError> {
+    for body in bodies {
+        put_record(alloc, mdb, journal, body)?;
+    }
+    journal.push(0)?;
     Ok(())
 }
 
-/// The journal of an archive over a database whose records behind the head have these bodies.
-fn journal_of(alloc: Global, mdb: &Mdb, bodies: &[Body]) -> Result<Vec<u8>, Fail> {
-    let mut head = Vec::new(alloc);
-    put_head(alloc, mdb, &mut head)?;
-    let mut journal = Vec::new(alloc);
-    put_record(&mut journal, head.as_slice())?;
-    for body in bodies {
-        let octets = octets_in(alloc, mdb, body)?;
-        put_record(&mut journal, octets.as_slice())?;
+/// Adds the journal of the archive of these tests.
+fn put_journal(alloc: Global, journal: &mut Vec<u8>) -> Result<(), AllocError> {
+    match Mdb::from_bytes(alloc, flight()) {
+        Ok(mdb) => put_records(alloc, &mdb, journal, filled()),
+        Err(_) => Err(AllocError),
     }
-    journal.push(0)?;
-    Ok(journal)
 }
 
-/// The disk of the archive of these tests.
-fn disk(alloc: Global) -> Result<MemDisk, Fail> {
-    let mdb = database(alloc, FLIGHT)?;
-    let journal = journal_of(alloc, &mdb, filled())?;
-    let mut disk = MemDisk::new(alloc);
-    disk.write_at(0, 0, journal.as_slice())?;
-    Ok(disk)
+/// Writes it to a disk, where memory isn't wanting.
+fn write_journal<D: Disk>(alloc: Global, disk: &mut D) -> bool {
+    let mut journal = Vec::new(alloc);
+    put_journal(alloc, &mut journal).is_ok() && disk.write_at(0, 0, &journal).is_ok()
 }
 
 /// Whether the database has the parameter, and the range doesn't end before it begins.
@@ -154,67 +188,83 @@ fn is_answerable(head: &Head, request: &Request) -> bool
     number_of(&head.mdb, &request.parameter).is_some() && request.from <= request.to
 }
 
-/// Whether a store answers an ask by these raw values.
+/// Whether a store answers a request at front 4 by these raw values.
+fn is_answered<D: Disk, L: Ledger>(
+    alloc: Global,
+    store: &mut Store<D>,
+    request: &Request,
+    raws: &[i64],
+    steps: &mut Steps<L>,
+) -> bool {
+    if !is_answerable(store.head(), request) {
+        return false;
+    }
+    match answer_request(alloc, store, request, steps) {
+        Ok(found) => found.answer.front == 4 && are_raws(found.answer.cells.as_slice(), raws),
+        Err(_) => false,
+    }
+}
+
+/// The same of an ask.
 fn gives<D: Disk, L: Ledger>(
     alloc: Global,
     store: &mut Store<D>,
-    asked: &Asked,
-    raws: &[i64],
+    asked: &AskedValues,
     steps: &mut Steps<L>,
-) -> Result<bool, Fail> {
-    let request = request(alloc, asked)?;
-    if !is_answerable(store.head(), &request) {
-        return Err(Fail::from("a request"));
+) -> bool {
+    match request(alloc, &asked.0) {
+        Some(request) => is_answered(alloc, store, &request, asked.1, steps),
+        None => false,
     }
-    let found = answer_request(alloc, store, &request, steps)?;
-    Ok(found.answer.front == 4 && are_raws(found.answer.cells.as_slice(), raws))
 }
 
-/// The place of the first ask that is answered otherwise.
+/// The first ask that is answered otherwise.
 fn other_answer<D: Disk, L: Ledger>(
     alloc: Global,
     store: &mut Store<D>,
     asks: &[AskedValues],
     steps: &mut Steps<L>,
-) -> Result<Option<usize>, Fail> {
-    for (i, (asked, raws)) in asks.iter().enumerate() {
-        if !gives(alloc, store, asked, raws, steps)? {
-            return Ok(Some(i));
+) -> Option<Other> {
+    for i in 0..asks.len() {
+        if !gives(alloc, store, &asks[i], steps) {
+            return Some(("an archive with fills", i));
         }
     }
-    Ok(None)
+    None
 }
 
 /// The same of a store that is given up, and its disk.
-fn of_store<D: Disk + Drop, L: Ledger>(
-    alloc: Global,
-    blank: Blank,
-    store: Store<D>,
-    asks: &[AskedValues],
-) -> Result<(Option<usize>, D), Fail>
+fn other_in<D: Disk, L: Ledger>(alloc: Global, blank: Blank, store: Store<D>) -> (Option<Other>, D)
     requires name { blank.name ≡ L.name }
     requires count { blank.parts ≡ L.parts }
     requires some { 0 < blank.parts }
 {
     let (book, share) = blank.open::<L>();
+    let mut steps = Steps::new(book, share);
     let mut store = store;
-    let other = other_answer(alloc, &mut store, asks, &mut Steps::new(book, share));
-    let disk = store.into_disk();
-    Ok((other?, disk))
+    let other = other_answer(alloc, &mut store, asks(), &mut steps);
+    (other, store.into_disk())
 }
 
-/// The archive of a disk.
-fn opened<D: Disk + Drop>(alloc: Global, disk: D) -> Result<Store<D>, Fail> {
+/// The same of the archive of a disk.
+fn other_on<D: Disk>(alloc: Global, disk: D) -> (Option<Other>, D) {
     match Store::open(alloc, disk) {
-        Ok(store) => Ok(store),
-        Err(_) => Err(Fail::from("an archive")),
+        Ok(store) => other_in::<D, Brand>(alloc, Blank::new(1), store),
+        Err((disk, _)) => (Some(("an archive", 0)), disk),
     }
+}
+
+/// The same of a disk on which nothing is yet.
+fn other<D: Disk + Drop>(alloc: Global, disk: D) -> Option<Other> {
+    let mut disk = disk;
+    if !write_journal(alloc, &mut disk) {
+        return Some(("a journal", 0));
+    }
+    let (other, _disk) = other_on(alloc, disk);
+    other
 }
 
 #[test]
 fn answers_over_fills(rt: HostRuntime) -> Result<(), Fail> {
-    let store = opened(rt.alloc(), disk(rt.alloc())?)?;
-    let (other, _disk) = of_store::<MemDisk, Brand>(rt.alloc(), Blank::new(1), store, asks())?;
-    assert_eq!(rt; other, None);
-    Ok(())
+    none_other(other(rt.alloc(), MemDisk::new(rt.alloc())))
 }

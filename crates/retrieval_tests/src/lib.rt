@@ -7,6 +7,8 @@ mod fills;
 #[cfg(test)]
 mod mixes;
 #[cfg(test)]
+mod ordered;
+#[cfg(test)]
 mod parts;
 #[cfg(test)]
 mod texts;

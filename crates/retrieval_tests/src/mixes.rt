@@ -1,55 +1,37 @@
-// Answers over three intervals, each as a set or as rows.
-ghost use Rattle.std.specs.Prelude.{◌≡◌, ◌+◌, ◌<◌, ◌≤◌, IfOk, filter, length};
+//! Answers over three intervals, each as a set or as rows, and over no part.
+ghost use Rattle.std.specs.Prelude.{IfOk, IfSome};
 ghost use Rattle.std.specs.List.{AllByRecursion};
-ghost use Rattle.arch_types.specs.Table.{is_in_time_range};
-ghost use Rattle.param_segments.specs.Plans.{HasValuesOf, rows_of_parts};
+ghost use Rattle.param_segments.specs.Plans.{HasValuesOf};
 
 use crate::parts::{
-    Asked, AskedValues, FLIGHT, Packet, are_raws, database, part, request, rows_of,
+    Asked, AskedValues, Other, Packet, answer_over, are_raws, flight, none_other, part, rows_of,
 };
-use arch_types::ask::{Answer, Request};
+use crate::texts::is_worked;
+use arch_types::ask::Answer;
 use arch_types::interval::Interval;
-use arch_types::steps::Steps;
 use mdb_model::Mdb;
-use param_segments::{Parts, Plan};
-use retrieval::answer::{answer, number_of};
-use std::alloc::Global;
-use std::marker::Brand;
-use std::sync::Arc;
-use std::sync::ledger::{Blank, Ledger};
-use std::test::Fail;
+use param_segments::{Part, Parts};
+use std::alloc::{AllocError, Global};
+use std::test::*;
 
-/// The packets of an interval.
-type IntervalPackets = (i64, &'static [Packet]);
+/// The bit of an interval in a mix, the interval and its packets.
+type IntervalPackets = (u8, i64, &'static [Packet]);
 
 /// The packets of three intervals of 4,194,304 ms, at their first and last moments and between; the process 102 has no
 /// `v`.
 const PACKETS: &[IntervalPackets] = &[
-    (0, &[(1_500, 100, 42), (2_000, 102, 1), (3_000, 101, 7)]),
-    (1, &[(4_194_304, 100, 9), (8_388_607, 101, 8)]),
-    (2, &[(8_388_608, 100, 5), (9_000_000, 100, 6)]),
+    (4, 0, &[(1_500, 100, 42), (2_000, 102, 1), (3_000, 101, 7)]),
+    (2, 1, &[(4_194_304, 100, 9), (8_388_607, 101, 8)]),
+    (1, 2, &[(8_388_608, 100, 5), (9_000_000, 100, 6)]),
 ];
 
-/// They are a function, so that they stand in no goal of its callers.
+/// They are functions, as the tables of asks below, so that they stand in no goal of their callers.
 fn packets() -> &'static [IntervalPackets] {
     PACKETS
 }
 
-/// Which of the intervals are sets.
-const MIXES: &[[bool; 3]] = &[
-    [false, false, false],
-    [false, false, true],
-    [false, true, false],
-    [false, true, true],
-    [true, false, false],
-    [true, false, true],
-    [true, true, false],
-    [true, true, true],
-];
-
-/// A function, as above.
-fn mixes() -> &'static [[bool; 3]] {
-    MIXES
+fn no_packets() -> &'static [IntervalPackets] {
+    &[]
 }
 
 /// All, from either end.
@@ -91,113 +73,159 @@ const CUT: &[AskedValues] = &[
     ((b"v", 3_000, 8_388_608, true, Some(2)), &[8, 9]),
 ];
 
-/// All asks. A function, as above.
-fn asks() -> [&'static [AskedValues]; 3] {
-    [ALL, LIMITED, CUT]
+/// Over no part.
+const NONE: &[AskedValues] = &[((b"v", 0, 10, true, None), &[])];
+
+fn all() -> &'static [AskedValues] {
+    ALL
 }
 
-/// The parts of intervals, each as a set or as rows.
+fn limited() -> &'static [AskedValues] {
+    LIMITED
+}
+
+fn cut() -> &'static [AskedValues] {
+    CUT
+}
+
+fn none() -> &'static [AskedValues] {
+    NONE
+}
+
+/// The part of packets of an interval, as a set or as rows.
+fn part_of(
+    alloc: Global,
+    mdb: &Mdb,
+    interval: i64,
+    packets: &[Packet],
+    as_set: bool,
+) -> Option<Part>
+    ensures { IfSome result (HasValuesOf mdb.now) }
+{
+    match rows_of(alloc, packets) {
+        Ok(rows) => part(alloc, mdb, Interval(interval), rows, as_set),
+        Err(_) => None,
+    }
+}
+
+/// Adds a part to others.
+pub(crate) fn put_part(parts: &mut Parts, part: Option<Part>, _mdb: &Mdb) -> Result<(), AllocError>
+    requires parts { AllByRecursion (HasValuesOf _mdb.now) parts.old }
+    requires part { IfSome part (HasValuesOf _mdb.now) }
+    ensures { AllByRecursion (HasValuesOf _mdb.now) parts.new }
+{
+    match part {
+        Some(part) => parts.push(part),
+        None => Err(AllocError),
+    }
+}
+
+/// The parts of intervals, those of a mix as sets and the others as rows.
 fn parts_of(
     alloc: Global,
     mdb: &Mdb,
     intervals: &[IntervalPackets],
-    mix: &[bool],
-) -> Result<Parts, Fail>
+    mix: u8,
+) -> Result<Parts, AllocError>
     ensures { IfOk result (AllByRecursion (HasValuesOf mdb.now)) }
 {
     let mut parts = Parts::new(alloc);
-    for ((interval, packets), as_set) in intervals.iter().zip(mix) {
-        let rows = rows_of(alloc, packets)?;
-        parts.push(part(alloc, mdb, Interval(*interval), rows, *as_set)?)?;
+    for (bit, interval, packets) in intervals {
+        let part = part_of(alloc, mdb, *interval, packets, mix & *bit != 0);
+        put_part(&mut parts, part, mdb)?;
     }
     Ok(parts)
 }
 
-/// The answer to a request over parts, where the database has the parameter.
-fn answered<L: Ledger>(
+/// The answer to an ask over a mix.
+fn answer_of(
     alloc: Global,
-    blank: Blank,
-    parts: Parts,
     mdb: &Mdb,
-    request: &Request,
-) -> Result<Answer, Fail>
-    requires name { blank.name ≡ L.name }
-    requires count { blank.parts ≡ L.parts }
-    requires some { 0 < blank.parts }
-    requires values { AllByRecursion (HasValuesOf mdb.now) parts }
-{
-    let (book, share) = blank.open::<L>();
-    counted(alloc, parts, mdb, request, &mut Steps::new(book, share))
-}
-
-/// The same, with a step at most for each row in the range of the parts that aren't sets.
-fn counted<L: Ledger>(
-    alloc: Global,
-    parts: Parts,
-    mdb: &Mdb,
-    request: &Request,
-    steps: &mut Steps<L>,
-) -> Result<Answer, Fail>
-    requires values { AllByRecursion (HasValuesOf mdb.now) parts }
-    ensures steps { steps.new ≤ steps.old + length (filter (is_in_time_range request.now.from request.now.to)
-        (rows_of_parts parts)) }
-{
-    if number_of(mdb, &request.parameter).is_none() {
-        return Err(Fail::from("a parameter"));
+    intervals: &[IntervalPackets],
+    mix: u8,
+    asked: &Asked,
+) -> Option<Answer> {
+    match parts_of(alloc, mdb, intervals, mix) {
+        Ok(parts) => answer_over(alloc, parts, mdb, asked),
+        Err(_) => None,
     }
-    let plan = Plan {
-        front: 7,
-        mdb: Arc::new(alloc, mdb.copy()?)?,
-        parts,
-    };
-    Ok(answer(alloc, plan, mdb, request, steps)?)
 }
 
 /// Whether an ask over a mix gives these raw values, at front 7.
 fn gives(
     alloc: Global,
     mdb: &Mdb,
-    mix: &[bool],
-    asked: &Asked,
-    raws: &[i64],
-) -> Result<bool, Fail> {
-    let parts = parts_of(alloc, mdb, packets(), mix)?;
-    let request = request(alloc, asked)?;
-    let answer = answered::<Brand>(alloc, Blank::new(1), parts, mdb, &request)?;
-    Ok(answer.front == 7 && are_raws(answer.cells.as_slice(), raws))
+    intervals: &[IntervalPackets],
+    mix: u8,
+    asked: &AskedValues,
+) -> bool {
+    match answer_of(alloc, mdb, intervals, mix, &asked.0) {
+        Some(answer) => answer.front == 7 && are_raws(answer.cells.as_slice(), asked.1),
+        None => false,
+    }
 }
 
-/// The first mix, and the place of the ask, that gives another answer.
-fn other_answer(
+/// Whether an ask gives its raw values over each mix.
+fn gives_always(
     alloc: Global,
     mdb: &Mdb,
-    asks: &[AskedValues],
-) -> Result<Option<([bool; 3], usize)>, Fail> {
-    for mix in mixes() {
-        for (i, (asked, raws)) in asks.iter().enumerate() {
-            if !gives(alloc, mdb, mix, asked, raws)? {
-                return Ok(Some((*mix, i)));
-            }
+    intervals: &[IntervalPackets],
+    asked: &AskedValues,
+) -> bool {
+    for mix in 0u8..8 {
+        if !gives(alloc, mdb, intervals, mix, asked) {
+            return false;
         }
     }
-    Ok(None)
+    true
 }
 
-#[test]
-fn answers_over_mixes(rt: HostRuntime) -> Result<(), Fail> {
-    let mdb = database(rt.alloc(), FLIGHT)?;
-    for table in asks() {
-        assert_eq!(rt; other_answer(rt.alloc(), &mdb, table)?, None);
+/// The first ask that gives other raw values over some mix.
+fn other_of(
+    alloc: Global,
+    mdb: &Mdb,
+    intervals: &[IntervalPackets],
+    asks: &[AskedValues],
+) -> Option<usize> {
+    for i in 0..asks.len() {
+        if !gives_always(alloc, mdb, intervals, &asks[i]) {
+            return Some(i);
+        }
     }
-    Ok(())
+    None
+}
+
+/// What goes otherwise under the database of these tests.
+fn other_answer(alloc: Global, mdb: &Mdb) -> Option<Other> {
+    if let Some(i) = other_of(alloc, mdb, packets(), all()) {
+        return Some(("all", i));
+    }
+    if let Some(i) = other_of(alloc, mdb, packets(), limited()) {
+        return Some(("limited", i));
+    }
+    if let Some(i) = other_of(alloc, mdb, packets(), cut()) {
+        return Some(("cut", i));
+    }
+    if let Some(i) = other_of(alloc, mdb, no_packets(), none()) {
+        return Some(("no parts", i));
+    }
+    if !is_worked(alloc, mdb, false) {
+        return Some(("the worked rows", 0));
+    }
+    if !is_worked(alloc, mdb, true) {
+        return Some(("the worked set", 0));
+    }
+    None
+}
+
+fn other(alloc: Global) -> Option<Other> {
+    match Mdb::from_bytes(alloc, flight()) {
+        Ok(mdb) => other_answer(alloc, &mdb),
+        Err(_) => Some(("a database", 0)),
+    }
 }
 
 #[test]
-fn no_parts(rt: HostRuntime) -> Result<(), Fail> {
-    let mdb = database(rt.alloc(), FLIGHT)?;
-    let request = request(rt.alloc(), &(b"v", 0, 10, true, None))?;
-    let parts = Parts::new(rt.alloc());
-    let answer = answered::<Brand>(rt.alloc(), Blank::new(1), parts, &mdb, &request)?;
-    assert_eq!(rt; answer.cells.len(), 0);
-    Ok(())
+fn answers_over_parts(rt: HostRuntime) -> Result<(), Fail> {
+    none_other(other(rt.alloc()))
 }

@@ -1,25 +1,20 @@
-// The worked row, as a set and as rows, and texts of answers.
-ghost use Rattle.std.specs.Prelude.{◌≡◌, ◌+◌, ◌<◌, ◌≤◌, [], ◌∷◌, filter, length};
-ghost use Rattle.arch_types.specs.Table.{is_in_time_range};
-ghost use Rattle.param_segments.specs.Plans.{HasValuesOf, rows_of_parts};
+//! The worked row, as a set and as rows, and texts of answers.
+ghost use Rattle.std.specs.Prelude.{IfOk, IfSome};
+ghost use Rattle.std.specs.List.{AllByRecursion};
+ghost use Rattle.param_segments.specs.Plans.{HasValuesOf};
 
-use crate::parts::{FLIGHT, Sheets, database, part, request, row};
-use arch_types::ask::{Answer, Request};
+use crate::mixes::put_part;
+use crate::parts::{Other, answer_over, none_other, part, put_row};
+use arch_types::ask::Answer;
 use arch_types::cell::{Cell, Cells, Eng};
 use arch_types::interval::Interval;
 use arch_types::key::Key;
-use arch_types::octets::Octets;
 use arch_types::row::Rows;
-use arch_types::steps::Steps;
 use mdb_model::Mdb;
-use param_segments::{Part, Parts, Plan};
-use retrieval::answer::{answer, number_of};
+use param_segments::{Part, Parts};
 use retrieval::answer_text::answer_text;
-use std::alloc::Global;
-use std::marker::Brand;
-use std::sync::Arc;
-use std::sync::ledger::{Blank, Ledger};
-use std::test::Fail;
+use std::alloc::{AllocError, Global};
+use std::test::*;
 
 /// A packet of process 100 with 42 and -2, and one of process 101 with 7, both of time 1,500 ms.
 const WORKED: &[&[u8]] = &[
@@ -27,90 +22,111 @@ const WORKED: &[&[u8]] = &[
     b"\x08\x65\xC0\x00\x00\x06\x00\x00\x00\x01\x80\x00\x07",
 ];
 
-/// They are a function, so that they stand in no goal of its callers.
+/// The lines of the values of `v` below 2,000 ms, over the set and over the rows.
+const WORKED_LINES: &str = "cell 1500 140820480 42 42\ncell 1500 140886016 7 7\n";
+
+/// The database of a parameter with a label at 1, and one without calibration.
+const LABELLED: &[u8] = &[
+    0, 2, 1, b'e', 0, 8, 0, 1, // e, uint, 8 bits, the first calibration
+    1, b'v', 0, 8, 0, 0, // v, uint, 8 bits
+    0, 1, 6, b's', b'w', b'i', b't', b'c', b'h', 2, 0, 0, 0, 1, // switch, enum, one row
+    0, 0, 0, 0, 0, 0, 0, 0, 0, 0, 0, 0, 0, 0, 0, 1, 2, b'O', b'N', // 1 is ON
+    0, 1, 1, b'R', 0, 0, 0, 0, // R, not archived
+    0, 2, 0, 0, 0, 0, 0, 0, 0, 1, 0, 0, 0, 8, // e at bit 0, v at bit 8
+];
+
+/// Engineering values, the parameter, and the lines of cells with them at one key.
+type Labels = (&'static [Eng], u16, &'static str);
+
+/// A label that the calibration doesn't have, or for which there's no calibration, is UNDEF. No cell, no line.
+const LABELS: &[Labels] = &[
+    (
+        &[Eng::Label(0), Eng::Label(1), Eng::Whole],
+        0,
+        "cell -5 6 1 ON\ncell -5 6 1 UNDEF\ncell -5 6 1 1\n",
+    ),
+    (
+        &[Eng::Label(0), Eng::Label(1), Eng::Whole],
+        1,
+        "cell -5 6 1 UNDEF\ncell -5 6 1 UNDEF\ncell -5 6 1 1\n",
+    ),
+    (&[], 1, ""),
+];
+
+/// They are functions, so that they stand in no goal of their callers.
 fn worked() -> &'static [&'static [u8]] {
     WORKED
 }
 
-/// The lines of the values of `v` below 2,000 ms, over the set and over the rows.
-const WORKED_LINES: &str = "cell 1500 140820480 42 42\ncell 1500 140886016 7 7\n";
-
-/// A parameter with a label at 1, and one without calibration.
-const LABELLED: Sheets = (
-    "name,coding,bits,calibration|e,uint,8,switch|v,uint,8,",
-    "name,kind,x,y|switch,enum,1,ON",
-    "container,parent,condition,archive,entry,position|R,,,,e,0|,,,,v,",
-);
-
-/// The lines of the labels 0 and 1 and of a raw number at one key, by the first parameter's calibration.
-const LABELLED_LINES: &str = "cell -5 6 1 ON\ncell -5 6 1 UNDEF\ncell -5 6 1 1\n";
-
-/// Those by the second's, which has none.
-const UNLABELLED_LINES: &str = "cell -5 6 1 UNDEF\ncell -5 6 1 UNDEF\ncell -5 6 1 1\n";
-
-/// The answer over one part, in a step at most for each row in the range that it has still to extract: in none over a
-/// set.
-fn over_part<L: Ledger>(
-    alloc: Global,
-    part: Part,
-    mdb: &Mdb,
-    request: &Request,
-    steps: &mut Steps<L>,
-) -> Result<Answer, Fail>
-    requires { HasValuesOf mdb.now part }
-    ensures { steps.new ≤ steps.old + length (filter (is_in_time_range request.now.from request.now.to)
-        (rows_of_parts (part ∷ []))) }
-{
-    if number_of(mdb, &request.parameter).is_none() {
-        return Err(Fail::from("a parameter"));
-    }
-    let mut parts = Parts::new(alloc);
-    parts.push(part)?;
-    let plan = Plan {
-        front: 2,
-        mdb: Arc::new(alloc, mdb.copy()?)?,
-        parts,
-    };
-    Ok(answer(alloc, plan, mdb, request, steps)?)
+fn worked_lines() -> &'static [u8] {
+    WORKED_LINES.as_bytes()
 }
 
-/// The text of the worked answer, over a set or over rows.
-fn worked_text<L: Ledger>(alloc: Global, blank: Blank, as_set: bool) -> Result<Octets, Fail>
-    requires name { blank.name ≡ L.name }
-    requires count { blank.parts ≡ L.parts }
-    requires some { 0 < blank.parts }
-{
-    let (book, share) = blank.open::<L>();
-    let mdb = database(alloc, FLIGHT)?;
+fn labelled() -> &'static [u8] {
+    LABELLED
+}
+
+fn labels() -> &'static [Labels] {
+    LABELS
+}
+
+/// The rows of packets at one time.
+fn rows_at(alloc: Global, time: i64, packets: &[&[u8]]) -> Result<Rows, AllocError> {
     let mut rows = Rows::new(alloc);
-    for packet in worked() {
-        rows.push(row(alloc, 1_500, packet)?)?;
+    for packet in packets {
+        put_row(alloc, &mut rows, time, packet)?;
     }
-    let part = part(alloc, &mdb, Interval(0), rows, as_set)?;
-    let request = request(alloc, &(b"v", 0, 2_000, false, None))?;
-    let answer = over_part(alloc, part, &mdb, &request, &mut Steps::new(book, share))?;
-    text_of(alloc, &answer, &mdb, 1)
+    Ok(rows)
 }
 
-/// The text of an answer over the parameter with this number.
-fn text_of(alloc: Global, answer: &Answer, mdb: &Mdb, number: u16) -> Result<Octets, Fail> {
+/// The part of the worked rows, as a set or as rows.
+fn worked_part(alloc: Global, mdb: &Mdb, as_set: bool) -> Option<Part>
+    ensures { IfSome result (HasValuesOf mdb.now) }
+{
+    match rows_at(alloc, 1_500, worked()) {
+        Ok(rows) => part(alloc, mdb, Interval(0), rows, as_set),
+        Err(_) => None,
+    }
+}
+
+/// It alone.
+fn worked_parts(alloc: Global, mdb: &Mdb, as_set: bool) -> Result<Parts, AllocError>
+    ensures { IfOk result (AllByRecursion (HasValuesOf mdb.now)) }
+{
+    let mut parts = Parts::new(alloc);
+    put_part(&mut parts, worked_part(alloc, mdb, as_set), mdb)?;
+    Ok(parts)
+}
+
+/// The worked answer, over a set or over rows.
+fn worked_answer(alloc: Global, mdb: &Mdb, as_set: bool) -> Option<Answer> {
+    match worked_parts(alloc, mdb, as_set) {
+        Ok(parts) => answer_over(alloc, parts, mdb, &(b"v", 0, 2_000, false, None)),
+        Err(_) => None,
+    }
+}
+
+/// Whether an answer over the parameter with this number has these lines.
+fn has_lines(alloc: Global, answer: &Answer, mdb: &Mdb, number: u16, lines: &[u8]) -> bool {
     if number >= mdb.parameters() {
-        return Err(Fail::from("a parameter"));
+        return false;
     }
-    Ok(answer_text(alloc, answer, mdb, number)?)
+    match answer_text(alloc, answer, mdb, number) {
+        Ok(text) => text.as_slice() == lines,
+        Err(_) => false,
+    }
 }
 
-#[test]
-fn worked_answer(rt: HostRuntime) -> Result<(), Fail> {
-    for as_set in [true, false] {
-        let text = worked_text::<Brand>(rt.alloc(), Blank::new(1), as_set)?;
-        assert_eq!(rt; text.as_slice(), WORKED_LINES.as_bytes());
+/// Whether the worked answer has its lines.
+pub(crate) fn is_worked(alloc: Global, mdb: &Mdb, as_set: bool) -> bool {
+    match worked_answer(alloc, mdb, as_set) {
+        Some(answer) => has_lines(alloc, &answer, mdb, 1, worked_lines()),
+        None => false,
     }
-    Ok(())
 }
 
 /// Cells at one key, with the raw number 1.
-fn cells_of(alloc: Global, engs: &[Eng]) -> Result<Cells, Fail> {
+fn cells_of(alloc: Global, engs: &[Eng]) -> Result<Cells, AllocError> {
     let mut cells = Cells::new(alloc);
     for eng in engs {
         cells.push(Cell {
@@ -122,31 +138,38 @@ fn cells_of(alloc: Global, engs: &[Eng]) -> Result<Cells, Fail> {
     Ok(cells)
 }
 
-// A label that the calibration doesn't have, or for which there's no calibration, is UNDEF.
-#[test]
-fn labels(rt: HostRuntime) -> Result<(), Fail> {
-    let alloc = rt.alloc();
-    let mdb = database(alloc, LABELLED)?;
-    let answer = Answer {
-        front: 0,
-        cells: cells_of(alloc, &[Eng::Label(0), Eng::Label(1), Eng::Whole])?,
-    };
-    let text = text_of(alloc, &answer, &mdb, 0)?;
-    assert_eq!(rt; text.as_slice(), LABELLED_LINES.as_bytes());
-    let text = text_of(alloc, &answer, &mdb, 1)?;
-    assert_eq!(rt; text.as_slice(), UNLABELLED_LINES.as_bytes());
-    Ok(())
+/// Whether cells have these lines.
+fn are_lines(alloc: Global, cells: Cells, mdb: &Mdb, number: u16, lines: &[u8]) -> bool {
+    let answer = Answer { front: 0, cells };
+    has_lines(alloc, &answer, mdb, number, lines)
 }
 
-// No cell, no line.
+fn are_labelled(alloc: Global, mdb: &Mdb, labels: &Labels) -> bool {
+    let (engs, number, lines) = *labels;
+    match cells_of(alloc, engs) {
+        Ok(cells) => are_lines(alloc, cells, mdb, number, lines.as_bytes()),
+        Err(_) => false,
+    }
+}
+
+/// The first row of a table whose lines are other ones.
+fn other_lines(alloc: Global, mdb: &Mdb, table: &[Labels]) -> Option<Other> {
+    for i in 0..table.len() {
+        if !are_labelled(alloc, mdb, &table[i]) {
+            return Some(("labels", i));
+        }
+    }
+    None
+}
+
+fn other(alloc: Global) -> Option<Other> {
+    match Mdb::from_bytes(alloc, labelled()) {
+        Ok(mdb) => other_lines(alloc, &mdb, labels()),
+        Err(_) => Some(("a database", 0)),
+    }
+}
+
 #[test]
-fn no_cells(rt: HostRuntime) -> Result<(), Fail> {
-    let alloc = rt.alloc();
-    let mdb = database(alloc, LABELLED)?;
-    let answer = Answer {
-        front: 0,
-        cells: Cells::new(alloc),
-    };
-    assert_eq!(rt; text_of(alloc, &answer, &mdb, 1)?.len(), 0);
-    Ok(())
+fn labels_of_answers(rt: HostRuntime) -> Result<(), Fail> {
+    none_other(other(rt.alloc()))
 }

@@ -1,0 +1,354 @@
+//! Loads and recoveries over a disk that fails, and what crashes leave of them.
+
+use crate::calls::{Wanted, ends_so, files_alone, none_other};
+use crate::faults::failing;
+use crate::files::sheets;
+use crate::in_a_row::{CREATE, overwritten};
+use crate::late_tests::unfilled;
+use arch_disk::{Crash, Disk, MemDisk};
+use std::alloc::{AllocError, Global};
+use std::test::Fail;
+
+/// 66 packets, which are two batches.
+fn two_batches(alloc: Global) -> Result<Vec<u8>, AllocError> {
+    let mut dump = Vec::new(alloc);
+    for number in 0..66u8 {
+        dump.extend_from_slice(&[8, 0x64, 0xC0, number, 0, 6, 0, 0, 0, 1, 0x80, 0, 0x2A])?;
+    }
+    Ok(dump)
+}
+
+/// A call over the sheets and these octets as `batches`: its status, the length of the history afterwards, and the disk.
+fn call_over<D: Disk>(alloc: Global, line: &str, batches: &[u8], disk: D) -> (u8, u64, D) {
+    let [parameters, calibrations, containers] = sheets();
+    let files = [parameters, calibrations, containers, ("batches", batches)];
+    let (outcome, disk) = crate::calls::call(alloc, line, &files_alone(&files), disk);
+    (outcome.status, outcome.after, disk)
+}
+
+/// The same with the two batches. Without memory for these the status is that of the program.
+fn call<D: Disk>(alloc: Global, line: &str, disk: D) -> (u8, u64, D) {
+    match two_batches(alloc) {
+        Ok(batches) => call_over(alloc, line, batches.as_slice(), disk),
+        Err(_) => (7, 0, disk),
+    }
+}
+
+/// A disk that tells how many calls were made, and what its crashes leave now.
+trait Crashing: Disk + Drop {
+    fn calls(&self) -> u64;
+
+    fn image(&self, crash: Crash) -> Option<MemDisk>;
+}
+
+impl Crashing for MemDisk {
+    fn calls(&self) -> u64 {
+        self.made()
+    }
+
+    fn image(&self, crash: Crash) -> Option<MemDisk> {
+        match self.crashed(self.moments(), crash) {
+            Ok(image) => Some(image),
+            Err(_) => None,
+        }
+    }
+}
+
+/// The status of a `recover`, and how many rows the archive has then.
+fn recovered<D: Disk + Drop>(alloc: Global, disk: D) -> (u8, u64) {
+    let (status, rows, _disk) = call(alloc, "recover", disk);
+    (status, rows)
+}
+
+/// The same of what a crash leaves.
+fn recovered_behind<D: Crashing>(alloc: Global, disk: &D, crash: Crash) -> Option<(u8, u64)> {
+    let image = disk.image(crash)?;
+    Some(recovered(alloc, image))
+}
+
+/// Whether what each kind of crash leaves is an archive that opens and has just these rows.
+fn images_hold<D: Crashing>(alloc: Global, disk: &D, rows: u64) -> bool {
+    for crash in Crash::ALL {
+        if recovered_behind(alloc, disk, crash) != Some((0, rows)) {
+            return false;
+        }
+    }
+    true
+}
+
+/// Whether none of them is an archive.
+fn images_hold_none<D: Crashing>(alloc: Global, disk: &D) -> bool {
+    for crash in Crash::ALL {
+        if recovered_behind(alloc, disk, crash) != Some((1, 0)) {
+            return false;
+        }
+    }
+    true
+}
+
+/// What came of the making of an archive and a load into it.
+#[derive(Clone, Copy, PartialEq, Eq)]
+enum Made {
+    Archive,
+    /// No archive, and no image of one.
+    None,
+    /// Something else than is told.
+    Wrong,
+}
+
+/// Loads two batches into a new archive on a disk whose call of this number fails. The answer says so, and afterwards the disk has the rows that the
+/// report tells, whatever a crash leaves.
+fn made_and_loaded<D: Crashing>(alloc: Global, fails: u64, disk: D) -> Made {
+    let (status, rows, disk) = call(alloc, "load batches", disk);
+    let are_kept = images_hold(alloc, &disk, rows);
+    let has_failed = disk.calls() >= fails;
+    let is_told = status == if has_failed { 5 } else { 0 };
+    let is_whole = rows == 0 || rows == 64 || rows == 66;
+    // Where it hasn't, a call of the `recover` would.
+    let is_held = !has_failed || recovered(alloc, disk) == (0, rows);
+    if is_told && is_whole && are_kept && is_held {
+        Made::Archive
+    } else {
+        Made::Wrong
+    }
+}
+
+/// The same after a `create` that failed.
+fn made_none<D: Crashing>(alloc: Global, status: u8, disk: &D) -> Made {
+    if status == 5 && images_hold_none(alloc, disk) {
+        Made::None
+    } else {
+        Made::Wrong
+    }
+}
+
+/// The same from the making of the archive on.
+fn made_on<D: Crashing>(alloc: Global, fails: u64, disk: D) -> Made {
+    let (status, _, disk) = call(alloc, CREATE, disk);
+    if status == 0 {
+        made_and_loaded(alloc, fails, disk)
+    } else {
+        made_none(alloc, status, &disk)
+    }
+}
+
+/// The first call that leaves something else where it fails. Most leave an archive: if these are few, it is call 0.
+fn wrong_load(alloc: Global) -> Option<u64> {
+    let mut made = 0u64;
+    for fails in 1..40u64 {
+        match made_on(alloc, fails, failing(alloc, &[fails])) {
+            Made::Archive => made = made.saturating_add(1),
+            Made::None => {}
+            Made::Wrong => return Some(fails),
+        }
+    }
+    if made > 20 { None } else { Some(0) }
+}
+
+#[test]
+fn a_load_on_a_failing_disk(rt: HostRuntime) -> Result<(), Fail> {
+    none_other(wrong_load(rt.alloc()))
+}
+
+/// How many calls a command makes on a disk that holds no archive.
+fn calls_of<D: Crashing>(alloc: Global, line: &str, disk: D) -> u64 {
+    let (_, _, disk) = call(alloc, line, disk);
+    disk.calls()
+}
+
+/// Calls of which a sheet isn't there.
+const LACKING: &[&str] = &["create x calibrations containers", "query --ask x"];
+
+fn lacking() -> &'static [&'static str] {
+    LACKING
+}
+
+/// The place of the first of these that calls the disk.
+fn calling(alloc: Global, lines: &[&'static str]) -> Option<u64> {
+    let mut place = 0u64;
+    for line in lines {
+        if calls_of(alloc, line, MemDisk::new(alloc)) != 0 {
+            return Some(place);
+        }
+        place = place.saturating_add(1);
+    }
+    None
+}
+
+#[test]
+fn sheets_are_read_before_the_disk(rt: HostRuntime) -> Result<(), Fail> {
+    none_other(calling(rt.alloc(), lacking()))
+}
+
+/// How many calls the making of an archive and the load of two batches make.
+fn calls_of_a_load<D: Crashing>(alloc: Global, disk: D) -> u64 {
+    let (_, _, disk) = call(alloc, CREATE, disk);
+    calls_of(alloc, "load batches", disk)
+}
+
+/// The number of a call of a load of two batches, counted from its last.
+fn call_before_the_last(alloc: Global, behind: u64) -> u64 {
+    calls_of_a_load(alloc, MemDisk::new(alloc)).saturating_sub(behind)
+}
+
+/// What a `recover` and a second load answer.
+fn answers_behind<D: Disk + Drop>(alloc: Global, disk: D) -> [(u8, u64); 2] {
+    let (first, rows, disk) = call(alloc, "recover", disk);
+    let (second, more, _disk) = call(alloc, "load batches", disk);
+    [(first, rows), (second, more)]
+}
+
+/// Whether a load of two batches into a new archive fails and reports so many rows, each crash leaves these, and a second load adds the others.
+fn fails_with<D: Crashing>(alloc: Global, disk: D, rows: u64) -> bool {
+    let (_, _, disk) = call(alloc, CREATE, disk);
+    let (status, told, disk) = call(alloc, "load batches", disk);
+    let are_kept = images_hold(alloc, &disk, told);
+    let answers = answers_behind(alloc, disk);
+    are_kept && (status, told) == (5, rows) && answers == [(0, rows), (0, 66)]
+}
+
+/// The same where the call with so many behind it fails.
+fn fails_so(alloc: Global, behind: u64, rows: u64) -> bool {
+    fails_with(
+        alloc,
+        failing(alloc, &[call_before_the_last(alloc, behind)]),
+        rows,
+    )
+}
+
+/// Whether a call with so many behind it and the next are the last, where both fail.
+fn ends_with_both(alloc: Global, behind: u64) -> bool {
+    let fails = call_before_the_last(alloc, behind);
+    let next = fails.saturating_add(1);
+    calls_of_a_load(alloc, failing(alloc, &[fails, next])) == next
+}
+
+/// How many calls are behind the one that fails, and how many rows the load reports: the last sync of the fill, and that of the second batch, behind
+/// which the fill makes four calls.
+const LAST_SYNCS: &[(u64, u64)] = &[(0, 66), (4, 64)];
+
+fn last_syncs() -> &'static [(u64, u64)] {
+    LAST_SYNCS
+}
+
+/// The place of the first of these that goes otherwise.
+fn other_sync(alloc: Global, syncs: &[(u64, u64)]) -> Option<u64> {
+    let mut place = 0u64;
+    for (behind, rows) in syncs {
+        if !fails_so(alloc, *behind, *rows) {
+            return Some(place);
+        }
+        place = place.saturating_add(1);
+    }
+    None
+}
+
+#[test]
+fn a_load_whose_last_syncs_fail(rt: HostRuntime) -> Result<(), Fail> {
+    none_other(other_sync(rt.alloc(), last_syncs()))
+}
+
+/// The place of the first of these whose write isn't taken back in one try.
+fn other_try(alloc: Global, syncs: &[(u64, u64)]) -> Option<u64> {
+    let mut place = 0u64;
+    for (behind, _) in syncs {
+        if !ends_with_both(alloc, *behind) {
+            return Some(place);
+        }
+        place = place.saturating_add(1);
+    }
+    None
+}
+
+#[test]
+fn a_failed_write_is_taken_back_in_one_try(rt: HostRuntime) -> Result<(), Fail> {
+    none_other(other_try(rt.alloc(), last_syncs()))
+}
+
+const LONGEST_FRONT: &[u8] = &[8, 0x64, 0xC0, 0, 0xFF, 0xFF];
+
+fn longest_front() -> &'static [u8] {
+    LONGEST_FRONT
+}
+
+/// A packet of the greatest length that there is.
+fn longest_packet(alloc: Global) -> Result<Vec<u8>, AllocError> {
+    let mut packet = Vec::from_slice(alloc, longest_front())?;
+    packet.extend_from_slice(vec![in alloc; 0u8; 65_536]?.as_slice())?;
+    Ok(packet)
+}
+
+const LONGEST_LOAD: Wanted = (
+    0,
+    "load packets 1 new 1 duplicates 0 idle 0 rows 1\n",
+    "",
+    Some((0, 1)),
+);
+
+fn longest_load() -> Wanted {
+    LONGEST_LOAD
+}
+
+/// Whether an archive takes a file `longest`.
+fn takes<D: Disk + Drop>(alloc: Global, disk: D, longest: &[u8]) -> bool {
+    let (_, _, disk) = call(alloc, CREATE, disk);
+    let files = [("longest", longest)];
+    ends_so(alloc, "load longest", &files, disk, &longest_load())
+}
+
+/// Whether it takes the longest packet: 0 where it doesn't.
+fn other_longest(alloc: Global) -> Result<Option<u64>, AllocError> {
+    let packet = longest_packet(alloc)?;
+    let is_taken = takes(alloc, MemDisk::new(alloc), packet.as_slice());
+    Ok(if is_taken { None } else { Some(0) })
+}
+
+#[test]
+fn the_longest_packet_is_loaded(rt: HostRuntime) -> Result<(), Fail> {
+    none_other(other_longest(rt.alloc())?)
+}
+
+/// An archive without fills on a new disk, whose rows came as they stand in a record.
+fn unfilled_on<D: Disk>(alloc: Global, disk: D) -> D {
+    let (_, disk) = overwritten(alloc, disk, &unfilled());
+    disk
+}
+
+/// How many calls that makes.
+fn calls_unfilled<D: Crashing>(alloc: Global, disk: D) -> u64 {
+    unfilled_on(alloc, disk).calls()
+}
+
+/// The statuses of a `recover` and a `verify`, and how many rows the first finds.
+fn recovered_and_verified<D: Disk + Drop>(alloc: Global, disk: D) -> (u8, u64, u8) {
+    let (status, rows, disk) = call(alloc, "recover", disk);
+    let (found, _, _disk) = call(alloc, "verify", disk);
+    (status, rows, found)
+}
+
+/// Whether a `recover` of an archive without fills, on a disk that fails at one call, answers so, leaves its three rows to each kind of crash, and
+/// to a second `recover`, behind which the archive is sound.
+fn is_recovered<D: Crashing>(alloc: Global, disk: D) -> bool {
+    let disk = unfilled_on(alloc, disk);
+    let before = disk.faults();
+    let (status, _, disk) = call(alloc, "recover", disk);
+    let want = if disk.faults() > before { 5 } else { 0 };
+    let are_kept = images_hold(alloc, &disk, 3);
+    are_kept && status == want && recovered_and_verified(alloc, disk) == (0, 3, 0)
+}
+
+/// The first call of a `recover` of which it isn't so. An opening makes four calls, and each of the two fills makes four.
+fn other_recover(alloc: Global) -> Option<u64> {
+    let made = calls_unfilled(alloc, MemDisk::new(alloc));
+    for fails in 1..13u64 {
+        if !is_recovered(alloc, failing(alloc, &[made.saturating_add(fails)])) {
+            return Some(fails);
+        }
+    }
+    None
+}
+
+#[test]
+fn a_recover_on_a_failing_disk(rt: HostRuntime) -> Result<(), Fail> {
+    none_other(other_recover(rt.alloc()))
+}

@@ -1,0 +1,15 @@
+// Tests of arch_types, block_map, command_words, octet_fields and time_text: worked rows, vectors, each call once with ample memory, what no clause says.
+#![tactic(auto)]
+
+#[cfg(test)]
+mod arch_types_tests;
+#[cfg(test)]
+mod block_map_tests;
+#[cfg(test)]
+mod command_words_tests;
+#[cfg(test)]
+mod ends;
+#[cfg(test)]
+mod octet_fields_tests;
+#[cfg(test)]
+mod time_text_tests;

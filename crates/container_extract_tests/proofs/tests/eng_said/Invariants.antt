@@ -1,4 +1,0 @@
-use Rattle.container_extract_tests.proofs.tests.eng_said.Given as goal
-
-abbrev pub ghosts-eng_by : goal.ghosts-eng_by
-ghosts-eng_by a = record { name = a.blank.name; parts = a.blank.parts }

@@ -1,5 +1,0 @@
-// Tests of container_extract: worked rows and vectors, printed texts, each call once with ample memory, and what no clause says.
-#![tactic(auto)]
-
-#[cfg(test)]
-mod tests;

@@ -1,0 +1,25 @@
+// Tests of the archive's history in memory and of what it stands on: worked rows and vectors, printed texts, each call once with ample memory, and what no clause says.
+#![tactic(auto)]
+
+#[cfg(test)]
+mod archive_history_tests;
+#[cfg(test)]
+mod dump_lines_tests;
+#[cfg(test)]
+mod fill_tracker_tests;
+#[cfg(test)]
+mod histogram_tests;
+#[cfg(test)]
+mod history_items_tests;
+#[cfg(test)]
+mod interval_walks_tests;
+#[cfg(test)]
+mod late_marks_tests;
+#[cfg(test)]
+mod partitions_tests;
+#[cfg(test)]
+mod parts;
+#[cfg(test)]
+mod space_packet_tests;
+#[cfg(test)]
+mod yarch_table_tests;

@@ -1,0 +1,196 @@
+//! A source of rows in memory.
+
+ghost use Rattle.std.specs.Prelude.{◌≡◌, ℕ, List, [], filter, take, true, IfOk, IfErr, IfSome};
+ghost use Rattle.arch_types.specs.declared.row.Row.{Row};
+ghost use Rattle.std.specs.List.{list_any};
+ghost use Rattle.arch_types.specs.Packet.{IsPacket};
+ghost use Rattle.arch_types.specs.History.{is_duplicate_of};
+ghost use Rattle.partitions.specs.Rows.{partition_at};
+ghost use Rattle.replay_merge.specs.Source.{IsKeyedRow, IsRowSourceHistory, AreRowsOf, IsRowSourceRefusal, UsedRowSource};
+ghost use Rattle.text_forms.specs.ClockTime.{is_clock_time};
+ghost use Rattle.select_tests.specs.MemSource.{known_history, is_in_table_and_partition};
+
+use arch_types::octets::Octets;
+use arch_types::refusal::Refusal;
+use arch_types::row::{Row, Rows};
+use partitions::partition::{Partition, partition_of};
+use replay_merge::source::RowSource;
+use space_packet::dump::first_packet;
+use space_packet::key::key_of;
+use std::alloc::{AllocError, Global};
+use std::marker::Model;
+use text_forms::is_clock_time;
+
+/// Rows in the order in which they came, each key once in a table.
+#[derive(Drop)]
+pub(crate) struct MemSource {
+    history: Vec<Row>,
+    /// Whether contracts know the rows.
+    is_known: bool,
+    /// How many calls go well before one fails; none fails where it is `None`.
+    calls: Option<u64>,
+    faults: u64,
+}
+
+impl Model for MemSource {
+    ghost use Rattle.replay_merge.specs.Source.{RowSourceState, IsRowSourceHistory};
+    ghost use Rattle.select_tests.specs.MemSource.{known_history};
+
+    ghost Value = { RowSourceState };
+
+    ghost view = { λ s. record { history = known_history s.is_known s.history.items; faults = s.faults } };
+
+    ghost invariant = { λ s. IsRowSourceHistory s.history.items };
+}
+
+impl MemSource {
+    /// No row.
+    pub(crate) fn new(alloc: Global, is_known: bool) -> Self
+        ensures { result ≡ record { history = known_history is_known []; faults = 0 } }
+    {
+        MemSource {
+            history: Vec::new(alloc),
+            is_known,
+            calls: None,
+            faults: 0,
+        }
+    }
+
+    /// One call fails after so many: with `DiskFault` where the rows are told, else with `Damaged`.
+    pub(crate) fn fail_after(&mut self, calls: u64)
+        ensures { self.new ≡ self.old }
+    {
+        self.calls = Some(calls);
+    }
+
+    /// Adds the row of the packet that these octets begin with, unless they begin with none, the time isn't the clock's, or a row of
+    /// its table and key is there: then it answers `false`.
+    pub(crate) fn add(
+        &mut self,
+        alloc: Global,
+        table: u8,
+        pname: u16,
+        rectime: i64,
+        octets: &[u8],
+    ) -> Result<bool, AllocError> {
+        let Ok(length) = first_packet(octets) else {
+            return Ok(false);
+        };
+        if !is_clock_time(rectime) {
+            return Ok(false);
+        }
+        let packet = Octets::from_slice(alloc, &octets[..length])?;
+        let row = row_of(table, pname, rectime, packet);
+        if is_there(self.history.as_slice(), &row) {
+            return Ok(false);
+        }
+        self.history.push(row)?;
+        Ok(true)
+    }
+
+    /// Refuses the call that is to fail.
+    #[tactic(auto, using(crate::proofs::Found::known_sound))]
+    fn fail_in_turn(&mut self) -> Result<(), Refusal>
+        ensures history { IfSome self.old.history IsRowSourceHistory }
+        ensures refused { IfErr result (IsRowSourceRefusal self.old self.new) }
+        ensures source { UsedRowSource self.old self.new }
+    {
+        match self.calls {
+            Some(0) => {
+                self.calls = None;
+                if !self.is_known {
+                    return Err(Refusal::Damaged { file: 0, at: 0 });
+                }
+                self.faults = self.faults.saturating_add(1);
+                Err(Refusal::DiskFault)
+            }
+            Some(calls) => {
+                self.calls = Some(calls - 1);
+                Ok(())
+            }
+            None => Ok(()),
+        }
+    }
+}
+
+impl RowSource for MemSource {
+    ghost state = { λ s. s };
+
+    fn rows(
+        &mut self,
+        alloc: Global,
+        table: u8,
+        part: &Partition,
+        front: u64,
+    ) -> Result<Rows, Refusal> {
+        self.fail_in_turn()?;
+        let count = self.history.len().min(front as usize);
+        let rows = part_rows(alloc, &self.history.as_slice()[..count], table, part)?;
+        Ok(Rows::from_vec(rows))
+    }
+}
+
+/// The row of one whole packet.
+fn row_of(table: u8, pname: u16, rectime: i64, packet: Octets) -> Row
+    requires packet { IsPacket packet }
+    requires time { is_clock_time rectime ≡ true }
+    ensures { IsKeyedRow result }
+{
+    Row {
+        table,
+        key: key_of(packet.as_slice(), rectime),
+        rectime,
+        link: 1,
+        pname,
+        packet,
+    }
+}
+
+/// Whether a row of the table and the key of another is there.
+fn is_there(rows: &[Row], row: &Row) -> bool
+    ensures { result ≡ list_any (is_duplicate_of row.now) rows.now }
+{
+    rows.iter().any(|other| row.table == other.table && row.key.cmp(&other.key).is_eq())
+}
+
+/// Whether a row is of a table and a partition.
+fn is_in_table_and_partition(row: &Row, table: u8, part: &Partition) -> bool
+    ensures { result ≡ is_in_table_and_partition table part.now row.now }
+{
+    table == row.table && part.cmp(&partition_of(row.key.time, row.pname)).is_eq()
+}
+
+/// The rows of a table and a partition, as they stand.
+fn matching(
+    alloc: Global,
+    rows: &[Row],
+    table: u8,
+    part: &Partition,
+) -> Result<Vec<Row>, AllocError>
+    ensures { IfOk result (λ found. found.items ≡ filter (is_in_table_and_partition table part.now) rows.now) }
+{
+    let mut found = Vec::new(alloc);
+    for row in rows {
+        if is_in_table_and_partition(row, table, part) {
+            found.push(row.copy()?)?;
+        }
+    }
+    Ok(found)
+}
+
+/// The rows of a table and a partition, in the order of their keys.
+fn part_rows(
+    alloc: Global,
+    rows: &[Row],
+    table: u8,
+    part: &Partition,
+) -> Result<Vec<Row>, AllocError>
+    requires { IsRowSourceHistory rows.now }
+    ensures rows { IfOk result (λ found. (front : ℕ) (history : List Row) → rows.now ≡ take front history
+        → found.items ≡ partition_at front table part.now history) }
+    ensures each { IfOk result (λ found. AreRowsOf table part.now found.items) }
+{
+    let mut found = matching(alloc, rows, table, part)?;
+    found.sort_by_key(|row| row.key)?;
+    Ok(found)
+}
