@@ -67,7 +67,7 @@ pub record IsFillFailed {D : Type 0} (device : Device D) (old new : StoreView D)
   pub fault : faults_in new.fills ≡ Fault count true Nothing ∷ []
   pub wrote : device.failed_writes new.disk ≡ raised (device.failed_writes old.disk)
 
--- it was tried once to take that write back, which succeeded unless the disk had failed twice since the opening; a second write may have failed then
+-- it was tried once to take that write back, which succeeded unless the disk has failed twice since the opening; a second write may have failed then
 pub record IsFillTakenBack {D : Type 0} (device : Device D) (old new : StoreView D) : Type 0 where
   pub count : ℕ
   pub wrote : Bool

@@ -16,9 +16,10 @@ use archive_store::Store;
 use std::alloc::Global;
 use stream_graph::graph::Graph;
 
-/// Ingests the packets of a dump that came by a link and was received at a moment, in milliseconds since 1970, in batches of 64, each packet into the
-/// tables of the archive that its row reaches by a route. At the first batch that is refused it stops. Where that is because the disk failed, the write is
-/// taken back, so that a program that opens the archive after it reads no gate that the medium may lack.
+/// Ingests the packets of a dump that came by a link and was received at a moment, in milliseconds since 1970, in batches
+/// of 64, each packet into the tables of the archive that its row reaches by a route. At the first batch that is refused it
+/// stops. Where that is because the disk failed, the write is taken back, so that a program that opens the archive after it
+/// reads no gate that the medium may lack.
 ///
 /// Refuses by a `Limit` of the history, by `DiskFault` or by `OutOfMemory`.
 pub fn run_session<D: Disk>(

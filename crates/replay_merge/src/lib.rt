@@ -4,7 +4,7 @@
 // goes over the partitions that it was given, day after day, and hands their rows on piece by piece: what the calls of `next` gave is the
 // replay (`replay_of`, specs/Replay.antt), whatever was added to the source in the meantime. Contracts see it as a `CursorView`
 // (specs/Cursor.antt), and `rest_of` is what it has still to give.
-// Callers: the store is a source, and opens and continues replays.
+// Callers: the store is a source, and opens and continues replays; ssql_select asks a source for the rows of a day.
 //
 // The one idea of the proof: days in order, because a key begins with its time, so that the rows of a day's partitions come before
 // those of any later day. A step reads days until one has a row, and keeps what it can't give yet. No clause of `next` needs that the

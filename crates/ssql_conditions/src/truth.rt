@@ -1,5 +1,5 @@
 //! Whether a condition is true of a row, piece by piece. It takes no memory: what is known inside each open
-//! parenthesis stands in a fixed array.
+//! parenthesis stands in a fixed array, where there is a parenthesis.
 
 ghost use Rattle.std.specs.Prelude.{◌≡◌, ◌+◌, ◌<◌, ◌≤◌, ◌^◌, ◌&&◌, ◌||◌, Bool, List, ◌∷◌, true, false};
 ghost use Rattle.std.specs.List.{list_any};

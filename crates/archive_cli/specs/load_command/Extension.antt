@@ -54,7 +54,7 @@ pub record IsExtensionFailed {D : Type 0} (device : Device D) (old new : D) (bef
   pub durable : FailedAtMostOnce device old new → IsDurableWithFills device new (filled_archive before.plain.head reached before.fillings)
 
 -- The disk failed at the fill of a late interval of an archive that had been extended to this: each image that a crash now leaves, and the disk as it reads, stands
--- for that history. Where it failed once it was healed: they have the same fills, those that there were, but where a late interval got one.
+-- for that history. Where it failed once it was healed: they have the same fills: those that there were, but where a late interval got one.
 pub record IsFillingFailed {D : Type 0} (device : Device D) (old new : D) (before : FilledArchive) (reached : List Item) : Type 0 where
   pub stands : StandsFilled (device.reads old) before
   pub images : IsOpenedThen device old new (IsDuring before.plain reached [])
