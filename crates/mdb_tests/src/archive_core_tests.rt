@@ -263,12 +263,14 @@ fn other_turn(alloc: Global, core: &mut Core, run: &[Turn]) -> Option<u32> {
 }
 
 /// The same, and the numbers of rows and of fills afterwards.
+fn steps_of(alloc: Global, core: &mut Core) -> (Option<u32>, (usize, usize)) {
+    let other = other_turn(alloc, core, run_of_all_events());
+    (other, (core.rows().len(), core.fills().len()))
+}
+
 fn step_by_step(alloc: Global, machine: Option<Core>) -> (Option<u32>, (usize, usize)) {
     match machine {
-        Some(mut core) => {
-            let other = other_turn(alloc, &mut core, run_of_all_events());
-            (other, (core.rows().len(), core.fills().len()))
-        }
+        Some(mut core) => steps_of(alloc, &mut core),
         None => (Some(0), (0, 0)),
     }
 }

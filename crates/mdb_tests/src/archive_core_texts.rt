@@ -3,6 +3,7 @@
 use arch_types::ask::Answer;
 use arch_types::cell::Cell;
 use arch_types::inserted::{Inserted, Installed};
+use arch_types::interval::Interval;
 use arch_types::refusal::Refusal;
 use arch_types::row::Row;
 use archive_core::Reply;
@@ -50,6 +51,29 @@ fn refusal_text(alloc: Global, refusal: &Refusal) -> Result<String, AllocError> 
     }
 }
 
+/// A task: its interval, its base and its rows.
+fn task_text(
+    alloc: Global,
+    interval: Interval,
+    base: u64,
+    rows: &[Row],
+) -> Result<String, AllocError> {
+    let rows = rows_text(alloc, base, rows)?;
+    format!(in alloc; "task {} {rows}", interval.0)
+}
+
+fn replayed_text(alloc: Global, front: u64, rows: &[Row]) -> Result<String, AllocError> {
+    let rows = rows_text(alloc, front, rows)?;
+    format!(in alloc; "rows {rows}")
+}
+
+fn installed_text(alloc: Global, installed: &Installed) -> Result<String, AllocError> {
+    match installed {
+        Installed::Done => String::from_str(alloc, "done"),
+        Installed::Stale { position } => format!(in alloc; "stale {position}"),
+    }
+}
+
 /// A reply as text.
 pub(crate) fn reply_text(alloc: Global, reply: &Reply) -> Result<String, AllocError> {
     match reply {
@@ -59,19 +83,12 @@ pub(crate) fn reply_text(alloc: Global, reply: &Reply) -> Result<String, AllocEr
             interval,
             base,
             rows,
-        } => {
-            let rows = rows_text(alloc, *base, rows.as_slice())?;
-            format!(in alloc; "task {} {rows}", interval.0)
-        }
+        } => task_text(alloc, *interval, *base, rows.as_slice()),
         Reply::Void => String::from_str(alloc, "void"),
-        Reply::Installed(Installed::Done) => String::from_str(alloc, "done"),
-        Reply::Installed(Installed::Stale { position }) => format!(in alloc; "stale {position}"),
+        Reply::Installed(installed) => installed_text(alloc, installed),
         Reply::Abandoned => String::from_str(alloc, "abandoned"),
         Reply::Answered(Answer { front, cells }) => cells_text(alloc, *front, cells.as_slice()),
-        Reply::Replayed { front, rows } => {
-            let rows = rows_text(alloc, *front, rows.as_slice())?;
-            format!(in alloc; "rows {rows}")
-        }
+        Reply::Replayed { front, rows } => replayed_text(alloc, *front, rows.as_slice()),
         Reply::Refused(refusal) => refusal_text(alloc, refusal),
     }
 }

@@ -156,26 +156,26 @@ fn value_text(alloc: Global, value: ParameterValue) -> Result<String, AllocError
 }
 
 /// The numbers of a chain, each behind a blank.
-fn chain_text(alloc: Global, chain: &Chain) -> Result<String, AllocError> {
-    let mut text = String::new(alloc);
+fn put_chain(alloc: Global, text: &mut String, chain: &Chain) -> Result<(), AllocError> {
     for number in chain.as_slice() {
         text.push_str(format!(in alloc; " {number}")?.as_str())?;
     }
-    Ok(text)
+    Ok(())
 }
 
-fn values_text(alloc: Global, values: &Values) -> Result<String, AllocError> {
-    let mut text = String::new(alloc);
+fn put_values(alloc: Global, text: &mut String, values: &Values) -> Result<(), AllocError> {
     for value in values.as_slice() {
         text.push_str(value_text(alloc, *value)?.as_str())?;
     }
-    Ok(text)
+    Ok(())
 }
 
 fn extracted_text(alloc: Global, name: u16, found: &Extracted) -> Result<String, AllocError> {
-    let chain = chain_text(alloc, &found.chain)?;
-    let values = values_text(alloc, &found.values)?;
-    format!(in alloc; " {name}:{chain}:{values}")
+    let mut text = format!(in alloc; " {name}:")?;
+    put_chain(alloc, &mut text, &found.chain)?;
+    text.push_str(":")?;
+    put_values(alloc, &mut text, &found.values)?;
+    Ok(text)
 }
 
 /// What a packet says, as text.

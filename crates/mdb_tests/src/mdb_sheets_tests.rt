@@ -91,11 +91,16 @@ fn is_shown(alloc: Global, sheet: &Sheet, records: &str) -> bool {
 }
 
 /// Whether `p` and `k` are shown as they are, and `c` so.
-fn are_shown(alloc: Global, read: Result<RawMdb, Refusal>, records: &str) -> bool {
-    match &read {
-        Ok(raw) => is_shown(alloc, &raw.parameters, "[p]\n")
-            && is_shown(alloc, &raw.calibrations, records)
-            && is_shown(alloc, &raw.containers, "[k]\n"),
+fn are_shown(alloc: Global, raw: &RawMdb, records: &str) -> bool {
+    is_shown(alloc, &raw.parameters, "[p]\n")
+        && is_shown(alloc, &raw.calibrations, records)
+        && is_shown(alloc, &raw.containers, "[k]\n")
+}
+
+/// Whether the three sheets are read so, where `c` has these octets.
+fn are_read(alloc: Global, octets: &[u8], records: &str) -> bool {
+    match &sheets(alloc, inputs(alloc, octets), ("p", "c", "k")) {
+        Ok(raw) => are_shown(alloc, raw, records),
         Err(_) => false,
     }
 }
@@ -121,8 +126,7 @@ fn sheets_shown() -> &'static [Shown] {
 /// The first sheet `c` whose records are others.
 fn other_records(alloc: Global, all: &[Shown]) -> Option<&'static str> {
     for (sheet, records) in all {
-        let read = sheets(alloc, inputs(alloc, sheet.as_bytes()), ("p", "c", "k"));
-        if !are_shown(alloc, read, records) {
+        if !are_read(alloc, sheet.as_bytes(), records) {
             return Some(*sheet);
         }
     }
@@ -153,11 +157,11 @@ fn refusal_text(refusal: &Refusal) -> &'static str {
     }
 }
 
-/// Whether what came of a reading is said so.
-fn is_said(read: Result<RawMdb, Refusal>, words: &str) -> bool {
-    match &read {
-        Ok(_) => words == "read",
-        Err(refusal) => words == refusal_text(refusal),
+/// What came of a reading, in words.
+fn said(read: &Result<RawMdb, Refusal>) -> &'static str {
+    match read {
+        Ok(_) => "read",
+        Err(refusal) => refusal_text(refusal),
     }
 }
 
@@ -194,7 +198,7 @@ fn answers() -> &'static [Answer] {
 fn is_answered(alloc: Global, answer: &Answer) -> bool {
     let (octets, opening, read, names, words) = *answer;
     let call = FailingCall { opening, read };
-    is_said(read_failing(alloc, octets, call, names), words)
+    said(&read_failing(alloc, octets, call, names)) == words
 }
 
 /// The place of the first of these of which something else is said.
@@ -253,9 +257,9 @@ fn counted(answer: &Result<Asks, Refusal>) -> (u64, u8) {
     }
 }
 
-/// Whether this is counted of what was read.
-fn is_counted(read: Result<Result<Asks, Refusal>, Refusal>, count: (u64, u8)) -> bool {
-    match &read {
+/// Whether this is counted of a sheet.
+fn is_counted(alloc: Global, sheet: Result<Vec<u8>, AllocError>, count: (u64, u8)) -> bool {
+    match &asks(alloc, sheet) {
         Ok(answer) => counted(answer) == count,
         Err(_) => false,
     }
@@ -315,8 +319,7 @@ fn rows_counted() -> &'static [Counted] {
 /// The first row of which something else is counted.
 fn other_count(alloc: Global, all: &[Counted]) -> Option<&'static str> {
     for (times, row, count) in all {
-        let read = asks(alloc, sheet_of_rows(alloc, row, *times, ""));
-        if !is_counted(read, *count) {
+        if !is_counted(alloc, sheet_of_rows(alloc, row, *times, ""), *count) {
             return Some(*row);
         }
     }
@@ -331,7 +334,7 @@ fn counts_asks_or_tells_the_first_rule_broken(rt: HostRuntime) -> Result<(), Fai
 #[test]
 fn tells_a_rule_before_the_limit(rt: HostRuntime) {
     let sheet = sheet_of_rows(rt.alloc(), "values,v,0,1,,,\n", 256, "values,v,0,1,,x,\n");
-    assert!(rt; is_counted(asks(rt.alloc(), sheet), (258, 33)));
+    assert!(rt; is_counted(rt.alloc(), sheet, (258, 33)));
 }
 
 /// Sheets without the header of asks.
@@ -344,8 +347,7 @@ fn headless() -> &'static [&'static str] {
 /// The first of these sheets of which something else is counted.
 fn other_headless(alloc: Global, all: &[&'static str]) -> Option<&'static str> {
     for sheet in all {
-        let read = asks(alloc, Vec::from_slice(alloc, sheet.as_bytes()));
-        if !is_counted(read, (1, 1)) {
+        if !is_counted(alloc, Vec::from_slice(alloc, sheet.as_bytes()), (1, 1)) {
             return Some(*sheet);
         }
     }
@@ -371,15 +373,26 @@ fn has_bounds(request: &Request, bounds: Bounds) -> bool {
     (*from, *to, *descending, *limit) == bounds
 }
 
+/// The asks that were read; none, where they are refused.
+fn asks_read(read: &Result<Result<Asks, Refusal>, Refusal>) -> &[Ask] {
+    match read {
+        Ok(Ok(asks)) => asks.as_slice(),
+        _ => &[],
+    }
+}
+
 /// Whether the second of two asks is for values with these bounds.
-fn is_second(read: Result<Result<Asks, Refusal>, Refusal>, bounds: Bounds) -> bool {
-    match &read {
-        Ok(Ok(asks)) => match asks.as_slice() {
-            [_, Ask::Values(request)] => has_bounds(request, bounds),
-            _ => false,
-        },
+fn is_second(asks: &[Ask], bounds: Bounds) -> bool {
+    match asks {
+        [_, Ask::Values(request)] => has_bounds(request, bounds),
         _ => false,
     }
+}
+
+/// Whether the ask of a row has these bounds, behind another ask.
+fn is_asked(alloc: Global, row: &str, bounds: Bounds) -> bool {
+    let read = asks(alloc, sheet_of_rows(alloc, "values,w,0,1,,,\n", 1, row));
+    is_second(asks_read(&read), bounds)
 }
 
 /// A row, and its bounds, its order and its limit.
@@ -398,11 +411,10 @@ fn rows_read() -> &'static [Read] {
     ASKS
 }
 
-/// The first of these rows that is read otherwise behind another ask.
+/// The first of these rows that is read otherwise.
 fn other_ask(alloc: Global, all: &[Read]) -> Option<&'static str> {
     for (row, bounds) in all {
-        let read = asks(alloc, sheet_of_rows(alloc, "values,w,0,1,,,\n", 1, row));
-        if !is_second(read, *bounds) {
+        if !is_asked(alloc, row, *bounds) {
             return Some(*row);
         }
     }
@@ -465,28 +477,26 @@ fn is_shown_replay(alloc: Global, request: &ReplayRequest, words: &str) -> bool 
 }
 
 /// Whether asks are one replay, with its table and names in words, its bounds and its limit.
-fn is_replay(
-    alloc: Global,
-    read: Result<Result<Asks, Refusal>, Refusal>,
-    words: &str,
-    numbers: (i64, i64, Option<u64>),
-) -> bool {
-    match &read {
-        Ok(Ok(asks)) => match asks.as_slice() {
-            [Ask::Replay(request)] => (request.from, request.to, request.limit) == numbers
-                && is_shown_replay(alloc, request, words),
-            _ => false,
-        },
+fn is_replay(alloc: Global, asks: &[Ask], words: &str, numbers: (i64, i64, Option<u64>)) -> bool {
+    match asks {
+        [Ask::Replay(request)] => (request.from, request.to, request.limit) == numbers
+            && is_shown_replay(alloc, request, words),
         _ => false,
     }
 }
 
+/// Whether the asks of a row are that.
+fn is_replayed(alloc: Global, replayed: &Replayed) -> bool {
+    let (row, words, numbers) = *replayed;
+    let read = asks(alloc, sheet_of_rows(alloc, row, 1, ""));
+    is_replay(alloc, asks_read(&read), words, numbers)
+}
+
 /// The first of these rows that is read otherwise.
 fn other_replay(alloc: Global, all: &[Replayed]) -> Option<&'static str> {
-    for (row, words, numbers) in all {
-        let read = asks(alloc, sheet_of_rows(alloc, row, 1, ""));
-        if !is_replay(alloc, read, words, *numbers) {
-            return Some(*row);
+    for replayed in all {
+        if !is_replayed(alloc, replayed) {
+            return Some(replayed.0);
         }
     }
     None

@@ -212,9 +212,14 @@ fn stops(alloc: Global, text: &[u8], at: Option<u32>) -> bool {
 
 /// The place of the first text that doesn't stop at its octet.
 fn other_stop(alloc: Global, texts: &[NoTokens]) -> Option<usize> {
-    texts
-        .iter()
-        .position(|(text, at)| !stops(alloc, text, Some(*at)))
+    let mut place = 0usize;
+    for (text, at) in texts {
+        if !stops(alloc, text, Some(*at)) {
+            return Some(place);
+        }
+        place = place.saturating_add(1);
+    }
+    None
 }
 
 #[test]
@@ -246,8 +251,14 @@ fn quotes_stop(alloc: Global, count: usize, at: Option<u32>) -> bool {
 
 /// The place of the first run of quotes that is read otherwise.
 fn other_quotes(alloc: Global, runs: &[Quotes]) -> Option<usize> {
-    runs.iter()
-        .position(|(count, at)| !quotes_stop(alloc, *count, *at))
+    let mut place = 0usize;
+    for (count, at) in runs {
+        if !quotes_stop(alloc, *count, *at) {
+            return Some(place);
+        }
+        place = place.saturating_add(1);
+    }
+    None
 }
 
 #[test]
@@ -257,9 +268,12 @@ fn runs_of_quotes(rt: HostRuntime) -> Result<(), Fail> {
 
 /// Whether each token is this symbol and not that one.
 fn are_all(tokens: &[Token], symbol: Symbol, other: Symbol) -> bool {
-    tokens
-        .iter()
-        .all(|token| token.is(symbol) && !token.is(other))
+    for token in tokens {
+        if !token.is(symbol) || token.is(other) {
+            return false;
+        }
+    }
+    true
 }
 
 /// Whether a text is tokens, each this symbol and not that one.
