@@ -19,7 +19,7 @@ use Rattle.archive_cli.specs.declared.report.Report.{Report}
 use Rattle.archive_cli.specs.create_command.Creation.{IsMade, IsMakingFailed}
 use Rattle.archive_cli.specs.ReadOnly.{IsReadAsBefore, IsReadOnly}
 use Rattle.archive_cli.specs.Report.{unopened, read_only}
-use Rattle.archive_cli.specs.load_command.Extension.{IsAllFilled, IsExtended, IsExtensionFailed, IsFillingFailed}
+use Rattle.archive_cli.specs.load_command.Extension.{IsAllFilled, IsExtended, IsExtendedUnfilled, IsExtensionFailed, IsFillingFailed}
 
 -- ---- what was done
 
@@ -39,6 +39,8 @@ pub data DiskOutcome : Type 0 where
   Made : Head → DiskOutcome
   -- this archive was opened, and its history extended to this
   Extended : FilledArchive → List Item → DiskOutcome
+  -- it was extended to this, and no interval was filled
+  ExtendedUnfilled : FilledArchive → List Item → DiskOutcome
   -- it was extended to this, and the disk failed as these rows were to stand behind it
   ExtensionFailed : FilledArchive → List Item → List Row → DiskOutcome
   -- it was extended to this, and each late interval was filled
@@ -56,6 +58,8 @@ HasDiskOutcome device old new failed (MakingFailed head) = WritesFailedAtMost 2 
 HasDiskOutcome device old new failed (Made head) = UsedWithoutFailedWrite device old new failed × (IsTrue device.is_transparent → IsMade device old new head)
 HasDiskOutcome device old new failed (Extended before reached) =
     UsedWithoutFailedWrite device old new failed × (IsTrue device.is_transparent → IsExtended device old new before reached)
+HasDiskOutcome device old new failed (ExtendedUnfilled before reached) =
+    UsedWithoutFailedWrite device old new failed × (IsTrue device.is_transparent → IsExtendedUnfilled device old new before reached)
 HasDiskOutcome device old new failed (ExtensionFailed before reached rows) =
     UsedDisk device old new failed 1 2 × (IsTrue device.is_transparent → IsExtensionFailed device old new before reached rows)
 HasDiskOutcome device old new failed (AllFilled before reached) =

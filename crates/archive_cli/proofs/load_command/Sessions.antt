@@ -35,12 +35,12 @@ use Rattle.retrieval.specs.AddedFills.{AddsWholeFills}
 use Rattle.retrieval.proofs.AddedFills.{same_texts}
 use Rattle.archive_cli.specs.declared.report.Report.{Report}
 use Rattle.archive_cli.specs.Asks.{ArePrinted}
-use Rattle.archive_cli.specs.Command.{AllFilled, Progress, Effects, Extended, ExtensionFailed, FillingFailed, HasDiskOutcome, Ran, effects_of}
+use Rattle.archive_cli.specs.Command.{AllFilled, Progress, Effects, Extended, ExtendedUnfilled, ExtensionFailed, FillingFailed, HasDiskOutcome, Ran, effects_of}
 use Rattle.archive_cli.specs.Durable.{FailedAtMostOnce, IsDurableWithFills}
 use Rattle.archive_cli.specs.Filling.{IsFillTakenBack, IsFilledOn, IsFillingRefusal, IsUnfailed, filling_refusal}
 use Rattle.archive_cli.specs.FillingPlan.{IsRecordCount, all_filled, filling_plan}
 use Rattle.archive_cli.specs.load_command.Extension.{IsExtensionFailed, batch_left}
-use Rattle.archive_cli.specs.load_command.Load.{IsRecordedBehind, after_packets, after_session, answering_asks_plan, bad_packet_left, extension_failed, history_extended, late_behind, load_printing_plan, session_plan}
+use Rattle.archive_cli.specs.load_command.Load.{IsRecordedBehind, after_packets, after_session, answering_asks_plan, bad_packet_left, extension_failed, extension_refused, history_extended, late_behind, load_printing_plan, session_plan}
 use Rattle.archive_cli.specs.load_command.LoadLine.{line_of_load, load_text, whole_report}
 use Rattle.archive_cli.specs.load_command.Loading.{IsBadLoad, IsLoadRun, IsPrintedLoad, IsUnfilledLoad, IsWholeLoadEnd, printed_report}
 use Rattle.archive_cli.specs.DumpRest.{ending_of_rest}
@@ -102,10 +102,18 @@ module _ {D : Type 0} (device : Device D) (disk : D) (old new : StoreView D) (r 
       ap (λ (h : Head). filled_archive h new.history (fillings_in new.filled)) reached.head ∙ ap (λ (f : FilledIntervals). filled_archive old.head new.history (fillings_in f)) reached.filled
 
   -- no call of it failed in a batch
-  still : faults_in new.fills ≡ [] → device.failed_writes new.disk ≡ device.failed_writes disk → HasDiskOutcome device disk new.disk false (Extended (filled_of old) s.reached)
+  still : faults_in new.fills ≡ [] → device.failed_writes new.disk ≡ device.failed_writes disk → HasDiskOutcome device disk new.disk false (ExtendedUnfilled (filled_of old) s.reached)
   still none writes =
-      subst (λ (h : List Item). HasDiskOutcome device disk new.disk false (Extended (filled_of old) h)) reached.history
-      (still_extended device disk old new reached.head reached.opened opened first keeps faults kept no_more none writes)
+      let extended = still_extended device disk old new reached.head reached.opened opened first keeps faults kept no_more none writes in
+      subst (λ (h : List Item). HasDiskOutcome device disk new.disk false (ExtendedUnfilled (filled_of old) h)) reached.history (
+        extended.0,
+        λ known. record {
+          extended = extended.1 known;
+          durable =
+              subst (λ (f : FilledIntervals). IsDurableWithFills device new.disk (filled_archive old.head new.history (fillings_in f))) reached.filled
+              (with_fills device disk old new reached.head reached.opened opened first keeps faults kept no_more known (pending_fault_of-in new.fills ∙ ap pending_fault_of none));
+        },
+      )
 
   -- one failed in the batch that held these rows
   stopped_by : (count : ℕ) (wrote : Bool) → faults_in new.fills ≡ Fault count wrote (Rows rows) ∷ [] → (FailedAtMostOnce device disk new.disk → wrote ≡ false) → IsTrue device.is_transparent
@@ -147,11 +155,11 @@ module _ {D : Type 0} (device : Device D) (disk : D) (old new : StoreView D) (r 
     holds refusal is = subst (HoldsFailedWrite device new rows) is reached.failed_write
 
     -- no call of the disk failed
-    refused_by : (refusal : Refusal) → Allows (after_session (IsRecordCount device disk) (filled_of old) r asks dump s (Some refusal)) (Stopped (history_extended (filled_of old) None s) (Some refusal))
+    refused_by : (refusal : Refusal) → Allows (after_session (IsRecordCount device disk) (filled_of old) r asks dump s (Some refusal)) (Stopped (extension_refused (filled_of old) s) (Some refusal))
         → faults_in new.fills ≡ [] → s.refusal ≡ Some refusal → report ≡ loaded (Some refusal) None (length old.history) (length s.reached) 0 0 0
         → device.failed_writes new.disk ≡ device.failed_writes disk → Ran device (session_plan (IsRecordCount device disk) (filled_of old) r asks dump) went
     refused_by refusal allows none is report_is writes =
-        let way : Way Progress ⊥ = Stopped (history_extended (filled_of old) None s) (Some refusal) in
+        let way : Way Progress ⊥ = Stopped (extension_refused (filled_of old) s) (Some refusal) in
         record {
           way = way;
           allows = goes_on device disk old r s asks dump began session (Some refusal) way is allows;

@@ -39,6 +39,11 @@ pub record IsExtended {D : Type 0} (device : Device D) (old new : D) (before : F
   pub images : IsOpenedThen device old new (IsDuring before.plain reached [])
   pub kept : KeepsFills device new before reached
 
+-- It was extended so, and no interval was filled: each image that a crash now leaves, and the disk as it reads, has just the fills that there were.
+pub record IsExtendedUnfilled {D : Type 0} (device : Device D) (old new : D) (before : FilledArchive) (reached : List Item) : Type 0 where
+  pub extended : IsExtended device old new before reached
+  pub durable : IsDurableWithFills device new (filled_archive before.plain.head reached before.fillings)
+
 -- It was extended so, and each late interval was filled.
 pub record IsAllFilled {D : Type 0} (device : Device D) (old new : D) (before : FilledArchive) (reached : List Item) : Type 0 where
   pub extended : IsExtended device old new before reached

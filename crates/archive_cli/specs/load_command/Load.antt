@@ -16,7 +16,7 @@ use Rattle.input_plans.specs.Inputs.{InputRead, OverLimit, WithinLimit, IsInputA
 use Rattle.archive_store.specs.declared.head.Head.{Head}
 use Rattle.archive_cli.specs.Asks.{asked_plan, asks_check_plan, with_sources}
 use Rattle.archive_cli.specs.Moment.{IsMomentOf}
-use Rattle.archive_cli.specs.Command.{Progress, Extended, ExtensionFailed, archive_opened, nothing_done, opening_plan}
+use Rattle.archive_cli.specs.Command.{Progress, Extended, ExtendedUnfilled, ExtensionFailed, archive_opened, nothing_done, opening_plan}
 use Rattle.archive_cli.specs.DumpRest.{ending_of_rest}
 use Rattle.archive_cli.specs.FillingPlan.{IsRecordCount, all_filled, fill_failed, filling_plan}
 use Rattle.archive_cli.specs.load_command.LoadLine.{load_text, whole_report}
@@ -44,6 +44,10 @@ history_extended filled link s = record {
   sources = 1;
   failed = no_failed_calls;
 }
+
+-- it was, until a batch was refused by a limit or for want of memory, behind which nothing is filled
+abbrev pub extension_refused : FilledArchive → SessionResult → Progress
+extension_refused filled s = record (history_extended filled None s) { disk = ExtendedUnfilled filled s.reached }
 
 -- it was, until the disk failed at the next batch
 abbrev pub extension_failed : FilledArchive → Receiving → SessionResult → Progress
@@ -98,7 +102,7 @@ after_packets Began filled r asks s (Some refusal) = Choose (λ (failed : Bool).
 abbrev pub after_session : (ℕ → Type 0) → FilledArchive → Receiving → List Ask → List ℕ → SessionResult → Option Refusal → CommandPlan Progress ⊥
 after_session Began filled r asks dump s None = after_packets Began filled r asks s (ending_of_rest dump s.rest)
 after_session Began filled r asks dump s (Some DiskFault) = Stop (extension_failed filled r s) (Some DiskFault)
-after_session Began filled r asks dump s (Some refusal) = Stop (history_extended filled None s) (Some refusal)
+after_session Began filled r asks dump s (Some refusal) = Stop (extension_refused filled s) (Some refusal)
 
 -- ingests the packets of a dump, and then answers: a limit of the history, or DiskFault; BadPacket; DiskFault of a fill, or Limit Records; WriteFault
 abbrev pub session_plan : (ℕ → Type 0) → FilledArchive → Receiving → List Ask → List ℕ → CommandPlan Progress ⊥
