@@ -54,6 +54,18 @@ const FAILED_TWICE: &[Step] = &[Step::Calls(&[
     Call::Fill((1, 2, &[7]), Ok(Installed::Done)),
 ])];
 
+/// A batch that fails. Plans go on without its rows, before a reopen and behind it.
+const REFUSED: &[Step] = &[Step::Calls(&[
+    Call::Ingest((0, 0), Inserted::New(0)),
+    Call::Ingest((7, 0), Inserted::New(1)),
+    Call::Refused((1, 0), "disk fault"),
+    Call::Plan(0, 9_000_000, 2, &[Over::Rows(0, &[0]), Over::Rows(1, &[7])]),
+    Call::Reopen,
+    Call::Plan(0, 9_000_000, 2, &[Over::Rows(0, &[0]), Over::Rows(1, &[7])]),
+    Call::Fill((0, 2, &[0]), Ok(Installed::Done)),
+    Call::Fill((1, 2, &[7]), Ok(Installed::Done)),
+])];
+
 /// A fill that is stale makes no call of the disk, and neither does one that comes before a reopen.
 const STALE_FIRST: &[Step] = &[
     Step::Calls(&[
@@ -126,6 +138,10 @@ fn failed_twice() -> &'static [Step] {
     FAILED_TWICE
 }
 
+fn refused() -> &'static [Step] {
+    REFUSED
+}
+
 fn stale_first() -> &'static [Step] {
     STALE_FIRST
 }
@@ -150,10 +166,11 @@ const RECORD_OR_LAST_SYNC: &[&[u64]] = &[&[1], &[4]];
 
 const SYNC_OR_GATE: &[&[u64]] = &[&[2], &[3]];
 
-fn faults() -> [Faults; 4] {
+fn faults() -> [Faults; 5] {
     [
         (failed(), both_filled(), ONE_CALL),
         (failed_twice(), both_filled(), TWO_CALLS),
+        (refused(), both_filled(), ONE_CALL),
         (stale_first(), both_filled_later(), RECORD_OR_LAST_SYNC),
         (pending_first(), both_filled(), SYNC_OR_GATE),
     ]

@@ -20,6 +20,7 @@ const TWICE: &[Step] = &[
             Inserted::Duplicate(1),
         ],
     ),
+    Step::Late(0, true),
     Step::Ingest(
         (9_000, &[4, 1], &[1, 0]),
         &[

@@ -220,6 +220,9 @@ const REPLAYS: &[Step] = &[
         (86_400_000, &[6], &[0, 1]),
         &[Inserted::New(0), Inserted::New(1)],
     ),
+    // the interval of its time of reception, and no other
+    Step::Late(20, true),
+    Step::Late(0, false),
     Step::Ingest((86_399_999, &[7], &[0]), &[Inserted::New(2)]),
     Step::Ingest(
         (9_000, &[1, 0], &[0]),

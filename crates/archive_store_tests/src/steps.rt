@@ -3,6 +3,7 @@ use crate::parts::{Incoming, batch, created, is_packet, mdb_octets, opened, text
 use crate::replays::{Asked, all_of, gives, gives_across, has_parts, replay_answer};
 use arch_disk::Disk;
 use arch_types::inserted::Inserted;
+use arch_types::interval::Interval;
 use arch_types::name::Names;
 use arch_types::refusal::Refusal;
 use arch_types::row::Row;
@@ -21,6 +22,8 @@ pub enum Step {
     NoReopen,
     /// The head of the tests, the front, and all packets of `tm`.
     Holds(u64, &'static [u64]),
+    /// Whether an interval is late.
+    Late(i64, bool),
     /// The name of the one container.
     Name(&'static [u8]),
     /// A replay by steps of at most so many rows, and its packets.
@@ -133,6 +136,7 @@ fn is_answered<D: Disk>(alloc: Global, store: &mut Store<D>, step: &Step) -> boo
         Step::Reopen => is_reopened(store),
         Step::NoReopen => !is_reopened(store),
         Step::Holds(front, packets) => holds(alloc, store, *front, packets),
+        Step::Late(interval, late) => store.is_late(Interval(*interval)) == *late,
         Step::Name(name) => is_name(alloc, store, name),
         Step::Replay(asked, limit, packets) => gives(alloc, store, asked, *limit, packets),
         Step::NoReplay(asked, why) => replay_answer(alloc, store, asked) == *why,

@@ -51,7 +51,7 @@ enum Read {
 fn are_dumps(alloc: Global, words: &[String], want: &[&str]) -> bool {
     match dumps_of(alloc, words) {
         Ok(found) => match repeated_words(&found, "dump") {
-            Ok(dumps) => dumps == want,
+            Ok(dumps) => !want.is_empty() && dumps == want,
             Err(_) => false,
         },
         Err(Refusal::Usage) => want.is_empty(),

@@ -98,12 +98,14 @@ fn number(interval: Option<Interval>) -> Option<i64> {
 }
 
 fn are_intervals(marks: &LateMarks, want: &[i64]) -> bool {
-    for (entry, want) in marks.iter().zip(want) {
-        if entry.0.0 != *want {
-            return false;
+    let mut entries = marks.iter();
+    for want in want {
+        match entries.next() {
+            Some(entry) if entry.0.0 == *want => {}
+            _ => return false,
         }
     }
-    true
+    entries.next().is_none()
 }
 
 /// Whether a step goes as it says.

@@ -83,8 +83,7 @@ fn other_beginning(all: &[Beginning]) -> Option<(&'static str, usize)> {
     None
 }
 
-/// That packet, an idle one, one whose secondary header is too short for a time, two at the ends of a millisecond, and one
-/// whose time is cut.
+/// That packet, an idle one, one without a secondary header, two at the ends of a millisecond, and one whose time is cut.
 const DUMP: &[u8] = b"\x08\x64\xC0\0\0\x06\0\0\0\x01\x80\0\x2A\
     \x07\xFF\xC0\0\0\0\0\
     \0\x65\xC0\x01\0\x05\0\0\0\x01\x80\0\

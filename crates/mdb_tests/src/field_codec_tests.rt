@@ -162,10 +162,10 @@ fn joined(alloc: Global, front: &[u8], part: &[u8], rest: &[u8]) -> Result<Vec<u
     Ok(octets)
 }
 
-/// Whether those are an entry.
-fn is_entry_of(alloc: Global, front: &[u8], part: &[u8], rest: &[u8]) -> bool {
+/// Whether those are an entry or none, as is said.
+fn is_read_so(alloc: Global, front: &[u8], part: &[u8], rest: &[u8], is_read: bool) -> bool {
     match joined(alloc, front, part, rest) {
-        Ok(octets) => is_entry(alloc, octets.as_slice()),
+        Ok(octets) => is_entry(alloc, octets.as_slice()) == is_read,
         Err(_) => false,
     }
 }
@@ -177,7 +177,7 @@ type Part = (&'static [u8], bool);
 fn other_part(alloc: Global, front: &[u8], rest: &[u8], all: &[Part]) -> Option<usize> {
     let mut place = 0usize;
     for (part, is_read) in all {
-        if is_entry_of(alloc, front, part, rest) != *is_read {
+        if !is_read_so(alloc, front, part, rest, *is_read) {
             return Some(place);
         }
         place = place.saturating_add(1);

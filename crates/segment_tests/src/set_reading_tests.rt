@@ -36,7 +36,7 @@ fn reading_in(alloc: Global, interval: i64, octets: &[u8], mdb: &Mdb) -> Reading
 }
 
 /// Whether octets are read as a set of so many segments.
-fn are_segments(alloc: Global, octets: &[u8], mdb: &Mdb, segments: u32) -> bool {
+pub(crate) fn are_segments(alloc: Global, octets: &[u8], mdb: &Mdb, segments: u32) -> bool {
     matches!(reading_in(alloc, 0, octets, mdb), Reading::Set(read) if read == segments)
 }
 
@@ -168,10 +168,10 @@ fn spelled_packets(alloc: Global, mdb: &Mdb, packets: &[Packet]) -> Option<Octet
     }
 }
 
-/// The octets of the set of so many rows of one group, the first at a time.
+/// The octets of the set of so many rows of one group with one value, the first at a time.
 fn spelled_counted(alloc: Global, mdb: &Mdb, first: u16, count: u16) -> Option<Octets> {
     let mut rows = Rows::new(alloc);
-    match put_counted(alloc, &mut rows, first, count) {
+    match put_counted(alloc, &mut rows, first, count, Some(7)) {
         Ok(()) => spelled(alloc, &rows, mdb),
         Err(_) => None,
     }

@@ -4,7 +4,9 @@
 ghost use Rattle.param_segments.specs.Cells.{AreValuesOf};
 
 use crate::ordered::built;
-use crate::set_reading_tests::{are_keys_apart, are_ordered, other_of_one_group_read};
+use crate::set_reading_tests::{
+    are_keys_apart, are_ordered, are_segments, other_of_one_group_read,
+};
 use arch_types::cell::Cell;
 use arch_types::interval::Interval;
 use arch_types::key::Key;
@@ -165,11 +167,11 @@ fn are_in_set(
     }
 }
 
-/// Adds so many rows, of kinds 0, 1, 3 and 2 in turn, so that those of one group have values in another order. Within a
-/// millisecond the number decides: the row of the second group comes before that of the first.
+/// Adds so many rows, of kinds 0, 1, 2, 3, and then 0, 1, 3, 2 in turn, so that those of one group have values in another
+/// order. Within a millisecond the number decides: the row of the first group comes before that of the second, or behind it.
 fn put_alternating(alloc: Global, rows: &mut Rows, count: u16) -> Result<(), AllocError> {
     for n in 0..count {
-        let kind = (n % 4) ^ (n % 4 / 2);
+        let kind = (n % 4) ^ ((n % 4 / 2) & (n / 4 % 2));
         let packet = [kind as u8, (n / 256) as u8, (n % 256) as u8];
         put_row(alloc, rows, i64::from(n / 2), u32::from(n % 2), &packet)?;
     }
@@ -199,13 +201,23 @@ fn has_keys(alloc: Global, set: &SegSet, mdb: &Mdb, rows: &[Row]) -> bool
     }
 }
 
-/// Whether rows are in two groups, which have a cell for each in the rows' order, and none of a parameter that isn't there.
+/// Whether the octets of a set are read as so many segments, spelled so.
+fn is_read_back(alloc: Global, set: &SegSet, mdb: &Mdb, segments: u32) -> bool {
+    match set.to_bytes() {
+        Ok(octets) => are_segments(alloc, octets.as_slice(), mdb, segments),
+        Err(_) => false,
+    }
+}
+
+/// Whether rows are in two groups, which have a cell for each in the rows' order, and none of a parameter that isn't there;
+/// and whether their segments are spelled in the order in which they are read.
 fn are_in_two_groups(alloc: Global, rows: &Rows, mdb: &Mdb) -> bool {
     match built(alloc, Interval(0), rows, mdb) {
         Ok(Some(set)) => {
             set.segments() == 2
                 && has_keys(alloc, &set, mdb, rows.as_slice())
                 && has_raws(alloc, &set, mdb, 9, &[])
+                && is_read_back(alloc, &set, mdb, 2)
         }
         _ => false,
     }
@@ -216,16 +228,17 @@ fn groups_alternate(alloc: Global, mdb: &Mdb) -> bool {
     put_alternating(alloc, &mut rows, 1000).is_ok() && are_in_two_groups(alloc, &rows, mdb)
 }
 
-/// Adds so many rows of one group, the first at a time.
+/// Adds so many rows of one group, the first at a time, all with one value where it is given.
 pub(crate) fn put_counted(
     alloc: Global,
     rows: &mut Rows,
     first: u16,
     count: u16,
+    value: Option<u8>,
 ) -> Result<(), AllocError> {
     for n in 0..count {
         let time = i64::from(first) + i64::from(n);
-        put_row(alloc, rows, time, 0, &[(n % 251) as u8])?;
+        put_row(alloc, rows, time, 0, &[value.unwrap_or((n % 251) as u8)])?;
     }
     Ok(())
 }
@@ -253,7 +266,8 @@ fn are_in_segments(alloc: Global, rows: &Rows, mdb: &Mdb, segments: u32) -> bool
 /// Whether so many rows of one group are in so many segments.
 fn takes_segments(alloc: Global, mdb: &Mdb, count: u16, segments: u32) -> bool {
     let mut rows = Rows::new(alloc);
-    put_counted(alloc, &mut rows, 0, count).is_ok() && are_in_segments(alloc, &rows, mdb, segments)
+    put_counted(alloc, &mut rows, 0, count, None).is_ok()
+        && are_in_segments(alloc, &rows, mdb, segments)
 }
 
 /// The set under the database of one group that is built otherwise.
