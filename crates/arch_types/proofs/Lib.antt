@@ -4,3 +4,4 @@ pub mod InOrder
 pub mod Ordered
 pub mod Parts
 pub mod Ranks
+pub mod Texts

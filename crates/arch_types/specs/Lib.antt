@@ -5,7 +5,4 @@ pub mod Order
 pub mod History
 pub mod Arrivals
 pub mod Table
-pub mod Interval
-pub mod Refusal
-pub mod Limits
 pub mod Laws

@@ -1,8 +1,8 @@
 // The types that the crates of the archive share, and the definitions that their contracts cite.
 //
 // In specs/: the space packet of CCSDS 133.0-B and its key (Packet, GenerationTime), a dump (Dump), the order of keys (Order), the history
-// and what an ingest adds to it (History), the rows of packets (Arrivals), a table at a front (Table), intervals, names, and the exit
-// status of a refusal. Laws.antt says of the definitions that are folds what a reader expects of them, and `laws` carries the proofs.
+// and what an ingest adds to it (History), the rows of packets (Arrivals), a table at a front (Table), and names.
+// Laws.antt says of the definitions that are folds what a reader expects of them, and `laws` carries the proofs.
 //
 // Lists of one type are structs with a model: a contract sees `Rows` as the list of its rows and `Octets` as a list of numbers. `Octets`
 // are a part of a shared block, so that a packet is held once and shared by whoever reads it.
@@ -10,16 +10,15 @@
 // Every crate above stands on this one: a change here is proved again everywhere. Later crates only add.
 #![tactic(auto)]
 
-pub mod ask;
 pub mod cell;
+pub mod direction;
 pub mod inserted;
-pub mod interval;
 pub mod key;
 pub mod laws;
 pub mod name;
 pub mod octets;
-pub mod refusal;
 pub mod row;
+pub mod row_fault;
 pub mod spans;
 pub mod steps;
 pub mod tables;

@@ -38,6 +38,25 @@ impl Name {
         }
     }
 
+    /// The name of these octets, copied.
+    pub fn copy_of(alloc: Global, octets: &[u8]) -> Result<Name, AllocError>
+        requires { is_name octets.now ≡ true }
+        ensures { IfOk result (λ name. name ≡ octets.now) }
+    {
+        let octets = Octets::from_slice(alloc, octets)?;
+        Ok(Name { octets })
+    }
+
+    /// A name is a text.
+    pub fn as_str(&self) -> &str
+        ensures { result.now ≡ self.now }
+    {
+        match str::from_utf8(self.octets.as_slice()) {
+            Ok(text) => text,
+            Err(_) => unreachable!(),
+        }
+    }
+
     pub fn as_slice(&self) -> &[u8]
         ensures value { result.now ≡ self.now }
         ensures name { is_name result.now ≡ true }

@@ -1,6 +1,6 @@
 //! The raw numbers of a parameter.
 
-ghost use Rattle.std.specs.Prelude.{◌≡◌, ◌^◌, ◌≤◌, ◌↔◌, pos, true};
+ghost use Rattle.std.specs.Prelude.{◌≡◌, ◌^◌, ◌≤◌, ◌↔◌, pos, IsTrue};
 ghost use Rattle.calibration.specs.Admitted.{IsInWidth, IsSigned, IsUnsigned};
 
 use mdb_model::{Coding, Parameter};
@@ -15,7 +15,7 @@ fn power(exponent: u8) -> i128
 
 fn is_unsigned(bits: u8, raw: i128) -> bool
     requires { bits ≤ 64 }
-    ensures { (result ≡ true) ↔ IsUnsigned bits raw }
+    ensures { IsTrue result ↔ IsUnsigned bits raw }
 {
     0 <= raw && raw < power(bits)
 }
@@ -23,7 +23,7 @@ fn is_unsigned(bits: u8, raw: i128) -> bool
 fn is_signed(bits: u8, raw: i128) -> bool
     requires some { 1 ≤ bits }
     requires few { bits ≤ 64 }
-    ensures { (result ≡ true) ↔ IsSigned bits raw }
+    ensures { IsTrue result ↔ IsSigned bits raw }
 {
     let half = power(bits - 1);
     -half <= raw && raw < half
@@ -33,7 +33,7 @@ fn is_signed(bits: u8, raw: i128) -> bool
 pub fn is_in_width(parameter: &Parameter, raw: i128) -> bool
     requires some { 1 ≤ parameter.now.bits }
     requires few { parameter.now.bits ≤ 64 }
-    ensures { (result ≡ true) ↔ IsInWidth parameter.now.coding parameter.now.bits raw }
+    ensures { IsTrue result ↔ IsInWidth parameter.now.coding parameter.now.bits raw }
 {
     match parameter.coding {
         Coding::Uint | Coding::UintLe => is_unsigned(parameter.bits, raw),

@@ -1,6 +1,6 @@
 -- The laws of plans.
 use Rattle.std.proofs.Common.{◌≡◌, inl, inr, ap, subst, Option}
-use Rattle.arch_types.specs.declared.refusal.Refusal.{Refusal}
+use Rattle.refusals.specs.declared.refusal.Refusal.{Refusal}
 use Rattle.command_plans.specs.Plan.{Interruption, CommandPlan, Return, Stop, May, Question, Choose, Way, Returned, Stopped, Interrupted, Allows, Requires, IsDetermined, EachEnd, map_done, way_map_done, and_then}
 
 -- a determined plan went as it had to

@@ -1,7 +1,7 @@
 -- A plan: in which order a command looks, what it asks of the outside, and what it has done where it ends.
 use Rattle.std.specs.Prelude.{◌≡◌, ◌⊎◌, Bool, true, false, Option, Some, None}
-use Rattle.arch_types.specs.declared.refusal.Refusal.{Refusal}
-use Rattle.arch_types.specs.declared.refusal.Refusal.TheVariants.{ReadFault, WriteFault, DiskFault, OutOfMemory}
+use Rattle.refusals.specs.declared.refusal.Refusal.{Refusal}
+use Rattle.refusals.specs.declared.refusal.Refusal.TheVariants.{ReadFault, WriteFault, DiskFault, OutOfMemory}
 
 -- what may end a plan though no answer of the outside does: want of memory, or a call of the inputs, the output or the disk that fails
 pub data Interruption : Type 0 where

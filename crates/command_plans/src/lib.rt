@@ -16,7 +16,7 @@
 ghost use Rattle.std.specs.Prelude.{◌≡◌};
 ghost use Rattle.command_plans.specs.Plan.{is_interruption};
 
-use arch_types::refusal::Refusal;
+use refusals::Refusal;
 
 /// Whether a refusal is that of an interruption: want of memory, or a call of the outside that failed.
 pub fn is_interruption(refusal: &Refusal) -> bool

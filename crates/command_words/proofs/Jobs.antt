@@ -1,8 +1,8 @@
 -- The job of what clap finds in words.
 use Rattle.std.proofs.Common.{◌≡◌, ◌≤◌, ◌⊎◌, inl, inr, ℕ, List, [], ◌∷◌, Bool, true, false, Option, Some, None, ap, refl, subst, leb-true, ◌∙◌, arith}
 use Rattle.std.specs.Prelude.{option_map, option_and_then, codes, nat_le, if◌then◌else◌}
-use Rattle.arch_types.specs.declared.refusal.Refusal.{Refusal}
-use Rattle.arch_types.specs.declared.refusal.Refusal.TheVariants.{Usage, OutOfMemory}
+use Rattle.refusals.specs.declared.refusal.Refusal.{Refusal}
+use Rattle.refusals.specs.declared.refusal.Refusal.TheVariants.{Usage, OutOfMemory}
 use Rattle.clap.specs.Walk.{Row, first_of}
 use Rattle.text_forms.specs.Digits.{digits_at_most}
 use Rattle.command_words.specs.declared.job.CommandName.{CommandName}

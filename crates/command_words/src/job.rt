@@ -7,8 +7,8 @@ ghost use Rattle.command_words.specs.JobView.{job_view};
 ghost use Rattle.command_words.specs.Words.{rows_of_words, IsNotFound};
 
 use crate::words::{Argument, OneOfTwo, given_word, one_of_two, read_arguments};
-use arch_types::refusal::Refusal;
 use clap::ArgMatches;
+use refusals::Refusal;
 use std::alloc::Global;
 use text_forms::number_of;
 

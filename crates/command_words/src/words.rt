@@ -10,9 +10,9 @@ ghost use Rattle.command_words.specs.Words.{are_plain, are_filled, are_whole, is
 ghost use Rattle.command_words.specs.Arguments.{argument_rule, command_app};
 ghost use Rattle.command_words.specs.Given.{one_of_two, one_view, repeated_words};
 
-use arch_types::refusal::Refusal;
 use clap::error::ErrorKind;
 use clap::{Arg, ArgAction, ArgMatches, Command};
+use refusals::Refusal;
 use std::alloc::{AllocError, Global};
 
 /// An argument that a command takes.

@@ -2,9 +2,9 @@
 use Rattle.std.proofs.Common.{◌≡◌, inl, inr, ℕ, ◌+◌, ◌≤◌, ◌<◌, List, length, Bool, true, false, Option, Some, None, refl, sym, ◌∙◌, ap, arith}
 use Rattle.std.specs.Prelude.{IfSome, IsNone, IsSome, IsSomeAnd}
 use Rattle.std.specs.FinMap.{get}
-use Rattle.arch_types.specs.declared.refusal.Refusal.TheVariants as refused
-use Rattle.arch_types.specs.declared.refusal.Which.{Which}
-use Rattle.arch_types.specs.Limits.{limit_of}
+use Rattle.refusals.specs.declared.refusal.Refusal.TheVariants as refused
+use Rattle.refusals.specs.declared.refusal.Which.{Which}
+use Rattle.refusals.specs.Limits.{limit_of}
 use Rattle.outer_traits.specs.Outside.{Files}
 use Rattle.outer_traits.specs.Whole.{IsInput, IsThere}
 use Rattle.command_plans.specs.Plan.{OfMemory, OfInputs, Returned, Stopped, Interrupted, Allows, IsDetermined}

@@ -1,7 +1,7 @@
 -- Readings one after the other.
 use Rattle.std.proofs.Common.{◌≡◌, inl, inr, ℕ, ◌+◌, false, Some, subst, arith}
 use Rattle.std.specs.Prelude.{Err}
-use Rattle.arch_types.specs.declared.refusal.Refusal.{Refusal}
+use Rattle.refusals.specs.declared.refusal.Refusal.{Refusal}
 use Rattle.command_plans.specs.Plan.{CommandPlan, Returned, Stopped, Interrupted, Allows, and_then}
 use Rattle.command_plans.proofs.Plans.{gave, ended, cut}
 use Rattle.outer_traits.specs.States.{InputsState}

@@ -1,10 +1,10 @@
 -- An input that is read to its end goes as its plan may go.
 use Rattle.std.proofs.Common.{◌≡◌, inl, inr, ℕ, ◌+◌, ◌^◌, ◌<◌, ◌≤◌, List, length, Bool, true, false, Option, Some, refl, sym, subst, arith}
 use Rattle.std.specs.Prelude.{Err}
-use Rattle.arch_types.specs.declared.refusal.Refusal.{Refusal}
-use Rattle.arch_types.specs.declared.refusal.Refusal.TheVariants as refused
-use Rattle.arch_types.specs.declared.refusal.Which.{Which}
-use Rattle.arch_types.specs.Limits.{limit_of}
+use Rattle.refusals.specs.declared.refusal.Refusal.{Refusal}
+use Rattle.refusals.specs.declared.refusal.Refusal.TheVariants as refused
+use Rattle.refusals.specs.declared.refusal.Which.{Which}
+use Rattle.refusals.specs.Limits.{limit_of}
 use Rattle.outer_traits.specs.Outside.{Files}
 use Rattle.outer_traits.specs.Whole.{IsInput, IsInputFault, ReadingCounted, ReadingGiven}
 use Rattle.outer_traits.specs.declared.whole.ReadFault.{ReadFault}

@@ -1,10 +1,10 @@
 -- The reading of named inputs, as plans.
 use Rattle.std.specs.Prelude.{◌≡◌, ℕ, ◌+◌, ◌<◌, ◌≤◌, List, length, Bool, true, false, Option, Some, IfSome, IsNone, IsSomeAnd, Result, Ok, Err, ◌⊎◌}
 use Rattle.std.specs.FinMap.{get}
-use Rattle.arch_types.specs.declared.refusal.Refusal.{Refusal}
-use Rattle.arch_types.specs.declared.refusal.Refusal.TheVariants.{Missing, ReadFault, Limit, OutOfMemory}
-use Rattle.arch_types.specs.declared.refusal.Which.{Which}
-use Rattle.arch_types.specs.Limits.{limit_of}
+use Rattle.refusals.specs.declared.refusal.Refusal.{Refusal}
+use Rattle.refusals.specs.declared.refusal.Refusal.TheVariants.{Missing, ReadFault, Limit, OutOfMemory}
+use Rattle.refusals.specs.declared.refusal.Which.{Which}
+use Rattle.refusals.specs.Limits.{limit_of}
 use Rattle.outer_traits.specs.Outside.{Files}
 use Rattle.outer_traits.specs.declared.whole.ReadFault as fault
 use Rattle.outer_traits.specs.declared.whole.ReadFault.TheVariants as faulted

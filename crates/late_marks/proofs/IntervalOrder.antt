@@ -13,9 +13,9 @@ use Rattle.std.proofs.lemmas.Bool.{false_from_ne_true}
 use Rattle.std.proofs.lemmas.Int.{ints}
 use Rattle.std.proofs.lemmas.Map.Views.{tells_apart}
 use Rattle.block_map.specs.Rising.{IsRising, IsBelow}
-use Rattle.arch_types.specs.declared.interval.Interval.{Interval}
-use Rattle.arch_types.specs.Interval.{interval_cmp}
-use Rattle.arch_types.proofs.Ranks.{interval_cmp_total, exact_intervals}
+use Rattle.intervals.specs.declared.interval.Interval.{Interval}
+use Rattle.intervals.specs.Interval.{interval_cmp}
+use Rattle.intervals.proofs.Ranks.{interval_cmp_total, exact_intervals}
 use Rattle.late_marks.specs.Marks.{IsLeast}
 
 -- what an answer of the order says of two numbers

@@ -15,13 +15,13 @@ use Rattle.block_map.specs.Index.{Listing}
 use Rattle.block_map.specs.Rising.{IsRising, IsBelow}
 use Rattle.block_map.proofs.Rising.{below_all}
 use Rattle.block_map.proofs.KeyedLists.{lookup-insert_entry_same, lookup-insert_entry_other, lookup-remove_entry_same, lookup-remove_entry_other, rising-insert_entry, rising-remove_entry}
-use Rattle.arch_types.specs.declared.interval.Interval.{Interval}
+use Rattle.intervals.specs.declared.interval.Interval.{Interval}
 use Rattle.late_marks.specs.declared.mark.Mark.{Mark}
 use Rattle.late_marks.specs.Mark.{is_late_mark, is_late_free_mark}
-use Rattle.arch_types.specs.Interval.{interval_cmp}
+use Rattle.intervals.specs.Interval.{interval_cmp}
 use Rattle.late_marks.specs.Marks.{Marks, mark_in, mark_of, has_rows, is_late_free, Marked, IsLeast, one_if}
 use Rattle.late_marks.specs.MarkIndexes.{found_in, some_if, not_late_free, AreConsistent, IsUpdatedAt}
-use Rattle.arch_types.proofs.Ranks.{interval_cmp_total}
+use Rattle.intervals.proofs.Ranks.{interval_cmp_total}
 use Rattle.late_marks.proofs.IntervalOrder.{Found, same_at, apart, least_first, found_from, from_found, IsLeast-same}
 
 -- ---- entries that pass a test of their values

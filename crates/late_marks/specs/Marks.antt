@@ -3,8 +3,8 @@ use Rattle.std.specs.Prelude.{◌≡◌, ◌≢◌, ℕ, ◌+◌, ◌≤ℤ◌, 
 use Rattle.std.specs.Option.{is_some, option_map_or}
 use Rattle.std.specs.Map.{lookup}
 use Rattle.std.specs.BTreeMap.{is_at}
-use Rattle.arch_types.specs.declared.interval.Interval.{Interval}
-use Rattle.arch_types.specs.Interval.{interval_cmp}
+use Rattle.intervals.specs.declared.interval.Interval.{Interval}
+use Rattle.intervals.specs.Interval.{interval_cmp}
 use Rattle.late_marks.specs.declared.mark.Mark.{Mark}
 use Rattle.late_marks.specs.Mark.{is_late_mark, is_late_free_mark}
 

@@ -2,14 +2,14 @@
 
 ghost use Rattle.std.specs.Prelude.{◌≡◌, ◌+◌, ◌<◌, true, false};
 ghost use Rattle.std.specs.BTreeMap.{is_at};
-ghost use Rattle.arch_types.specs.declared.interval.Interval.{Interval as IntervalValue};
+ghost use Rattle.intervals.specs.declared.interval.Interval.{Interval as IntervalValue};
 ghost use Rattle.block_map.specs.Rising.{IsRising};
-ghost use Rattle.arch_types.specs.Interval.{interval_cmp};
+ghost use Rattle.intervals.specs.Interval.{interval_cmp};
 ghost use Rattle.late_marks.specs.Marks.{one_if};
 ghost use Rattle.late_marks.specs.MarkIndexes.{found_in, some_if};
 
-use arch_types::interval::Interval;
 use block_map::index::Index;
+use intervals::Interval;
 
 /// Puts an interval among those that are late and free, or takes it out.
 pub(crate) fn update_late_free(

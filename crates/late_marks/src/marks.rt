@@ -1,16 +1,16 @@
 //! The late marks.
 
-ghost use Rattle.std.specs.Prelude.{◌≡◌, ℕ, ◌+◌, ◌<◌, ◌≤◌, ◌≤ℤ◌, ◌↔◌, List, [], ◌∷◌, ◌++◌, max, true, false, Some, OnOk, OnErr, IfSome, Contains};
-ghost use Rattle.arch_types.specs.Interval.{interval_cmp};
+ghost use Rattle.std.specs.Prelude.{◌≡◌, ℕ, ◌+◌, ◌<◌, ◌≤◌, ◌≤ℤ◌, ◌↔◌, List, [], ◌∷◌, ◌++◌, max, true, false, Some, OnOk, OnErr, IfSome, Contains, IsTrue};
+ghost use Rattle.intervals.specs.Interval.{interval_cmp};
 ghost use Rattle.block_map.specs.Rising.{IsRising};
 ghost use Rattle.late_marks.specs.Mark.{touched, StandAt, IsLateBy};
 ghost use Rattle.late_marks.specs.Marks.{mark_of, has_rows, last_position, base_of, is_late, is_late_free, late_of, Marked, IsLeast};
 
 use crate::late_free::update_late_free;
 use crate::mark::Mark;
-use arch_types::interval::Interval;
 use block_map::entries::Entries;
 use block_map::index::Index;
+use intervals::Interval;
 use std::alloc::{AllocError, Global};
 use std::marker::Model;
 
@@ -101,7 +101,7 @@ impl LateMarks {
     pub fn is_late(&self, interval: Interval) -> bool
         ensures mark { result ≡ is_late self.now interval }
         ensures rows { (positions : List ℕ) → StandAt (mark_of self.now interval) positions
-            → (result ≡ true) ↔ IsLateBy positions (base_of self.now interval) }
+            → IsTrue result ↔ IsLateBy positions (base_of self.now interval) }
     {
         match self.mark(interval) {
             Some(mark) => mark.is_late(),

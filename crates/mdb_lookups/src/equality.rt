@@ -1,6 +1,6 @@
 //! Equality of items.
 
-ghost use Rattle.std.specs.Prelude.{◌≡◌, ◌↔◌, true};
+ghost use Rattle.std.specs.Prelude.{◌≡◌, ◌↔◌, IsTrue};
 
 use mdb_items::calibration::{Calibration, EnumRow, PointsRow, PolyRow, Table};
 use mdb_items::container::{Comparison, Container, Entry, Operator};
@@ -11,12 +11,12 @@ use mdb_items::parameter::{Coding, Parameter};
 pub trait Same {
     /// The other value has the same parts.
     fn is_same(&self, other: &Self) -> bool
-        ensures { (result ≡ true) ↔ (self.now ≡ other.now) };
+        ensures { IsTrue result ↔ (self.now ≡ other.now) };
 }
 
 /// Lists are equal where they have as many items, and each equals the one at its place.
 pub fn are_same<T: Same>(left: &[T], right: &[T]) -> bool
-    ensures { (result ≡ true) ↔ (left.now ≡ right.now) }
+    ensures { IsTrue result ↔ (left.now ≡ right.now) }
 {
     if left.len() != right.len() {
         return false;
@@ -30,7 +30,7 @@ pub fn are_same<T: Same>(left: &[T], right: &[T]) -> bool
 }
 
 fn is_same_coding(left: Coding, right: Coding) -> bool
-    ensures { (result ≡ true) ↔ (left ≡ right) }
+    ensures { IsTrue result ↔ (left ≡ right) }
 {
     matches!(
         (left, right),
@@ -42,7 +42,7 @@ fn is_same_coding(left: Coding, right: Coding) -> bool
 }
 
 fn is_same_operator(left: Operator, right: Operator) -> bool
-    ensures { (result ≡ true) ↔ (left ≡ right) }
+    ensures { IsTrue result ↔ (left ≡ right) }
 {
     matches!(
         (left, right),
@@ -56,7 +56,7 @@ fn is_same_operator(left: Operator, right: Operator) -> bool
 }
 
 fn is_same_table(left: &Table, right: &Table) -> bool
-    ensures { (result ≡ true) ↔ (left.now ≡ right.now) }
+    ensures { IsTrue result ↔ (left.now ≡ right.now) }
 {
     match (left, right) {
         (Table::Poly(left), Table::Poly(right)) => are_same(left.as_slice(), right.as_slice()),
@@ -67,7 +67,7 @@ fn is_same_table(left: &Table, right: &Table) -> bool
 }
 
 fn is_same_name(left: &MdbName, right: &MdbName) -> bool
-    ensures { (result ≡ true) ↔ (left.now ≡ right.now) }
+    ensures { IsTrue result ↔ (left.now ≡ right.now) }
 {
     left.as_bytes() == right.as_bytes()
 }

@@ -1,6 +1,6 @@
 //! The checked mission database.
 
-ghost use Rattle.std.specs.Prelude.{◌≡◌, ◌<◌, ◌↔◌, IfOk, IfSome, Some, is_some, length, map, option_copied, slice_get, true};
+ghost use Rattle.std.specs.Prelude.{◌≡◌, ◌<◌, ◌↔◌, IfOk, IfSome, Some, is_some, length, map, option_copied, slice_get, IsTrue};
 ghost use Rattle.mdb_items.specs.declared.not_mdb.NotMdb.TheVariants.{OutOfMemory};
 ghost use Rattle.mdb_lookups.specs.Children.{children_of};
 ghost use Rattle.mdb_items.specs.Database.{IsDatabase, limit_passed};
@@ -365,7 +365,7 @@ impl Mdb {
 
     /// The other database has the same items.
     pub fn equals(&self, other: &Mdb) -> bool
-        ensures { (result ≡ true) ↔ (self.now ≡ other.now) }
+        ensures { IsTrue result ↔ (self.now ≡ other.now) }
     {
         let left = &*self.inner;
         let right = &*other.inner;

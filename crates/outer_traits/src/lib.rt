@@ -18,6 +18,7 @@ pub mod fault;
 pub mod inputs;
 pub mod mem_inputs;
 pub mod mem_sink;
+pub mod print_fault;
 pub mod sink;
 pub mod source;
 pub mod whole;

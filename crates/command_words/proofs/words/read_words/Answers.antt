@@ -1,7 +1,7 @@
 use Rattle.std.proofs.Common.{rules, ◌≡◌, ◌≢◌, ◌∙◌, sym, ap, None, Some, true, false, map, string_bytes, List, [], ◌∷◌, refl, inl, inr, ◌⊎◌}
 use Rattle.std.specs.Prelude.{Bool}
-use Rattle.arch_types.specs.declared.refusal.Refusal.{Refusal}
-use Rattle.arch_types.specs.declared.refusal.Refusal.TheVariants as refused
+use Rattle.refusals.specs.declared.refusal.Refusal.{Refusal}
+use Rattle.refusals.specs.declared.refusal.Refusal.TheVariants as refused
 use Rattle.clap.specs.Words.{App, Row, Text, app_of, matches_of, rows_of, found_of, kind_of, HasKind, Kinds}
 use Rattle.clap.specs.Faults.{fault_of}
 use Rattle.clap.specs.declared.error.Error.{Error}

@@ -1,7 +1,7 @@
 use Rattle.std.proofs.Common.{◌≡◌, ◌+◌, None, false, sym, ◌∙◌, ap, arith}
 use Rattle.std.specs.BTreeMap.{insert_entry}
 use Rattle.late_marks.specs.Mark.{is_late_free_mark}
-use Rattle.arch_types.specs.Interval.{interval_cmp}
+use Rattle.intervals.specs.Interval.{interval_cmp}
 use Rattle.late_marks.specs.Marks.{Marks, mark_in, one_if}
 use Rattle.late_marks.specs.MarkIndexes.{some_if, IsUpdatedAt}
 use Rattle.late_marks.proofs.LateFree.{AreConsistent-added, Marked-insert, fresh_from}

@@ -1,5 +1,5 @@
 use Rattle.std.proofs.Common.{◌∙◌, ap}
-use Rattle.arch_types.proofs.Ranks.{interval_cmp_total, exact_intervals}
+use Rattle.intervals.proofs.Ranks.{interval_cmp_total, exact_intervals}
 use Rattle.block_map.proofs.KeyedLists.{contained_iff}
 use Rattle.late_marks.specs.Marks.{Marks}
 use Rattle.late_marks.proofs.marks.LateMarks.iter.Goals as goal

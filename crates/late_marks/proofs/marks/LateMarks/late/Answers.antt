@@ -1,6 +1,6 @@
 use Rattle.std.proofs.Common.{◌≡◌, not, refl, ◌∙◌, ap, arith}
 use Rattle.std.proofs.lemmas.List.Filters.{length-filter_both}
-use Rattle.arch_types.specs.declared.interval.Interval.{Interval}
+use Rattle.intervals.specs.declared.interval.Interval.{Interval}
 use Rattle.late_marks.specs.declared.mark.Mark.{Mark}
 use Rattle.late_marks.specs.Mark.{is_late_mark}
 use Rattle.late_marks.specs.Marks.{Marks}

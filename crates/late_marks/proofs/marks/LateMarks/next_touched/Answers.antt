@@ -1,6 +1,6 @@
 use Rattle.std.proofs.Common.{List, None, Some, sym, ◌∙◌, ap}
 use Rattle.std.specs.Prelude.{slice_get}
-use Rattle.arch_types.specs.declared.interval.Interval.{Interval}
+use Rattle.intervals.specs.declared.interval.Interval.{Interval}
 use Rattle.late_marks.specs.declared.mark.Mark.{Mark}
 use Rattle.late_marks.specs.Marks.{Marks}
 use Rattle.late_marks.proofs.LateFree.{next_from}

@@ -1,7 +1,7 @@
 -- The greatest number of each quantity that has a limit.
 use Rattle.std.specs.Prelude.{ℕ}
-use Rattle.arch_types.specs.declared.refusal.Which.{Which}
-use Rattle.arch_types.specs.declared.refusal.Which.TheVariants.{DumpOctets, Rows, HistoryOctets, IntervalRows, Dumps, Fillers, Links, Asks, Files, SheetOctets, Parameters, Calibrations, Containers, CalibrationRows, Entries, ScriptOctets, Statements, SqlDepth, Tables, Records}
+use Rattle.refusals.specs.declared.refusal.Which.{Which}
+use Rattle.refusals.specs.declared.refusal.Which.TheVariants.{DumpOctets, Rows, HistoryOctets, IntervalRows, Dumps, Fillers, Links, Asks, Files, SheetOctets, Parameters, Calibrations, Containers, CalibrationRows, Entries, ScriptOctets, Statements, SqlDepth, Tables, Records}
 
 -- a call answers Limit exactly where the quantity passes this number
 abbrev pub limit_of : Which → ℕ

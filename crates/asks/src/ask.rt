@@ -1,7 +1,8 @@
 //! What is asked of an archive, and the answer.
 
-use crate::cell::Cells;
-use crate::name::{Name, Names};
+use arch_types::cell::Cells;
+use arch_types::direction::Direction;
+use arch_types::name::{Name, Names};
 use item_list::Items;
 
 /// The values of a parameter with `from <= time < to`, in milliseconds.
@@ -10,8 +11,7 @@ pub struct Request {
     pub parameter: Name,
     pub from: i64,
     pub to: i64,
-    /// The latest first.
-    pub descending: bool,
+    pub direction: Direction,
     /// At most so many, all where it is `None`.
     pub limit: Option<u64>,
 }

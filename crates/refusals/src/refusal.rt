@@ -1,13 +1,15 @@
 //! What a call answers where it doesn't do what it was asked.
 
 ghost use Rattle.std.specs.Prelude.{◌≡◌, ◌<◌};
-ghost use Rattle.arch_types.specs.Refusal.{status_of};
-ghost use Rattle.arch_types.specs.Limits.{limit_of};
+ghost use Rattle.refusals.specs.Refusal.{status_of};
+ghost use Rattle.refusals.specs.Limits.{limit_of};
 
-use crate::interval::Interval;
-use crate::key::Key;
-use crate::name::Name;
-use crate::octets::Octets;
+use arch_types::key::Key;
+use arch_types::name::Name;
+use arch_types::octets::Octets;
+use arch_types::row_fault::RowFault;
+use intervals::Interval;
+use outer_traits::print_fault::PrintFault;
 use std::alloc::AllocError;
 
 /// Why the rest of a dump is no packet.
@@ -19,9 +21,9 @@ pub enum BadKind {
     Truncated,
 }
 
-/// A sheet of comma-separated values.
+/// Which sheet of comma-separated values.
 #[derive(Clone, Copy, Debug, PartialEq, Eq)]
-pub enum Sheet {
+pub enum SheetName {
     Parameters,
     Calibrations,
     Containers,
@@ -122,7 +124,7 @@ pub enum Refusal {
     },
     /// The first rule that is broken, by the record's number from 1.
     BadSheet {
-        sheet: Sheet,
+        sheet: SheetName,
         row: u64,
         rule: u8,
     },
@@ -204,8 +206,37 @@ impl Refusal {
     }
 }
 
+impl From<RowFault> for Refusal {
+    ghost use Rattle.std.specs.Prelude.{◌≡◌};
+    ghost use Rattle.refusals.specs.Refusal.{refusal_of_rows};
+
+    ghost from_gives = { λ fault refusal. refusal ≡ refusal_of_rows fault };
+
+    fn from(fault: RowFault) -> Refusal {
+        match fault {
+            RowFault::DiskFault => Refusal::DiskFault,
+            RowFault::Damaged { file, at } => Refusal::Damaged { file, at },
+            RowFault::OutOfMemory => Refusal::OutOfMemory,
+        }
+    }
+}
+
+impl From<PrintFault> for Refusal {
+    ghost use Rattle.std.specs.Prelude.{◌≡◌};
+    ghost use Rattle.refusals.specs.Refusal.{refusal_of_print};
+
+    ghost from_gives = { λ fault refusal. refusal ≡ refusal_of_print fault };
+
+    fn from(fault: PrintFault) -> Refusal {
+        match fault {
+            PrintFault::Write => Refusal::WriteFault,
+            PrintFault::OutOfMemory => Refusal::OutOfMemory,
+        }
+    }
+}
+
 impl From<AllocError> for Refusal {
-    ghost use Rattle.arch_types.specs.declared.refusal.Refusal.TheVariants.{OutOfMemory};
+    ghost use Rattle.refusals.specs.declared.refusal.Refusal.TheVariants.{OutOfMemory};
 
     ghost from_gives = { λ _ refusal. refusal ≡ OutOfMemory };
 

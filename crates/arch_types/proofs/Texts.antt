@@ -1,0 +1,31 @@
+-- Names are texts.
+use Rattle.std.proofs.Common.{◌≡◌, ℕ, ◌<◌, List, [], ◌∷◌, Bool, true, false, arith}
+use Rattle.std.specs.Prelude.{◌&&◌, nat_le, length}
+use Rattle.std.specs.List.{list_all}
+use Rattle.std.specs.Str.{IsAscii, IsUtf8}
+use Rattle.std.proofs.lemmas.Bool.Decides.{nat_tests}
+use Rattle.std.proofs.lemmas.Str.{IsUtf8-from_ascii}
+use Rattle.std.proofs.lemmas.Str.Ascii.{IsAscii-nil, IsAscii-cons}
+use Rattle.text_forms.specs.Names.{is_name, is_name_octet}
+
+and_both : (a b : Bool) → (a && b) ≡ true → (a ≡ true) × (b ≡ true)
+and_both true b e = (cc, e)
+and_both false b e = absurd cc
+
+third : (a b c : Bool) → (a && b && c) ≡ true → c ≡ true
+third true true c h = h
+third true false c h = absurd cc
+third false true c h = absurd cc
+third false false c h = absurd cc
+
+octet_small : (o : ℕ) → is_name_octet o ≡ true → o < 128
+octet_small o h = grind (arith, nat_tests, h)
+
+octets_ascii : (octets : List ℕ) → list_all is_name_octet octets ≡ true → IsAscii octets
+octets_ascii [] h = IsAscii-nil
+octets_ascii (o ∷ octets) h =
+    let p = and_both (is_name_octet o) (list_all is_name_octet octets) h in
+    IsAscii-cons o octets (octet_small o p.0) (octets_ascii octets p.1)
+
+pub name_utf8 : (octets : List ℕ) → is_name octets ≡ true → IsUtf8 octets
+name_utf8 octets h = IsUtf8-from_ascii octets (octets_ascii octets (third (nat_le 1 (length octets)) (nat_le (length octets) 64) (list_all is_name_octet octets) h))
