@@ -10,7 +10,5 @@
 
 pub mod counts;
 pub mod line_buffer;
-pub mod print_fault;
 pub mod rows;
-pub mod text;
 pub mod write;

@@ -2,12 +2,12 @@
 
 ghost use Rattle.std.specs.Prelude.{◌≡◌, ◌+◌, ◌<◌, ◌≤◌, [], ◌∷◌, ◌++◌, length, IfOk, OnOk, OnErr, IsErr, codes, decimal};
 ghost use Rattle.outer_traits.specs.Outside.{HasRisen, Stays, WritesSome};
-ghost use Rattle.dump_lines.specs.Output.{Appends, WritesCounted, IsBuffered, IsFinished};
+ghost use Rattle.dump_lines.specs.LineRoom.{HasLineRoom, HasRoomFor, longest_number};
+ghost use Rattle.dump_lines.specs.Output.{Appends, IsBuffered};
 ghost use Rattle.dump_lines.specs.Text.{row_line, counts_line};
 
 use crate::counts::Counts;
 use crate::write::write_all;
-use arch_types::refusal::Refusal;
 use arch_types::row::Row;
 use itoa::{Buffer, Integer};
 use outer_traits::fault::Failed;
@@ -29,12 +29,13 @@ pub struct LineBuffer {
 
 impl Model for LineBuffer {
     ghost use Rattle.std.specs.Prelude.{◌≤◌, List, ℕ, vec_capacity};
+    ghost use Rattle.dump_lines.specs.LineRoom.{buffer_length};
 
     ghost Value = { List ℕ };
 
     ghost view = { λ p. p.octets.items };
 
-    ghost invariant = { λ p. 66048 ≤ vec_capacity p.octets };
+    ghost invariant = { λ p. buffer_length ≤ vec_capacity p.octets };
 }
 
 impl LineBuffer {
@@ -48,7 +49,7 @@ impl LineBuffer {
 
     /// Adds octets for which there's room.
     pub fn put(&mut self, octets: &[u8])
-        requires { length self.old + length octets.now ≤ 66048 }
+        requires { HasRoomFor (length octets.now) self.old }
         ensures { self.new ≡ self.old ++ octets.now }
     {
         let Ok(()) = self.octets.extend_from_slice(octets) else {
@@ -58,7 +59,7 @@ impl LineBuffer {
 
     /// Adds an octet for which there's room.
     pub fn put_octet(&mut self, octet: u8)
-        requires { length self.old < 66048 }
+        requires { HasRoomFor 1 self.old }
         ensures { self.new ≡ self.old ++ octet ∷ [] }
     {
         self.octets.push_reserved(octet);
@@ -66,18 +67,18 @@ impl LineBuffer {
 
     /// Adds the digits of a number, behind a minus where it is negative.
     pub fn put_digits<I: Integer>(&mut self, number: I)
-        requires { length self.old + 40 ≤ 66048 }
+        requires { HasRoomFor longest_number self.old }
         ensures text { self.new ≡ self.old ++ I.text number }
-        ensures short { length self.new ≤ length self.old + 40 }
+        ensures short { length self.new ≤ length self.old + longest_number }
     {
         self.put(Buffer::new().format(number).as_bytes());
     }
 
     /// Adds a label, and a number after it.
     pub fn put_number<I: Integer>(&mut self, label: &[u8], number: I)
-        requires { length self.old + length label.now + 40 ≤ 66048 }
+        requires { HasRoomFor (length label.now + longest_number) self.old }
         ensures text { self.new ≡ self.old ++ label.now ++ I.text number }
-        ensures short { length self.new ≤ length self.old + length label.now + 40 }
+        ensures short { length self.new ≤ length self.old + length label.now + longest_number }
     {
         self.put(label);
         self.put_digits(number);
@@ -85,9 +86,9 @@ impl LineBuffer {
 
     /// Adds a space, and a number after it: a field of a line behind its first.
     pub fn put_field<I: Integer>(&mut self, number: I)
-        requires { length self.old + 41 ≤ 66048 }
+        requires { HasRoomFor (1 + longest_number) self.old }
         ensures text { self.new ≡ self.old ++ codes " " ++ I.text number }
-        ensures short { length self.new ≤ length self.old + 41 }
+        ensures short { length self.new ≤ length self.old + 1 + longest_number }
     {
         self.put_octet(b' ');
         self.put_digits(number);
@@ -95,7 +96,7 @@ impl LineBuffer {
 
     /// Adds the line of a row.
     pub fn put_row(&mut self, row: &Row)
-        requires { length self.old < 65536 }
+        requires { HasLineRoom self.old }
         ensures { self.new ≡ self.old ++ row_line row.now }
     {
         self.put_number(b"row ", row.key.time);
@@ -106,7 +107,7 @@ impl LineBuffer {
 
     /// Adds the last line.
     pub fn put_counts(&mut self, counts: Counts)
-        requires { length self.old < 65536 }
+        requires { HasLineRoom self.old }
         ensures { self.new ≡ self.old ++ counts_line counts.packets counts.rows counts.duplicates counts.idle }
     {
         self.put_kept(counts.packets, counts.rows);
@@ -115,10 +116,10 @@ impl LineBuffer {
 
     /// Adds the first half of the last line.
     fn put_kept(&mut self, packets: u64, rows: u64)
-        requires { length self.old < 65536 }
+        requires { HasLineRoom self.old }
         ensures text { self.new ≡ self.old ++ codes "scan packets " ++ decimal packets ++ codes " rows " ++ decimal
             rows }
-        ensures short { length self.new < 65664 }
+        ensures half { HasRoomFor 256 self.new }
     {
         self.put_number(b"scan packets ", packets);
         self.put_number(b" rows ", rows);
@@ -126,7 +127,7 @@ impl LineBuffer {
 
     /// Adds the second half of the last line.
     fn put_left_out(&mut self, duplicates: u64, idle: u64)
-        requires { length self.old < 65664 }
+        requires { HasRoomFor 256 self.old }
         ensures { self.new ≡ self.old ++ codes " duplicates " ++ decimal duplicates ++ codes " idle " ++ decimal idle
             ++ codes "\n" }
     {
@@ -139,7 +140,7 @@ impl LineBuffer {
     pub fn flush_if_full<K: Sink>(&mut self, sink: &mut K) -> Result<(), Failed>
         ensures buffered { OnOk result (IsBuffered (K.state sink.old).written (K.state sink.new).written self.old
             self.new) }
-        ensures room { OnOk result (length self.new < 65536) }
+        ensures room { OnOk result (HasLineRoom self.new) }
         ensures some { OnErr result (WritesSome (K.state sink.old).written (K.state sink.new).written self.old) }
         ensures later { (K.state sink.old).faults ≤ (K.state sink.new).faults }
         ensures failed { IsErr result → HasRisen (K.state sink.old).faults (K.state sink.new).faults }
@@ -176,15 +177,14 @@ impl LineBuffer {
         Ok(())
     }
 
-    /// Writes all of the text, and says how a command ends that prints nothing more.
-    pub fn finish<K: Sink>(mut self, sink: &mut K) -> Option<Refusal>
-        ensures finished { IsFinished result (K.state sink.old).written (K.state sink.new).written self }
+    /// Writes all of the text, where nothing more is printed.
+    pub fn finish<K: Sink>(mut self, sink: &mut K) -> Result<(), Failed>
+        ensures all { OnOk result (Appends (K.state sink.old).written (K.state sink.new).written self) }
+        ensures some { OnErr result (WritesSome (K.state sink.old).written (K.state sink.new).written self) }
         ensures later { (K.state sink.old).faults ≤ (K.state sink.new).faults }
-        ensures counted { WritesCounted result (K.state sink.old).faults (K.state sink.new).faults }
+        ensures failed { IsErr result → HasRisen (K.state sink.old).faults (K.state sink.new).faults }
+        ensures no_fault { OnOk result (Stays (K.state sink.old).faults (K.state sink.new).faults) }
     {
-        match self.flush(sink) {
-            Ok(()) => None,
-            Err(_) => Some(Refusal::WriteFault),
-        }
+        self.flush(sink)
     }
 }

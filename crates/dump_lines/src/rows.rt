@@ -1,6 +1,6 @@
 //! The rows of a dump.
 
-ghost use Rattle.std.specs.Prelude.{◌≡◌, ◌<◌, ◌≤◌, ◌^◌, length, IfOk, OnOk, slice_range};
+ghost use Rattle.std.specs.Prelude.{◌≡◌, ◌<◌, ◌^◌, length, IfOk, OnOk, slice_range};
 ghost use Rattle.std.specs.List.{AllByRecursion};
 ghost use Rattle.arch_types.specs.Packet.{IsPacket};
 ghost use Rattle.space_packet.specs.Cut.{IsPart};
@@ -32,7 +32,7 @@ const STEP: u64 = 1024;
 
 /// The rows of a dump that was received at a moment. The one error is want of memory.
 pub fn table_of_dump(alloc: Global, dump: &Octets, moment: i64) -> Result<DumpTable, AllocError>
-    requires { length dump.now ≤ 268435456 }
+    requires { length dump.now < 2 ^ 32 }
     ensures { IfOk result (IsDumpTable dump.now moment) }
 {
     let mut table = Table::new(alloc)?;

@@ -3,7 +3,7 @@ use Rattle.std.specs.Prelude.{◌≡◌, ℕ, ℤ, ◌<ℤ◌, ◌≤ℤ◌, ◌
 use Rattle.std.specs.List.{AllByRecursion}
 use Rattle.std.specs.List.Sorted.{IsPartitionPoint}
 use Rattle.arch_types.specs.declared.row.Row.{Row}
-use Rattle.arch_types.specs.declared.ask.ReplayRequest.{ReplayRequest}
+use Rattle.asks.specs.declared.ask.ReplayRequest.{ReplayRequest}
 use Rattle.partitions.specs.declared.partition.Partition.{Partition}
 use Rattle.partitions.specs.Partitions.{AreRising}
 use Rattle.partitions.specs.Rows.{is_of_parts}

@@ -4,8 +4,8 @@ use Rattle.std.specs.List.{AllByRecursion}
 use Rattle.std.specs.List.Sorted.{IsSortedByKey, IsStrictlySortedBy}
 use Rattle.text_forms.specs.ClockTime.{IsClockTime}
 use Rattle.arch_types.specs.declared.row.Row.{Row}
-use Rattle.arch_types.specs.declared.refusal.Refusal.{Refusal}
-use Rattle.arch_types.specs.declared.refusal.Refusal.TheVariants.{DiskFault, Damaged, OutOfMemory}
+use Rattle.arch_types.specs.declared.row_fault.RowFault.{RowFault}
+use Rattle.arch_types.specs.declared.row_fault.RowFault.TheVariants.{DiskFault, Damaged, OutOfMemory}
 use Rattle.arch_types.specs.Packet.{IsPacket}
 use Rattle.arch_types.specs.GenerationTime.{key_of}
 use Rattle.arch_types.specs.Order.{key_cmp}
@@ -53,12 +53,11 @@ pub record IsRowBetween (table : ℕ) (parts : List Partition) (from to : ℤ) (
 abbrev pub AreInKeyOrder : List Row → Type 0
 AreInKeyOrder rows = IsSortedByKey (λ (row : Row). row.key) key_cmp rows
 
--- a source refuses for a fault where its count has risen, for damage where it doesn't tell its rows, and else for want of memory
-abbrev pub IsRowSourceRefusal : RowSourceState → RowSourceState → Refusal → Type 0
-IsRowSourceRefusal old new DiskFault = raised old.faults ≤ new.faults
-IsRowSourceRefusal old new (Damaged file at) = IsNone old.history
-IsRowSourceRefusal old new OutOfMemory = Unit {0}
-IsRowSourceRefusal old new _ = ⊥
+-- a source gives no rows for a fault where its count has risen, for damage where it doesn't tell its rows, and else for want of memory
+abbrev pub IsRowFault : RowSourceState → RowSourceState → RowFault → Type 0
+IsRowFault old new DiskFault = raised old.faults ≤ new.faults
+IsRowFault old new (Damaged file at) = IsNone old.history
+IsRowFault old new OutOfMemory = Unit {0}
 
 -- a source tells what it told, and its count of faults hasn't fallen
 pub record UsedRowSource (old new : RowSourceState) : Type 0 where

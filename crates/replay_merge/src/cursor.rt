@@ -4,7 +4,7 @@ ghost use Rattle.std.specs.Prelude.{◌≡◌, ◌<◌, ◌≤◌, ◌++◌, ◌
 ghost use Rattle.std.specs.List.{AllByRecursion};
 ghost use Rattle.arch_types.specs.declared.row.Row.{Row};
 ghost use Rattle.partitions.specs.Partitions.{AreRising};
-ghost use Rattle.replay_merge.specs.Source.{AreInKeyOrder, IsRowSourceRefusal, UsedRowSource};
+ghost use Rattle.replay_merge.specs.Source.{AreInKeyOrder, IsRowFault, UsedRowSource};
 ghost use Rattle.replay_merge.specs.Replay.{rows_asked, replay_of, HoldsEachRow};
 ghost use Rattle.replay_merge.specs.Cursor.{rest_of, steps_at_most, AsksTheSame, EndsExactly, IsRowAsked, IsCursorOf, left_after};
 
@@ -12,9 +12,9 @@ use crate::ahead::{Ahead, split_first};
 use crate::fetch::fetch;
 use crate::source::RowSource;
 use crate::wanted::Wanted;
-use arch_types::ask::ReplayRequest;
-use arch_types::refusal::Refusal;
 use arch_types::row::Rows;
+use arch_types::row_fault::RowFault;
+use asks::ReplayRequest;
 use partitions::lists::{PartList, PnameList};
 use partitions::partition::Partition;
 use std::alloc::Global;
@@ -97,7 +97,7 @@ impl Cursor {
         alloc: Global,
         source: &mut R,
         limit: u64,
-    ) -> Result<Rows, Refusal>
+    ) -> Result<Rows, RowFault>
         ensures rows { IfOk result (λ rows. IfSome (R.state source.old).history (λ history.
             rows ++ rest_of self.new history ≡ rest_of self.old history)) }
         ensures end { IfOk result (EndsExactly limit self.old self.new) }
@@ -106,7 +106,7 @@ impl Cursor {
         ensures each { IfOk result (λ rows. AllByRecursion (IsRowAsked self.old) rows) }
         ensures in_key_order { IfOk result AreInKeyOrder }
         ensures asked { AsksTheSame self.old self.new }
-        ensures refused { IfErr result (IsRowSourceRefusal (R.state source.old) (R.state source.new)) }
+        ensures refused { IfErr result (IsRowFault (R.state source.old) (R.state source.new)) }
         ensures unmoved { OnErr result (self.new ≡ self.old) }
         ensures source { UsedRowSource (R.state source.old) (R.state source.new) }
     {

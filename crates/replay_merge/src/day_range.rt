@@ -6,11 +6,11 @@ ghost use Rattle.arch_types.specs.declared.row.Row.{Row as ARow};
 ghost use Rattle.arch_types.specs.Table.{is_in_time_range};
 ghost use Rattle.partitions.specs.Partitions.{AreRising};
 ghost use Rattle.partitions.specs.Rows.{is_of_parts, parts_between};
-ghost use Rattle.replay_merge.specs.Source.{AreInKeyOrder, IsRowBetween, IsRowSourceRefusal, UsedRowSource};
+ghost use Rattle.replay_merge.specs.Source.{AreInKeyOrder, IsRowBetween, IsRowFault, UsedRowSource};
 
 use crate::source::RowSource;
-use arch_types::refusal::Refusal;
 use arch_types::row::Rows;
+use arch_types::row_fault::RowFault;
 use partitions::partition::Partition;
 use std::alloc::Global;
 
@@ -62,13 +62,13 @@ pub fn rows_on_days<R: RowSource>(
     from: i64,
     to: i64,
     front: u64,
-) -> Result<Rows, Refusal>
+) -> Result<Rows, RowFault>
     requires { AreRising parts.now }
     ensures told { IfOk result (λ rows. IfSome (R.state source.old).history (λ history.
         rows ≡ parts_between front table parts.now from to history)) }
     ensures each { IfOk result (AllByRecursion (IsRowBetween table parts.now from to)) }
     ensures in_key_order { IfOk result AreInKeyOrder }
-    ensures refused { IfErr result (IsRowSourceRefusal (R.state source.old) (R.state source.new)) }
+    ensures refused { IfErr result (IsRowFault (R.state source.old) (R.state source.new)) }
     ensures source { UsedRowSource (R.state source.old) (R.state source.new) }
 {
     let (start, end) = cut_to_days(parts, from, to);

@@ -4,14 +4,14 @@ ghost use Rattle.std.specs.Prelude.{◌≡◌, ◌<◌, ◌≤◌, ◌++◌, [],
 ghost use Rattle.std.specs.List.{AllByRecursion};
 ghost use Rattle.partitions.specs.Partitions.{AreRising};
 ghost use Rattle.replay_merge.specs.Replay.{is_listed_name};
-ghost use Rattle.replay_merge.specs.Source.{AreInKeyOrder, IsRowSourceRefusal, UsedRowSource};
+ghost use Rattle.replay_merge.specs.Source.{AreInKeyOrder, IsRowFault, UsedRowSource};
 ghost use Rattle.replay_merge.specs.Fetch.{wanted_in, IsWanted, EndsDay};
 
 use crate::day_range::rows_on_days;
 use crate::source::RowSource;
 use crate::wanted::Wanted;
-use arch_types::refusal::Refusal;
 use arch_types::row::Rows;
+use arch_types::row_fault::RowFault;
 use partitions::partition::Partition;
 use std::alloc::{AllocError, Global};
 
@@ -51,7 +51,7 @@ fn read_day<R: RowSource>(
     source: &mut R,
     wanted: &Wanted,
     parts: &[Partition],
-) -> Result<(usize, Rows), Refusal>
+) -> Result<(usize, Rows), RowFault>
     requires rising { AreRising parts.now }
     requires some { 0 < length parts.now }
     ensures within { IfOk result (λ day. day.0 ≤ length parts.now) }
@@ -60,7 +60,7 @@ fn read_day<R: RowSource>(
     ensures rows { IfOk result (λ day. IfSome (R.state source.old).history (λ history.
         wanted_in wanted.now parts.now history ≡ day.1 ++ wanted_in wanted.now (drop day.0 parts.now) history)) }
     ensures each { IfOk result (λ day. AllByRecursion (IsWanted wanted.now) day.1) }
-    ensures refused { IfErr result (IsRowSourceRefusal (R.state source.old) (R.state source.new)) }
+    ensures refused { IfErr result (IsRowFault (R.state source.old) (R.state source.new)) }
     ensures source { UsedRowSource (R.state source.old) (R.state source.new) }
 {
     let count = first_day(parts);
@@ -84,7 +84,7 @@ pub(crate) fn fetch<R: RowSource>(
     source: &mut R,
     wanted: &Wanted,
     parts: &[Partition],
-) -> Result<(usize, Rows), Refusal>
+) -> Result<(usize, Rows), RowFault>
     requires { AreRising parts.now }
     ensures within { IfOk result (λ day. day.0 ≤ length parts.now) }
     ensures rows { IfOk result (λ day. IfSome (R.state source.old).history (λ history.
@@ -94,7 +94,7 @@ pub(crate) fn fetch<R: RowSource>(
     ensures read { IfOk result (λ day. (day.1 ≡ [] → ⊥) → 0 < day.0) }
     ensures in_order { IfOk result (λ day. AreInKeyOrder day.1) }
     ensures each { IfOk result (λ day. AllByRecursion (IsWanted wanted.now) day.1) }
-    ensures refused { IfErr result (IsRowSourceRefusal (R.state source.old) (R.state source.new)) }
+    ensures refused { IfErr result (IsRowFault (R.state source.old) (R.state source.new)) }
     ensures source { UsedRowSource (R.state source.old) (R.state source.new) }
 {
     let mut read = 0;

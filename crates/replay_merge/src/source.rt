@@ -4,10 +4,10 @@ ghost use Rattle.std.specs.Prelude.{◌≡◌, IfOk, IfErr, IfSome};
 ghost use Rattle.std.specs.List.{AllByRecursion};
 ghost use Rattle.partitions.specs.Partitions.{AreRising};
 ghost use Rattle.partitions.specs.Rows.{partition_at, parts_between};
-ghost use Rattle.replay_merge.specs.Source.{RowSourceState, IsRowSourceHistory, AreRowsOf, IsRowBetween, AreInKeyOrder, IsRowSourceRefusal, UsedRowSource};
+ghost use Rattle.replay_merge.specs.Source.{RowSourceState, IsRowSourceHistory, AreRowsOf, IsRowBetween, AreInKeyOrder, IsRowFault, UsedRowSource};
 
-use arch_types::refusal::Refusal;
 use arch_types::row::Rows;
+use arch_types::row_fault::RowFault;
 use partitions::partition::Partition;
 use partitions::rows::{append_between, merged_by_key};
 use std::alloc::Global;
@@ -25,12 +25,12 @@ pub trait RowSource {
         table: u8,
         part: &Partition,
         front: u64,
-    ) -> Result<Rows, Refusal>
+    ) -> Result<Rows, RowFault>
         ensures told { IfOk result (λ rows. IfSome (state self.old).history (λ history.
             rows ≡ partition_at front table part.now history)) }
         ensures each { IfOk result (AreRowsOf table part.now) }
         ensures history { IfSome (state self.old).history IsRowSourceHistory }
-        ensures refused { IfErr result (IsRowSourceRefusal (state self.old) (state self.new)) }
+        ensures refused { IfErr result (IsRowFault (state self.old) (state self.new)) }
         ensures source { UsedRowSource (state self.old) (state self.new) };
 
     /// The rows of some partitions of a table, which rise, with `from <= time < to` and a position below the front, in the order of
@@ -45,13 +45,13 @@ pub trait RowSource {
         from: i64,
         to: i64,
         front: u64,
-    ) -> Result<Rows, Refusal>
+    ) -> Result<Rows, RowFault>
         requires { AreRising parts.now }
         ensures told { IfOk result (λ rows. IfSome (state self.old).history (λ history.
             rows ≡ parts_between front table parts.now from to history)) }
         ensures each { IfOk result (AllByRecursion (IsRowBetween table parts.now from to)) }
         ensures in_key_order { IfOk result AreInKeyOrder }
-        ensures refused { IfErr result (IsRowSourceRefusal (state self.old) (state self.new)) }
+        ensures refused { IfErr result (IsRowFault (state self.old) (state self.new)) }
         ensures source { UsedRowSource (state self.old) (state self.new) }
     {
         let mut rows = Vec::new(alloc);

@@ -5,7 +5,7 @@ ghost use Rattle.replay_merge.specs.Replay.{is_listed_name};
 ghost use Rattle.replay_merge.specs.Fetch.{IsAskedBy};
 
 use crate::names::{ListedNames, sorted_names};
-use arch_types::ask::ReplayRequest;
+use asks::ReplayRequest;
 use partitions::lists::PnameList;
 
 /// The rows of a table at a front, with `from <= time < to`, in milliseconds since 1970, and one of some packet names.

@@ -1,10 +1,10 @@
 -- A text is one script at most, or is refused in one way.
 use Rattle.std.proofs.Common.{◌≡◌, ◌<◌, ◌≤◌, ◌⊎◌, inl, inr, ℕ, List, [], ◌∷◌, ◌++◌, length, Ok, refl, sym, ap, ap₂, subst, ◌∙◌, append_assoc, arith}
-use Rattle.arch_types.specs.declared.refusal.Refusal.{Refusal}
-use Rattle.arch_types.specs.declared.refusal.Refusal.TheVariants as refused
-use Rattle.arch_types.specs.declared.refusal.Which.{Which}
-use Rattle.arch_types.specs.declared.refusal.Which.TheVariants as limits
-use Rattle.arch_types.specs.Limits.{limit_of}
+use Rattle.ssql_parse.specs.declared.not_a_script.NotAScript.{NotAScript}
+use Rattle.ssql_parse.specs.declared.not_a_script.NotAScript.TheVariants as refused
+use Rattle.ssql_parse.specs.declared.limits.ScriptQuantity.{ScriptQuantity}
+use Rattle.ssql_parse.specs.declared.limits.ScriptQuantity.TheVariants as limits
+use Rattle.ssql_parse.specs.Limits.{script_limit}
 use Rattle.ssql_tokens.specs.declared.token.Token.{Token}
 use Rattle.ssql_tokens.specs.Tokens.{AreTokens, IsNoToken}
 use Rattle.ssql_tokens.proofs.TokenLists.{tokens_are_one, no_token_or_tokens, no_token_is_one}
@@ -13,7 +13,7 @@ use Rattle.ssql_parse.specs.Reading.{next_token}
 use Rattle.ssql_parse.specs.Grammar.{Spells, IsFirstWrong}
 use Rattle.ssql_parse.specs.Statements.{ScriptResult}
 use Rattle.ssql_parse.specs.Depth.{script_depth}
-use Rattle.ssql_parse.specs.Parsing.{WrittenScript, ReadsScript, IsScriptOf, octet_of_left, IsWrongToken, BreaksRule, HasManyStatements, NestsTooDeep, PassesScriptLimit, IsParseRefusal}
+use Rattle.ssql_parse.specs.Parsing.{WrittenScript, ReadsScript, IsScriptOf, octet_of_left, IsWrongToken, BreaksRule, HasManyStatements, NestsTooDeep, PassesScriptLimit, IsNotAScript}
 use Rattle.ssql_parse.proofs.ScriptReading.{script_again}
 
 -- ---- two lists that are parts of one
@@ -104,23 +104,22 @@ module _ (text : List ℕ) where
   -- ---- limits
 
   -- the limit that a text passes is one of three
-  data Passed (quantity : Which) : Type 0 where
-    octets : quantity ≡ limits.ScriptOctets → limit_of limits.ScriptOctets < length text → Passed quantity
-    many : quantity ≡ limits.Statements → length text ≤ limit_of limits.ScriptOctets → HasManyStatements text → Passed quantity
-    deep : quantity ≡ limits.SqlDepth → length text ≤ limit_of limits.ScriptOctets → NestsTooDeep text → Passed quantity
+  data Passed (quantity : ScriptQuantity) : Type 0 where
+    octets : quantity ≡ limits.Octets → script_limit limits.Octets < length text → Passed quantity
+    many : quantity ≡ limits.Statements → length text ≤ script_limit limits.Octets → HasManyStatements text → Passed quantity
+    deep : quantity ≡ limits.Depth → length text ≤ script_limit limits.Octets → NestsTooDeep text → Passed quantity
 
-  passed : (quantity : Which) → PassesScriptLimit text quantity → Passed quantity
-  passed limits.ScriptOctets h = Passed.octets refl h
+  passed : (quantity : ScriptQuantity) → PassesScriptLimit text quantity → Passed quantity
+  passed limits.Octets h = Passed.octets refl h
   passed limits.Statements h = Passed.many refl h.0 h.1
-  passed limits.SqlDepth h = Passed.deep refl h.0 h.1
-  passed _ h = absurd h
+  passed limits.Depth h = Passed.deep refl h.0 h.1
 
   many_or_deep : HasManyStatements text → NestsTooDeep text → ⊥
   many_or_deep h k =
       let same = read_once h.statements k.statements h.places k.places h.reads k.reads in
       absurd (omega (arith, h.many, k.few, ap length same.0))
 
-  limit_is_one : (i j : Which) → Passed i → Passed j → i ≡ j
+  limit_is_one : (i j : ScriptQuantity) → Passed i → Passed j → i ≡ j
   limit_is_one i j (Passed.octets e h) (Passed.octets f k) = e ∙ sym f
   limit_is_one i j (Passed.octets e h) (Passed.many f short k) = absurd (omega (arith, h, short))
   limit_is_one i j (Passed.octets e h) (Passed.deep f short k) = absurd (omega (arith, h, short))
@@ -131,12 +130,12 @@ module _ (text : List ℕ) where
   limit_is_one i j (Passed.deep e short h) (Passed.many f other k) = absurd (many_or_deep k h)
   limit_is_one i j (Passed.deep e short h) (Passed.deep f other k) = e ∙ sym f
 
-  limit_or_rule : (quantity : Which) (at rule : ℕ) → Passed quantity → length text ≤ limit_of limits.ScriptOctets → BreaksRule text at rule → ⊥
+  limit_or_rule : (quantity : ScriptQuantity) (at rule : ℕ) → Passed quantity → length text ≤ script_limit limits.Octets → BreaksRule text at rule → ⊥
   limit_or_rule quantity at rule (Passed.octets e h) short k = absurd (omega (arith, h, short))
   limit_or_rule quantity at rule (Passed.many e other h) short k = rule_or_read at rule h.statements h.places k h.reads
   limit_or_rule quantity at rule (Passed.deep e other h) short k = rule_or_read at rule h.statements h.places k h.reads
 
-  limit_or_script : (quantity : Which) (script : WrittenScript) → Passed quantity → IsScriptOf text script → ⊥
+  limit_or_script : (quantity : ScriptQuantity) (script : WrittenScript) → Passed quantity → IsScriptOf text script → ⊥
   limit_or_script quantity script (Passed.octets e h) k = absurd (omega (arith, h, k.short))
   limit_or_script quantity script (Passed.many e short h) k =
       let same = read_once h.statements script.statements h.places script.places h.reads k.reads in
@@ -148,30 +147,29 @@ module _ (text : List ℕ) where
   -- ---- refusals
 
   -- a refusal is one of three
-  data Refused (refusal : Refusal) : Type 0 where
-    limit : (quantity : Which) → refusal ≡ refused.Limit quantity (limit_of quantity) → Passed quantity → Refused refusal
-    rule : (at broken : ℕ) → refusal ≡ refused.BadSql at broken → length text ≤ limit_of limits.ScriptOctets → BreaksRule text at broken → Refused refusal
+  data Refused (refusal : NotAScript) : Type 0 where
+    limit : (quantity : ScriptQuantity) → refusal ≡ refused.Limit quantity → Passed quantity → Refused refusal
+    rule : (at broken : ℕ) → refusal ≡ refused.BadSql at broken → length text ≤ script_limit limits.Octets → BreaksRule text at broken → Refused refusal
     memory : refusal ≡ refused.OutOfMemory → Refused refusal
 
-  refused_by : (refusal : Refusal) → IsParseRefusal text refusal → Refused refusal
-  refused_by (refused.Limit quantity number) h = Refused.limit quantity (ap (λ (n : ℕ). refused.Limit quantity n) h.0) (passed quantity h.1)
+  refused_by : (refusal : NotAScript) → IsNotAScript text refusal → Refused refusal
+  refused_by (refused.Limit quantity) h = Refused.limit quantity refl (passed quantity h)
   refused_by (refused.BadSql at broken) h = Refused.rule at broken refl h.0 h.1
   refused_by refused.OutOfMemory h = Refused.memory refl
-  refused_by _ h = absurd h
 
-  script_or : (script : WrittenScript) (refusal : Refusal) → IsScriptOf text script → Refused refusal → refusal ≡ refused.OutOfMemory
+  script_or : (script : WrittenScript) (refusal : NotAScript) → IsScriptOf text script → Refused refusal → refusal ≡ refused.OutOfMemory
   script_or script refusal h (Refused.limit quantity e k) = absurd (limit_or_script quantity script k h)
   script_or script refusal h (Refused.rule at broken e short k) = absurd (rule_or_read at broken script.statements script.places k h.reads)
   script_or script refusal h (Refused.memory e) = e
 
-  pub script_or_refusal : (script : WrittenScript) (refusal : Refusal) → IsScriptOf text script → IsParseRefusal text refusal → refusal ≡ refused.OutOfMemory
+  pub script_or_refusal : (script : WrittenScript) (refusal : NotAScript) → IsScriptOf text script → IsNotAScript text refusal → refusal ≡ refused.OutOfMemory
   script_or_refusal script refusal h k = script_or script refusal h (refused_by refusal k)
 
-  refused_once : (a b : Refusal) → Refused a → Refused b → (a ≡ refused.OutOfMemory) ⊎ ((b ≡ refused.OutOfMemory) ⊎ (a ≡ b))
+  refused_once : (a b : NotAScript) → Refused a → Refused b → (a ≡ refused.OutOfMemory) ⊎ ((b ≡ refused.OutOfMemory) ⊎ (a ≡ b))
   refused_once a b (Refused.memory e) k = inl e
   refused_once a b (Refused.limit i e h) (Refused.memory f) = inr (inl f)
   refused_once a b (Refused.limit i e h) (Refused.limit j f k) =
-      inr (inr (e ∙ ap (λ (quantity : Which). refused.Limit quantity (limit_of quantity)) (limit_is_one i j h k) ∙ sym f))
+      inr (inr (e ∙ ap (λ (quantity : ScriptQuantity). refused.Limit quantity) (limit_is_one i j h k) ∙ sym f))
   refused_once a b (Refused.limit i e h) (Refused.rule at broken f short k) = absurd (limit_or_rule i at broken h short k)
   refused_once a b (Refused.rule at broken e short h) (Refused.memory f) = inr (inl f)
   refused_once a b (Refused.rule at broken e short h) (Refused.limit j f k) = absurd (limit_or_rule j at broken k short h)
@@ -179,5 +177,5 @@ module _ (text : List ℕ) where
       let same = rule_is_one m n i j h k in
       inr (inr (e ∙ ap₂ (λ (at broken : ℕ). refused.BadSql at broken) same.0 same.1 ∙ sym f))
 
-  pub one_refusal : (a b : Refusal) → IsParseRefusal text a → IsParseRefusal text b → (a ≡ refused.OutOfMemory) ⊎ ((b ≡ refused.OutOfMemory) ⊎ (a ≡ b))
+  pub one_refusal : (a b : NotAScript) → IsNotAScript text a → IsNotAScript text b → (a ≡ refused.OutOfMemory) ⊎ ((b ≡ refused.OutOfMemory) ⊎ (a ≡ b))
   one_refusal a b h k = refused_once a b (refused_by a h) (refused_by b k)

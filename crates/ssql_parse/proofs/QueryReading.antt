@@ -17,8 +17,8 @@ use Rattle.ssql_parse.specs.declared.query.Columns.{Columns}
 use Rattle.ssql_parse.specs.declared.query.Columns.TheVariants.{All, Listed}
 use Rattle.ssql_parse.specs.declared.query.QuerySource.{QuerySource}
 use Rattle.ssql_parse.specs.declared.query.QuerySource.TheVariants.{One, Merge}
-use Rattle.ssql_parse.specs.declared.query.Direction.{Direction}
-use Rattle.ssql_parse.specs.declared.query.Direction.TheVariants.{Ascending, Descending}
+use Rattle.arch_types.specs.declared.direction.Direction.{Direction}
+use Rattle.arch_types.specs.declared.direction.Direction.TheVariants.{Ascending, Descending}
 use Rattle.ssql_tokens.specs.SymbolTests.{same_symbol, is_symbol}
 use Rattle.ssql_tokens.specs.Written.{AreOfTexts}
 use Rattle.ssql_parse.specs.Reading.{TokenReader, next_token, begins, is_next, optional, taken}

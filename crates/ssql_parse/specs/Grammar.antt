@@ -15,8 +15,8 @@ use Rattle.ssql_parse.specs.declared.query.Columns.{Columns}
 use Rattle.ssql_parse.specs.declared.query.Columns.TheVariants.{All, Listed}
 use Rattle.ssql_parse.specs.declared.query.QuerySource.{QuerySource}
 use Rattle.ssql_parse.specs.declared.query.QuerySource.TheVariants.{One, Merge}
-use Rattle.ssql_parse.specs.declared.query.Direction.{Direction}
-use Rattle.ssql_parse.specs.declared.query.Direction.TheVariants.{Ascending, Descending}
+use Rattle.arch_types.specs.declared.direction.Direction.{Direction}
+use Rattle.arch_types.specs.declared.direction.Direction.TheVariants.{Ascending, Descending}
 use Rattle.ssql_parse.specs.declared.query.Query.{Query}
 use Rattle.ssql_parse.specs.declared.statement.Statement.{Statement}
 use Rattle.ssql_parse.specs.declared.statement.Statement.TheVariants as st

@@ -1,11 +1,11 @@
 -- What is true of every text and of every condition.
 use Rattle.std.specs.Prelude.{◌≡◌, ◌⊎◌, ℕ, List, []}
-use Rattle.arch_types.specs.declared.refusal.Refusal.{Refusal}
-use Rattle.arch_types.specs.declared.refusal.Refusal.TheVariants.{OutOfMemory}
+use Rattle.ssql_parse.specs.declared.not_a_script.NotAScript.{NotAScript}
+use Rattle.ssql_parse.specs.declared.not_a_script.NotAScript.TheVariants.{OutOfMemory}
 use Rattle.ssql_parse.specs.Grammar.{Cond, cond_depth, cond_pieces}
 use Rattle.ssql_parse.specs.Depth.{deepest}
 use Rattle.ssql_parse.specs.declared.statement.Statement.{Statement}
-use Rattle.ssql_parse.specs.Parsing.{WrittenScript, ReadsScript, IsScriptOf, IsScript, IsParseRefusal}
+use Rattle.ssql_parse.specs.Parsing.{WrittenScript, ReadsScript, IsScriptOf, IsScript, IsNotAScript}
 use Rattle.ssql_parse.specs.Printing.{printed}
 
 -- a text spells one script at most
@@ -14,11 +14,11 @@ OneScript = (text : List ℕ) (a b : WrittenScript) → IsScriptOf text a → Is
 
 -- a text that spells a script is refused for want of memory alone
 abbrev pub ScriptOrRefusal : Type 0
-ScriptOrRefusal = (text : List ℕ) (script : WrittenScript) (refusal : Refusal) → IsScriptOf text script → IsParseRefusal text refusal → refusal ≡ OutOfMemory
+ScriptOrRefusal = (text : List ℕ) (script : WrittenScript) (why : NotAScript) → IsScriptOf text script → IsNotAScript text why → why ≡ OutOfMemory
 
 -- but for want of memory, a text is refused in one way at most
 abbrev pub OneRefusal : Type 0
-OneRefusal = (text : List ℕ) (a b : Refusal) → IsParseRefusal text a → IsParseRefusal text b → (a ≡ OutOfMemory) ⊎ ((b ≡ OutOfMemory) ⊎ (a ≡ b))
+OneRefusal = (text : List ℕ) (a b : NotAScript) → IsNotAScript text a → IsNotAScript text b → (a ≡ OutOfMemory) ⊎ ((b ≡ OutOfMemory) ⊎ (a ≡ b))
 
 -- the depth that is found piece by piece is the depth by cases on the grammar
 abbrev pub DepthGoesByCases : Type 0

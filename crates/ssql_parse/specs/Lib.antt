@@ -6,6 +6,7 @@ pub mod Queries
 pub mod Statements
 pub mod Depth
 pub mod Scripts
+pub mod Limits
 pub mod Parsing
 pub mod Printing
 pub mod Laws

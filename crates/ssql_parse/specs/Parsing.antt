@@ -1,10 +1,10 @@
 -- Which text is a script, and where it stops being one.
 use Rattle.std.specs.Prelude.{◌≡◌, ◌⊎◌, ◌<◌, ◌≤◌, ◌-◌, nat_lt, ℕ, List, length, slice_index_or, Bool, Option, Some, None, if◌then◌else◌}
-use Rattle.arch_types.specs.declared.refusal.Refusal.{Refusal}
-use Rattle.arch_types.specs.declared.refusal.Refusal.TheVariants as refused
-use Rattle.arch_types.specs.declared.refusal.Which.{Which}
-use Rattle.arch_types.specs.declared.refusal.Which.TheVariants as limits
-use Rattle.arch_types.specs.Limits.{limit_of}
+use Rattle.ssql_parse.specs.declared.not_a_script.NotAScript.{NotAScript}
+use Rattle.ssql_parse.specs.declared.not_a_script.NotAScript.TheVariants as refused
+use Rattle.ssql_parse.specs.declared.limits.ScriptQuantity.{ScriptQuantity}
+use Rattle.ssql_parse.specs.declared.limits.ScriptQuantity.TheVariants as limits
+use Rattle.ssql_parse.specs.Limits.{script_limit}
 use Rattle.ssql_tokens.specs.declared.token.Token.{Token}
 use Rattle.ssql_tokens.specs.Tokens.{AreTokens, IsNoToken}
 use Rattle.ssql_tokens.specs.Written.{AreOfTexts}
@@ -25,12 +25,12 @@ pub record ReadsScript (text : List ℕ) (statements : List Statement) (places :
 
 -- The statements are few, and none nests too deep.
 pub record IsWithinLimits (statements : List Statement) : Type 0 where
-  pub few : length statements ≤ limit_of limits.Statements
-  pub shallow : script_depth statements ≤ limit_of limits.SqlDepth
+  pub few : length statements ≤ script_limit limits.Statements
+  pub shallow : script_depth statements ≤ script_limit limits.Depth
 
 -- The script that a text spells, all of it within the limits.
 pub record IsScriptOf (text : List ℕ) (script : WrittenScript) : Type 0 where
-  pub short : length text ≤ limit_of limits.ScriptOctets
+  pub short : length text ≤ script_limit limits.Octets
   pub reads : ReadsScript text script.statements script.places
   pub within : IsWithinLimits script.statements
 
@@ -69,34 +69,32 @@ pub record HasManyStatements (text : List ℕ) : Type 0 where
   pub statements : List Statement
   pub places : List ℕ
   pub reads : ReadsScript text statements places
-  pub many : limit_of limits.Statements < length statements
+  pub many : script_limit limits.Statements < length statements
 
 -- The text spells no more statements than a script may have, and one of them nests too deep.
 pub record NestsTooDeep (text : List ℕ) : Type 0 where
   pub statements : List Statement
   pub places : List ℕ
   pub reads : ReadsScript text statements places
-  pub few : length statements ≤ limit_of limits.Statements
-  pub deep : limit_of limits.SqlDepth < script_depth statements
+  pub few : length statements ≤ script_limit limits.Statements
+  pub deep : script_limit limits.Depth < script_depth statements
 
 -- the first limit that a text passes
-abbrev pub PassesScriptLimit : List ℕ → Which → Type 0
-PassesScriptLimit text limits.ScriptOctets = limit_of limits.ScriptOctets < length text
-PassesScriptLimit text limits.Statements = (length text ≤ limit_of limits.ScriptOctets) × HasManyStatements text
-PassesScriptLimit text limits.SqlDepth = (length text ≤ limit_of limits.ScriptOctets) × NestsTooDeep text
-PassesScriptLimit text _ = ⊥
+abbrev pub PassesScriptLimit : List ℕ → ScriptQuantity → Type 0
+PassesScriptLimit text limits.Octets = script_limit limits.Octets < length text
+PassesScriptLimit text limits.Statements = (length text ≤ script_limit limits.Octets) × HasManyStatements text
+PassesScriptLimit text limits.Depth = (length text ≤ script_limit limits.Octets) × NestsTooDeep text
 
 -- the first limit that statements pass
-abbrev pub first_passed : List Statement → Option Which
+abbrev pub first_passed : List Statement → Option ScriptQuantity
 first_passed statements =
-    if nat_lt (limit_of limits.Statements) (length statements) then Some limits.Statements
-    else (if nat_lt (limit_of limits.SqlDepth) (script_depth statements) then Some limits.SqlDepth else None)
+    if nat_lt (script_limit limits.Statements) (length statements) then Some limits.Statements
+    else (if nat_lt (script_limit limits.Depth) (script_depth statements) then Some limits.Depth else None)
 
--- ---- refusals
+-- ---- why a text is no script
 
--- why a text is refused: it passes a limit, or breaks a rule at an octet; or memory ran out
-abbrev pub IsParseRefusal : List ℕ → Refusal → Type 0
-IsParseRefusal text (refused.Limit quantity number) = (number ≡ limit_of quantity) × PassesScriptLimit text quantity
-IsParseRefusal text (refused.BadSql at rule) = (length text ≤ limit_of limits.ScriptOctets) × BreaksRule text at rule
-IsParseRefusal text refused.OutOfMemory = Unit {0}
-IsParseRefusal text _ = ⊥
+-- it passes a limit, or breaks a rule at an octet; or memory ran out
+abbrev pub IsNotAScript : List ℕ → NotAScript → Type 0
+IsNotAScript text (refused.Limit quantity) = PassesScriptLimit text quantity
+IsNotAScript text (refused.BadSql at rule) = (length text ≤ script_limit limits.Octets) × BreaksRule text at rule
+IsNotAScript text refused.OutOfMemory = Unit {0}

@@ -11,6 +11,8 @@
 mod condition;
 mod depth;
 pub mod laws;
+mod limits;
+mod not_a_script;
 mod parsing;
 mod printing;
 mod query;
@@ -19,8 +21,10 @@ mod script;
 mod statement;
 
 pub use condition::{Literal, Piece, Predicate, Test};
+pub use limits::ScriptQuantity;
+pub use not_a_script::NotAScript;
 pub use parsing::{Script, parse};
 pub use printing::print;
-pub use query::{Columns, Direction, Query, QuerySource};
+pub use query::{Columns, Query, QuerySource};
 pub use ssql_tokens::{Column, ComparisonOperator};
 pub use statement::Statement;

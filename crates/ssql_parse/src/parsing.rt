@@ -1,17 +1,18 @@
 //! Scripts, from their text.
 
 ghost use Rattle.std.specs.Prelude.{◌≡◌, ◌≤◌, length, IfOk, IfErr};
-ghost use Rattle.arch_types.specs.Limits.{limit_of};
 ghost use Rattle.ssql_tokens.specs.Tokens.{AreTokens};
 ghost use Rattle.ssql_parse.specs.Grammar.{Spells};
-ghost use Rattle.ssql_parse.specs.Parsing.{IsParseRefusal, IsScript, IsScriptOf, first_passed, octet_of_left};
+ghost use Rattle.ssql_parse.specs.Limits.{script_limit};
+ghost use Rattle.ssql_parse.specs.Parsing.{IsNotAScript, IsScript, IsScriptOf, first_passed, octet_of_left};
 
 use crate::depth::script_depth;
+use crate::limits::ScriptQuantity;
+use crate::not_a_script::NotAScript;
 use crate::reading::Stop;
 use crate::script::script;
 use crate::statement::Statement;
 use arch_types::octets::Octets;
-use arch_types::refusal::{Refusal, Which};
 use item_list::Items;
 use ssql_tokens::{NotTokens, ScriptTokens, tokens_of};
 use std::alloc::{AllocError, Global};
@@ -62,27 +63,17 @@ fn octet_of_left(text: &[u8], places: &[u32], left: usize) -> u64
     }
 }
 
-/// The limit of a quantity that a text passes.
-fn limit(which: Which) -> Refusal
-    ensures { result ≡ Refusal.Limit which (limit_of which) }
-{
-    Refusal::Limit {
-        which,
-        number: which.limit(),
-    }
-}
-
 /// The tokens of a text, or where it stops being tokens.
-fn text_tokens(alloc: Global, text: &[u8]) -> Result<ScriptTokens, Refusal>
-    requires { length text.now ≤ limit_of Which.ScriptOctets }
+fn text_tokens(alloc: Global, text: &[u8]) -> Result<ScriptTokens, NotAScript>
+    requires { length text.now ≤ script_limit ScriptQuantity.Octets }
     ensures found { IfOk result (λ found. AreTokens text.now found.tokens found.places) }
-    ensures refused { IfErr result (IsParseRefusal text.now) }
+    ensures refused { IfErr result (IsNotAScript text.now) }
 {
     let octets = Octets::from_slice(alloc, text)?;
     match tokens_of(alloc, &octets) {
         Ok(read) => Ok(read),
-        Err(NotTokens::OutOfMemory) => Err(Refusal::OutOfMemory),
-        Err(NotTokens::NoToken(at)) => Err(Refusal::BadSql {
+        Err(NotTokens::OutOfMemory) => Err(NotAScript::OutOfMemory),
+        Err(NotTokens::NoToken(at)) => Err(NotAScript::BadSql {
             at: u64::from(at),
             rule: 1,
         }),
@@ -94,16 +85,16 @@ fn text_statements(
     alloc: Global,
     text: &[u8],
     read: &ScriptTokens,
-) -> Result<Items<Statement>, Refusal>
-    requires short { length text.now ≤ limit_of Which.ScriptOctets }
+) -> Result<Items<Statement>, NotAScript>
+    requires short { length text.now ≤ script_limit ScriptQuantity.Octets }
     requires tokens { AreTokens text.now read.now.tokens read.now.places }
     ensures found { IfOk result (λ found. Spells found read.now.tokens) }
-    ensures refused { IfErr result (IsParseRefusal text.now) }
+    ensures refused { IfErr result (IsNotAScript text.now) }
 {
     match script(alloc, read.tokens.as_slice()) {
         Ok(statements) => Ok(statements),
-        Err(Stop::Memory) => Err(Refusal::OutOfMemory),
-        Err(Stop::Wrong(left)) => Err(Refusal::BadSql {
+        Err(Stop::Memory) => Err(NotAScript::OutOfMemory),
+        Err(Stop::Wrong(left)) => Err(NotAScript::BadSql {
             at: octet_of_left(text, read.places.as_slice(), left),
             rule: 2,
         }),
@@ -111,31 +102,34 @@ fn text_statements(
 }
 
 /// The first limit that statements pass.
-fn passed_limit(alloc: Global, statements: &[Statement]) -> Result<Option<Which>, AllocError>
+fn passed_limit(
+    alloc: Global,
+    statements: &[Statement],
+) -> Result<Option<ScriptQuantity>, AllocError>
     ensures { IfOk result (λ passed. passed ≡ first_passed statements.now) }
 {
-    if statements.len() as u64 > Which::Statements.limit() {
-        return Ok(Some(Which::Statements));
+    if statements.len() as u64 > ScriptQuantity::Statements.limit() {
+        return Ok(Some(ScriptQuantity::Statements));
     }
-    if script_depth(alloc, statements)? as u64 > Which::SqlDepth.limit() {
-        return Ok(Some(Which::SqlDepth));
+    if script_depth(alloc, statements)? as u64 > ScriptQuantity::Depth.limit() {
+        return Ok(Some(ScriptQuantity::Depth));
     }
     Ok(None)
 }
 
 /// The script that a text spells, or the first of these: it is too long; at an octet no token begins; with a token no statement goes on, or
 /// the text ends too early; its statements are too many; one of them nests too deep.
-pub fn parse(alloc: Global, text: &[u8]) -> Result<Script, Refusal>
+pub fn parse(alloc: Global, text: &[u8]) -> Result<Script, NotAScript>
     ensures found { IfOk result (IsScriptOf text.now) }
-    ensures refused { IfErr result (IsParseRefusal text.now) }
+    ensures refused { IfErr result (IsNotAScript text.now) }
 {
-    if text.len() as u64 > Which::ScriptOctets.limit() {
-        return Err(limit(Which::ScriptOctets));
+    if text.len() as u64 > ScriptQuantity::Octets.limit() {
+        return Err(NotAScript::Limit(ScriptQuantity::Octets));
     }
     let read = text_tokens(alloc, text)?;
     let statements = text_statements(alloc, text, &read)?;
     match passed_limit(alloc, statements.as_slice())? {
-        Some(which) => Err(limit(which)),
+        Some(quantity) => Err(NotAScript::Limit(quantity)),
         None => Ok(Script {
             statements,
             places: read.places,

@@ -9,8 +9,9 @@ ghost use Rattle.ssql_parse.specs.Printing.{laid};
 
 use crate::condition::{Literal, Piece, Predicate, Test};
 use crate::parsing::Script;
-use crate::query::{Columns, Direction, Query, QuerySource};
+use crate::query::{Columns, Query, QuerySource};
 use crate::statement::Statement;
+use arch_types::direction::Direction;
 use arch_types::name::Name;
 use arch_types::octets::Octets;
 use item_list::Items;

@@ -8,6 +8,7 @@ ghost use Rattle.ssql_parse.specs.Queries as queries;
 
 use crate::condition::{Piece, pieces};
 use crate::reading::{Stop, begins, column, expect, name, number};
+use arch_types::direction::Direction;
 use arch_types::name::Name;
 use arch_types::octets::Octets;
 use item_list::Items;
@@ -30,13 +31,6 @@ pub enum QuerySource {
     One(Name),
     /// MERGE of at least one.
     Merge(Items<Name>),
-}
-
-/// In which order rows are given.
-#[derive(Clone, Copy, Debug, PartialEq, Eq)]
-pub enum Direction {
-    Ascending,
-    Descending,
 }
 
 /// A query, with its clauses where they are written.

@@ -8,10 +8,11 @@ use Rattle.partitions.proofs.Parted.{default_free}
 use Rattle.outer_traits.specs.Outside.{HasRisen, Stays, WritesSome}
 use Rattle.outer_traits.specs.States.{OutputState}
 use Rattle.dump_lines.specs.Output.{Appends}
-use Rattle.dump_lines.specs.declared.print_fault.PrintFault.{PrintFault}
-use Rattle.dump_lines.specs.declared.print_fault.PrintFault.TheVariants.{Write, OutOfMemory}
+use Rattle.outer_traits.specs.declared.print_fault.PrintFault.{PrintFault}
+use Rattle.outer_traits.specs.declared.print_fault.PrintFault.TheVariants.{Write, OutOfMemory}
 use Rattle.dump_lines.proofs.LineBuffers.{wrote_both, wrote_then, wrote_front, buffered_front, buffered_none, buffered_then, buffered_then_some}
-use Rattle.ssql_select.specs.Printed.{IsPrinted, IsCutOff, IsPartPrinted, PrintsText}
+use Rattle.dump_lines.specs.Printed.{IsPrinted, IsCutOff, IsPartPrinted, PrintsText}
+use Rattle.dump_lines.specs.LineRoom.{HasLineRoom}
 
 -- ---- what is buffered, and then octets without the buffer
 
@@ -65,7 +66,7 @@ part_printed first now text more left is = record {
 }
 
 -- nothing was printed yet
-pub nothing_printed : (first : OutputState) (text : List ℕ) → length text < 65536 → IsPrinted first first text text
+pub nothing_printed : (first : OutputState) (text : List ℕ) → HasLineRoom text → IsPrinted first first text text
 nothing_printed first text small = record { buffered = buffered_none first.written text; room = small; no_fault = refl }
 
 -- ---- lines

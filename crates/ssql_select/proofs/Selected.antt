@@ -23,8 +23,8 @@ use Rattle.partitions.proofs.Filters.{filter_swap}
 use Rattle.replay_merge.specs.Replay.{truncated, has_listed_name, HoldsEachRow, rows_asked}
 use Rattle.replay_merge.specs.Laws.{HoldsPruned, ListedIsAmong, PrunedIsEnough}
 use Rattle.replay_merge.proofs.Reading.{all_both, all_pass}
-use Rattle.ssql_parse.specs.declared.query.Direction.{Direction}
-use Rattle.ssql_parse.specs.declared.query.Direction.TheVariants.{Ascending, Descending}
+use Rattle.arch_types.specs.declared.direction.Direction.{Direction}
+use Rattle.arch_types.specs.declared.direction.Direction.TheVariants.{Ascending, Descending}
 use Rattle.ssql_conditions.specs.Formulas.{Formula}
 use Rattle.ssql_conditions.specs.ConditionBounds.{bounds_of}
 use Rattle.ssql_conditions.specs.Laws.{BoundsHold}

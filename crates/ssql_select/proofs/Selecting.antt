@@ -13,8 +13,8 @@ use Rattle.partitions.proofs.Filters.{none_pass}
 use Rattle.replay_merge.specs.Replay.{truncated}
 use Rattle.replay_merge.specs.Source.{AreInKeyOrder}
 use Rattle.arch_types.proofs.InOrder.{order_sorted}
-use Rattle.ssql_parse.specs.declared.query.Direction.{Direction}
-use Rattle.ssql_parse.specs.declared.query.Direction.TheVariants.{Ascending, Descending}
+use Rattle.arch_types.specs.declared.direction.Direction.{Direction}
+use Rattle.arch_types.specs.declared.direction.Direction.TheVariants.{Ascending, Descending}
 use Rattle.ssql_types.specs.declared.query.TypedSelect.{TypedSelect}
 use Rattle.arch_types.specs.Table.{range_of}
 use Rattle.std.specs.Prelude.{flat_map}

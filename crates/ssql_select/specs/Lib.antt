@@ -1,5 +1,4 @@
 pub mod Selection
 pub mod SelectionText
 pub mod ShowText
-pub mod Printed
 pub mod Laws

@@ -7,8 +7,8 @@ use Rattle.arch_types.specs.Table.{sorted, table_of, range_of}
 use Rattle.partitions.specs.declared.partition.Partition.{Partition}
 use Rattle.partitions.specs.Rows.{is_of_parts}
 use Rattle.replay_merge.specs.Replay.{truncated}
-use Rattle.ssql_parse.specs.declared.query.Direction.{Direction}
-use Rattle.ssql_parse.specs.declared.query.Direction.TheVariants.{Ascending, Descending}
+use Rattle.arch_types.specs.declared.direction.Direction.{Direction}
+use Rattle.arch_types.specs.declared.direction.Direction.TheVariants.{Ascending, Descending}
 use Rattle.ssql_conditions.specs.Formulas.{Formula}
 use Rattle.ssql_conditions.specs.Truth.{is_true}
 use Rattle.ssql_types.specs.declared.query.TypedSelect.{TypedSelect}

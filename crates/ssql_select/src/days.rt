@@ -9,9 +9,9 @@ ghost use Rattle.replay_merge.specs.Fetch.{EndsDay};
 ghost use Rattle.replay_merge.specs.Source.{AreInKeyOrder};
 ghost use Rattle.ssql_select.specs.Selection.{directed};
 
+use arch_types::direction::Direction;
 use partitions::lists::PartList;
 use partitions::partition::Partition;
-use ssql_parse::Direction;
 use std::alloc::{AllocError, Global};
 
 /// Partitions in their order, each once. The one error is want of memory.

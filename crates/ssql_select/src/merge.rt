@@ -4,11 +4,11 @@ ghost use Rattle.std.specs.Prelude.{◌≡◌, ◌++◌, take, IfOk, IfErr, IfSo
 ghost use Rattle.std.specs.List.{AllByRecursion};
 ghost use Rattle.arch_types.specs.Table.{sorted};
 ghost use Rattle.partitions.specs.Partitions.{AreRising};
-ghost use Rattle.replay_merge.specs.Source.{IsKeyedRow, IsRowSourceRefusal, UsedRowSource};
+ghost use Rattle.replay_merge.specs.Source.{IsKeyedRow, IsRowFault, UsedRowSource};
 ghost use Rattle.ssql_select.specs.Selection.{rows_between_of};
 
-use arch_types::refusal::Refusal;
 use arch_types::row::{Row, Rows};
+use arch_types::row_fault::RowFault;
 use partitions::bounds::Bounds;
 use partitions::partition::Partition;
 use partitions::rows::merged_by_key;
@@ -38,12 +38,12 @@ fn rows_by_table<R: RowSource>(
     parts: &[Partition],
     bounds: &Bounds,
     front: u64,
-) -> Result<Vec<Row>, Refusal>
+) -> Result<Vec<Row>, RowFault>
     requires { AreRising parts.now }
     ensures rows { IfOk result (λ rows. IfSome (R.state source.old).history (λ history.
         rows.items ≡ rows_between_of tables.now parts.now bounds.now.from bounds.now.to (take front history))) }
     ensures each { IfOk result (λ rows. AllByRecursion IsKeyedRow rows.items) }
-    ensures refused { IfErr result (IsRowSourceRefusal (R.state source.old) (R.state source.new)) }
+    ensures refused { IfErr result (IsRowFault (R.state source.old) (R.state source.new)) }
     ensures source { UsedRowSource (R.state source.old) (R.state source.new) }
 {
     let mut rows = Vec::new(alloc);
@@ -63,12 +63,12 @@ pub(crate) fn merged_rows<R: RowSource>(
     parts: &[Partition],
     bounds: &Bounds,
     front: u64,
-) -> Result<Vec<Row>, Refusal>
+) -> Result<Vec<Row>, RowFault>
     requires { AreRising parts.now }
     ensures rows { IfOk result (λ rows. IfSome (R.state source.old).history (λ history. rows.items
         ≡ sorted (rows_between_of tables.now parts.now bounds.now.from bounds.now.to (take front history)))) }
     ensures each { IfOk result (λ rows. AllByRecursion IsKeyedRow rows.items) }
-    ensures refused { IfErr result (IsRowSourceRefusal (R.state source.old) (R.state source.new)) }
+    ensures refused { IfErr result (IsRowFault (R.state source.old) (R.state source.new)) }
     ensures source { UsedRowSource (R.state source.old) (R.state source.new) }
 {
     if let [table] = tables {

@@ -1,11 +1,12 @@
 //! Octets on their way to a sink.
 
-ghost use Rattle.std.specs.Prelude.{◌≤◌, ◌<◌, ◌++◌, length};
-ghost use Rattle.ssql_select.specs.Printed.{PrintsText};
+ghost use Rattle.std.specs.Prelude.{◌++◌};
+ghost use Rattle.dump_lines.specs.LineRoom.{HasLineRoom};
+ghost use Rattle.dump_lines.specs.Printed.{PrintsText};
 
 use dump_lines::line_buffer::LineBuffer;
-use dump_lines::print_fault::PrintFault;
 use dump_lines::write::write_all;
+use outer_traits::print_fault::PrintFault;
 use outer_traits::sink::Sink;
 
 /// The most octets of a text that goes through the buffer.
@@ -17,7 +18,7 @@ pub fn print_octets<K: Sink>(
     line_buffer: &mut LineBuffer,
     sink: &mut K,
 ) -> Result<(), PrintFault>
-    requires room { length line_buffer.old < 65536 }
+    requires room { HasLineRoom line_buffer.old }
     ensures { PrintsText result (K.state sink.old) (K.state sink.new) (line_buffer.old ++ octets.now) line_buffer.new }
 {
     if octets.len() <= LONG {

@@ -5,7 +5,7 @@ ghost use Rattle.std.specs.List.{AllByRecursion};
 ghost use Rattle.partitions.specs.Partitions.{AreRising};
 ghost use Rattle.partitions.specs.Rows.{is_of_parts};
 ghost use Rattle.replay_merge.specs.Replay.{truncated};
-ghost use Rattle.replay_merge.specs.Source.{IsKeyedRow, IsRowSourceRefusal, UsedRowSource};
+ghost use Rattle.replay_merge.specs.Source.{IsKeyedRow, IsRowFault, UsedRowSource};
 ghost use Rattle.ssql_select.specs.Selection as spec;
 ghost use Rattle.ssql_select.specs.Selection.{HoldsSelected, directed, is_selected, merged_between, selected_between, selection_of, rows_of_sources};
 ghost use Rattle.ssql_select.specs.SelectionText.{selection_text};
@@ -13,9 +13,10 @@ ghost use Rattle.ssql_select.specs.SelectionText.{selection_text};
 use crate::days::{rising_once, split_day};
 use crate::merge::merged_rows;
 use crate::selection_text::SelectionText;
+use arch_types::direction::Direction;
 use arch_types::name::Names;
-use arch_types::refusal::Refusal;
 use arch_types::row::Row;
+use arch_types::row_fault::RowFault;
 use arch_types::steps::Steps;
 use partitions::bounds::Bounds;
 use partitions::lists::PartList;
@@ -25,7 +26,6 @@ use ssql_conditions::bounds::bounds;
 use ssql_conditions::condition::Condition;
 use ssql_conditions::laws::bounds_hold;
 use ssql_conditions::truth::holds;
-use ssql_parse::Direction;
 use ssql_types::query::TypedSelect;
 use std::alloc::{AllocError, Global};
 use std::sync::ledger::Ledger;
@@ -106,14 +106,14 @@ fn select_days<R: RowSource, L: Ledger>(
     bounds: &Bounds,
     front: u64,
     steps: &mut Steps<L>,
-) -> Result<Vec<Row>, Refusal>
+) -> Result<Vec<Row>, RowFault>
     requires { AreRising parts.now }
     ensures rows { IfOk result (λ rows. IfSome (R.state source.old).history (λ history. rows.items ≡ truncated statement.now.limit
         (selected_between statement.now parts.now bounds.now.from bounds.now.to (take front history)))) }
     ensures each { IfOk result (λ rows. AllByRecursion IsKeyedRow rows.items) }
     ensures steps { IfSome (R.state source.old).history (λ history. steps.new ≤ steps.old + length (filter
         (is_of_parts parts.now) (merged_between statement.now.sources bounds.now.from bounds.now.to (take front history)))) }
-    ensures refused { IfErr result (IsRowSourceRefusal (R.state source.old) (R.state source.new)) }
+    ensures refused { IfErr result (IsRowFault (R.state source.old) (R.state source.new)) }
     ensures source { UsedRowSource (R.state source.old) (R.state source.new) }
 {
     let tables = statement.sources.as_slice();
@@ -146,13 +146,13 @@ fn select_rows<R: RowSource, L: Ledger>(
     parts: &PartList,
     front: u64,
     steps: &mut Steps<L>,
-) -> Result<Vec<Row>, Refusal>
+) -> Result<Vec<Row>, RowFault>
     ensures rows { IfOk result (λ rows. IfSome (R.state source.old).history (λ history.
         HoldsSelected statement.now parts.now (take front history) → rows.items ≡ selection_of statement.now (take front history))) }
     ensures each { IfOk result (λ rows. AllByRecursion IsKeyedRow rows.items) }
     ensures steps { IfSome (R.state source.old).history (λ history. steps.new ≤ steps.old + length
         (rows_of_sources statement.now.sources parts.now (take front history))) }
-    ensures refused { IfErr result (IsRowSourceRefusal (R.state source.old) (R.state source.new)) }
+    ensures refused { IfErr result (IsRowFault (R.state source.old) (R.state source.new)) }
     ensures source { UsedRowSource (R.state source.old) (R.state source.new) }
 {
     bounds_hold();
@@ -183,14 +183,14 @@ pub fn select<'a, R: RowSource, L: Ledger>(
     parts: &PartList,
     front: u64,
     steps: &mut Steps<L>,
-) -> Result<SelectionText<'a>, Refusal>
+) -> Result<SelectionText<'a>, RowFault>
     // Where the partitions hold all that is selected.
     ensures text { IfOk result (λ text. IfSome (R.state source.old).history (λ history.
         HoldsSelected statement.now parts.now (take front history)
         → text ≡ selection_text names.now statement.now (take front history))) }
     ensures steps { IfSome (R.state source.old).history (λ history. steps.new ≤ steps.old + length
         (rows_of_sources statement.now.sources parts.now (take front history))) }
-    ensures refused { IfErr result (IsRowSourceRefusal (R.state source.old) (R.state source.new)) }
+    ensures refused { IfErr result (IsRowFault (R.state source.old) (R.state source.new)) }
     ensures source { UsedRowSource (R.state source.old) (R.state source.new) }
 {
     match select_rows(alloc, statement, source, parts, front, steps) {

@@ -1,12 +1,10 @@
 //! The text of a selection.
 
-ghost use Rattle.std.specs.Prelude.{◌≡◌, ◌≤◌, ◌<◌, ◌++◌, flat_map, length, OnOk, OnErr};
+ghost use Rattle.std.specs.Prelude.{◌≡◌, ◌++◌, flat_map};
 ghost use Rattle.std.specs.List.{AllByRecursion};
-ghost use Rattle.std.specs.Result.{result_err};
-ghost use Rattle.outer_traits.specs.Outside.{WritesSome};
-ghost use Rattle.dump_lines.specs.Output.{IsBuffered, PrintCounted};
 ghost use Rattle.replay_merge.specs.Source.{IsKeyedRow};
-ghost use Rattle.ssql_select.specs.Printed.{PrintsText};
+ghost use Rattle.dump_lines.specs.LineRoom.{HasLineRoom};
+ghost use Rattle.dump_lines.specs.Printed.{PrintsText};
 ghost use Rattle.ssql_select.specs.SelectionText.{selected_line, selection_lines, select_line};
 
 use crate::printing::print_octets;
@@ -14,7 +12,7 @@ use crate::values::{put_select_line, put_selected};
 use arch_types::name::Names;
 use arch_types::row::Row;
 use dump_lines::line_buffer::LineBuffer;
-use dump_lines::print_fault::PrintFault;
+use outer_traits::print_fault::PrintFault;
 use outer_traits::sink::Sink;
 use ssql_tokens::Column;
 use std::alloc::Global;
@@ -61,7 +59,7 @@ impl<'a> SelectionText<'a> {
         line_buffer: &mut LineBuffer,
         sink: &mut K,
     ) -> Result<(), PrintFault>
-        requires room { length line_buffer.old < 65536 }
+        requires room { HasLineRoom line_buffer.old }
         ensures { PrintsText result (K.state sink.old) (K.state sink.new) (line_buffer.old ++ self.now) line_buffer.new }
     {
         let rows = self.rows.as_slice();
@@ -80,7 +78,7 @@ fn print_rows<K: Sink>(
     line_buffer: &mut LineBuffer,
     sink: &mut K,
 ) -> Result<(), PrintFault>
-    requires room { length line_buffer.old < 65536 }
+    requires room { HasLineRoom line_buffer.old }
     requires keyed { AllByRecursion IsKeyedRow rows.now }
     ensures { PrintsText result (K.state sink.old) (K.state sink.new)
         (line_buffer.old ++ flat_map (selected_line names.now columns.now) rows.now) line_buffer.new }
@@ -100,7 +98,7 @@ fn print_count<K: Sink>(
     line_buffer: &mut LineBuffer,
     sink: &mut K,
 ) -> Result<(), PrintFault>
-    requires room { length line_buffer.old < 65536 }
+    requires room { HasLineRoom line_buffer.old }
     ensures { PrintsText result (K.state sink.old) (K.state sink.new) (line_buffer.old ++ select_line count)
         line_buffer.new }
 {

@@ -1,22 +1,23 @@
 //! What SHOW prints.
 
-ghost use Rattle.std.specs.Prelude.{◌≡◌, ◌<◌, ◌++◌, flat_map, length, codes, decimal, IfOk, IfErr, IfSome, OnOk};
-ghost use Rattle.replay_merge.specs.Source.{AreRowsOf, IsKeyedRow, IsRowSourceRefusal, UsedRowSource};
+ghost use Rattle.std.specs.Prelude.{◌≡◌, ◌++◌, flat_map, codes, decimal, IfOk, IfErr, IfSome, OnOk};
+ghost use Rattle.replay_merge.specs.Source.{AreRowsOf, IsKeyedRow, IsRowFault, UsedRowSource};
 ghost use Rattle.time_text.specs.Day.{day_of};
 ghost use Rattle.time_text.specs.Spelling.{day_name_of};
-ghost use Rattle.ssql_select.specs.Printed.{PrintsText};
+ghost use Rattle.dump_lines.specs.LineRoom.{HasLineRoom};
+ghost use Rattle.dump_lines.specs.Printed.{PrintsText};
 ghost use Rattle.ssql_select.specs.SelectionText as text;
 ghost use Rattle.ssql_select.specs.ShowText as spec;
 
 use crate::printing::print_octets;
 use crate::values::{gentime, pname_of, put, put_digits};
 use arch_types::name::Names;
-use arch_types::refusal::Refusal;
 use arch_types::row::Row;
+use arch_types::row_fault::RowFault;
 use arch_types::spans::Span;
 use dump_lines::line_buffer::LineBuffer;
-use dump_lines::print_fault::PrintFault;
 use itoa::Integer;
+use outer_traits::print_fault::PrintFault;
 use outer_traits::sink::Sink;
 use partitions::partition::Partition;
 use replay_merge::source::RowSource;
@@ -72,10 +73,10 @@ pub fn partition_lines<R: RowSource>(
     table: u8,
     parts: &[Partition],
     front: u64,
-) -> Result<Vec<ShowLine>, Refusal>
+) -> Result<Vec<ShowLine>, RowFault>
     ensures lines { IfOk result (λ lines. IfSome (R.state source.old).history (λ history.
         lines.items ≡ spec.partition_lines front table history parts.now)) }
-    ensures refused { IfErr result (IsRowSourceRefusal (R.state source.old) (R.state source.new)) }
+    ensures refused { IfErr result (IsRowFault (R.state source.old) (R.state source.new)) }
     ensures source { UsedRowSource (R.state source.old) (R.state source.new) }
 {
     let mut lines = Vec::new(alloc);
@@ -152,7 +153,7 @@ fn print_lines<K: Sink>(
     line_buffer: &mut LineBuffer,
     sink: &mut K,
 ) -> Result<(), PrintFault>
-    requires room { length line_buffer.old < 65536 }
+    requires room { HasLineRoom line_buffer.old }
     ensures { PrintsText result (K.state sink.old) (K.state sink.new)
         (line_buffer.old ++ flat_map (spec.show_line names.now) lines.now) line_buffer.new }
 {
@@ -180,7 +181,7 @@ fn print_end<K: Sink>(
     line_buffer: &mut LineBuffer,
     sink: &mut K,
 ) -> Result<(), PrintFault>
-    requires room { length line_buffer.old < 65536 }
+    requires room { HasLineRoom line_buffer.old }
     ensures { PrintsText result (K.state sink.old) (K.state sink.new) (line_buffer.old ++ spec.show_end count)
         line_buffer.new }
 {
@@ -197,7 +198,7 @@ pub fn print_show<K: Sink>(
     line_buffer: &mut LineBuffer,
     sink: &mut K,
 ) -> Result<(), PrintFault>
-    requires room { length line_buffer.old < 65536 }
+    requires room { HasLineRoom line_buffer.old }
     ensures { PrintsText result (K.state sink.old) (K.state sink.new)
         (line_buffer.old ++ spec.show_text names.now lines.now) line_buffer.new }
 {

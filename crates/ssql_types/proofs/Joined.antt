@@ -3,7 +3,7 @@ use Rattle.std.proofs.Common.{◌≡◌, inl, inr, ℕ, List, [], ◌∷◌, ◌
 use Rattle.std.specs.Prelude.{slice_index}
 use Rattle.std.specs.Result.{IsErrAnd}
 use Rattle.std.proofs.lemmas.Result.{err_from_is_err_and}
-use Rattle.arch_types.specs.declared.refusal.Refusal.{Refusal}
+use Rattle.ssql_types.specs.declared.not_typed.NotTyped.{NotTyped}
 use Rattle.ssql_types.specs.declared.rules.Rule.{Rule}
 use Rattle.ssql_types.specs.Rules.{TokenFault, broken, if_broken, first_sql_refusal, later_places, places_behind, sql_refusal}
 use Rattle.ssql_types.specs.Typing.{IsTypedPart, IsTypeRefusal, PassesOver, TypesAs}
@@ -17,18 +17,18 @@ first_behind [] b places e = refl
 first_behind (None ∷ a) b places e = first_behind a b (later_places places) e
 first_behind (Some fault ∷ a) b places e = absurd cc
 
-pub first_before : (a b : List TokenFault) (places : List ℕ) (refusal : Refusal) → first_sql_refusal a places ≡ Some refusal → first_sql_refusal (a ++ b) places ≡ Some refusal
+pub first_before : (a b : List TokenFault) (places : List ℕ) (refusal : NotTyped) → first_sql_refusal a places ≡ Some refusal → first_sql_refusal (a ++ b) places ≡ Some refusal
 first_before [] b places refusal e = absurd cc
 first_before (None ∷ a) b places refusal e = first_before a b (later_places places) refusal e
 first_before (Some fault ∷ a) b places refusal e = e
 
 -- a refusal of the first part is that of both
-pub refused_before : (a b : List TokenFault) (places : List ℕ) (refusal : Refusal) → IsTypeRefusal a places refusal → IsTypeRefusal (a ++ b) places refusal
+pub refused_before : (a b : List TokenFault) (places : List ℕ) (refusal : NotTyped) → IsTypeRefusal a places refusal → IsTypeRefusal (a ++ b) places refusal
 refused_before a b places refusal (inl e) = inl e
 refused_before a b places refusal (inr e) = inr (first_before a b places refusal e)
 
 -- and so is one of the second, where nothing is wrong with the first
-pub refused_behind : (a b : List TokenFault) (places rest : List ℕ) (refusal : Refusal) → first_sql_refusal a places ≡ None → rest ≡ places_behind a places →
+pub refused_behind : (a b : List TokenFault) (places rest : List ℕ) (refusal : NotTyped) → first_sql_refusal a places ≡ None → rest ≡ places_behind a places →
     IsTypeRefusal b rest refusal → IsTypeRefusal (a ++ b) places refusal
 refused_behind a b places rest refusal sound at (inl e) = inl e
 refused_behind a b places rest refusal sound at (inr e) = inr (first_behind a b places sound ∙ ap (first_sql_refusal b) (sym at) ∙ e)
@@ -51,14 +51,14 @@ joined a b places va vb x y v z first second same = record {
 }
 
 -- a `?` hands the refusal of a part on
-pub hands_on : {Y A : Type 0} (seen : Y → A × List ℕ) (result : Result Y Refusal) (refusal : Refusal) (faults : List TokenFault) (places : List ℕ) (value : A) → IsErrAnd result (λ f. f ≡ refusal) →
+pub hands_on : {Y A : Type 0} (seen : Y → A × List ℕ) (result : Result Y NotTyped) (refusal : NotTyped) (faults : List TokenFault) (places : List ℕ) (value : A) → IsErrAnd result (λ f. f ≡ refusal) →
     IsTypeRefusal faults places refusal → TypesAs seen result faults places value
 hands_on seen result refusal faults places value is why =
     let q = err_from_is_err_and result is in
     rw (q.1, q.2) why
 
 -- the same where a part is passed over
-pub hands_on_passing : {Y : Type 0} (seen : Y → List ℕ) (result : Result Y Refusal) (refusal : Refusal) (faults : List TokenFault) (places : List ℕ) → IsErrAnd result (λ f. f ≡ refusal) →
+pub hands_on_passing : {Y : Type 0} (seen : Y → List ℕ) (result : Result Y NotTyped) (refusal : NotTyped) (faults : List TokenFault) (places : List ℕ) → IsErrAnd result (λ f. f ≡ refusal) →
     IsTypeRefusal faults places refusal → PassesOver seen result faults places
 hands_on_passing seen result refusal faults places is why =
     let q = err_from_is_err_and result is in
@@ -72,8 +72,8 @@ typed_token None places rest value v none same at = record { sound = refl; same 
 typed_token (Some rule) places rest value v none same at = absurd cc
 
 -- a token that breaks a rule
-pub refused_token_by : (rule : Option Rule) (by : Rule) (places : List ℕ) (refusal : Refusal) → rule ≡ Some by → refusal ≡ sql_refusal (slice_index places 0) (broken by) →
+pub refused_token_by : (rule : Option Rule) (by : Rule) (places : List ℕ) (refusal : NotTyped) → rule ≡ Some by → refusal ≡ sql_refusal (slice_index places 0) (broken by) →
     IsTypeRefusal (if_broken rule ∷ []) places refusal
 refused_token_by None by places refusal breaks is = absurd cc
 refused_token_by (Some rule) by places refusal breaks is =
-    inr (ap (λ (o : Option Rule). first_sql_refusal (if_broken o ∷ []) places) breaks ∙ ap (λ (f : Refusal). Some f) (sym is))
+    inr (ap (λ (o : Option Rule). first_sql_refusal (if_broken o ∷ []) places) breaks ∙ ap (λ (f : NotTyped). Some f) (sym is))

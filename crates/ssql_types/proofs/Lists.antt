@@ -2,7 +2,7 @@
 use Rattle.std.proofs.Common.{◌≡◌, inl, inr, ℕ, zero, suc, arith, ◌+◌, ◌<◌, ◌≤◌, List, [], ◌∷◌, ◌++◌, map, length, get_or, drop, drop-cons, add-one, refl, sym, ap, subst, ◌∙◌, append_assoc}
 use Rattle.std.specs.Prelude.{flat_map}
 use Rattle.std.proofs.lemmas.List.{append-nil, drop_all}
-use Rattle.arch_types.specs.declared.refusal.Refusal.{Refusal}
+use Rattle.ssql_types.specs.declared.not_typed.NotTyped.{NotTyped}
 use Rattle.ssql_types.specs.Rules.{TokenFault, no_fault, first_sql_refusal, later_places, places_behind}
 use Rattle.ssql_types.specs.Faults.{listed_faults}
 use Rattle.ssql_types.specs.Typing.{IsTypedPart, IsTypeRefusal}
@@ -29,7 +29,7 @@ with_sign fault places value v later next part is = record {
   rest = is ∙ ap later_places part.rest;
 }
 
-pub refused_with_sign : (fault : TokenFault) (places : List ℕ) (refusal : Refusal) → IsTypeRefusal (fault ∷ []) places refusal → IsTypeRefusal (fault ∷ no_fault ∷ []) places refusal
+pub refused_with_sign : (fault : TokenFault) (places : List ℕ) (refusal : NotTyped) → IsTypeRefusal (fault ∷ []) places refusal → IsTypeRefusal (fault ∷ no_fault ∷ []) places refusal
 refused_with_sign fault places refusal why = refused_before (fault ∷ []) (no_fault ∷ []) places refusal why
 
 module _ {A B : Type 0} (faults : A → List TokenFault) (value : A → B) (all : List A) (places : List ℕ) where
@@ -52,7 +52,7 @@ module _ {A B : Type 0} (faults : A → List TokenFault) (value : A → B) (all 
     rest = ap (λ (l : List A). places_behind (flat_map faults l) rest) (sym none) ∙ sofar.behind;
   }
 
-  pub list_stops : (items : List B) (x : A) (left : List A) (rest : List ℕ) (refusal : Refusal) →
+  pub list_stops : (items : List B) (x : A) (left : List A) (rest : List ℕ) (refusal : NotTyped) →
       IsListLeft faults value all places items (x ∷ left) rest → IsTypeRefusal (faults x) rest refusal → IsTypeRefusal (flat_map faults all) places refusal
   list_stops items x left rest refusal sofar why =
       elim (refused_before (faults x) (flat_map faults left) rest refusal why) as (λ h. IsTypeRefusal (flat_map faults all) places refusal) [
@@ -67,7 +67,7 @@ module _ {A B : Type 0} (faults : A → List TokenFault) (value : A → B) (all 
       IsListLeft faults value all places items (x ∷ drop (i + 1) all) rest
   left_at items i x rest within is sofar = subst (λ (left : List A). IsListLeft faults value all places items left rest) (drop_item all i x within is) sofar
 
-  pub item_stops : (items : List B) (i : ℕ) (x : A) (rest : List ℕ) (refusal : Refusal) → i < length all → x ≡ get_or all i x → IsListLeft faults value all places items (drop i all) rest →
+  pub item_stops : (items : List B) (i : ℕ) (x : A) (rest : List ℕ) (refusal : NotTyped) → i < length all → x ≡ get_or all i x → IsListLeft faults value all places items (drop i all) rest →
       IsTypeRefusal (faults x) rest refusal → IsTypeRefusal (flat_map faults all) places refusal
   item_stops items i x rest refusal within is sofar why =
       list_stops faults value all places items x (drop (i + 1) all) rest refusal (left_at items i x rest within is sofar) why
@@ -86,7 +86,7 @@ module _ {A B : Type 0} (fault : A → TokenFault) (value : A → B) (all : List
   abbrev with_signs : A → List TokenFault
   with_signs x = fault x ∷ no_fault ∷ []
 
-  pub token_stops : (items : List B) (i : ℕ) (x : A) (rest : List ℕ) (refusal : Refusal) → i < length all → x ≡ get_or all i x → IsListLeft with_signs value all places items (drop i all) rest →
+  pub token_stops : (items : List B) (i : ℕ) (x : A) (rest : List ℕ) (refusal : NotTyped) → i < length all → x ≡ get_or all i x → IsListLeft with_signs value all places items (drop i all) rest →
       IsTypeRefusal (fault x ∷ []) rest refusal → IsTypeRefusal (listed_faults fault all) places refusal
   token_stops items i x rest refusal within is sofar why =
       item_stops with_signs value all places items i x rest refusal within is sofar (refused_with_sign (fault x) rest refusal why)

@@ -1,7 +1,7 @@
 -- Queries whose parts are the same are the same.
 use Rattle.std.proofs.Common.{◌≡◌, ℕ, List, Option, refl}
 use Rattle.ssql_tokens.specs.declared.symbols.Column.{Column}
-use Rattle.ssql_parse.specs.declared.query.Direction.{Direction}
+use Rattle.arch_types.specs.declared.direction.Direction.{Direction}
 use Rattle.ssql_conditions.specs.Formulas.{Formula}
 use Rattle.ssql_types.specs.declared.sources.RouteSource.{RouteSource}
 use Rattle.ssql_types.specs.declared.query.TypedSelect.{TypedSelect}

@@ -1,7 +1,7 @@
 -- The statements of a script, typed one after the other.
 use Rattle.std.proofs.Common.{◌≡◌, inl, inr, ℕ, ◌+◌, ◌<◌, ◌≤◌, List, [], ◌∷◌, ◌++◌, length, get_or, drop, None, refl, sym, ap, subst, ◌∙◌, append_assoc, length-append, arith}
 use Rattle.std.proofs.lemmas.List.{append-nil, drop_all}
-use Rattle.arch_types.specs.declared.refusal.Refusal.{Refusal}
+use Rattle.ssql_types.specs.declared.not_typed.NotTyped.{NotTyped}
 use Rattle.ssql_parse.specs.declared.statement.Statement.{Statement}
 use Rattle.ssql_parse.specs.declared.statement.Statement.TheVariants as st
 use Rattle.ssql_parse.specs.Depth.{script_depth, statement_depth}
@@ -66,7 +66,7 @@ module _ (place : ScriptPlace) (tables names : List (List ℕ)) (all : List Stat
     sym (append-nil typed) ∙ ap (λ (l : List Statement). typed ++ typed_script tables names created l) (sym none) ∙ sofar.same,
   )
 
-  pub statements_stop : (typed : List TypedStatement) (created : List (List ℕ)) (x : Statement) (left : List Statement) (rest : List ℕ) (refusal : Refusal) →
+  pub statements_stop : (typed : List TypedStatement) (created : List (List ℕ)) (x : Statement) (left : List Statement) (rest : List ℕ) (refusal : NotTyped) →
       AreStatementsLeft place tables names all places typed created (x ∷ left) rest → IsTypeRefusal (statement_faults place tables created x) rest refusal →
       IsTypeRefusal (script_faults place tables [] all) places refusal
   statements_stop typed created x left rest refusal sofar why =
@@ -83,7 +83,7 @@ module _ (place : ScriptPlace) (tables names : List (List ℕ)) (all : List Stat
       AreStatementsLeft place tables names all places typed created (drop i all) rest → IsStatement x × (statement_depth x ≤ 32)
   statement_at_is typed created i x rest within is sofar = next_is_statement typed created x (drop (i + 1) all) rest (left_at typed created i x rest within is sofar)
 
-  pub statement_at_stops : (typed : List TypedStatement) (created : List (List ℕ)) (i : ℕ) (x : Statement) (rest : List ℕ) (refusal : Refusal) → i < length all → x ≡ get_or all i x →
+  pub statement_at_stops : (typed : List TypedStatement) (created : List (List ℕ)) (i : ℕ) (x : Statement) (rest : List ℕ) (refusal : NotTyped) → i < length all → x ≡ get_or all i x →
       AreStatementsLeft place tables names all places typed created (drop i all) rest → IsTypeRefusal (statement_faults place tables created x) rest refusal →
       IsTypeRefusal (script_faults place tables [] all) places refusal
   statement_at_stops typed created i x rest refusal within is sofar why =

@@ -7,7 +7,7 @@ use Rattle.ssql_types.specs.declared.place.ScriptPlace.TheVariants.{Create}
 use Rattle.ssql_types.specs.declared.statement.TypedStatement.{TypedStatement}
 use Rattle.ssql_types.specs.declared.statement.TypedStatement.TheVariants as ts
 use Rattle.ssql_types.specs.Typed.{typed_script}
-use Rattle.ssql_types.specs.Typing.{script_refusal}
+use Rattle.ssql_types.specs.Typing.{typing_fault}
 
 -- the table that a statement creates, if it creates one
 abbrev pub created_table : TypedStatement → Option (List ℕ)
@@ -25,5 +25,5 @@ created_tables script = filter_map created_table script
 -- where nothing is wrong with a script of `create`, the tables that there are and those that it creates have distinct names, if the former do
 abbrev pub CreatedTablesAreDistinct : Type 0
 CreatedTablesAreDistinct =
-    (tables names : List (List ℕ)) (script : WrittenScript) → IsDistinct bytes_eq tables → script_refusal Create tables script ≡ None →
+    (tables names : List (List ℕ)) (script : WrittenScript) → IsDistinct bytes_eq tables → typing_fault Create tables script ≡ None →
     IsDistinct bytes_eq (tables ++ created_tables (typed_script tables names [] script.statements))

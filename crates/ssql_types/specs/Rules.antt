@@ -1,7 +1,7 @@
 -- The rules that the tokens of a script may break, and the first that is broken.
 use Rattle.std.specs.Prelude.{ℕ, List, [], ◌∷◌, drop, slice_index, Option, Some, None, option_map}
-use Rattle.arch_types.specs.declared.refusal.Refusal.{Refusal}
-use Rattle.arch_types.specs.declared.refusal.Refusal.TheVariants as r
+use Rattle.ssql_types.specs.declared.not_typed.NotTyped.{NotTyped}
+use Rattle.ssql_types.specs.declared.not_typed.NotTyped.TheVariants as r
 use Rattle.ssql_types.specs.declared.rules.Rule.{Rule}
 use Rattle.ssql_types.specs.declared.rules.Rule.TheVariants.{Misplaced, WrongType, NameTaken, UnknownStream, WrongForm, OutOfRange}
 
@@ -32,7 +32,7 @@ abbrev pub if_broken : Option Rule → TokenFault
 if_broken rule = option_map broken rule
 
 -- the refusal of a fault in the token that begins at an octet
-abbrev pub sql_refusal : ℕ → SqlFault → Refusal
+abbrev pub sql_refusal : ℕ → SqlFault → NotTyped
 sql_refusal at (broken rule) = r.BadSql at (sql_rule_number rule)
 sql_refusal at (unknown name) = r.UnknownTable name
 
@@ -42,7 +42,7 @@ later_places places = drop 1 places
 
 -- The refusal of the first token with which something is wrong, if there is one. There is a fault or none for each token, in the order in
 -- which they are written, and the octet at which each begins.
-abbrev pub first_sql_refusal : List TokenFault → List ℕ → Option Refusal
+abbrev pub first_sql_refusal : List TokenFault → List ℕ → Option NotTyped
 first_sql_refusal [] places = None
 first_sql_refusal (None ∷ faults) places = first_sql_refusal faults (later_places places)
 first_sql_refusal (Some fault ∷ faults) places = Some (sql_refusal (slice_index places 0) fault)

@@ -1,7 +1,7 @@
 -- What the parts of the typing answer.
 use Rattle.std.specs.Prelude.{◌≡◌, ◌⊎◌, ℕ, List, [], Option, Some, None, Result, Ok, Err}
-use Rattle.arch_types.specs.declared.refusal.Refusal.{Refusal}
-use Rattle.arch_types.specs.declared.refusal.Refusal.TheVariants.{OutOfMemory}
+use Rattle.ssql_types.specs.declared.not_typed.NotTyped.{NotTyped}
+use Rattle.ssql_types.specs.declared.not_typed.NotTyped.TheVariants.{OutOfMemory}
 use Rattle.ssql_parse.specs.Parsing.{WrittenScript}
 use Rattle.ssql_types.specs.declared.place.ScriptPlace.{ScriptPlace}
 use Rattle.ssql_types.specs.Rules.{TokenFault, first_sql_refusal, places_behind}
@@ -18,24 +18,24 @@ pub record IsPassed (faults : List TokenFault) (places rest : List ℕ) : Type 0
   pub sound : first_sql_refusal faults places ≡ None
   pub at : rest ≡ places_behind faults places
 
--- why a part is refused: something is wrong with one of its tokens, and the refusal is that of the first; or memory ran out
-abbrev pub IsTypeRefusal : List TokenFault → List ℕ → Refusal → Type 0
+-- why a part stands for nothing: something is wrong with one of its tokens, and this is what is wrong with the first; or memory ran out
+abbrev pub IsTypeRefusal : List TokenFault → List ℕ → NotTyped → Type 0
 IsTypeRefusal faults places refusal = (refusal ≡ OutOfMemory) ⊎ (first_sql_refusal faults places ≡ Some refusal)
 
--- the refusal of a script in a place, beside these tables, if something is wrong with one of its tokens
-abbrev pub script_refusal : ScriptPlace → List (List ℕ) → WrittenScript → Option Refusal
-script_refusal place tables script = first_sql_refusal (script_faults place tables [] script.statements) script.places
+-- what is wrong with the first token of a script in a place, beside these tables, with which something is
+abbrev pub typing_fault : ScriptPlace → List (List ℕ) → WrittenScript → Option NotTyped
+typing_fault place tables script = first_sql_refusal (script_faults place tables [] script.statements) script.places
 
--- why a script is refused: that, or memory ran out
-abbrev pub IsScriptRefusal : ScriptPlace → List (List ℕ) → WrittenScript → Refusal → Type 0
-IsScriptRefusal place tables script refusal = (refusal ≡ OutOfMemory) ⊎ (script_refusal place tables script ≡ Some refusal)
+-- why a script stands for nothing: that, or memory ran out
+abbrev pub IsNotTyped : ScriptPlace → List (List ℕ) → WrittenScript → NotTyped → Type 0
+IsNotTyped place tables script refusal = (refusal ≡ OutOfMemory) ⊎ (typing_fault place tables script ≡ Some refusal)
 
 -- What a function that types a part answers, seen by view: that nothing is wrong with these tokens and what the part stands for, or the refusal.
-abbrev pub TypesAs : {X A : Type 0} → (X → A × List ℕ) → Result X Refusal → List TokenFault → List ℕ → A → Type 0
+abbrev pub TypesAs : {X A : Type 0} → (X → A × List ℕ) → Result X NotTyped → List TokenFault → List ℕ → A → Type 0
 TypesAs view (Ok x) faults places value = IsTypedPart faults places value (view x)
 TypesAs view (Err refusal) faults places value = IsTypeRefusal faults places refusal
 
 -- What a function answers that passes over a part, seen by view: that nothing is wrong with these tokens and what is behind them, or the refusal.
-abbrev pub PassesOver : {X : Type 0} → (X → List ℕ) → Result X Refusal → List TokenFault → List ℕ → Type 0
+abbrev pub PassesOver : {X : Type 0} → (X → List ℕ) → Result X NotTyped → List TokenFault → List ℕ → Type 0
 PassesOver view (Ok x) faults places = IsPassed faults places (view x)
 PassesOver view (Err refusal) faults places = IsTypeRefusal faults places refusal

@@ -8,10 +8,10 @@ ghost use Rattle.ssql_conditions.specs.Formulas.{formula_of, parens_fit};
 ghost use Rattle.ssql_types.specs.Typed as spec;
 ghost use Rattle.ssql_types.specs.Typing.{TypesAs};
 
+use crate::not_typed::NotTyped;
 use crate::predicate::typed_predicate;
 use crate::rules::behind;
 use arch_types::name::Names;
-use arch_types::refusal::Refusal;
 use item_list::Items;
 use ssql_conditions::condition::{Condition, TypedPiece};
 use ssql_parse::Piece;
@@ -23,7 +23,7 @@ fn typed_piece<'a>(
     names: &Names,
     piece: &Piece,
     places: &'a [u32],
-) -> Result<(TypedPiece, &'a [u32]), Refusal>
+) -> Result<(TypedPiece, &'a [u32]), NotTyped>
     requires { length names.now ≤ 2 ^ 16 }
     ensures { TypesAs (λ x. (x.0, x.1.now)) result (faults.piece_faults piece.now) places.now
         (spec.typed_piece names.now piece.now) }
@@ -47,7 +47,7 @@ fn typed_pieces<'a>(
     names: &Names,
     pieces: &[Piece],
     places: &'a [u32],
-) -> Result<(Items<TypedPiece>, &'a [u32]), Refusal>
+) -> Result<(Items<TypedPiece>, &'a [u32]), NotTyped>
     requires { length names.now ≤ 2 ^ 16 }
     ensures { TypesAs (λ x. (x.0, x.1.now)) result (faults.pieces_faults pieces.now) places.now
         (map (spec.typed_piece names.now) pieces.now) }
@@ -68,7 +68,7 @@ pub(crate) fn typed_filter<'a>(
     names: &Names,
     filter: &Option<Items<Piece>>,
     places: &'a [u32],
-) -> Result<(Condition, &'a [u32]), Refusal>
+) -> Result<(Condition, &'a [u32]), NotTyped>
     requires names { length names.now ≤ 2 ^ 16 }
     requires condition { IsIfAny IsFilter filter.now }
     requires depth { filter_depth filter.now ≤ 32 }

@@ -19,6 +19,7 @@ mod condition;
 pub mod laws;
 mod literals;
 mod names;
+pub mod not_typed;
 pub mod place;
 mod predicate;
 pub mod query;

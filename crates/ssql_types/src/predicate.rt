@@ -9,9 +9,9 @@ ghost use Rattle.ssql_types.specs.Typing.{TypesAs};
 
 use crate::columns::{ColumnKind, column_kind, is_equality, name_operator_rule};
 use crate::literals::{name_literal, number_literal};
+use crate::not_typed::NotTyped;
 use crate::rules::{Rule, ask, behind, refused};
 use arch_types::name::Names;
-use arch_types::refusal::Refusal;
 use item_list::Items;
 use ssql_conditions::predicate::{NameTest, NumberColumn, NumberTest, TypedPredicate};
 use ssql_parse::{Literal, Predicate, Test};
@@ -22,7 +22,7 @@ fn number_at<'a>(
     column: NumberColumn,
     literal: &Literal,
     places: &'a [u32],
-) -> Result<(i64, &'a [u32]), Refusal>
+) -> Result<(i64, &'a [u32]), NotTyped>
     ensures { TypesAs (λ x. (x.0, x.1.now)) result (faults.literal_fault (kind.Number column) literal.now ∷ [])
         places.now (literal_number literal.now) }
 {
@@ -38,7 +38,7 @@ fn numbers_at<'a>(
     column: NumberColumn,
     literals: &[Literal],
     places: &'a [u32],
-) -> Result<(Items<i64>, &'a [u32]), Refusal>
+) -> Result<(Items<i64>, &'a [u32]), NotTyped>
     ensures { TypesAs (λ x. (x.0, x.1.now)) result (faults.listed_faults (faults.literal_fault (kind.Number column)) literals.now)
         places.now (map literal_number literals.now) }
 {
@@ -57,7 +57,7 @@ fn name_at<'a>(
     names: &Names,
     literal: &Literal,
     places: &'a [u32],
-) -> Result<(Option<u16>, &'a [u32]), Refusal>
+) -> Result<(Option<u16>, &'a [u32]), NotTyped>
     requires { length names.now ≤ 2 ^ 16 }
     ensures { TypesAs (λ x. (x.0, x.1.now)) result (faults.literal_fault kind.Pname literal.now ∷ []) places.now
         (literal_name names.now literal.now) }
@@ -74,7 +74,7 @@ fn names_at<'a>(
     names: &Names,
     literals: &[Literal],
     places: &'a [u32],
-) -> Result<(Items<Option<u16>>, &'a [u32]), Refusal>
+) -> Result<(Items<Option<u16>>, &'a [u32]), NotTyped>
     requires { length names.now ≤ 2 ^ 16 }
     ensures { TypesAs (λ x. (x.0, x.1.now)) result (faults.listed_faults (faults.literal_fault kind.Pname) literals.now)
         places.now (map (literal_name names.now) literals.now) }
@@ -95,7 +95,7 @@ fn number_test<'a>(
     column: NumberColumn,
     test: &Test,
     places: &'a [u32],
-) -> Result<(NumberTest, &'a [u32]), Refusal>
+) -> Result<(NumberTest, &'a [u32]), NotTyped>
     ensures { TypesAs (λ x. (x.0, x.1.now)) result (faults.test_faults (kind.Number column) test.now) places.now
         (spec.number_test test.now) }
 {
@@ -119,7 +119,7 @@ fn name_test<'a>(
     names: &Names,
     test: &Test,
     places: &'a [u32],
-) -> Result<(NameTest, &'a [u32]), Refusal>
+) -> Result<(NameTest, &'a [u32]), NotTyped>
     requires { length names.now ≤ 2 ^ 16 }
     ensures { TypesAs (λ x. (x.0, x.1.now)) result (faults.test_faults kind.Pname test.now) places.now
         (spec.name_test names.now test.now) }
@@ -149,7 +149,7 @@ pub(crate) fn typed_predicate<'a>(
     names: &Names,
     predicate: &Predicate,
     places: &'a [u32],
-) -> Result<(TypedPredicate, &'a [u32]), Refusal>
+) -> Result<(TypedPredicate, &'a [u32]), NotTyped>
     requires { length names.now ≤ 2 ^ 16 }
     ensures { TypesAs (λ x. (x.0, x.1.now)) result (faults.predicate_faults predicate.now) places.now
         (spec.typed_predicate names.now predicate.now) }

@@ -11,15 +11,16 @@ ghost use Rattle.ssql_types.specs.Typing.{PassesOver, TypesAs};
 
 use crate::condition::typed_filter;
 use crate::literals::script_count;
+use crate::not_typed::NotTyped;
 use crate::rules::{Rule, behind, refused};
 use crate::sources::{RouteSource, route_sources, table_sources};
+use arch_types::direction::Direction;
 use arch_types::name::Names;
 use arch_types::octets::Octets;
-use arch_types::refusal::Refusal;
 use arch_types::tables::TableList;
 use item_list::Items;
 use ssql_conditions::condition::Condition;
-use ssql_parse::{Columns, Direction, Query};
+use ssql_parse::{Columns, Query};
 use ssql_tokens::Column;
 use std::alloc::{AllocError, Global};
 
@@ -80,7 +81,7 @@ fn columns_at<'a>(
     alloc: Global,
     columns: &[Column],
     places: &'a [u32],
-) -> Result<(Items<Column>, &'a [u32]), Refusal>
+) -> Result<(Items<Column>, &'a [u32]), NotTyped>
     ensures { TypesAs (λ x. (x.0, x.1.now)) result (faults.listed_faults (λ column. no_fault) columns.now)
         places.now columns.now }
 {
@@ -98,7 +99,7 @@ fn selected_columns<'a>(
     alloc: Global,
     columns: &Columns,
     places: &'a [u32],
-) -> Result<(Items<Column>, &'a [u32]), Refusal>
+) -> Result<(Items<Column>, &'a [u32]), NotTyped>
     ensures { TypesAs (λ x. (x.0, x.1.now)) result (faults.columns_faults no_fault columns.now) places.now
         (spec.selected_columns columns.now) }
 {
@@ -112,7 +113,7 @@ fn selected_columns<'a>(
 fn typed_limit<'a>(
     limit: &Option<Octets>,
     places: &'a [u32],
-) -> Result<(Option<u64>, &'a [u32]), Refusal>
+) -> Result<(Option<u64>, &'a [u32]), NotTyped>
     ensures { TypesAs (λ x. (x.0, x.1.now)) result (faults.limit_faults no_fault limit.now) places.now
         (option_map (λ text. unwrap_or (script_count text) 0) limit.now) }
 {
@@ -144,7 +145,7 @@ pub(crate) fn typed_select<'a>(
     names: &Names,
     query: &Query,
     places: &'a [u32],
-) -> Result<(TypedSelect, &'a [u32]), Refusal>
+) -> Result<(TypedSelect, &'a [u32]), NotTyped>
     requires tables { length tables.now ≤ 16 }
     requires names { length names.now ≤ 2 ^ 16 }
     requires query { IsQuery query.now }
@@ -170,7 +171,7 @@ pub(crate) fn typed_select<'a>(
 }
 
 /// The places behind the columns of a route's query, which are `*`, and FROM.
-fn behind_columns<'a>(columns: &Columns, places: &'a [u32]) -> Result<&'a [u32], Refusal>
+fn behind_columns<'a>(columns: &Columns, places: &'a [u32]) -> Result<&'a [u32], NotTyped>
     requires { AreColumns columns.now }
     ensures { PassesOver (λ rest. rest.now) result (faults.columns_faults faults.form_fault columns.now) places.now }
 {
@@ -181,7 +182,7 @@ fn behind_columns<'a>(columns: &Columns, places: &'a [u32]) -> Result<&'a [u32],
 }
 
 /// No ORDER comes next.
-fn no_order(order: Option<Direction>, places: &[u32]) -> Result<&[u32], Refusal>
+fn no_order(order: Option<Direction>, places: &[u32]) -> Result<&[u32], NotTyped>
     ensures { PassesOver (λ rest. rest.now) result (faults.order_faults faults.form_fault order) places.now }
 {
     match order {
@@ -191,7 +192,7 @@ fn no_order(order: Option<Direction>, places: &[u32]) -> Result<&[u32], Refusal>
 }
 
 /// No LIMIT comes next.
-fn no_limit<'a>(limit: &Option<Octets>, places: &'a [u32]) -> Result<&'a [u32], Refusal>
+fn no_limit<'a>(limit: &Option<Octets>, places: &'a [u32]) -> Result<&'a [u32], NotTyped>
     ensures { PassesOver (λ rest. rest.now) result (faults.limit_faults faults.form_fault limit.now) places.now }
 {
     match limit {
@@ -207,7 +208,7 @@ pub(crate) fn typed_flow<'a>(
     names: &Names,
     query: &Query,
     places: &'a [u32],
-) -> Result<(TypedFlow, &'a [u32]), Refusal>
+) -> Result<(TypedFlow, &'a [u32]), NotTyped>
     requires created { length created.now ≤ 2 ^ 16 }
     requires names { length names.now ≤ 2 ^ 16 }
     requires query { IsQuery query.now }

@@ -4,7 +4,7 @@ ghost use Rattle.std.specs.Prelude.{◌≡◌, [], ◌∷◌, slice_index};
 ghost use Rattle.ssql_types.specs.Rules as spec;
 ghost use Rattle.ssql_types.specs.Typing.{PassesOver};
 
-use arch_types::refusal::Refusal;
+use crate::not_typed::NotTyped;
 
 /// A rule, by what breaks it. The rules 1 and 2, of tokens and of the grammar, are the parser's.
 #[derive(Clone, Copy, Debug, PartialEq, Eq)]
@@ -50,21 +50,21 @@ pub(crate) fn behind(places: &[u32]) -> &[u32]
 }
 
 /// The refusal by a rule that the next token breaks.
-pub(crate) fn refused(rule: Rule, places: &[u32]) -> Refusal
+pub(crate) fn refused(rule: Rule, places: &[u32]) -> NotTyped
     ensures { result ≡ spec.sql_refusal (slice_index places.now 0) (spec.broken rule) }
 {
     let at = match places {
         [] => 0,
         [place, ..] => u64::from(*place),
     };
-    Refusal::BadSql {
+    NotTyped::BadSql {
         at,
         rule: rule.number(),
     }
 }
 
 /// The places behind the next token, unless it breaks a rule.
-pub(crate) fn ask(rule: Option<Rule>, places: &[u32]) -> Result<&[u32], Refusal>
+pub(crate) fn ask(rule: Option<Rule>, places: &[u32]) -> Result<&[u32], NotTyped>
     ensures { PassesOver (λ rest. rest.now) result (spec.if_broken rule ∷ []) places.now }
 {
     match rule {

@@ -6,9 +6,9 @@ ghost use Rattle.ssql_types.specs.Typed as spec;
 ghost use Rattle.ssql_types.specs.Typing.{TypesAs};
 
 use crate::names::{is_tm_in, number_among};
+use crate::not_typed::NotTyped;
 use crate::rules::{Rule, behind, refused};
 use arch_types::name::{Name, Names};
-use arch_types::refusal::Refusal;
 use arch_types::tables::TableList;
 use item_list::Items;
 use ssql_parse::QuerySource;
@@ -28,7 +28,7 @@ pub(crate) fn table_at<'a>(
     tables: &Names,
     name: &Name,
     places: &'a [u32],
-) -> Result<(u8, &'a [u32]), Refusal>
+) -> Result<(u8, &'a [u32]), NotTyped>
     requires { length tables.now ≤ 16 }
     ensures { TypesAs (λ x. (x.0, x.1.now)) result (faults.table_fault tables.now name.now ∷ []) places.now
         (spec.known_number tables.now name.now) }
@@ -37,7 +37,7 @@ pub(crate) fn table_at<'a>(
         Some(number) => Ok((number as u8, behind(places))),
         None => {
             let name = name.copy()?;
-            Err(Refusal::UnknownTable { name })
+            Err(NotTyped::UnknownTable { name })
         }
     }
 }
@@ -48,7 +48,7 @@ fn tables_at<'a>(
     tables: &Names,
     names: &[Name],
     places: &'a [u32],
-) -> Result<(TableList, &'a [u32]), Refusal>
+) -> Result<(TableList, &'a [u32]), NotTyped>
     requires { length tables.now ≤ 16 }
     ensures { TypesAs (λ x. (x.0, x.1.now)) result (faults.listed_faults (faults.table_fault tables.now) names.now)
         places.now (map (spec.known_number tables.now) names.now) }
@@ -69,7 +69,7 @@ pub(crate) fn table_sources<'a>(
     tables: &Names,
     source: &QuerySource,
     places: &'a [u32],
-) -> Result<(TableList, &'a [u32]), Refusal>
+) -> Result<(TableList, &'a [u32]), NotTyped>
     requires { length tables.now ≤ 16 }
     ensures { TypesAs (λ x. (x.0, x.1.now)) result (faults.source_faults (faults.table_fault tables.now) source.now)
         places.now (map (spec.known_number tables.now) (spec.source_names source.now)) }
@@ -93,7 +93,7 @@ fn stream_at<'a>(
     created: &Names,
     name: &Name,
     places: &'a [u32],
-) -> Result<(RouteSource, &'a [u32]), Refusal>
+) -> Result<(RouteSource, &'a [u32]), NotTyped>
     requires { length created.now ≤ 2 ^ 16 }
     ensures { TypesAs (λ x. (x.0, x.1.now)) result (faults.stream_fault created.now name.now ∷ []) places.now
         (spec.route_source created.now name.now) }
@@ -113,7 +113,7 @@ fn streams_at<'a>(
     created: &Names,
     names: &[Name],
     places: &'a [u32],
-) -> Result<(Items<RouteSource>, &'a [u32]), Refusal>
+) -> Result<(Items<RouteSource>, &'a [u32]), NotTyped>
     requires { length created.now ≤ 2 ^ 16 }
     ensures { TypesAs (λ x. (x.0, x.1.now)) result (faults.listed_faults (faults.stream_fault created.now) names.now)
         places.now (map (spec.route_source created.now) names.now) }
@@ -134,7 +134,7 @@ pub(crate) fn route_sources<'a>(
     created: &Names,
     source: &QuerySource,
     places: &'a [u32],
-) -> Result<(Items<RouteSource>, &'a [u32]), Refusal>
+) -> Result<(Items<RouteSource>, &'a [u32]), NotTyped>
     requires { length created.now ≤ 2 ^ 16 }
     ensures { TypesAs (λ x. (x.0, x.1.now)) result (faults.source_faults (faults.stream_fault created.now) source.now)
         places.now (map (spec.route_source created.now) (spec.source_names source.now)) }

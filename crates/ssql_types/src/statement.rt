@@ -9,12 +9,12 @@ ghost use Rattle.ssql_types.specs.Typed as spec;
 ghost use Rattle.ssql_types.specs.Typing.{TypesAs};
 
 use crate::names::{is_name_taken, is_tm};
+use crate::not_typed::NotTyped;
 use crate::place::{ScriptPlace, may_stand};
 use crate::query::{TypedFlow, TypedSelect, typed_flow, typed_select};
 use crate::rules::{Rule, ask, behind};
 use crate::sources::table_at;
 use arch_types::name::{Name, Names};
-use arch_types::refusal::Refusal;
 use ssql_parse::{Query, Statement};
 use std::alloc::Global;
 
@@ -75,7 +75,7 @@ fn create_table<'a>(
     name: &Name,
     like: &Name,
     places: &'a [u32],
-) -> Result<(TypedStatement, &'a [u32]), Refusal>
+) -> Result<(TypedStatement, &'a [u32]), NotTyped>
     ensures { TypesAs (λ x. (x.0, x.1.now)) result
         (no_fault ∷ faults.created_fault tables.now created.now name.now ∷ no_fault ∷ faults.like_fault like.now ∷ []) places.now
         (TypedStatement.CreateTable name.now) }
@@ -95,7 +95,7 @@ fn create_stream<'a>(
     name: &Name,
     query: &Query,
     places: &'a [u32],
-) -> Result<(TypedStatement, &'a [u32]), Refusal>
+) -> Result<(TypedStatement, &'a [u32]), NotTyped>
     requires created { length created.now ≤ 2 ^ 16 }
     requires names { length names.now ≤ 2 ^ 16 }
     requires query { IsQuery query.now }
@@ -118,7 +118,7 @@ fn insert<'a>(
     table: &Name,
     query: &Query,
     places: &'a [u32],
-) -> Result<(TypedStatement, &'a [u32]), Refusal>
+) -> Result<(TypedStatement, &'a [u32]), NotTyped>
     requires tables { length tables.now ≤ 16 }
     requires created { length created.now ≤ 2 ^ 16 }
     requires names { length names.now ≤ 2 ^ 16 }
@@ -142,7 +142,7 @@ pub(crate) fn typed_statement<'a>(
     names: &Names,
     statement: &Statement,
     places: &'a [u32],
-) -> Result<(TypedStatement, &'a [u32]), Refusal>
+) -> Result<(TypedStatement, &'a [u32]), NotTyped>
     requires tables { length tables.now ≤ 16 }
     requires created { length created.now ≤ 2 ^ 16 }
     requires names { length names.now ≤ 2 ^ 16 }

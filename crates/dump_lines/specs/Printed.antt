@@ -1,15 +1,16 @@
 -- What a call that prints a text leaves.
-use Rattle.std.specs.Prelude.{ℕ, ◌<◌, ◌≤◌, List, length, Result, Ok, Err}
+use Rattle.std.specs.Prelude.{ℕ, ◌≤◌, List, Result, Ok, Err}
 use Rattle.outer_traits.specs.Outside.{HasRisen, Stays, WritesSome}
 use Rattle.outer_traits.specs.States.{OutputState}
-use Rattle.dump_lines.specs.declared.print_fault.PrintFault.{PrintFault}
-use Rattle.dump_lines.specs.declared.print_fault.PrintFault.TheVariants.{Write, OutOfMemory}
+use Rattle.outer_traits.specs.declared.print_fault.PrintFault.{PrintFault}
+use Rattle.outer_traits.specs.declared.print_fault.PrintFault.TheVariants.{Write, OutOfMemory}
+use Rattle.dump_lines.specs.LineRoom.{HasLineRoom}
 use Rattle.dump_lines.specs.Output.{IsBuffered}
 
 -- a text went on but for what is left in the buffer, and no write failed
 pub record IsPrinted (before after : OutputState) (text left : List ℕ) : Type 0 where
   pub buffered : IsBuffered before.written after.written text left
-  pub room : length left < 65536
+  pub room : HasLineRoom left
   pub no_fault : Stays before.faults after.faults
 
 -- a prefix of it went on, and a write failed
