@@ -5,7 +5,7 @@ use Rattle.octet_fields.specs.Exact.{IsExactAtEnd}
 use Rattle.octet_fields.specs.Spelling.{number, signed}
 use Rattle.octet_fields.proofs.Exact.{IsExact-both, IsExact-rest}
 use Rattle.octet_fields.proofs.Numbers.{exact64, exact_i64}
-use Rattle.arch_types.specs.declared.interval.Interval.{Interval}
+use Rattle.intervals.specs.declared.interval.Interval.{Interval}
 use Rattle.field_codec.specs.Entries.{IsFill}
 use Rattle.field_codec.specs.Reading.{fill_at}
 use Rattle.field_codec.specs.Spelling.{fill_fields_octets, fill_octets}

@@ -4,7 +4,7 @@ use Rattle.std.specs.Prelude.{IfOk}
 use Rattle.std.specs.Global.{Vec}
 use Rattle.std.specs.Int.{w8, w64}
 use Rattle.std.specs.List.{AllByRecursion, flat_map}
-use Rattle.arch_types.specs.declared.interval.Interval.{Interval}
+use Rattle.intervals.specs.declared.interval.Interval.{Interval}
 use Rattle.arch_types.specs.declared.row.Row.{Row}
 use Rattle.text_forms.specs.Names.{is_name}
 use Rattle.arch_types.specs.Packet.{IsPacket}

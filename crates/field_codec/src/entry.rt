@@ -1,9 +1,9 @@
 //! What a record of the archive's journal holds.
 
-use arch_types::interval::Interval;
 use arch_types::name::Names;
 use arch_types::octets::Octets;
 use arch_types::row::Rows;
+use intervals::Interval;
 use mdb_model::Mdb;
 
 /// An entry of the archive's journal.

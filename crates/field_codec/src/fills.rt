@@ -11,8 +11,8 @@ ghost use Rattle.field_codec.specs.Spelling.{fill_fields, fill_octets, fill_fiel
 ghost use Rattle.field_codec.specs.Reading.{IsEndOf, fill_at};
 
 use crate::rows::part_before;
-use arch_types::interval::Interval;
 use arch_types::octets::Octets;
+use intervals::Interval;
 use octet_fields::{DecodeError, i64_at, put_i64, put_u8, put_u64, u64_at};
 use std::alloc::{AllocError, Global};
 

@@ -6,9 +6,9 @@ use Rattle.std.specs.Ordering.{int_eq}
 use Rattle.std.proofs.lemmas.Bool.{eqb-true, and_parts}
 use Rattle.std.proofs.lemmas.Bool.Decides.{Decides-int_eq}
 use Rattle.std.proofs.lemmas.List.{get_or_append_left}
-use Rattle.arch_types.specs.declared.interval.Interval.{Interval}
+use Rattle.intervals.specs.declared.interval.Interval.{Interval}
 use Rattle.arch_types.specs.declared.row.Row.{Row}
-use Rattle.arch_types.specs.Interval.{interval_of}
+use Rattle.intervals.specs.Interval.{interval_of}
 use Rattle.history_items.specs.declared.fills.Fill.{Fill}
 use Rattle.history_items.specs.Items.{Item, is_row_of_interval}
 use Rattle.history_items.specs.Late.{last_in}
@@ -63,28 +63,28 @@ begins_with [] first at = absurd cc
 begins_with (x ∷ rest) first at = (rest, let same : x ≡ first = cc in ap (λ (y : Row). y ∷ rest) same)
 
 -- rows were noted up to some of them, which are left
-pub record Touched (rows rest : List Row) (first position : ℕ) (before now : Marks) : Type 0 where
+pub record Touched (exponent : ℕ) (rows rest : List Row) (first position : ℕ) (before now : Marks) : Type 0 where
   pub done : List Row
   pub split : rows ≡ done ++ rest
   pub at : position ≡ first + length done
   pub room : length rest ≤ now.room
-  pub marks : (fills : List Fill) (history : List Item) → length history ≡ first → AreMarksOf 22 history fills before → AreMarksOf 22 (history ++ done) fills now
+  pub marks : (fills : List Fill) (history : List Item) → length history ≡ first → AreMarksOf exponent history fills before → AreMarksOf exponent (history ++ done) fills now
 
-pub touched_more : {rows rest more : List Row} {first position : ℕ} {before old new : Marks} (part : List Row) → Touched rows rest first position before old → rest ≡ part ++ more → 0 < length part → old.room ≤ new.room + 1
-    → ((fills : List Fill) (history : List Item) → length history ≡ position → AreMarksOf 22 history fills old → AreMarksOf 22 (history ++ part) fills new)
-    → Touched rows more first (position + length part) before new
-touched_more {more = more} {old = old} {new = new} part so_far split some room marks = record {
+pub touched_more : {exponent : ℕ} {rows rest more : List Row} {first position : ℕ} {before old new : Marks} (part : List Row) → Touched exponent rows rest first position before old → rest ≡ part ++ more → 0 < length part → old.room ≤ new.room + 1
+    → ((fills : List Fill) (history : List Item) → length history ≡ position → AreMarksOf exponent history fills old → AreMarksOf exponent (history ++ part) fills new)
+    → Touched exponent rows more first (position + length part) before new
+touched_more {exponent = exponent} {more = more} {old = old} {new = new} part so_far split some room marks = record {
   done = so_far.done ++ part;
   split = so_far.split ∙ ap (λ (xs : List Row). so_far.done ++ xs) split ∙ sym (append_assoc so_far.done part more);
   at = omega (arith, so_far.at, length-append so_far.done part);
   room = omega (arith, so_far.room, ap length split, length-append part more, some, room);
   marks = λ fills history len are.
-      subst (λ (items : List Item). AreMarksOf 22 items fills new) (append_assoc history so_far.done part)
+      subst (λ (items : List Item). AreMarksOf exponent items fills new) (append_assoc history so_far.done part)
       (marks fills (history ++ so_far.done) (omega (arith, length-append history so_far.done, so_far.at, len)) (so_far.marks fills history len are));
 }
 
 -- at the end none is left
-pub touched_all : {rows rest : List Row} {first position : ℕ} {before now : Marks} → Touched rows rest first position before now → length rest ≡ 0
-    → (fills : List Fill) (history : List Item) → length history ≡ first → AreMarksOf 22 history fills before → AreMarksOf 22 (history ++ rows) fills now
-touched_all {rest = []} {now = now} so_far none fills history len are = subst (λ (items : List Item). AreMarksOf 22 (history ++ items) fills now) (sym (append-nil so_far.done) ∙ sym so_far.split) (so_far.marks fills history len are)
+pub touched_all : {exponent : ℕ} {rows rest : List Row} {first position : ℕ} {before now : Marks} → Touched exponent rows rest first position before now → length rest ≡ 0
+    → (fills : List Fill) (history : List Item) → length history ≡ first → AreMarksOf exponent history fills before → AreMarksOf exponent (history ++ rows) fills now
+touched_all {exponent = exponent} {rest = []} {now = now} so_far none fills history len are = subst (λ (items : List Item). AreMarksOf exponent (history ++ items) fills now) (sym (append-nil so_far.done) ∙ sym so_far.split) (so_far.marks fills history len are)
 touched_all {rest = x ∷ xs} so_far none fills history len are = absurd (omega (arith, none))

@@ -4,9 +4,9 @@ use Rattle.std.specs.Global.{Vec}
 use Rattle.std.specs.List.{AllAdjacentBelow}
 use Rattle.std.specs.Option.{is_some}
 use Rattle.std.specs.Ordering.{int_eq}
-use Rattle.arch_types.specs.declared.interval.Interval.{Interval}
+use Rattle.intervals.specs.declared.interval.Interval.{Interval}
 use Rattle.arch_types.specs.declared.row.Row.{Row}
-use Rattle.arch_types.specs.Interval.{interval_of}
+use Rattle.intervals.specs.Interval.{interval_of}
 use Rattle.history_items.specs.declared.fills.Fill.{Fill}
 use Rattle.history_items.specs.Items.{Item}
 use Rattle.history_items.specs.Fills.{base_in, in_flight}
@@ -44,10 +44,11 @@ pub record AreMarksOf (exponent : ℕ) (history : List Item) (fills : List Fill)
   pub known : (i : Interval) →
       last_in exponent i history ≡ None → (base_in i fills ≡ None) × (in_flight i fills ≡ None)
 
--- the marks are those of each history of which they were before
+-- the marks are those of each history of which they were before, whatever its intervals' exponent
 abbrev pub KeepsMarks : FillTrackerView → FillTrackerView → Type 0
 KeepsMarks old new =
-    (history : List Item) → AreMarksOf 22 history old.fills old.marks → AreMarksOf 22 history new.fills new.marks
+    (exponent : ℕ) (history : List Item) →
+    AreMarksOf exponent history old.fills old.marks → AreMarksOf exponent history new.fills new.marks
 
 -- whether two rows are of one table and of one interval
 abbrev pub are_of_one_interval : ℕ → Row → Row → Bool

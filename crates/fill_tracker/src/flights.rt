@@ -5,7 +5,7 @@ ghost use Rattle.std.specs.List.{list_any};
 ghost use Rattle.history_items.specs.Fills.{is_same};
 ghost use Rattle.history_items.specs.FillList.{flights_without};
 
-use arch_types::interval::Interval;
+use intervals::Interval;
 
 /// Whether an interval is among these.
 #[tactic(auto, using(std::proofs::lemmas::List::Folds::list_any_more, std::proofs::lemmas::List::Folds::list_any_at))]

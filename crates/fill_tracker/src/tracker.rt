@@ -1,9 +1,10 @@
 //! What happened to fills, and which intervals are late.
 
-ghost use Rattle.std.specs.Prelude.{◌≡◌, ◌+◌, ◌<◌, ◌≤◌, ◌≤ℤ◌, ◌^◌, ◌↔◌, true, OnOk, IfSome, IsSome};
+ghost use Rattle.std.specs.Prelude.{◌≡◌, ◌+◌, ◌<◌, ◌≤◌, ◌≤ℤ◌, ◌^◌, ◌↔◌, ℕ, true, OnOk, IfSome, IsSome, IsTrue};
 ghost use Rattle.std.specs.Prelude.{List, [], ◌∷◌, ◌++◌, length, slice_get};
+ghost use Rattle.std.specs.List.{AllAdjacentBelow};
 ghost use Rattle.std.specs.Option.{is_some};
-ghost use Rattle.arch_types.specs.Interval.{interval_of};
+ghost use Rattle.intervals.specs.Interval.{interval_of};
 ghost use Rattle.history_items.specs.declared.fills.Fill.{Fill as FillItem};
 ghost use Rattle.history_items.specs.declared.fills.Fill.TheVariants as noted;
 ghost use Rattle.history_items.specs.Items.{Item, items_of};
@@ -15,9 +16,9 @@ ghost use Rattle.interval_fills.specs.Steps.{IsNextToFill, all_freed, freed, sta
 ghost use Rattle.late_marks.specs.Marks.{IsLeast, has_rows, is_late_free, late_of};
 
 use crate::flights::{is_among, take_out};
-use arch_types::interval::Interval;
 use arch_types::row::Row;
 use history_items::fills::{Addition, Fill, clear_failed_writes};
+use intervals::{Exponent, Interval};
 use late_marks::marks::LateMarks;
 use std::alloc::{AllocError, Global};
 use std::marker::Model;
@@ -50,7 +51,7 @@ impl FillTracker {
     /// Nothing happened. Takes no memory.
     pub fn new(alloc: Global) -> Self
         ensures fills { result.fills ≡ [] }
-        ensures marks { AreMarksOf 22 [] result.fills result.marks }
+        ensures marks { (exponent : ℕ) → AreMarksOf exponent [] result.fills result.marks }
     {
         FillTracker {
             items: Vec::new(alloc),
@@ -96,8 +97,8 @@ impl FillTracker {
 
     /// The least interval that is late and not in flight.
     pub fn next(&self) -> Option<Interval>
-        ensures next { (history : List Item) → AreMarksOf 22 history self.now.fills self.now.marks →
-            IsNextToFill 22 (state_of history self.now.fills) result }
+        ensures next { (exponent : ℕ) (history : List Item) → AreMarksOf exponent history self.now.fills self.now.marks →
+            IsNextToFill exponent (state_of history self.now.fills) result }
         ensures free { IfSome result (λ i. is_late_free self.now.marks i ≡ true) }
     {
         self.marks.least_late_free()
@@ -105,16 +106,16 @@ impl FillTracker {
 
     /// Whether an interval has rows that no fill has seen.
     pub fn is_late(&self, interval: Interval) -> bool
-        ensures { (history : List Item) → AreMarksOf 22 history self.now.fills self.now.marks →
-            (result ≡ true) ↔ IsLate 22 interval history self.now.fills }
+        ensures { (exponent : ℕ) (history : List Item) → AreMarksOf exponent history self.now.fills self.now.marks →
+            IsTrue result ↔ IsLate exponent interval history self.now.fills }
     {
         self.marks.is_late(interval)
     }
 
     /// The position of an interval's last row, where it has one.
     pub fn last(&self, interval: Interval) -> Option<u64>
-        ensures last { (history : List Item) → AreMarksOf 22 history self.now.fills self.now.marks →
-            result ≡ last_in 22 interval history }
+        ensures last { (exponent : ℕ) (history : List Item) → AreMarksOf exponent history self.now.fills self.now.marks →
+            result ≡ last_in exponent interval history }
         ensures rows { is_some result ≡ has_rows self.now.marks interval }
     {
         self.marks.last(interval)
@@ -122,8 +123,8 @@ impl FillTracker {
 
     /// The least interval that has rows and isn't below this one.
     pub fn next_touched(&self, from: Interval) -> Option<Interval>
-        ensures touched { (history : List Item) → AreMarksOf 22 history self.now.fills self.now.marks →
-            IsLeast (λ i. (from.0 ≤ℤ i.0) × IsSome (last_in 22 i history)) result }
+        ensures touched { (exponent : ℕ) (history : List Item) → AreMarksOf exponent history self.now.fills self.now.marks →
+            IsLeast (λ i. (from.0 ≤ℤ i.0) × IsSome (last_in exponent i history)) result }
         ensures marks { IsLeast (λ i. (from.0 ≤ℤ i.0) × (has_rows self.now.marks i ≡ true)) result }
     {
         self.marks.next_touched(from)
@@ -215,62 +216,79 @@ impl FillTracker {
     }
 
     /// Notes that rows came to the history, the first of them at this position. Takes no memory.
-    pub fn touch(&mut self, rows: &[Row], first: u64)
+    pub fn touch(&mut self, rows: &[Row], first: u64, exponent: Exponent)
         requires room { length rows.now ≤ self.old.marks.room }
         requires small { first + length rows.now < 2 ^ 64 }
         ensures fills { self.new.fills ≡ self.old.fills }
         ensures marks { (history : List Item) → length history ≡ first →
-            AreMarksOf 22 history self.old.fills self.old.marks →
-            AreMarksOf 22 (history ++ items_of rows.now) self.new.fills self.new.marks }
+            AreMarksOf exponent history self.old.fills self.old.marks →
+            AreMarksOf exponent (history ++ items_of rows.now) self.new.fills self.new.marks }
     {
-        touch_all(&mut self.marks, rows, first);
+        touch_all(&mut self.marks, rows, first, exponent);
     }
 }
 
 /// Notes that rows came to a history, the first of them at this position: each run of rows of one interval at once.
-fn touch_all(marks: &mut LateMarks, rows: &[Row], first: u64)
+fn touch_all(marks: &mut LateMarks, rows: &[Row], first: u64, exponent: Exponent)
     requires room { length rows.now ≤ marks.old.room }
     requires small { first + length rows.now < 2 ^ 64 }
     ensures { (fills : List FillItem) (history : List Item) → length history ≡ first →
-        AreMarksOf 22 history fills marks.old →
-        AreMarksOf 22 (history ++ items_of rows.now) fills marks.new }
+        AreMarksOf exponent history fills marks.old →
+        AreMarksOf exponent (history ++ items_of rows.now) fills marks.new }
 {
+    let mut rest = rows;
     let mut position = first;
-    for part in rows.chunk_by(are_of_one_interval) {
-        touch_run(marks, part, position);
-        position += part.len() as u64;
+    while rest.len() > 0 {
+        let (run, behind) = rest.split_at(run_len(rest, exponent));
+        touch_run(marks, run, position, exponent);
+        position += run.len() as u64;
+        rest = behind;
     }
 }
 
-/// Whether two rows are of one table and of one interval.
-fn are_of_one_interval(row: &Row, other: &Row) -> bool
-    ensures { result ≡ are_of_one_interval 22 row.now other.now }
+/// How many rows at the front are of one table and of one interval.
+fn run_len(rows: &[Row], exponent: Exponent) -> usize
+    requires { 0 < length rows.now }
+    ensures some { (0 < result) × (result ≤ length rows.now) }
+    ensures run { AllAdjacentBelow (λ row next. are_of_one_interval exponent row next ≡ true) rows.now result }
 {
-    row.table == other.table && interval_of_row(row) == interval_of_row(other)
+    for i in 1..rows.len() {
+        if !are_of_one_interval(&rows[i - 1], &rows[i], exponent) {
+            return i;
+        }
+    }
+    rows.len()
+}
+
+/// Whether two rows are of one table and of one interval.
+fn are_of_one_interval(row: &Row, other: &Row, exponent: Exponent) -> bool
+    ensures { result ≡ are_of_one_interval exponent row.now other.now }
+{
+    row.table == other.table && interval_of_row(row, exponent) == interval_of_row(other, exponent)
 }
 
 /// The interval of a row's time.
-fn interval_of_row(row: &Row) -> Interval
-    ensures { result.0 ≡ interval_of 22 row.now.key.time }
+fn interval_of_row(row: &Row, exponent: Exponent) -> Interval
+    ensures { result.0 ≡ interval_of exponent row.now.key.time }
 {
-    Interval::of(row.key.time)
+    Interval::at(row.key.time, exponent)
 }
 
 /// Notes that rows of one table and one interval came to a history, the first of them at this position.
-fn touch_run(marks: &mut LateMarks, run: &[Row], first: u64)
+fn touch_run(marks: &mut LateMarks, run: &[Row], first: u64, exponent: Exponent)
     requires room { 0 < marks.old.room }
     requires small { first + length run.now < 2 ^ 64 }
-    requires run { AreOfOneInterval 22 run.now }
+    requires run { AreOfOneInterval exponent run.now }
     ensures room { marks.old.room ≤ marks.new.room + 1 }
     ensures marks { (fills : List FillItem) (history : List Item) → length history ≡ first →
-        AreMarksOf 22 history fills marks.old →
-        AreMarksOf 22 (history ++ items_of run.now) fills marks.new }
+        AreMarksOf exponent history fills marks.old →
+        AreMarksOf exponent (history ++ items_of run.now) fills marks.new }
 {
     let Some(row) = run.first() else {
         return;
     };
     if row.table == TM {
         let last = first + (run.len() as u64 - 1);
-        marks.touch(interval_of_row(row), last);
+        marks.touch(interval_of_row(row, exponent), last);
     }
 }

@@ -4,7 +4,7 @@ use Rattle.std.specs.Prelude.{slice_get, fold, if◌then◌else◌, ◌↔◌}
 use Rattle.std.proofs.lemmas.Option.{same_Some}
 use Rattle.std.proofs.lemmas.Bool.{cases_lt}
 use Rattle.std.proofs.lemmas.Bool.Decides.{Decides-int_eq}
-use Rattle.arch_types.specs.declared.interval.Interval.{Interval}
+use Rattle.intervals.specs.declared.interval.Interval.{Interval}
 use Rattle.history_items.specs.declared.fills.Fill.{Fill}
 use Rattle.history_items.specs.declared.fills.Fill.TheVariants.{Begun, Done, Freed, Fault}
 use Rattle.history_items.specs.Fills.{is_same, base_in, base_after, in_flight, flight_after, IsLastDone, EndsFlight, IsBegunLast}

@@ -1,10 +1,10 @@
 -- The items of a history. What tells rows from other items stands here alone.
 use Rattle.std.specs.Prelude.{◌==◌, ◌&&◌, Bool, ℕ, List, take}
 use Rattle.std.specs.Ordering.{int_eq}
-use Rattle.arch_types.specs.declared.interval.Interval.{Interval}
+use Rattle.intervals.specs.declared.interval.Interval.{Interval}
 use Rattle.arch_types.specs.declared.row.Row.{Row}
 use Rattle.arch_types.specs.History.{ingested, is_duplicate_of, with_row}
-use Rattle.arch_types.specs.Interval.{interval_of}
+use Rattle.intervals.specs.Interval.{interval_of}
 
 -- an item is a row
 abbrev pub Item : Type 0

@@ -5,7 +5,7 @@ ghost use Rattle.history_items.specs.declared.fills.Fill.TheVariants as fills;
 ghost use Rattle.history_items.specs.Fills.{reopened};
 
 use crate::fills::{Addition, Fill, clear_failed_writes};
-use arch_types::interval::Interval;
+use intervals::Interval;
 use std::alloc::{AllocError, Global};
 use std::marker::Model;
 

@@ -3,8 +3,8 @@
 ghost use Rattle.std.specs.Prelude.{◌≡◌};
 ghost use Rattle.history_items.specs.Fills.{reopened, cleared};
 
-use arch_types::interval::Interval;
 use arch_types::row::Rows;
+use intervals::Interval;
 
 /// What a call would have added to an archive.
 #[derive(Debug, Drop)]

@@ -9,9 +9,9 @@ use Rattle.std.proofs.lemmas.Bool.Decides.{Decides-int_eq}
 use Rattle.std.proofs.lemmas.Nat.{pow_pos}
 use Rattle.std.proofs.lemmas.List.{take-append-drop}
 use Rattle.std.proofs.lemmas.List.Elements.{filter-append, filter_agree}
-use Rattle.arch_types.specs.declared.interval.Interval.{Interval}
+use Rattle.intervals.specs.declared.interval.Interval.{Interval}
 use Rattle.arch_types.specs.declared.row.Row.{Row}
-use Rattle.arch_types.specs.Interval.{interval_of}
+use Rattle.intervals.specs.Interval.{interval_of, interval_start, interval_end}
 use Rattle.arch_types.specs.Order.{is_before, order_by}
 use Rattle.arch_types.specs.History.{is_in_table}
 use Rattle.arch_types.specs.Table.{range_of, is_in_time_range, table_of}
@@ -19,7 +19,7 @@ use Rattle.arch_types.proofs.Ordered.{filter-order}
 use Rattle.arch_types.proofs.Ranks.{rows_rank}
 use Rattle.history_items.specs.Items.{Item, prefix}
 use Rattle.history_items.specs.Late.{StandsIn}
-use Rattle.interval_fills.specs.Intervals.{rows_of_interval, interval_start, interval_end, NoRowSince}
+use Rattle.interval_fills.specs.Intervals.{rows_of_interval, NoRowSince}
 use Rattle.interval_fills.proofs.Times.{in_interval, around}
 
 -- ---- times in an interval

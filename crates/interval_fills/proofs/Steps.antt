@@ -4,7 +4,7 @@ use Rattle.std.specs.Prelude.{if◌then◌else◌, ℤ, fold}
 use Rattle.std.specs.Option.{is_some}
 use Rattle.std.proofs.lemmas.Bool.Decides.{Decides-int_eq}
 use Rattle.arch_types.proofs.Histories.{only_adds, keeps_history}
-use Rattle.arch_types.specs.declared.interval.Interval.{Interval}
+use Rattle.intervals.specs.declared.interval.Interval.{Interval}
 use Rattle.arch_types.specs.declared.inserted.Inserted.{Inserted}
 use Rattle.arch_types.specs.declared.inserted.Installed.{Installed}
 use Rattle.arch_types.specs.declared.inserted.Installed.TheVariants as became

@@ -1,18 +1,11 @@
 -- The rows of an interval.
-use Rattle.std.specs.Prelude.{ℕ, ◌<◌, ◌^◌, ℤ, pos, ◌+ℤ◌, ◌*ℤ◌, List}
-use Rattle.arch_types.specs.declared.interval.Interval.{Interval}
+use Rattle.std.specs.Prelude.{ℕ, ◌<◌, List}
+use Rattle.intervals.specs.declared.interval.Interval.{Interval}
+use Rattle.intervals.specs.Interval.{interval_end, interval_start}
 use Rattle.arch_types.specs.declared.row.Row.{Row}
 use Rattle.arch_types.specs.Table.{range_of}
 use Rattle.history_items.specs.Items.{Item, rows_in}
 use Rattle.history_items.specs.Late.{StandsIn}
-
--- the first time of an interval, in milliseconds, of which an interval has 2^exponent
-abbrev pub interval_start : ℕ → Interval → ℤ
-interval_start exponent interval = interval.0 *ℤ pos (2 ^ exponent)
-
--- the first time after it
-abbrev pub interval_end : ℕ → Interval → ℤ
-interval_end exponent interval = (interval.0 +ℤ pos 1) *ℤ pos (2 ^ exponent)
 
 -- the rows of table `tm`, the first table, with their time in an interval, in the order of their keys
 abbrev pub rows_of_interval : ℕ → Interval → List Item → List Row

@@ -1,6 +1,6 @@
 -- What holds of every state.
 use Rattle.std.specs.Prelude.{◌≡◌, ℕ, Some}
-use Rattle.arch_types.specs.declared.interval.Interval.{Interval}
+use Rattle.intervals.specs.declared.interval.Interval.{Interval}
 use Rattle.arch_types.specs.History.{IsHistory}
 use Rattle.history_items.specs.Items.{rows_in}
 use Rattle.history_items.specs.Fills.{base_in, in_flight}

@@ -11,7 +11,7 @@ use Rattle.std.proofs.lemmas.Bool.Decides.{Decides-int_eq}
 use Rattle.std.proofs.lemmas.Nat.{le-div, pow_pos}
 use Rattle.std.proofs.Math.Nat.{div-mul-le_self}
 use Rattle.arch_types.specs.declared.row.Row.{Row}
-use Rattle.arch_types.specs.Interval.{interval_of}
+use Rattle.intervals.specs.Interval.{interval_of}
 use Rattle.arch_types.specs.Order.{is_before, place_by}
 use Rattle.arch_types.specs.History.{is_in_table}
 use Rattle.arch_types.specs.Table.{is_in_time_range, table_of}

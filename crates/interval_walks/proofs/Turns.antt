@@ -6,9 +6,9 @@ use Rattle.std.specs.Ordering.{int_eq}
 use Rattle.std.proofs.lemmas.Bool.{eqb-true}
 use Rattle.std.proofs.lemmas.Bool.Decides.{Decides-int_eq}
 use Rattle.std.proofs.lemmas.Nat.{pow_pos}
-use Rattle.arch_types.specs.declared.interval.Interval.{Interval}
+use Rattle.intervals.specs.declared.interval.Interval.{Interval}
 use Rattle.arch_types.specs.declared.row.Row.{Row}
-use Rattle.arch_types.specs.Interval.{interval_of}
+use Rattle.intervals.specs.Interval.{interval_of}
 use Rattle.arch_types.specs.Order.{is_before, place_by}
 use Rattle.arch_types.specs.History.{is_in_table}
 use Rattle.arch_types.specs.Table.{range_of, is_in_time_range, table_of}

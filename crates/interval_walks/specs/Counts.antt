@@ -1,8 +1,8 @@
 -- Which intervals have rows, and which of them are late.
 use Rattle.std.specs.Prelude.{◌≡◌, ℕ, List, [], ◌∷◌, ◌++◌, fold, filter, not, ◌&&◌, ◌==◌, false, if◌then◌else◌}
 use Rattle.std.specs.List.{list_any}
-use Rattle.arch_types.specs.declared.interval.Interval.{Interval}
-use Rattle.arch_types.specs.Interval.{interval_of}
+use Rattle.intervals.specs.declared.interval.Interval.{Interval}
+use Rattle.intervals.specs.Interval.{interval_of}
 use Rattle.history_items.specs.declared.fills.Fill.{Fill}
 use Rattle.history_items.specs.Fills.{is_same}
 use Rattle.history_items.specs.Items.{Item}

@@ -1,12 +1,13 @@
 -- Intervals one after the other.
 use Rattle.std.specs.Prelude.{◌≡◌, ℕ, ℤ, ◌<ℤ◌, int_lt, List, [], ◌∷◌, Bool, true, ◌&&◌}
 use Rattle.std.specs.List.{flat_map, list_any, AllByRecursion}
-use Rattle.arch_types.specs.declared.interval.Interval.{Interval}
+use Rattle.intervals.specs.declared.interval.Interval.{Interval}
 use Rattle.arch_types.specs.declared.row.Row.{Row}
 use Rattle.history_items.specs.Fills.{is_same}
 use Rattle.history_items.specs.Items.{Item}
 use Rattle.history_items.specs.Late.{StandsIn}
-use Rattle.interval_fills.specs.Intervals.{interval_end, interval_start, rows_of_interval}
+use Rattle.interval_fills.specs.Intervals.{rows_of_interval}
+use Rattle.intervals.specs.Interval.{interval_end, interval_start}
 
 -- the intervals rise
 abbrev pub IntervalsRise : List Interval → Type 0

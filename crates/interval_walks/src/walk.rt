@@ -2,31 +2,31 @@
 
 ghost use Rattle.std.specs.Prelude.{◌≡◌, ◌<◌, ◌^◌, ◌≤ℤ◌, ◌<ℤ◌, ◌-ℤ◌, ◌+ℤ◌, pos, List, true, IfOk, IfSome, IfNone};
 ghost use Rattle.std.specs.List.{AllByRecursion};
-ghost use Rattle.arch_types.specs.declared.interval.Interval.{Interval as AnInterval};
-ghost use Rattle.arch_types.specs.Interval.{interval_of};
+ghost use Rattle.intervals.specs.declared.interval.Interval.{Interval as AnInterval};
+ghost use Rattle.intervals.specs.Interval.{interval_of};
 ghost use Rattle.history_items.specs.Items.{Item};
 ghost use Rattle.fill_tracker.specs.FillTracker.{AreMarksOf};
 ghost use Rattle.interval_walks.specs.Turns.{CoverRange, IntervalsRise, MeetsRange};
 ghost use Rattle.late_marks.specs.Marks.{has_rows};
 
-use arch_types::interval::Interval;
 use fill_tracker::FillTracker;
+use intervals::{Exponent, Interval};
 use std::alloc::{AllocError, Global};
 
 /// The interval of the last time of a range, which has one.
-fn last_of(_from: i64, to: i64) -> Interval
+fn last_of(_from: i64, to: i64, exponent: Exponent) -> Interval
     requires { _from <ℤ to }
-    ensures number { result.0 ≡ interval_of 22 (to -ℤ pos 1) }
+    ensures number { result.0 ≡ interval_of exponent (to -ℤ pos 1) }
     ensures small { result.0 <ℤ pos (2 ^ 62) }
 {
-    Interval::of(to - 1)
+    Interval::at(to - 1, exponent)
 }
 
 /// The interval of a range's first time.
-fn first_of(from: i64) -> Interval
-    ensures { result.0 ≡ interval_of 22 from }
+fn first_of(from: i64, exponent: Exponent) -> Interval
+    ensures { result.0 ≡ interval_of exponent from }
 {
-    Interval::of(from)
+    Interval::at(from, exponent)
 }
 
 /// The next interval.
@@ -58,18 +58,19 @@ pub fn intervals_meeting(
     tracker: &FillTracker,
     from: i64,
     to: i64,
+    exponent: Exponent,
 ) -> Result<Vec<Interval>, AllocError>
     requires { from <ℤ to }
     ensures rising { IfOk result (λ intervals. IntervalsRise intervals.items) }
     ensures cover { IfOk result (λ intervals. (history : List Item) →
-        AreMarksOf 22 history tracker.now.fills tracker.now.marks →
-        CoverRange 22 intervals.items from to history) }
+        AreMarksOf exponent history tracker.now.fills tracker.now.marks →
+        CoverRange exponent intervals.items from to history) }
     ensures rows { IfOk result (λ intervals.
         AllByRecursion (λ i. has_rows tracker.now.marks i ≡ true) intervals.items) }
-    ensures meets { IfOk result (λ intervals. AllByRecursion (MeetsRange 22 from to) intervals.items) }
+    ensures meets { IfOk result (λ intervals. AllByRecursion (MeetsRange exponent from to) intervals.items) }
 {
-    let last = last_of(from, to);
-    let first = first_of(from);
+    let last = last_of(from, to, exponent);
+    let first = first_of(from, exponent);
     let mut at = first;
     let mut intervals = Vec::new(alloc);
     while let Some(interval) = next_within(tracker, at, last) {

@@ -13,7 +13,7 @@ use Rattle.std.proofs.lemmas.List.Elements.{All-from_recursion, recursion_from_A
 use Rattle.std.proofs.lemmas.List.Sorted.{All-permutation, IsPermutation-map}
 use Rattle.std.proofs.lemmas.Simd.{map-map}
 use Rattle.arch_types.specs.declared.key.Key.{Key}
-use Rattle.arch_types.specs.Interval.{interval_of}
+use Rattle.intervals.specs.Interval.{interval_of}
 use Rattle.arch_types.specs.Order.{key_cmp}
 use Rattle.segment_codec.specs.KeyColumn.{IsKey}
 use Rattle.segment_codec.specs.RawColumn.{IsRawColumn}

@@ -2,7 +2,7 @@
 use Rattle.std.specs.Prelude.{◌≡◌, ℕ, ℤ, Bool, List, [], ◌∷◌, length, map, filter, nat_lt, if◌then◌else◌}
 use Rattle.std.specs.List.{AllByRecursion}
 use Rattle.arch_types.specs.declared.row.Row.{Row}
-use Rattle.arch_types.specs.Interval.{interval_of}
+use Rattle.intervals.specs.Interval.{interval_of}
 use Rattle.mdb_items.specs.Database.{Database}
 use Rattle.container_extract.specs.Extraction.{raw_extraction}
 use Rattle.param_segments.specs.Rows.{SetRow, AreSetRows, set_row}

@@ -1,18 +1,18 @@
 //! Asks what the octets of a set may hold of an interval and a database.
 
-ghost use Rattle.std.specs.Prelude.{◌≡◌, ◌↔◌, length, map, true};
+ghost use Rattle.std.specs.Prelude.{◌≡◌, ◌↔◌, length, map, IsTrue};
 ghost use Rattle.std.specs.List.{AllByRecursion};
 ghost use Rattle.std.specs.List.Sorted.{IsStrictlySortedBy};
-ghost use Rattle.arch_types.specs.Interval.{interval_of};
+ghost use Rattle.intervals.specs.Interval.{interval_of};
 ghost use Rattle.arch_types.specs.Order.{key_cmp};
 ghost use Rattle.container_extract.specs.Values.{IsRawValue};
 ghost use Rattle.param_segments.specs.RowPlaces.{AreColumnsOf, IsColumnOf, IsSegmentOf, are_known_parameters, is_known_parameter};
 ghost use Rattle.segment_codec.specs.Segment.{IsSegment};
 
 use crate::row_place::RowPlace;
-use arch_types::interval::Interval;
 use calibration::is_in_width;
 use container_extract::values::RawValue;
+use intervals::{Exponent, Interval};
 use mdb_model::Mdb;
 use segment_codec::{RawColumn, Segment};
 
@@ -34,7 +34,7 @@ pub(crate) fn are_known_parameters(mdb: &Mdb, parameters: &[u16]) -> bool
 
 /// The value is that of a parameter of the database, its raw number of the parameter's width.
 fn is_raw_value(mdb: &Mdb, value: RawValue) -> bool
-    ensures { (result ≡ true) ↔ IsRawValue mdb.now value }
+    ensures { IsTrue result ↔ IsRawValue mdb.now value }
 {
     let count = mdb.parameters();
     let parameter = value.parameter;
@@ -47,7 +47,7 @@ fn is_raw_value(mdb: &Mdb, value: RawValue) -> bool
 
 /// Each raw number of a column is one of its parameter.
 fn is_column_of(mdb: &Mdb, parameter: u16, column: &[i128]) -> bool
-    ensures { (result ≡ true) ↔ IsColumnOf mdb.now parameter column.now }
+    ensures { IsTrue result ↔ IsColumnOf mdb.now parameter column.now }
 {
     for raw in column {
         if !is_raw_value(
@@ -66,7 +66,7 @@ fn is_column_of(mdb: &Mdb, parameter: u16, column: &[i128]) -> bool
 /// Each column is one of its parameter.
 fn are_columns_of(mdb: &Mdb, parameters: &[u16], columns: &[RawColumn]) -> bool
     requires { length columns.now ≡ length parameters.now }
-    ensures { (result ≡ true) ↔ AreColumnsOf mdb.now parameters.now columns.now }
+    ensures { IsTrue result ↔ AreColumnsOf mdb.now parameters.now columns.now }
 {
     for i in 0..parameters.len() {
         if !is_column_of(mdb, parameters[i], columns[i].as_slice()) {
@@ -79,7 +79,7 @@ fn are_columns_of(mdb: &Mdb, parameters: &[u16], columns: &[RawColumn]) -> bool
 /// The segments have values of the database.
 pub(crate) fn are_segments_of(mdb: &Mdb, segments: &[Segment]) -> bool
     requires { AllByRecursion IsSegment segments.now }
-    ensures { (result ≡ true) ↔ AllByRecursion (IsSegmentOf mdb.now) segments.now }
+    ensures { IsTrue result ↔ AllByRecursion (IsSegmentOf mdb.now) segments.now }
 {
     for segment in segments {
         if !are_columns_of(
@@ -95,7 +95,7 @@ pub(crate) fn are_segments_of(mdb: &Mdb, segments: &[Segment]) -> bool
 
 /// The keys rise.
 pub(crate) fn are_rising(places: &[RowPlace]) -> bool
-    ensures { (result ≡ true) ↔ IsStrictlySortedBy key_cmp (map (λ p. p.key) places.now) }
+    ensures { IsTrue result ↔ IsStrictlySortedBy key_cmp (map (λ p. p.key) places.now) }
 {
     for i in 1..places.len() {
         if places[i - 1].key >= places[i].key {
@@ -106,18 +106,18 @@ pub(crate) fn are_rising(places: &[RowPlace]) -> bool
 }
 
 /// The time of a place lies in the interval.
-fn is_inside(interval: Interval, place: &RowPlace) -> bool
-    ensures { (result ≡ true) ↔ (interval_of 22 place.now.key.time ≡ interval.0) }
+fn is_inside(interval: Interval, exponent: Exponent, place: &RowPlace) -> bool
+    ensures { IsTrue result ↔ (interval_of exponent place.now.key.time ≡ interval.0) }
 {
-    Interval::of(place.key.time) == interval
+    Interval::at(place.key.time, exponent) == interval
 }
 
 /// The times lie in the interval.
-pub(crate) fn are_inside(interval: Interval, places: &[RowPlace]) -> bool
-    ensures { (result ≡ true) ↔ AllByRecursion (λ p. interval_of 22 p.key.time ≡ interval.0) places.now }
+pub(crate) fn are_inside(interval: Interval, exponent: Exponent, places: &[RowPlace]) -> bool
+    ensures { IsTrue result ↔ AllByRecursion (λ p. interval_of exponent p.key.time ≡ interval.0) places.now }
 {
     for place in places {
-        if !is_inside(interval, place) {
+        if !is_inside(interval, exponent, place) {
             return false;
         }
     }

@@ -3,7 +3,7 @@
 ghost use Rattle.std.specs.Prelude.{◌≡◌, ◌<◌, ◌++◌, [], ℕ, ℤ, map, IfOk, OnOk};
 ghost use Rattle.std.specs.List.{AllByRecursion, filter_map};
 ghost use Rattle.std.specs.List.Sorted.{IsStrictlySortedBy};
-ghost use Rattle.arch_types.specs.Interval.{interval_of};
+ghost use Rattle.intervals.specs.Interval.{interval_of};
 ghost use Rattle.arch_types.specs.Order.{key_cmp};
 ghost use Rattle.container_extract.specs.Extraction.{cell_of};
 ghost use Rattle.segment_codec.specs.KeyColumn.{IsKey};
@@ -13,12 +13,12 @@ ghost use Rattle.param_segments.specs.Rows.{AreSetRows, set_row};
 
 use crate::builder::SetBuilder;
 use crate::set::SegSet;
-use arch_types::interval::Interval;
 use arch_types::key::Key;
 use arch_types::row::{Row, Rows};
 use arch_types::steps::Steps;
 use container_extract::Extractor;
 use container_extract::values::RawValue;
+use intervals::{Exponent, Interval};
 use mdb_model::Mdb;
 use std::alloc::{AllocError, Global};
 use std::marker::Brand;
@@ -73,17 +73,18 @@ impl SegSet {
     pub fn build(
         alloc: Global,
         _interval: Interval,
+        _exponent: Exponent,
         rows: &Rows,
         mdb: &Mdb,
     ) -> Result<SegSet, AllocError>
         requires rising { IsStrictlySortedBy key_cmp (map (λ row. row.key) rows.now) }
-        requires inside { AllByRecursion (λ row. interval_of 22 row.key.time ≡ _interval.0) rows.now }
+        requires inside { AllByRecursion (λ row. interval_of _exponent row.key.time ≡ _interval.0) rows.now }
         ensures rows { IfOk result (λ set. set ≡ extracted_rows mdb.now rows.now) }
-        ensures sound { IfOk result (IsSetOf mdb.now 22 _interval.0) }
+        ensures sound { IfOk result (IsSetOf mdb.now _exponent _interval.0) }
         ensures cells { IfOk result (λ set. (q : ℕ) →
             set_cells mdb.now q set ≡ filter_map (cell_of mdb.now q) rows.now) }
     {
-        // the interval stands in the contract alone: nothing that is built depends on it
+        // the interval and its exponent stand in the contract alone: nothing that is built depends on them
         mdb.is_sound();
         let mut builder = SetBuilder::new(alloc);
         put_extracted::<Brand>(alloc, Blank::new(1), &mut builder, rows.as_slice(), mdb)?;

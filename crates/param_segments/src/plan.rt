@@ -1,8 +1,8 @@
 //! What a retrieval reads.
 
 use crate::set::SegSet;
-use arch_types::interval::Interval;
 use arch_types::row::Rows;
+use intervals::Interval;
 use item_list::Items;
 use mdb_model::Mdb;
 use std::alloc::Global;

@@ -19,8 +19,8 @@ use crate::builder::SetBuilder;
 use crate::decoding::{counted_segments, places_of, write_values};
 use crate::row_place::RowPlace;
 use crate::set::SegSet;
-use arch_types::interval::Interval;
 use arch_types::octets::Octets;
+use intervals::{Exponent, Interval};
 use mdb_model::Mdb;
 use segment_codec::{NotASegment, Segment};
 use std::alloc::{AllocError, Global};
@@ -64,13 +64,14 @@ fn rows_built(
 fn built_again(
     alloc: Global,
     interval: Interval,
+    exponent: Exponent,
     segments: &[Segment],
     mdb: &Mdb,
 ) -> Result<SegSet, NotASegment>
     requires sound { AllByRecursion IsSegment segments.now }
     requires few { length segments.now < 2 ^ 32 }
-    ensures sound { IfOk result (IsSetOf mdb.now 22 interval.0) }
-    ensures each { (rows : List SetRow) → IsSetOf mdb.now 22 interval.0 rows → segments.now ≡ set_of rows →
+    ensures sound { IfOk result (IsSetOf mdb.now exponent interval.0) }
+    ensures each { (rows : List SetRow) → IsSetOf mdb.now exponent interval.0 rows → segments.now ≡ set_of rows →
         MatchResult result (λ set. set ≡ rows) (λ e. e ≡ OutOfMemory) }
 {
     // by columns, along which the parameter and its width stay the same
@@ -82,7 +83,7 @@ fn built_again(
     if !are_rising(&places) {
         return Err(NotASegment::Malformed);
     }
-    if !are_inside(interval, &places) {
+    if !are_inside(interval, exponent, &places) {
         return Err(NotASegment::Malformed);
     }
     let builder = rows_built(alloc, segments, &places)?;
@@ -102,18 +103,19 @@ fn fits_u32(octets: &[u8]) -> bool
 fn spelled_set(
     alloc: Global,
     interval: Interval,
+    exponent: Exponent,
     octets: &[u8],
     mdb: &Mdb,
 ) -> Result<SegSet, NotASegment>
-    ensures spelled { ReadsOnly (IsSetOf mdb.now 22 interval.0) set_octets (λ s. s) octets.now result }
-    ensures each { ReadsEach (IsSetOf mdb.now 22 interval.0) set_octets (λ s. s) (λ e. e ≡ OutOfMemory)
+    ensures spelled { ReadsOnly (IsSetOf mdb.now exponent interval.0) set_octets (λ s. s) octets.now result }
+    ensures each { ReadsEach (IsSetOf mdb.now exponent interval.0) set_octets (λ s. s) (λ e. e ≡ OutOfMemory)
         octets.now result }
 {
     if !fits_u32(octets) {
         return Err(NotASegment::OutOfMemory);
     }
     let segments = counted_segments(alloc, octets, mdb)?;
-    let set = built_again(alloc, interval, &segments, mdb)?;
+    let set = built_again(alloc, interval, exponent, &segments, mdb)?;
     let own = set.to_bytes()?;
     if own.as_slice() != octets {
         return Err(NotASegment::Malformed);
@@ -130,29 +132,31 @@ impl SegSet {
     pub fn from_bytes(
         alloc: Global,
         interval: Interval,
+        exponent: Exponent,
         octets: &[u8],
         mdb: &Mdb,
     ) -> Result<SegSet, NotASegment>
-        ensures spelled { ReadsOnly (IsSetOf mdb.now 22 interval.0) set_octets (λ s. s) octets.now result }
-        ensures each { ReadsEach (IsSetOf mdb.now 22 interval.0) set_octets (λ s. s) (λ e. e ≡ OutOfMemory)
+        ensures spelled { ReadsOnly (IsSetOf mdb.now exponent interval.0) set_octets (λ s. s) octets.now result }
+        ensures each { ReadsEach (IsSetOf mdb.now exponent interval.0) set_octets (λ s. s) (λ e. e ≡ OutOfMemory)
             octets.now result }
     {
-        spelled_set(alloc, interval, octets, mdb)
+        spelled_set(alloc, interval, exponent, octets, mdb)
     }
 
     /// As `from_bytes`, of octets that the set then shares.
     pub fn from_octets(
         alloc: Global,
         interval: Interval,
+        exponent: Exponent,
         octets: Octets,
         mdb: &Mdb,
     ) -> Result<SegSet, NotASegment>
-        ensures spelled { ReadsOnly (IsSetOf mdb.now 22 interval.0) set_octets (λ s. s) octets result }
-        ensures each { ReadsEach (IsSetOf mdb.now 22 interval.0) set_octets (λ s. s) (λ e. e ≡ OutOfMemory)
+        ensures spelled { ReadsOnly (IsSetOf mdb.now exponent interval.0) set_octets (λ s. s) octets result }
+        ensures each { ReadsEach (IsSetOf mdb.now exponent interval.0) set_octets (λ s. s) (λ e. e ≡ OutOfMemory)
             octets result }
         ensures value { IfOk result (λ set. set ≡ rows_in_octets octets) }
     {
-        let own = spelled_set(alloc, interval, octets.as_slice(), mdb)?;
+        let own = spelled_set(alloc, interval, exponent, octets.as_slice(), mdb)?;
         Ok(own.over(octets))
     }
 }

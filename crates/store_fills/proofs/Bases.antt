@@ -1,7 +1,7 @@
 -- The bases of fills, by what is noted of fills.
 use Rattle.std.proofs.Common.{◌≡◌, ℕ, List, [], Bool, true, false, Some, option_map, refl, ap}
 use Rattle.std.specs.Prelude.{if◌then◌else◌}
-use Rattle.arch_types.specs.declared.interval.Interval.{Interval}
+use Rattle.intervals.specs.declared.interval.Interval.{Interval}
 use Rattle.param_segments.specs.Rows.{SetRow}
 use Rattle.history_items.specs.declared.fills.Fill.TheVariants.{Done}
 use Rattle.history_items.specs.Fills.{base_after, is_same}

@@ -1,6 +1,6 @@
 -- The record of a fill that is built.
 use Rattle.std.proofs.Common.{◌≡◌, ℕ, List, sym, ◌∙◌, ap, subst}
-use Rattle.arch_types.specs.declared.interval.Interval.{Interval}
+use Rattle.intervals.specs.declared.interval.Interval.{Interval}
 use Rattle.field_codec.specs.declared.entry.Entry.TheVariants as entries
 use Rattle.field_codec.specs.Entries.{IsArchiveEntry}
 use Rattle.field_codec.specs.Spelling.{entry_octets}

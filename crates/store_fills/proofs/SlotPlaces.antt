@@ -5,10 +5,10 @@ use Rattle.std.specs.BTreeMap.{is_at, insert_entry}
 use Rattle.std.proofs.Math.Path.{fun_ext}
 use Rattle.std.proofs.lemmas.Bool.Decides.{Decides-int_eq}
 use Rattle.block_map.proofs.KeyedLists.{lookup-insert_entry_same, lookup-insert_entry_other}
-use Rattle.arch_types.specs.declared.interval.Interval.{Interval}
+use Rattle.intervals.specs.declared.interval.Interval.{Interval}
 use Rattle.history_items.specs.Fills.{is_same}
-use Rattle.arch_types.specs.Interval.{interval_cmp}
-use Rattle.arch_types.proofs.Ranks.{interval_cmp_total}
+use Rattle.intervals.specs.Interval.{interval_cmp}
+use Rattle.intervals.proofs.Ranks.{interval_cmp_total}
 use Rattle.late_marks.proofs.IntervalOrder.{apart}
 use Rattle.store_fills.specs.Sound.{with_filling}
 use Rattle.store_fills.specs.declared.sets.FilledSlot.{FilledSlot}

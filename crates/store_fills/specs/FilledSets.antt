@@ -5,9 +5,9 @@ use Rattle.std.specs.Arc.{arc_value}
 use Rattle.std.specs.Map.{lookup}
 use Rattle.std.specs.BTreeMap.{is_at}
 use Rattle.block_map.specs.Index.{Listing}
-use Rattle.arch_types.specs.declared.interval.Interval.{Interval}
+use Rattle.intervals.specs.declared.interval.Interval.{Interval}
 use Rattle.param_segments.specs.Rows.{SetRow}
-use Rattle.arch_types.specs.Interval.{interval_cmp}
+use Rattle.intervals.specs.Interval.{interval_cmp}
 use Rattle.store_fills.specs.Sound.{Filling, Fillings}
 use Rattle.store_fills.specs.declared.sets.FilledSlot.{FilledSlot}
 

@@ -1,6 +1,6 @@
 -- What holds of sound fills.
 use Rattle.std.specs.Prelude.{ℕ, List, ◌++◌, length}
-use Rattle.arch_types.specs.declared.interval.Interval.{Interval}
+use Rattle.intervals.specs.declared.interval.Interval.{Interval}
 use Rattle.history_items.specs.declared.fills.Fill.{Fill}
 use Rattle.history_items.specs.Items.{Item}
 use Rattle.history_items.specs.Late.{IsLate}

@@ -1,6 +1,6 @@
 -- Fills that hold what their rows give.
 use Rattle.std.specs.Prelude.{◌≡◌, ℕ, ◌≤◌, List, length, Option, Some, None, option_map, if◌then◌else◌}
-use Rattle.arch_types.specs.declared.interval.Interval.{Interval}
+use Rattle.intervals.specs.declared.interval.Interval.{Interval}
 use Rattle.arch_types.specs.declared.row.Row.{Row}
 use Rattle.history_items.specs.Items.{Item}
 use Rattle.history_items.specs.Fills.{is_same}

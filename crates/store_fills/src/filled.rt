@@ -11,10 +11,10 @@ ghost use Rattle.store_fills.specs.Filled.{HoldsRows};
 ghost use Rattle.store_fills.specs.Built.{IsTaskRows};
 
 use crate::task::FillTask;
-use arch_types::interval::Interval;
 use arch_types::row::Rows;
 use disk_journal::Frame;
 use field_codec::{fill_entry_len, put_fill};
+use intervals::{Exponent, Interval};
 use mdb_model::Mdb;
 use param_segments::SegSet;
 use std::alloc::{AllocError, Global};
@@ -58,17 +58,18 @@ fn fill_frame(alloc: Global, interval: Interval, base: u64, set: &[u8]) -> Resul
 fn build(
     alloc: Global,
     interval: Interval,
+    exponent: Exponent,
     base: u64,
     rows: &Rows,
     mdb: &Mdb,
 ) -> Result<Filled, AllocError>
-    requires { IsTaskRows 22 interval rows.now }
+    requires { IsTaskRows exponent interval rows.now }
     ensures place { IfOk result (λ f. (f.interval ≡ interval) × (f.base ≡ base)) }
     ensures rows { IfOk result (λ f. f.set ≡ extracted_rows mdb.now rows.now) }
-    ensures fits { IfOk result (λ f. IsSetOf mdb.now 22 interval.0 f.set) }
+    ensures fits { IfOk result (λ f. IsSetOf mdb.now exponent interval.0 f.set) }
     ensures holds { IfOk result (λ f. HoldsRows mdb.now f.set rows.now) }
 {
-    let set = SegSet::build(alloc, interval, rows, mdb)?;
+    let set = SegSet::build(alloc, interval, exponent, rows, mdb)?;
     let octets = set.to_bytes()?;
     let frame = fill_frame(alloc, interval, base, octets.as_slice())?;
     Ok(Filled {
@@ -93,7 +94,8 @@ impl Filled {
         ensures holds { IfOk result (λ f. HoldsRows mdb.now f.set task.rows) }
         ensures back { IfErr result (λ e. e.0 ≡ task) }
     {
-        let Ok(filled) = build(alloc, task.interval, task.base, &task.rows, mdb) else {
+        let exponent = Exponent::of_format_1();
+        let Ok(filled) = build(alloc, task.interval, exponent, task.base, &task.rows, mdb) else {
             return Err((task, AllocError));
         };
         Ok(filled)

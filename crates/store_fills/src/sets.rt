@@ -5,8 +5,8 @@ ghost use Rattle.std.specs.Arc.{arc_value};
 ghost use Rattle.store_fills.specs.Sound.{with_filling};
 ghost use Rattle.store_fills.specs.FilledSets.{fill_over, fillings_in, filling_of};
 
-use arch_types::interval::Interval;
 use block_map::index::Index;
+use intervals::Interval;
 use param_segments::SegSet;
 use std::alloc::{AllocError, Global};
 use std::marker::Model;

@@ -1,7 +1,7 @@
 //! What is filled.
 
-use arch_types::interval::Interval;
 use arch_types::row::Rows;
+use intervals::Interval;
 use mdb_model::Mdb;
 use std::alloc::Global;
 use std::sync::Arc;

@@ -1,6 +1,9 @@
-use Rattle.std.specs.Slice.Iter.{chunk_by_rest}
+use Rattle.std.proofs.Common.{length}
 use Rattle.fill_tracker.proofs.Runs.{Touched}
 use Rattle.fill_tracker.proofs.tracker.touch_all.Given as goal
 
-abbrev pub invariant-loop-part : goal.invariant-loop-part
-invariant-loop-part l = Touched l.rows (chunk_by_rest l.part-iterator) l.first l.position l.fn.marks l.marks
+abbrev pub invariant-loop-rest : goal.invariant-loop-rest
+invariant-loop-rest l = Touched l.exponent l.rows l.rest l.first l.position l.fn.marks l.marks
+
+abbrev pub decreases-loop-rest : goal.decreases-loop-rest
+decreases-loop-rest l = length l.rest

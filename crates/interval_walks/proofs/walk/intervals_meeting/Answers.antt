@@ -3,8 +3,8 @@ use Rattle.std.specs.Prelude.{◌+ℤ◌, ◌-ℤ◌}
 use Rattle.std.specs.List.{AllByRecursion}
 use Rattle.std.specs.Int.{w64}
 use Rattle.std.proofs.lemmas.Int.{ints, to_z-of_z}
-use Rattle.arch_types.specs.declared.interval.Interval.{Interval}
-use Rattle.arch_types.specs.Interval.{interval_of}
+use Rattle.intervals.specs.declared.interval.Interval.{Interval}
+use Rattle.intervals.specs.Interval.{interval_of}
 use Rattle.late_marks.specs.Marks.{has_rows}
 use Rattle.interval_walks.specs.Turns.{IntervalsRise}
 use Rattle.interval_walks.proofs.Covering.{gap_less, rising_push, below_push, between_push, rows_push, covers_push, covers_all, all_meet, AllBelow, AllBetween, CoversTo}
@@ -40,14 +40,14 @@ pub returns-clause-cover : goal.returns-clause-cover
 returns-clause-cover c = λ history are.
     let is : List Interval = c.loop-interval.intervals.items in
     let at : ℤ = c.loop-interval.at.0 in
-    let first = subst (λ (n : ℤ). CoversTo c.args.tracker.now.marks n at is) (c.first_of-first.ensures ∙ ap (interval_of 22) (to_z-of_z w64 c.args.from c.ranges.from)) c.loop-interval.invariant.covers in
-    let none = subst (λ (n : ℤ). (j : Interval) → has_rows c.args.tracker.now.marks j ≡ true → at ≤ℤ j.0 → n <ℤ j.0) (c.last_of-last.ensures.number ∙ ap (λ (t : ℤ). interval_of 22 (t -ℤ pos 1)) (to_z-of_z w64 c.args.to c.ranges.to)) c.in_default.ensures.none in
-    covers_all c.args.tracker.now.marks c.args.from c.args.to at is first none c.args.tracker.now.fills history are
+    let first = subst (λ (n : ℤ). CoversTo c.args.tracker.now.marks n at is) (c.first_of-first.ensures ∙ ap (interval_of c.args.exponent) (to_z-of_z w64 c.args.from c.ranges.from)) c.loop-interval.invariant.covers in
+    let none = subst (λ (n : ℤ). (j : Interval) → has_rows c.args.tracker.now.marks j ≡ true → at ≤ℤ j.0 → n <ℤ j.0) (c.last_of-last.ensures.number ∙ ap (λ (t : ℤ). interval_of c.args.exponent (t -ℤ pos 1)) (to_z-of_z w64 c.args.to c.ranges.to)) c.in_default.ensures.none in
+    covers_all c.args.exponent c.args.tracker.now.marks c.args.from c.args.to at is first none c.args.tracker.now.fills history are
 
 pub returns-clause-meets : goal.returns-clause-meets
 returns-clause-meets c =
     let is : List Interval = c.loop-interval.intervals.items in
-    let first = c.first_of-first.ensures ∙ ap (interval_of 22) (to_z-of_z w64 c.args.from c.ranges.from) in
-    let last = c.last_of-last.ensures.number ∙ ap (λ (t : ℤ). interval_of 22 (t -ℤ pos 1)) (to_z-of_z w64 c.args.to c.ranges.to) in
+    let first = c.first_of-first.ensures ∙ ap (interval_of c.args.exponent) (to_z-of_z w64 c.args.from c.ranges.from) in
+    let last = c.last_of-last.ensures.number ∙ ap (λ (t : ℤ). interval_of c.args.exponent (t -ℤ pos 1)) (to_z-of_z w64 c.args.to c.ranges.to) in
     let between = subst (λ (n : ℤ). AllBetween n c.last_of-last.result.0 is) first c.loop-interval.invariant.between in
-    all_meet c.args.from c.args.to is (subst (λ (n : ℤ). AllBetween (interval_of 22 c.args.from) n is) last between)
+    all_meet c.args.exponent c.args.from c.args.to is (subst (λ (n : ℤ). AllBetween (interval_of c.args.exponent c.args.from) n is) last between)

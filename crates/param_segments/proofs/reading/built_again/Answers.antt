@@ -1,7 +1,7 @@
 use Rattle.std.proofs.Common.{◌≡◌, ◌∙◌, List, ap, map, subst, sym}
 use Rattle.std.specs.List.{AllByRecursion}
 use Rattle.std.specs.List.Sorted.{IsSortedBy, IsStrictlySortedBy}
-use Rattle.arch_types.specs.Interval.{interval_of}
+use Rattle.intervals.specs.Interval.{interval_of}
 use Rattle.arch_types.specs.Order.{key_cmp}
 use Rattle.param_segments.specs.declared.row_place.RowPlace.{RowPlace}
 use Rattle.param_segments.specs.Cells.{AreValuesOf}
@@ -36,8 +36,8 @@ returns-then-not-are_inside-clause-each c = λ rows is of. absurd (
     let sorted = c.sort.new.self.items in
     let up : IsSortedBy is_place_earlier sorted = λ k d low high. then_false _ _ (c.in_ok-sort.ensures.sorted k d low high) in
     let are = rows_again_sorted segments rows c.in_ok-places.places.items sorted is.rows of c.in_ok-places.ensures c.sort.ensures.permutation up in
-    let inside = inside_as_rows segments 22 c.args.interval.0 sorted (subst (AllByRecursion (λ (t : SetRow). interval_of 22 t.key.time ≡ c.args.interval.0)) (sym are) is.inside) in
-    let told = c.are_inside.ensures.1 (subst (AllByRecursion (λ (p : RowPlace). interval_of 22 p.key.time ≡ c.args.interval.0)) (sym c.deref-2.ensures.value) inside) in
+    let inside = inside_as_rows segments c.args.exponent c.args.interval.0 sorted (subst (AllByRecursion (λ (t : SetRow). interval_of c.args.exponent t.key.time ≡ c.args.interval.0)) (sym are) is.inside) in
+    let told = c.are_inside.ensures.1 (subst (AllByRecursion (λ (p : RowPlace). interval_of c.args.exponent p.key.time ≡ c.args.interval.0)) (sym c.deref-2.ensures.value) inside) in
     let not_so = c.if-not-are_inside.true in
     cc)
 
@@ -64,8 +64,8 @@ returns-clause-sound c =
     let inside = c.are_inside.ensures.0 c.if-not-are_inside.false in
     let placed : AllByRecursion (IsRowPlace segments) places = subst (AllByRecursion (IsRowPlace segments)) (sym c.deref-3.ensures.value) (sorted_inside segments c.in_ok-places.places.items c.sort.new.self.items c.requires.sound c.in_ok-places.ensures c.sort.ensures.permutation) in
     let values = placed_values db segments places c.requires.sound (c.are_segments_of.ensures.0 c.if-not-are_segments_of.false) placed in
-    set_is db 22 n segments places set are (subst AreSetRows (sym same) c.rows_are_sound.ensures)
-    (subst (AllByRecursion (λ (p : RowPlace). interval_of 22 p.key.time ≡ n)) (c.deref-2.ensures.value ∙ sym c.deref-3.ensures.value) inside) (subst (AreValuesOf db) (sym are) values)
+    set_is db c.args.exponent n segments places set are (subst AreSetRows (sym same) c.rows_are_sound.ensures)
+    (subst (AllByRecursion (λ (p : RowPlace). interval_of c.args.exponent p.key.time ≡ n)) (c.deref-2.ensures.value ∙ sym c.deref-3.ensures.value) inside) (subst (AreValuesOf db) (sym are) values)
 
 pub returns-clause-each : goal.returns-clause-each
 returns-clause-each c = λ rows is of.

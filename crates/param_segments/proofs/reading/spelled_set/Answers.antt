@@ -21,7 +21,7 @@ pub returns-in_err-segments-clause-each : goal.returns-in_err-segments-clause-ea
 returns-in_err-segments-clause-each c = λ rows is same.
     let short = c.fits_u32.ensures c.if-not-fits_u32.false in
     let p = err_from_is_err_and c.from_residual.result c.from_residual.ensures.1 in
-    rw (p.1, p.2) (c.in_err-segments.ensures.each (set_of rows) (known_segments c.args.mdb.now 22 c.args.interval.0 rows is) (few_segments rows c.args.octets.now short same) (same ∙ spelled_as_counted rows))
+    rw (p.1, p.2) (c.in_err-segments.ensures.each (set_of rows) (known_segments c.args.mdb.now c.args.exponent c.args.interval.0 rows is) (few_segments rows c.args.octets.now short same) (same ∙ spelled_as_counted rows))
 
 pub built_again-requires : goal.built_again-requires
 built_again-requires c = record {
@@ -32,14 +32,14 @@ built_again-requires c = record {
 pub returns-in_err-set-clause-each : goal.returns-in_err-set-clause-each
 returns-in_err-set-clause-each c = λ rows is same.
     let short = c.fits_u32.ensures c.if-not-fits_u32.false in
-    let segments = c.in_ok-segments.ensures.each (set_of rows) (known_segments c.args.mdb.now 22 c.args.interval.0 rows is) (few_segments rows c.args.octets.now short same) (same ∙ spelled_as_counted rows) in
+    let segments = c.in_ok-segments.ensures.each (set_of rows) (known_segments c.args.mdb.now c.args.exponent c.args.interval.0 rows is) (few_segments rows c.args.octets.now short same) (same ∙ spelled_as_counted rows) in
     let p = err_from_is_err_and c.from_residual-in_err-set.result c.from_residual-in_err-set.ensures.1 in
     rw (p.1, p.2) (c.in_err-set.ensures.each rows is (c.deref.ensures.value ∙ segments))
 
 pub returns-then-ne-clause-each : goal.returns-then-ne-clause-each
 returns-then-ne-clause-each c = λ rows is same. absurd (
     let short = c.fits_u32.ensures c.if-not-fits_u32.false in
-    let segments = c.in_ok-segments.ensures.each (set_of rows) (known_segments c.args.mdb.now 22 c.args.interval.0 rows is) (few_segments rows c.args.octets.now short same) (same ∙ spelled_as_counted rows) in
+    let segments = c.in_ok-segments.ensures.each (set_of rows) (known_segments c.args.mdb.now c.args.exponent c.args.interval.0 rows is) (few_segments rows c.args.octets.now short same) (same ∙ spelled_as_counted rows) in
     let made = c.in_ok-set.ensures.each rows is (c.deref.ensures.value ∙ segments) in
     let own : c.as_slice.result.now ≡ c.args.octets.now = c.as_slice.ensures ∙ c.in_ok-own.ensures.spelled ∙ ap set_octets made ∙ sym same in
     other_text c.as_slice.result.now c.args.octets.now (unlike _ (sym c.ne.ensures ∙ c.if-ne.true)) own)
@@ -52,5 +52,5 @@ returns-clause-spelled c =
 pub returns-clause-each : goal.returns-clause-each
 returns-clause-each c = λ rows is same.
     let short = c.fits_u32.ensures c.if-not-fits_u32.false in
-    let segments = c.in_ok-segments.ensures.each (set_of rows) (known_segments c.args.mdb.now 22 c.args.interval.0 rows is) (few_segments rows c.args.octets.now short same) (same ∙ spelled_as_counted rows) in
+    let segments = c.in_ok-segments.ensures.each (set_of rows) (known_segments c.args.mdb.now c.args.exponent c.args.interval.0 rows is) (few_segments rows c.args.octets.now short same) (same ∙ spelled_as_counted rows) in
     c.in_ok-set.ensures.each rows is (c.deref.ensures.value ∙ segments)

@@ -1,5 +1,5 @@
 use Rattle.std.proofs.Common.{◌≡◌, List, length, true, sym, ◌∙◌, ap, subst, arith}
-use Rattle.arch_types.specs.declared.interval.Interval.{Interval}
+use Rattle.intervals.specs.declared.interval.Interval.{Interval}
 use Rattle.history_items.specs.declared.fills.Fill.{Fill}
 use Rattle.history_items.specs.declared.fills.Fill.TheVariants.{Done}
 use Rattle.history_items.specs.FillList.{flights_without, flights_of}
@@ -20,10 +20,10 @@ invariant_of-self c =
     }
 
 pub returns-clause-marks : goal.returns-clause-marks
-returns-clause-marks c = λ history are.
+returns-clause-marks c = λ exponent history are.
     let s = c.self.inside in
     let i : Interval = c.args.interval in
-    let mine = subst (λ (x : FillTrackerView). AreMarksOf 22 history x.fills x.marks) (sym c.self.view_is) are in
+    let mine = subst (λ (x : FillTrackerView). AreMarksOf exponent history x.fills x.marks) (sym c.self.view_is) are in
     let rows = subst (λ (x : FillTrackerView). has_rows x.marks i ≡ true) (sym c.self.view_is) c.requires.rows in
-    subst (λ (f : List Fill). AreMarksOf 22 history f c.free.new.self) (sym c.push_reserved.ensures.items)
-    (finished 22 history s.items.items s.marks c.filled.new.self c.free.new.self i c.args.base mine rows c.filled.ensures.marked c.free.ensures.marked)
+    subst (λ (f : List Fill). AreMarksOf exponent history f c.free.new.self) (sym c.push_reserved.ensures.items)
+    (finished exponent history s.items.items s.marks c.filled.new.self c.free.new.self i c.args.base mine rows c.filled.ensures.marked c.free.ensures.marked)

@@ -1,6 +1,6 @@
 use Rattle.std.proofs.Common.{◌≡◌, List, length, true, false, sym, ◌∙◌, ap, subst, arith}
 use Rattle.std.specs.List.{list_any}
-use Rattle.arch_types.specs.declared.interval.Interval.{Interval}
+use Rattle.intervals.specs.declared.interval.Interval.{Interval}
 use Rattle.history_items.specs.declared.fills.Fill.{Fill}
 use Rattle.history_items.specs.declared.fills.Fill.TheVariants.{Freed}
 use Rattle.history_items.specs.FillList.{flights_without, flights_of}
@@ -37,14 +37,14 @@ returns-then-is_among-clause-room c =
     omega (arith, c.push_reserved.ensures.len, c.push_reserved.ensures.capacity, c.take_out.new.flights.ok.0, s.flights.ok.0, ap length c.take_out.ensures.items, fewer_without i s.flights.items among, k.places, ap (λ (x : FillTrackerView). x.room) c.self.view_is)
 
 pub returns-then-is_among-clause-marks : goal.returns-then-is_among-clause-marks
-returns-then-is_among-clause-marks c = λ history are.
+returns-then-is_among-clause-marks c = λ exponent history are.
     let s = c.self.inside in
     let k = c.self.invariant in
     let i : Interval = c.args.interval in
     let among : list_any (is_same i) s.flights.items ≡ true = ap (list_any (is_same i)) (sym c.as_slice.ensures.value) ∙ sym c.is_among.ensures ∙ c.if-is_among.true in
-    let mine = subst (λ (x : FillTrackerView). AreMarksOf 22 history x.fills x.marks) (sym c.self.view_is) are in
-    subst (λ (f : List Fill). AreMarksOf 22 history f c.free.new.self) (sym c.push_reserved.ensures.items)
-    (let_go 22 history s.items.items s.marks c.free.new.self i mine (flies i s.items.items s.flights.items k.flights_are among) c.free.ensures.marked)
+    let mine = subst (λ (x : FillTrackerView). AreMarksOf exponent history x.fills x.marks) (sym c.self.view_is) are in
+    subst (λ (f : List Fill). AreMarksOf exponent history f c.free.new.self) (sym c.push_reserved.ensures.items)
+    (let_go exponent history s.items.items s.marks c.free.new.self i mine (flies i s.items.items s.flights.items k.flights_are among) c.free.ensures.marked)
 
 pub returns-else-is_among-clause-fills : goal.returns-else-is_among-clause-fills
 returns-else-is_among-clause-fills c =

@@ -1,4 +1,4 @@
-use Rattle.std.proofs.Common.{◌≡◌, List, true, subst}
+use Rattle.std.proofs.Common.{ℕ, ◌≡◌, List, true, subst}
 use Rattle.std.specs.Prelude.{◌↔◌}
 use Rattle.history_items.specs.Items.{Item}
 use Rattle.history_items.specs.Late.{IsLate}
@@ -9,5 +9,5 @@ use Rattle.fill_tracker.proofs.tracker.FillTracker.is_late.Goals as goal
 pub returns : goal.returns
 returns c =
     let s = c.self.inside in
-    subst (λ (x : FillTrackerView). (history : List Item) → AreMarksOf 22 history x.fills x.marks → (c.is_late.result ≡ true) ↔ IsLate 22 c.args.interval history x.fills) c.self.view_is
-    (λ history are. late_true 22 history s.items.items s.marks are c.args.interval c.is_late.result c.is_late.ensures.mark)
+    subst (λ (x : FillTrackerView). (exponent : ℕ) (history : List Item) → AreMarksOf exponent history x.fills x.marks → (c.is_late.result ≡ true) ↔ IsLate exponent c.args.interval history x.fills) c.self.view_is
+    (λ exponent history are. late_true exponent history s.items.items s.marks are c.args.interval c.is_late.result c.is_late.ensures.mark)

@@ -1,4 +1,4 @@
-use Rattle.std.proofs.Common.{◌≡◌, List, subst, ap, ◌∙◌}
+use Rattle.std.proofs.Common.{ℕ, ◌≡◌, List, subst, ap, ◌∙◌}
 use Rattle.std.specs.Option.{is_some}
 use Rattle.history_items.specs.Items.{Item}
 use Rattle.history_items.specs.Late.{last_in}
@@ -10,8 +10,8 @@ use Rattle.fill_tracker.proofs.tracker.FillTracker.last.Goals as goal
 pub returns-clause-last : goal.returns-clause-last
 returns-clause-last c =
     let s = c.self.inside in
-    subst (λ (x : FillTrackerView). (history : List Item) → AreMarksOf 22 history x.fills x.marks → c.last.result ≡ last_in 22 c.args.interval history) c.self.view_is
-    (λ history are. c.last.ensures ∙ last_is 22 history s.items.items s.marks are c.args.interval)
+    subst (λ (x : FillTrackerView). (exponent : ℕ) (history : List Item) → AreMarksOf exponent history x.fills x.marks → c.last.result ≡ last_in exponent c.args.interval history) c.self.view_is
+    (λ exponent history are. c.last.ensures ∙ last_is exponent history s.items.items s.marks are c.args.interval)
 
 pub returns-clause-rows : goal.returns-clause-rows
 returns-clause-rows c =

@@ -15,7 +15,7 @@ loop-interval-preserved c =
     let inv = c.loop-interval.invariant in
     let at = sym c.first.ensures ∙ c.in-Some.is in record {
       settles = ap all_freed c.free.ensures.fills ∙ settles_more c.loop-interval.self.fills c.in-Some.interval at ∙ inv.settles;
-      marks = λ history are. c.free.ensures.marks history (inv.marks history are);
+      marks = λ exponent history are. c.free.ensures.marks exponent history (inv.marks exponent history are);
     }
 
 pub returns-clause-fills : goal.returns-clause-fills

@@ -17,8 +17,8 @@ pub returns-clause-sound : goal.returns-clause-sound
 returns-clause-sound c =
     let db = c.args.mdb.now in
     let rows = c.args.rows.now in
-    IfOk-weaker c.set.result (λ (s : List SetRow). s ≡ c.put_extracted.new.builder) (IsSetOf db 22 c.args._interval.0)
-    (λ s e. built_is db 22 c.args._interval.0 rows s c.is_sound.ensures (e ∙ c.in_ok-put_extracted.ensures ∙ ap (extracted_rows db) c.as_slice.ensures) (subst (AllByRecursion IsSetRow) (sym e) c.rows_are_sound.ensures.each) c.requires.rising c.requires.inside) c.set.ensures
+    IfOk-weaker c.set.result (λ (s : List SetRow). s ≡ c.put_extracted.new.builder) (IsSetOf db c.args._exponent c.args._interval.0)
+    (λ s e. built_is db c.args._exponent c.args._interval.0 rows s c.is_sound.ensures (e ∙ c.in_ok-put_extracted.ensures ∙ ap (extracted_rows db) c.as_slice.ensures) (subst (AllByRecursion IsSetRow) (sym e) c.rows_are_sound.ensures.each) c.requires.rising c.requires.inside) c.set.ensures
 
 pub returns-clause-cells : goal.returns-clause-cells
 returns-clause-cells c =

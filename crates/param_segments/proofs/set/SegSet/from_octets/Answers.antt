@@ -14,7 +14,7 @@ returns-in_err-own-clause-each c = λ rows is same.
 
 pub returns-clause-spelled : goal.returns-clause-spelled
 returns-clause-spelled c =
-    (subst (IsSetOf c.args.mdb.now 22 c.args.interval.0) (sym c.over.ensures.same) c.in_ok-own.ensures.spelled.0, sym c.as_slice.ensures ∙ c.in_ok-own.ensures.spelled.1 ∙ ap set_octets (sym c.over.ensures.same))
+    (subst (IsSetOf c.args.mdb.now c.args.exponent c.args.interval.0) (sym c.over.ensures.same) c.in_ok-own.ensures.spelled.0, sym c.as_slice.ensures ∙ c.in_ok-own.ensures.spelled.1 ∙ ap set_octets (sym c.over.ensures.same))
 
 pub returns-clause-each : goal.returns-clause-each
 returns-clause-each c = λ rows is same. c.over.ensures.same ∙ c.in_ok-own.ensures.each rows is (c.as_slice.ensures ∙ same)

@@ -3,9 +3,9 @@ use Rattle.std.specs.Prelude.{set, IfNone}
 use Rattle.std.specs.Arc.{arc_value}
 use Rattle.std.specs.BTreeMap.{insert_entry}
 use Rattle.block_map.specs.Index.{IsAdded}
-use Rattle.arch_types.specs.declared.interval.Interval.{Interval}
+use Rattle.intervals.specs.declared.interval.Interval.{Interval}
 use Rattle.store_fills.specs.Sound.{with_filling}
-use Rattle.arch_types.specs.Interval.{interval_cmp}
+use Rattle.intervals.specs.Interval.{interval_cmp}
 use Rattle.store_fills.specs.declared.sets.FilledSlot.{FilledSlot}
 use Rattle.store_fills.specs.FilledSets.{FilledSetsView, ArePlaced, place_in, fill_over, filling_at, fillings_in}
 use Rattle.store_fills.proofs.SlotPlaces.{fillings_new, placed_new, fillings_set}
