@@ -3,24 +3,26 @@ use Rattle.std.proofs.Common.{◌≡◌, ◌∙◌, ◌+◌, ◌<◌, ◌⊎◌,
 use Rattle.std.specs.Prelude.{Result, Ok, Err, unwrap_or}
 use Rattle.std.specs.Arc.{arc_value}
 use Rattle.arch_disk.specs.Disk.{Device}
-use Rattle.arch_types.specs.declared.ask.Ask.{Ask}
-use Rattle.arch_types.specs.declared.ask.Ask.TheVariants.{Values}
-use Rattle.arch_types.specs.declared.ask.Request.{Request}
+use Rattle.asks.specs.declared.ask.Ask.{Ask}
+use Rattle.asks.specs.declared.ask.Ask.TheVariants.{Values}
+use Rattle.asks.specs.declared.ask.Answer.{Answer}
 use Rattle.arch_types.specs.declared.cell.Cell.{Cell}
-use Rattle.arch_types.specs.declared.refusal.Refusal.{Refusal}
-use Rattle.arch_types.specs.declared.refusal.Refusal.TheVariants.{OutOfMemory, WriteFault}
-use Rattle.arch_types.specs.declared.refusal.Which.TheVariants.{SheetOctets}
+use Rattle.refusals.specs.declared.refusal.Refusal.{Refusal}
+use Rattle.refusals.specs.declared.refusal.Refusal.TheVariants.{OutOfMemory, WriteFault}
+use Rattle.refusals.specs.declared.refusal.Which.TheVariants.{SheetOctets}
 use Rattle.archive_store.specs.declared.head.Head.{Head}
 use Rattle.archive_store.specs.Entries.{FilledArchive}
+use Rattle.archive_store.specs.declared.finding.FoundRequest.{FoundRequest}
+use Rattle.archive_store.specs.Finding.{IsRequestFound}
 use Rattle.command_plans.specs.Plan.{OfMemory, OfInputs, CommandPlan, Way, Returned, Stopped, Interrupted, Allows, IsDetermined, and_then, map_done, way_map_done}
 use Rattle.command_plans.proofs.Plans.{allows_map_done, cut, determined, determined_map_done, ended, gave}
-use Rattle.dump_lines.specs.declared.print_fault.PrintFault.{PrintFault}
-use Rattle.dump_lines.specs.declared.print_fault.PrintFault.TheVariants as unprinted
-use Rattle.dump_lines.specs.Output.{IsBuffered, IsFinished, PrintCounted, WritesCounted}
+use Rattle.outer_traits.specs.declared.print_fault.PrintFault.{PrintFault}
+use Rattle.outer_traits.specs.declared.print_fault.PrintFault.TheVariants as unprinted
+use Rattle.dump_lines.specs.Output.{IsBuffered, PrintCounted}
+use Rattle.archive_cli.specs.Finishing.{IsFinished, WritesCounted}
 use Rattle.dump_lines.proofs.LineBuffers.{buffered_all, wrote_then}
 use Rattle.input_plans.specs.Inputs.{AnsweredByPlan, WasRead}
 use Rattle.input_plans.proofs.Inputs.{reads_determined}
-use Rattle.mdb_items.specs.Checks.{or_else}
 use Rattle.mdb_items.specs.Database.{Database}
 use Rattle.mdb_sheets.specs.Asks.{asks_of}
 use Rattle.mdb_sheets.specs.Plans.{ask_sheet_plan}
@@ -29,9 +31,8 @@ use Rattle.outer_traits.specs.States.{InputsState}
 use Rattle.outer_ledgers.specs.Ledger.{UsedInputs}
 use Rattle.outer_ledgers.proofs.Ledgers.{used_inputs_then}
 use Rattle.retrieval.specs.AnswerText.{answer_lines}
-use Rattle.retrieval.specs.AskText.{ask_refusal, asks_refusal}
-use Rattle.retrieval.specs.declared.answer.ParameterAnswer.{ParameterAnswer}
-use Rattle.retrieval.specs.FilledAnswer.{IsParameterAnswer, filled_answer}
+use Rattle.retrieval.specs.AskText.{asks_refusal}
+use Rattle.retrieval.specs.FilledAnswer.{IsFilledAnswer, filled_answer}
 use Rattle.archive_cli.specs.Asks.{AreAnswerable, ArePrinted, AreRefused, after_asks_check, archive_ask_text, archive_asks_text, asked_plan, asks_check_plan, print_refusal, with_sources}
 use Rattle.archive_cli.specs.Command.{Progress, Effects, EndedAt, HasEffects, Ran, RanOver, failed_at, nothing_done, sources_at}
 use Rattle.archive_cli.specs.Report.{unopened}
@@ -138,15 +139,6 @@ module _ (s : Progress) (head : Head) where
 
 -- ---- asks one after the other
 
-or_none : (o p : Option Refusal) → or_else o p ≡ None → (o ≡ None) × (p ≡ None)
-or_none None p e = (refl, e)
-or_none (Some refusal) p e = absurd (cc (e))
-
--- where no ask is refused, neither is the first, nor another
-pub first_known : (head : Head) (asks : List Ask) (ask : Ask) (rest : List Ask) → asks ≡ ask ∷ rest → asks_refusal head asks ≡ None →
-    (ask_refusal head ask ≡ None) × (asks_refusal head rest ≡ None)
-first_known head asks ask rest e known = or_none (ask_refusal head ask) (asks_refusal head rest) (ap (asks_refusal head) (sym e) ∙ known)
-
 -- the text of the first ask, beside what is buffered
 pub next_text : (filled : FilledArchive) (k : ℕ) (first now : Option (List ℕ)) (all held : List ℕ) (asks : List Ask) (ask : Ask) (rest : List Ask) → asks ≡ ask ∷ rest →
     IsBuffered first now all (held ++ archive_asks_text filled k asks) → IsBuffered first now all ((held ++ archive_ask_text filled k ask) ++ archive_asks_text filled (k + 1) rest)
@@ -160,17 +152,17 @@ next_text filled k first now all held asks ask rest e h =
 
 -- ---- what is printed
 
--- the lines of the answer that was found are the text of its ask
-pub found_text : (filled : FilledArchive) (k : ℕ) (request : Request) (found : ParameterAnswer) → IsParameterAnswer filled.plain.head.mdb filled.plain.history filled.fillings request found →
-    answer_lines k found.answer.front (arc_value found.mdb) found.number found.answer.cells ≡ archive_ask_text filled k (Values request)
-found_text filled k request found is =
+-- the lines of the answer to a request that was found are the text of its ask
+pub found_text : (filled : FilledArchive) (k : ℕ) (found : FoundRequest) (answer : Answer) → IsRequestFound filled.plain.head.mdb found → IsFilledAnswer filled.plain.head.mdb filled.plain.history filled.fillings found answer →
+    answer_lines k answer.front (arc_value found.mdb) found.number answer.cells ≡ archive_ask_text filled k (Values found.request)
+found_text filled k found answer at is =
     let db = filled.plain.head.mdb in
     let history = filled.plain.history in
     let fillings = filled.fillings in
-    ap (λ (n : ℕ). answer_lines k n (arc_value found.mdb) found.number found.answer.cells) is.front
-    ∙ ap (λ (d : Database). answer_lines k (length history) d found.number found.answer.cells) is.mdb
+    ap (λ (n : ℕ). answer_lines k n (arc_value found.mdb) found.number answer.cells) is.front
+    ∙ ap (λ (d : Database). answer_lines k (length history) d found.number answer.cells) at.mdb
     ∙ ap (λ (cells : List Cell). answer_lines k (length history) db found.number cells) is.cells
-    ∙ sym (ap (λ (o : Option ℕ). answer_lines k (length history) db (unwrap_or o 0) (filled_answer db (unwrap_or o 0) request history fillings)) is.number)
+    ∙ sym (ap (λ (o : Option ℕ). answer_lines k (length history) db (unwrap_or o 0) (filled_answer db (unwrap_or o 0) found.request history fillings)) at.number)
 
 -- all went on, or not to its end
 pub finished_text : (asks : List Ask) (refusal : Option Refusal) (before mid now : Option (List ℕ)) (text left : List ℕ) → IsBuffered before mid text left → IsFinished refusal mid now left →

@@ -2,15 +2,16 @@
 use Rattle.std.proofs.Common.{◌≡◌, inl, inr, ℕ, ◌≤◌, true, false, List, [], Option, Some, None, refl, sym, ap, append-nil, arith}
 use Rattle.std.specs.Prelude.{IsTrue}
 use Rattle.arch_disk.specs.Disk.{Device, LeavesOnly}
-use Rattle.arch_types.specs.declared.refusal.Refusal.{Refusal}
-use Rattle.arch_types.specs.declared.refusal.Refusal.TheVariants.{NoArchive, Damaged, DiskFault, OutOfMemory, WriteFault}
+use Rattle.refusals.specs.declared.refusal.Refusal.{Refusal}
+use Rattle.refusals.specs.declared.refusal.Refusal.TheVariants.{NoArchive, Damaged, DiskFault, OutOfMemory, WriteFault}
 use Rattle.archive_store.specs.Calls.{IsStoreOpenRefusal}
 use Rattle.archive_store.specs.Entries.{FilledArchive}
 use Rattle.archive_store.specs.Stands.{StandsFilled}
 use Rattle.disk_journal.specs.Calls.{CountsNeverFall, IsJournalOpenFailed}
 use Rattle.command_plans.specs.Plan.{Interruption, OfMemory, OfInputs, OfDisk, OfOutput, CommandPlan, May, Way, Returned, Stopped, Interrupted, Allows, IsDetermined, IsDue, refusal_at, and_then}
 use Rattle.command_plans.proofs.Plans.{required, gave}
-use Rattle.dump_lines.specs.Output.{Appends, IsFinished, WritesCounted}
+use Rattle.dump_lines.specs.Output.{Appends}
+use Rattle.archive_cli.specs.Finishing.{IsFinished, WritesCounted}
 use Rattle.outer_traits.specs.States.{InputsState, OutputState}
 use Rattle.outer_ledgers.specs.Ledger.{UsedDisk}
 use Rattle.outer_ledgers.proofs.Ledgers.{risen_counted}

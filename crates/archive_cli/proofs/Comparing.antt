@@ -2,9 +2,9 @@
 use Rattle.std.proofs.Common.{◌≡◌, ◌∙◌, inl, inr, ℕ, false, List, length, Option, Some, None, refl, sym, ap}
 use Rattle.std.specs.Prelude.{IsTrue, map, slice_get}
 use Rattle.arch_disk.specs.Disk.{Device}
-use Rattle.arch_types.specs.declared.refusal.Refusal.{Refusal}
-use Rattle.arch_types.specs.declared.refusal.Refusal.TheVariants.{Mismatch, OutOfMemory}
-use Rattle.arch_types.specs.declared.interval.Interval.{Interval}
+use Rattle.refusals.specs.declared.refusal.Refusal.{Refusal}
+use Rattle.refusals.specs.declared.refusal.Refusal.TheVariants.{Mismatch, OutOfMemory}
+use Rattle.intervals.specs.declared.interval.Interval.{Interval}
 use Rattle.history_items.specs.Fills.{base_in}
 use Rattle.store_fills.specs.FilledSets.{fillings_in}
 use Rattle.store_fills.specs.Sound.{base_of_filling}

@@ -1,7 +1,7 @@
 -- How the rest of a dump is answered.
 use Rattle.std.proofs.Common.{◌≡◌, ℕ, ◌-◌, List, [], ◌∷◌, length, Some, arith}
-use Rattle.arch_types.specs.declared.refusal.Refusal.TheVariants.{BadPacket}
-use Rattle.arch_types.specs.declared.refusal.BadKind.{BadKind}
+use Rattle.refusals.specs.declared.refusal.Refusal.TheVariants.{BadPacket}
+use Rattle.refusals.specs.declared.refusal.BadKind.{BadKind}
 use Rattle.archive_cli.specs.DumpRest.{ending_of_rest}
 use Rattle.archive_cli.specs.ReadDump.{IsBadRest}
 

@@ -6,7 +6,7 @@ use Rattle.std.specs.Option.{option_map_or}
 use Rattle.std.proofs.Math.Path.{fun_ext}
 use Rattle.arch_disk.specs.Image.{Image}
 use Rattle.arch_disk.specs.Disk.{Device, raised}
-use Rattle.arch_types.specs.declared.interval.Interval.{Interval}
+use Rattle.intervals.specs.declared.interval.Interval.{Interval}
 use Rattle.history_items.specs.declared.fills.Addition.TheVariants.{Nothing}
 use Rattle.history_items.specs.declared.fills.Fill.{Fill}
 use Rattle.history_items.specs.declared.fills.Fill.TheVariants.{Begun, Done, Fault, Freed}
@@ -25,7 +25,7 @@ use Rattle.archive_store.specs.Stands.{StandsFor}
 use Rattle.archive_store.specs.StoreView.{CrashInvariant, FaultInvariant, IsKeptWithFills, StoreView, archive_of, filled_of}
 use Rattle.archive_store.proofs.PlainLog.{kept_rows}
 use Rattle.archive_verify.specs.Verified.{late_in_archive}
-use Rattle.arch_types.specs.declared.refusal.Refusal.TheVariants.{DiskFault}
+use Rattle.refusals.specs.declared.refusal.Refusal.TheVariants.{DiskFault}
 use Rattle.load_session.specs.Session.{OneOrTwo}
 use Rattle.outer_ledgers.specs.Ledger.{UsedDisk, UsedWithoutFailedWrite}
 use Rattle.archive_cli.specs.Command.{AllFilled, Extended, FillingFailed, HasDiskOutcome}

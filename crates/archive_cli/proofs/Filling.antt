@@ -8,11 +8,11 @@ use Rattle.std.proofs.lemmas.Option.{slice_get_within}
 use Rattle.arch_disk.specs.Disk.{Device, raised}
 use Rattle.arch_types.specs.declared.inserted.Installed.{Installed}
 use Rattle.arch_types.specs.declared.inserted.Installed.TheVariants.{Done as BecameDone, Stale}
-use Rattle.arch_types.specs.declared.interval.Interval.{Interval}
-use Rattle.arch_types.specs.declared.refusal.Refusal.{Refusal}
-use Rattle.arch_types.specs.declared.refusal.Refusal.TheVariants.{DiskFault, Limit, NeedsReopen, OutOfMemory}
-use Rattle.arch_types.specs.declared.refusal.Which.TheVariants.{Records}
-use Rattle.arch_types.specs.Limits.{limit_of}
+use Rattle.intervals.specs.declared.interval.Interval.{Interval}
+use Rattle.refusals.specs.declared.refusal.Refusal.{Refusal}
+use Rattle.refusals.specs.declared.refusal.Refusal.TheVariants.{DiskFault, Limit, NeedsReopen, OutOfMemory}
+use Rattle.refusals.specs.declared.refusal.Which.TheVariants.{Records}
+use Rattle.refusals.specs.Limits.{limit_of}
 use Rattle.history_items.specs.declared.fills.Addition.TheVariants.{Nothing}
 use Rattle.history_items.specs.declared.fills.Fill.{Fill}
 use Rattle.history_items.specs.declared.fills.Fill.TheVariants.{Begun, Done, Fault, Freed}

@@ -1,8 +1,8 @@
 -- How the plan goes by which a command fills what is late.
 use Rattle.std.proofs.Common.{◌≡◌, inl, inr, ℕ, false, true, List, length, Option, Some, None, refl, sym, ◌∙◌, ap, subst}
 use Rattle.arch_disk.specs.Disk.{Device}
-use Rattle.arch_types.specs.declared.refusal.Refusal.{Refusal}
-use Rattle.arch_types.specs.declared.refusal.Refusal.TheVariants.{DiskFault, Limit, OutOfMemory}
+use Rattle.refusals.specs.declared.refusal.Refusal.{Refusal}
+use Rattle.refusals.specs.declared.refusal.Refusal.TheVariants.{DiskFault, Limit, OutOfMemory}
 use Rattle.command_plans.specs.Plan.{OfMemory, OfDisk, OfOutput, Allows, CommandPlan, EachEnd, Interrupted, IsDetermined, Stopped}
 use Rattle.history_items.specs.Items.{Item}
 use Rattle.interval_walks.specs.Counts.{late_intervals}

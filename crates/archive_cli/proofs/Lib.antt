@@ -18,4 +18,5 @@ pub mod load_command
 pub mod RunPlan
 pub mod Openings
 pub mod ScriptAnswers
+pub mod ScriptLimits
 pub mod Comparing

@@ -2,15 +2,15 @@
 use Rattle.std.proofs.Common.{◌≡◌, ◌≤◌, inl, ℕ, zero, suc, false, true, List, length, Option, Some, None, refl, sym, ◌∙◌, ap}
 use Rattle.std.specs.Prelude.{IsTrue}
 use Rattle.arch_disk.specs.Disk.{Device}
-use Rattle.arch_types.specs.declared.refusal.Refusal.{Refusal}
-use Rattle.arch_types.specs.declared.refusal.Refusal.TheVariants.{DiskFault, Limit, OutOfMemory}
+use Rattle.refusals.specs.declared.refusal.Refusal.{Refusal}
+use Rattle.refusals.specs.declared.refusal.Refusal.TheVariants.{DiskFault, Limit, OutOfMemory}
 use Rattle.interval_walks.specs.Counts.{late_intervals}
 use Rattle.archive_store.specs.Entries.{FilledArchive}
 use Rattle.archive_store.specs.StoreView.{StoreView, filled_of}
 use Rattle.archive_verify.specs.Verified.{late_in_archive}
 use Rattle.command_plans.specs.Plan.{OfMemory, CommandPlan, EachEnd, Interrupted, IsDetermined}
 use Rattle.command_plans.proofs.Plans.{determined, each_end}
-use Rattle.dump_lines.specs.Output.{IsFinished, WritesCounted}
+use Rattle.archive_cli.specs.Finishing.{IsFinished, WritesCounted}
 use Rattle.archive_cli.specs.Command.{AllFilled, Effects, Extended, FillingFailed, HasDiskOutcome, Opened, Progress, Ran, archive_opened, opening_plan, printing_plan}
 use Rattle.archive_cli.specs.Filling.{IsFillTakenBack, IsFillingRefusal, IsUnfailed, filling_refusal}
 use Rattle.archive_cli.specs.FillingPlan.{IsRecordCount, all_filled}

@@ -1,8 +1,8 @@
 -- How the program goes through its plan: words, a job, and the job's own plan.
 use Rattle.std.proofs.Common.{◌≡◌, ◌∙◌, inl, inr, ℕ, ℤ, List, Option, Some, None, refl, sym, subst}
 use Rattle.arch_disk.specs.Disk.{Device}
-use Rattle.arch_types.specs.declared.refusal.Refusal.{Refusal}
-use Rattle.arch_types.specs.declared.refusal.Refusal.TheVariants.{OutOfMemory, Usage}
+use Rattle.refusals.specs.declared.refusal.Refusal.{Refusal}
+use Rattle.refusals.specs.declared.refusal.Refusal.TheVariants.{OutOfMemory, Usage}
 use Rattle.outer_traits.specs.Outside.{Files}
 use Rattle.command_plans.specs.Plan.{OfMemory, IsDue, Requires, Stopped, Interrupted}
 use Rattle.command_words.specs.declared.job.Job.{Job}

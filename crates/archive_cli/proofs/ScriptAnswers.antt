@@ -1,35 +1,42 @@
 -- What the text of a script stands for.
 use Rattle.std.proofs.Common.{◌≡◌, ◌≢◌, ◌⊎◌, ◌∙◌, inl, inr, ℕ, List, [], Option, Some, None, refl, sym, ap}
-use Rattle.std.specs.Prelude.{IfErr, IfOk, Result, Ok, Err}
-use Rattle.arch_types.specs.declared.refusal.Refusal.{Refusal}
-use Rattle.arch_types.specs.declared.refusal.Refusal.TheVariants.{BadSql, Limit, OutOfMemory}
+use Rattle.std.specs.Prelude.{option_map, Result, Ok, Err}
+use Rattle.refusals.specs.declared.refusal.Refusal.{Refusal}
+use Rattle.refusals.specs.declared.refusal.Refusal.TheVariants.{OutOfMemory}
 use Rattle.command_plans.specs.Plan.{IsDetermined}
-use Rattle.ssql_parse.specs.Parsing.{IsParseRefusal, IsScriptOf, WrittenScript}
+use Rattle.ssql_parse.specs.declared.not_a_script.NotAScript.{NotAScript}
+use Rattle.ssql_parse.specs.declared.not_a_script.NotAScript.TheVariants as unread
+use Rattle.ssql_parse.specs.Parsing.{IsNotAScript, IsScriptOf, WrittenScript}
 use Rattle.ssql_parse.proofs.OneAnswer.{one_refusal, one_script, script_or_refusal}
 use Rattle.ssql_types.specs.declared.place.ScriptPlace.{ScriptPlace}
 use Rattle.ssql_types.specs.declared.statement.TypedStatement.{TypedStatement}
 use Rattle.ssql_types.specs.Typed.{typed_script}
-use Rattle.ssql_types.specs.Typing.{IsScriptRefusal, script_refusal}
-use Rattle.archive_cli.specs.Scripts.{IsScriptAnswer, OrNoMemory, after_answer, script_plan}
+use Rattle.ssql_types.specs.declared.not_typed.NotTyped.{NotTyped}
+use Rattle.ssql_types.specs.Typing.{IsNotTyped}
+use Rattle.archive_cli.specs.Scripts.{IsParseRefusal, IsScriptAnswer, after_answer, refusal_of_text, refusal_of_typing, script_plan, script_refusal}
 
 module _ (place : ScriptPlace) (tables names : List (List ℕ)) (text : List ℕ) where
   -- a text that spells no script is refused so
-  pub not_parsed : (refusal : Refusal) → IsParseRefusal text refusal → (refusal ≡ OutOfMemory) ⊎ IsScriptAnswer place tables names text (Err refusal)
-  not_parsed (Limit which number) is = inr (inl (is, λ same. absurd (cc (same))))
-  not_parsed (BadSql at rule) is = inr (inl (is, λ same. absurd (cc (same))))
-  not_parsed OutOfMemory is = inl refl
-  not_parsed other is = absurd is
+  pub not_parsed : (why : NotAScript) → IsNotAScript text why → (refusal_of_text why ≡ OutOfMemory) ⊎ IsScriptAnswer place tables names text (Err (refusal_of_text why))
+  not_parsed (unread.Limit quantity) is = inr (inl ((unread.Limit quantity, is, refl), λ same. absurd (cc (same))))
+  not_parsed (unread.BadSql at rule) is = inr (inl ((unread.BadSql at rule, is, refl), λ same. absurd (cc (same))))
+  not_parsed unread.OutOfMemory is = inl refl
 
-  -- one that spells a script is answered by it
-  pub parsed : (script : WrittenScript) → IsScriptOf text script → (result : Result (List TypedStatement) Refusal) → IfOk result (λ typed. script_refusal place tables script ≡ None) →
-      IfOk result (λ typed. typed ≡ typed_script tables names [] script.statements) → IfErr result (IsScriptRefusal place tables script) →
-      OrNoMemory (IsScriptAnswer place tables names text) result
-  parsed script reads (Ok typed) sound is refused = (script, reads, sound, is)
-  parsed script reads (Err refusal) sound is (inl memory) = inl memory
-  parsed script reads (Err refusal) sound is (inr wrong) = inr (inr (script, reads, wrong))
+  -- one that spells a script in which something is wrong is refused for that
+  pub not_typed : (script : WrittenScript) (why : NotTyped) → IsScriptOf text script → IsNotTyped place tables script why →
+      (refusal_of_typing why ≡ OutOfMemory) ⊎ IsScriptAnswer place tables names text (Err (refusal_of_typing why))
+  not_typed script why reads (inl memory) = inl (ap refusal_of_typing memory)
+  not_typed script why reads (inr wrong) = inr (inr (script, reads, ap (option_map refusal_of_typing) wrong))
 
   refusal_of_script : (script : WrittenScript) (a : Refusal) → IsScriptOf text script → IsParseRefusal text a × (a ≢ OutOfMemory) → ⊥
-  refusal_of_script script a reads h = h.1 (script_or_refusal text script a reads h.0)
+  refusal_of_script script a reads h = h.1 (h.0.2 ∙ ap refusal_of_text (script_or_refusal text script h.0.0 reads h.0.1))
+
+  -- but for want of memory, a text is refused in one way
+  one_parse_refusal : (a b : Refusal) → IsParseRefusal text a → IsParseRefusal text b → (a ≡ OutOfMemory) ⊎ ((b ≡ OutOfMemory) ⊎ (a ≡ b))
+  one_parse_refusal a b h k = elim (one_refusal text h.0 k.0 h.1 k.1) [
+    | inl memory ↦ inl (h.2 ∙ ap refusal_of_text memory)
+    | inr more ↦ elim more [ inl memory ↦ inr (inl (k.2 ∙ ap refusal_of_text memory)) | inr is ↦ inr (inr (h.2 ∙ ap refusal_of_text is ∙ sym k.2)) ]
+  ]
 
   same_refusal : (a b : WrittenScript) → a ≡ b → (x y : Option Refusal) → script_refusal place tables a ≡ x → script_refusal place tables b ≡ y → x ≡ y
   same_refusal a b same x y h k = sym h ∙ ap (script_refusal place tables) same ∙ k
@@ -40,11 +47,11 @@ module _ (place : ScriptPlace) (tables names : List (List ℕ)) (text : List ℕ
       ap Ok (h.3 ∙ ap (λ (s : WrittenScript). typed_script tables names [] s.statements) (one_script text h.0 k.0 h.1 k.1) ∙ sym k.3)
   one_script_answer (Ok a) (Err b) h (inl k) = absurd (refusal_of_script h.0 b h.1 k)
   one_script_answer (Ok a) (Err b) h (inr k) =
-      let none : ◌≡◌ {A = Option Refusal} None (Some b) = same_refusal h.0 k.0 (one_script text h.0 k.0 h.1 k.1) None (Some b) h.2 k.2 in absurd (cc (none))
+      let none : ◌≡◌ {A = Option Refusal} None (Some b) = same_refusal h.0 k.0 (one_script text h.0 k.0 h.1 k.1) None (Some b) (ap (option_map refusal_of_typing) h.2) k.2 in absurd (cc (none))
   one_script_answer (Err a) (Ok b) (inl h) k = absurd (refusal_of_script k.0 a k.1 h)
   one_script_answer (Err a) (Ok b) (inr h) k =
-      let none : ◌≡◌ {A = Option Refusal} (Some a) None = same_refusal h.0 k.0 (one_script text h.0 k.0 h.1 k.1) (Some a) None h.2 k.2 in absurd (cc (none))
-  one_script_answer (Err a) (Err b) (inl h) (inl k) = ap Err (elim (one_refusal text a b h.0 k.0) [
+      let none : ◌≡◌ {A = Option Refusal} (Some a) None = same_refusal h.0 k.0 (one_script text h.0 k.0 h.1 k.1) (Some a) None h.2 (ap (option_map refusal_of_typing) k.2) in absurd (cc (none))
+  one_script_answer (Err a) (Err b) (inl h) (inl k) = ap Err (elim (one_parse_refusal a b h.0 k.0) [
     | inl memory ↦ absurd (h.1 memory)
     | inr more ↦ elim more [ inl memory ↦ absurd (k.1 memory) | inr is ↦ is ]
   ])

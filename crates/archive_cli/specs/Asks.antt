@@ -1,14 +1,14 @@
 -- A sheet of asks: how a command reads it before all else, checks it over an archive's head, and prints the answers.
 use Rattle.std.specs.Prelude.{◌≡◌, ◌⊎◌, ◌<◌, ℕ, ◌+◌, List, [], length, Option, Some, None, Result, Ok, Err}
-use Rattle.arch_types.specs.declared.ask.Ask.{Ask}
-use Rattle.arch_types.specs.declared.refusal.Refusal.{Refusal}
-use Rattle.arch_types.specs.declared.refusal.Refusal.TheVariants.{OutOfMemory, WriteFault}
+use Rattle.asks.specs.declared.ask.Ask.{Ask}
+use Rattle.refusals.specs.declared.refusal.Refusal.{Refusal}
+use Rattle.refusals.specs.declared.refusal.Refusal.TheVariants.{OutOfMemory, WriteFault}
 use Rattle.archive_store.specs.declared.head.Head.{Head}
 use Rattle.archive_store.specs.Entries.{FilledArchive}
 use Rattle.command_plans.specs.Plan.{OfMemory, CommandPlan, Return, Stop, May, Question, and_then, map_done}
 use Rattle.dump_lines.specs.Output.{Appends}
-use Rattle.dump_lines.specs.declared.print_fault.PrintFault.{PrintFault}
-use Rattle.dump_lines.specs.declared.print_fault.PrintFault.TheVariants as unprinted
+use Rattle.outer_traits.specs.declared.print_fault.PrintFault.{PrintFault}
+use Rattle.outer_traits.specs.declared.print_fault.PrintFault.TheVariants as unprinted
 use Rattle.mdb_sheets.specs.Plans.{ask_sheet_plan}
 use Rattle.outer_traits.specs.Outside.{Files, WritesSome}
 use Rattle.retrieval.specs.AskText.{ask_text, asks_refusal, asks_text}

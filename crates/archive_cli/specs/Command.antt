@@ -2,8 +2,8 @@
 use Rattle.std.specs.Prelude.{◌≡◌, ℕ, List, [], length, Bool, true, false, IsTrue, Option, Some, None}
 use Rattle.arch_disk.specs.Image.{Image}
 use Rattle.arch_disk.specs.Disk.{Device}
-use Rattle.arch_types.specs.declared.refusal.Refusal.{Refusal}
-use Rattle.arch_types.specs.declared.refusal.Refusal.TheVariants.{NoArchive, Damaged}
+use Rattle.refusals.specs.declared.refusal.Refusal.{Refusal}
+use Rattle.refusals.specs.declared.refusal.Refusal.TheVariants.{NoArchive, Damaged}
 use Rattle.arch_types.specs.declared.row.Row.{Row}
 use Rattle.disk_journal.specs.Format.{HoldsNone}
 use Rattle.outer_traits.specs.Outside.{WritesSome}

@@ -1,7 +1,7 @@
 -- How the rest of a dump is answered.
 use Rattle.std.specs.Prelude.{ℕ, ◌-◌, List, [], ◌∷◌, length, Option, Some, None}
-use Rattle.arch_types.specs.declared.refusal.Refusal.{Refusal}
-use Rattle.arch_types.specs.declared.refusal.Refusal.TheVariants.{BadPacket}
+use Rattle.refusals.specs.declared.refusal.Refusal.{Refusal}
+use Rattle.refusals.specs.declared.refusal.Refusal.TheVariants.{BadPacket}
 use Rattle.archive_cli.specs.ReadDump.{bad_kind_of}
 
 -- the ending by the rest of a dump

@@ -1,7 +1,7 @@
 -- How a command fills what is late.
 use Rattle.std.specs.Prelude.{◌≡◌, ℕ, List, length, IsTrue, Option, Some, None}
 use Rattle.arch_disk.specs.Disk.{Device}
-use Rattle.arch_types.specs.declared.refusal.Refusal.{Refusal}
+use Rattle.refusals.specs.declared.refusal.Refusal.{Refusal}
 use Rattle.command_plans.specs.Plan.{OfMemory, OfDisk, CommandPlan, Stop, May, Choose}
 use Rattle.disk_journal.specs.Format.{HasRecords}
 use Rattle.history_items.specs.Items.{Item}

@@ -16,6 +16,7 @@ pub mod Asks
 pub mod DumpRest
 pub mod Filling
 pub mod FillingPlan
+pub mod Finishing
 pub mod Report
 pub mod Run
 pub mod Scripts

@@ -1,11 +1,11 @@
 -- A dump that was received: its packets and its rest.
 use Rattle.std.specs.Prelude.{◌≡◌, ℕ, ℤ, ◌+◌, ◌≤◌, List, [], ◌∷◌, length, Option, Some, None, nat_lt, if◌then◌else◌}
-use Rattle.arch_types.specs.declared.refusal.Refusal.{Refusal}
-use Rattle.arch_types.specs.declared.refusal.Refusal.TheVariants.{BadPacket}
-use Rattle.arch_types.specs.declared.refusal.Which.TheVariants.{DumpOctets}
-use Rattle.arch_types.specs.declared.refusal.BadKind.{BadKind}
-use Rattle.arch_types.specs.declared.refusal.BadKind.TheVariants.{Version, Truncated}
-use Rattle.arch_types.specs.Limits.{limit_of}
+use Rattle.refusals.specs.declared.refusal.Refusal.{Refusal}
+use Rattle.refusals.specs.declared.refusal.Refusal.TheVariants.{BadPacket}
+use Rattle.refusals.specs.declared.refusal.Which.TheVariants.{DumpOctets}
+use Rattle.refusals.specs.declared.refusal.BadKind.{BadKind}
+use Rattle.refusals.specs.declared.refusal.BadKind.TheVariants.{Version, Truncated}
+use Rattle.refusals.specs.Limits.{limit_of}
 use Rattle.outer_traits.specs.Outside.{Files}
 use Rattle.space_packet.specs.declared.dump.Why.{Why}
 use Rattle.space_packet.specs.declared.dump.Why.TheVariants as why

@@ -1,8 +1,8 @@
 -- The refusals of an input that can't be read.
 use Rattle.std.specs.Prelude.{◌≡◌, ℕ, List, Option, ◌⊎◌, Err}
-use Rattle.arch_types.specs.declared.refusal.Refusal.{Refusal}
-use Rattle.arch_types.specs.declared.refusal.Refusal.TheVariants.{Missing, ReadFault, OutOfMemory}
-use Rattle.arch_types.specs.declared.refusal.Which.{Which}
+use Rattle.refusals.specs.declared.refusal.Refusal.{Refusal}
+use Rattle.refusals.specs.declared.refusal.Refusal.TheVariants.{Missing, ReadFault, OutOfMemory}
+use Rattle.refusals.specs.declared.refusal.Which.{Which}
 use Rattle.outer_traits.specs.Outside.{Files}
 use Rattle.outer_traits.specs.declared.fault.OpenFault.{OpenFault}
 use Rattle.outer_traits.specs.declared.fault.OpenFault.TheVariants as unopened

@@ -1,7 +1,7 @@
 -- What a call reports besides its refusal.
 use Rattle.std.specs.Prelude.{ℕ, ◌-◌, Option, Some, None, Result, Ok, Err, true, false}
-use Rattle.arch_types.specs.declared.refusal.Refusal.{Refusal}
-use Rattle.arch_types.specs.Refusal.{status_of}
+use Rattle.refusals.specs.declared.refusal.Refusal.{Refusal}
+use Rattle.refusals.specs.Refusal.{status_of}
 use Rattle.archive_cli.specs.declared.report.Report.{Report}
 
 -- the exit status: 0 exactly where there's no refusal

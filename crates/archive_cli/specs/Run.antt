@@ -1,7 +1,7 @@
 -- The program: what the words of a command line lead to.
 use Rattle.std.specs.Prelude.{◌≡◌, ℕ, ℤ, List, Option, Some, None}
 use Rattle.arch_disk.specs.Disk.{Device}
-use Rattle.arch_types.specs.declared.refusal.Refusal.TheVariants.{Usage}
+use Rattle.refusals.specs.declared.refusal.Refusal.TheVariants.{Usage}
 use Rattle.outer_traits.specs.Outside.{Files}
 use Rattle.command_plans.specs.Plan.{OfMemory, CommandPlan, Stop, May, Question}
 use Rattle.command_words.specs.Job.{Job, Scan, Values, Create, Load, Query, Sql, Recover, Verify, job_of}

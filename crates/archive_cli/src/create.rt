@@ -15,13 +15,13 @@ ghost use Rattle.archive_cli.specs.create_command.Creation.{create_line};
 ghost use Rattle.archive_cli.specs.Report.{disk_of_work, report_of_work, status_at};
 ghost use Rattle.archive_cli.specs.Scripts.{OrNoMemory};
 
+use crate::finishing::finish;
 use crate::read::read_limited;
 use crate::report::{Ended, Report};
 use crate::scripts::typed_text;
 use arch_disk::Disk;
 use arch_types::name::{Name, Names};
 use arch_types::octets::Octets;
-use arch_types::refusal::{Refusal, Which};
 use archive_store::{Head, Store};
 use command_words::job::CreateWords;
 use dump_lines::line_buffer::LineBuffer;
@@ -29,6 +29,7 @@ use mdb_model::{Mdb, RawMdb};
 use mdb_sheets::read_mdb;
 use outer_traits::inputs::Inputs;
 use outer_traits::sink::Sink;
+use refusals::{Refusal, Which};
 use retrieval::parameter::refusal_of_sheets;
 use ssql_types::laws::created_tables_are_distinct;
 use ssql_types::place::ScriptPlace;
@@ -167,11 +168,7 @@ fn tm_alone(alloc: Global) -> Result<Names, AllocError>
     ensures { IfOk result (λ tables. tables ≡ codes "tm" ∷ []) }
 {
     let mut tables = Names::new(alloc);
-    let octets = Octets::from_slice(alloc, b"tm")?;
-    let Some(name) = Name::of(octets) else {
-        unreachable!();
-    };
-    tables.push(name)?;
+    tables.push(Name::copy_of(alloc, b"tm")?)?;
     Ok(tables)
 }
 
@@ -209,7 +206,7 @@ fn make<D: Disk, K: Sink>(
     };
     put_line(&mut line_buffer, &head);
     let store = Store::create(alloc, disk, head)?;
-    let refusal = line_buffer.finish(sink);
+    let refusal = finish(line_buffer, sink);
     Ok((store.into_disk(), Report::read_only(refusal, 0)))
 }
 

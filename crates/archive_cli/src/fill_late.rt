@@ -1,15 +1,15 @@
 //! Late intervals, filled one after the other.
 
 ghost use Rattle.std.specs.Prelude.{◌≡◌, [], None, IfErr, IfOk, OnOk};
-ghost use Rattle.arch_types.specs.declared.interval.Interval.{Interval as AnInterval};
+ghost use Rattle.intervals.specs.declared.interval.Interval.{Interval as AnInterval};
 ghost use Rattle.history_items.specs.Fills.{in_flight, pending_fault_of};
 ghost use Rattle.store_fills.specs.Faults.{faults_in};
 ghost use Rattle.archive_cli.specs.Filling.{AllLateFilled, IsBegunTask, IsFillFailed, IsFillTakenBack, IsFilledOn, IsFillingRefusal, IsTaskFilled, IsTaskRefusal};
 
 use arch_disk::Disk;
-use arch_types::refusal::Refusal;
 use archive_store::{FillTask, Filled, Store};
 use load_session::heal;
+use refusals::Refusal;
 use std::alloc::Global;
 
 /// Fills the interval of a task that just began. Refused, it has given the task up.

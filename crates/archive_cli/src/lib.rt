@@ -17,9 +17,11 @@
 //! the plan allows is the one that it has to go, so the answer is the one that is due (`is_due` in proofs/Commands.antt).
 #![tactic(auto)]
 
-mod asks;
+mod ask_answers;
 mod create;
 mod fill_late;
+mod finishing;
+pub mod laws;
 mod load;
 mod query;
 mod read;

@@ -1,18 +1,20 @@
 //! The command `load`: the packets of a dump, ingested into an archive.
 
-ghost use Rattle.std.specs.Prelude.{◌≡◌, ◌<◌, ◌≤◌, ◌+◌, ◌-◌, ◌++◌, [], IsSome, IsTrue, IfOk, IfErr, IfSome, MatchResult, OnOk, None, Some, length, option_map};
+ghost use Rattle.std.specs.Prelude.{◌≡◌, ◌≤◌, ◌+◌, ◌-◌, ◌++◌, [], IsSome, IsTrue, IfOk, IfErr, IfSome, MatchResult, OnOk, None, Some, length, option_map};
+ghost use Rattle.refusals.specs.Limits.{limit_of};
+ghost use Rattle.refusals.specs.declared.refusal.Which.TheVariants as limits;
 ghost use Rattle.outer_traits.specs.Outside.{Stays};
 ghost use Rattle.outer_ledgers.specs.Ledger.{UsedClock};
 ghost use Rattle.text_forms.specs.ClockTime.{IsClockTime};
 ghost use Rattle.mdb_sheets.specs.Sheets.{ReadsCounted};
 ghost use Rattle.command_plans.specs.Plan.{IsDue};
 ghost use Rattle.command_words.specs.JobView.{load_words_of};
-ghost use Rattle.dump_lines.specs.Output.{WritesCounted};
-ghost use Rattle.retrieval.specs.AskText.{asks_refusal};
+ghost use Rattle.archive_cli.specs.Finishing.{WritesCounted};
+ghost use Rattle.retrieval.specs.FoundAsks.{AreFound, asks_found};
 ghost use Rattle.archive_cli.specs.Asks.{ArePrinted, archive_asks_text};
 ghost use Rattle.archive_cli.specs.Command.{RanOver, effects_of};
 ghost use Rattle.std.specs.List.{AllByRecursion};
-ghost use Rattle.arch_types.specs.declared.interval.Interval.{Interval as AnInterval};
+ghost use Rattle.intervals.specs.declared.interval.Interval.{Interval as AnInterval};
 ghost use Rattle.history_items.specs.Fills.{in_flight};
 ghost use Rattle.store_fills.specs.Faults.{IsDone, faults_in};
 ghost use Rattle.archive_store.specs.StoreView.{filled_of};
@@ -25,18 +27,19 @@ ghost use Rattle.archive_cli.specs.load_command.LoadLine.{load_line};
 ghost use Rattle.archive_cli.specs.load_command.Loading.{printed_report, link_refusal, IsLoadRun, IsWholeLoadEnd, IsDumpRefusal, IsDumpRefusalFor, IsNotReceived, IsReady, IsRouteAnswer};
 ghost use Rattle.archive_cli.specs.ReadDump.{dump_limit, ending_of};
 ghost use Rattle.archive_cli.specs.Report.{disk_of_work, loaded, read_only, report_of_work, status_at};
+ghost use Rattle.dump_lines.specs.LineRoom.{HasLineRoom};
 
-use crate::asks::{check_asks, print_asks, print_refusal};
+use crate::ask_answers::{check_asks, print_asks, print_refusal};
 use crate::fill_late::fill_late;
+use crate::finishing::finish;
 use crate::read::{read_limited, refusal_of_opening};
 use crate::report::{Ended, LoadCounts, Report};
 use crate::scan_input::bad_packet;
 use crate::scripts::typed_text;
 use arch_disk::Disk;
-use arch_types::ask::{Ask, Asks};
 use arch_types::octets::Octets;
-use arch_types::refusal::{BadKind, Refusal, Which};
 use archive_store::Store;
+use asks::Asks;
 use command_words::job::LoadWords;
 use dump_lines::line_buffer::LineBuffer;
 use load_session::{DumpSummary, run_session};
@@ -46,6 +49,8 @@ use outer_traits::inputs::Inputs;
 use outer_traits::sink::Sink;
 use outer_traits::source::Source;
 use outer_traits::whole::{ReadFault, read_whole};
+use refusals::{BadKind, Refusal, Which};
+use retrieval::found_asks::{FoundAsk, FoundAsks};
 use space_packet::dump::Why;
 use ssql_types::place::ScriptPlace;
 use std::alloc::Global;
@@ -209,7 +214,7 @@ fn load_archive<D: Disk, I: Inputs, K: Sink, C: Clock>(
 #[derive(Drop)]
 struct LoadInput {
     link: u16,
-    asks: Asks,
+    asks: FoundAsks,
     graph: Graph,
     dump: Octets,
 }
@@ -222,8 +227,8 @@ struct DumpRefusal {
     link: Option<u16>,
 }
 
-/// Reads a dump to its end, where there's a link of its number, the text of its route is none that is refused, and an archive's head can answer the asks
-/// of a sheet.
+/// Reads a dump to its end, where there's a link of its number, the text of its route is none that is refused, and the asks of a sheet are found in
+/// the archive.
 fn receive<D: Disk, S: Source>(
     alloc: Global,
     store: &Store<D>,
@@ -233,8 +238,9 @@ fn receive<D: Disk, S: Source>(
     link: u64,
 ) -> Result<LoadInput, DumpRefusal>
     ensures ready { IfOk result (λ received. IsReady store.now.head (option_map (λ text. text.now) text.entry) sheet link
-        received.graph received.asks) }
-    ensures link { IfOk result (λ received. (received.link ≡ link) × (received.link ≤ 255)) }
+        received.graph (asks_found received.asks)) }
+    ensures found { IfOk result (λ received. AreFound store.now.head received.asks) }
+    ensures link { IfOk result (λ received. (received.link ≡ link) × (received.link ≤ limit_of limits.Links)) }
     ensures route { IfOk result (λ received. IsRouteOver store.now.head received.graph) }
     ensures whole { IfOk result (λ received. IfSome (S.state source.old).left (λ left. left ≡ received.dump)) }
     ensures short { IfOk result (λ received. length received.dump ≤ dump_limit) }
@@ -248,7 +254,7 @@ fn receive<D: Disk, S: Source>(
 {
     let link = link_numbered(link)?;
     let graph = route_of_load(alloc, store, text)?;
-    let asks = check_asks(store.head(), sheet)?;
+    let asks = check_asks(alloc, store, sheet)?;
     let dump = read_dump(alloc, source, link)?;
     Ok(LoadInput {
         link,
@@ -304,7 +310,7 @@ fn scripted_route<D: Disk>(alloc: Global, store: &Store<D>, text: &[u8]) -> Resu
 
 /// The link with a number.
 fn link_numbered(link: u64) -> Result<u16, Refusal>
-    ensures link { IfOk result (λ number. (number ≡ link) × (number ≤ 255) × (link_refusal link ≡ None)) }
+    ensures link { IfOk result (λ number. (number ≡ link) × (number ≤ limit_of limits.Links) × (link_refusal link ≡ None)) }
     ensures refused { IfErr result (λ refusal. link_refusal link ≡ Some refusal) }
 {
     if link > Which::Links.limit() {
@@ -386,13 +392,13 @@ fn load_dump<D: Disk, K: Sink>(
     sink: &mut K,
 ) -> Report
     requires short { length received.now.dump ≤ dump_limit }
-    requires link { (1 ≤ received.now.link) × (received.now.link ≤ 255) }
-    requires answerable { asks_refusal store.old.head received.now.asks ≡ None }
+    requires link { (1 ≤ received.now.link) × (received.now.link ≤ limit_of limits.Links) }
+    requires found { AreFound store.old.head received.now.asks }
     requires route { IsRouteOver store.old.head received.now.graph }
     requires moment { IsClockTime moment }
     requires empty { line_buffer ≡ [] }
     requires opened { AllByRecursion IsDone store.old.fills }
-    ensures session { IsLoadRun D.device store.old store.new received.now.asks received.now.dump
+    ensures session { IsLoadRun D.device store.old store.new (asks_found received.now.asks) received.now.dump
         (receiving store.old.head received.now.graph received.now.link moment) (K.state sink.old).written
         (K.state sink.new).written result }
     ensures writes_counted { WritesCounted result.refusal (K.state sink.old).faults (K.state sink.new).faults }
@@ -425,7 +431,7 @@ fn end_load<D: Disk, K: Sink>(
 ) -> Report
     requires idle { (i : AnInterval) → in_flight i store.old.fills ≡ None }
     requires no_fault { faults_in store.old.fills ≡ [] }
-    requires answerable { asks_refusal store.old.head received.now.asks ≡ None }
+    requires found { AreFound store.old.head received.now.asks }
     requires empty { line_buffer ≡ [] }
     requires grown { before ≤ length store.old.history }
     requires counts { length store.old.history ≤ whole.routed + before }
@@ -434,7 +440,7 @@ fn end_load<D: Disk, K: Sink>(
     // For each session that came to this store and this summary.
     ensures ending { (r : Receiving) (s : SessionResult) → IsSummary received.now.dump r s whole → s.refusal ≡ None →
         store.old.history ≡ s.reached → store.old.head ≡ r.head → received.now.link ≡ r.link →
-        IsWholeLoadEnd D.device store.old store.new r received.now.asks before received.now.dump s
+        IsWholeLoadEnd D.device store.old store.new r (asks_found received.now.asks) before received.now.dump s
         (K.state sink.old).written (K.state sink.new).written result }
     ensures writes_counted { WritesCounted result.refusal (K.state sink.old).faults (K.state sink.new).faults }
     ensures writes_later { (K.state sink.old).faults ≤ (K.state sink.new).faults }
@@ -477,22 +483,22 @@ fn stopped<D: Disk>(store: &Store<D>, before: u64, link: Option<u16>, refusal: R
     Report::loaded(Some(refusal), link, before, store.front(), counts)
 }
 
-/// Prints the answers to asks, of which none is refused, and what became of the packets of a whole dump.
+/// Prints the answers to asks that were found, and what became of the packets of a whole dump.
 fn print<D: Disk, K: Sink>(
     alloc: Global,
     store: &mut Store<D>,
     before: u64,
     whole: DumpSummary,
-    asks: &[Ask],
+    asks: &[FoundAsk],
     line_buffer: LineBuffer,
     sink: &mut K,
 ) -> Report
-    requires answerable { asks_refusal store.old.head asks.now ≡ None }
+    requires found { AreFound store.old.head asks.now }
     requires empty { line_buffer ≡ [] }
     requires grown { before ≤ length store.old.history }
     requires counts { length store.old.history ≤ whole.routed + before }
-    ensures printed { ArePrinted asks.now result.refusal (K.state sink.old).written (K.state sink.new).written
-        (archive_asks_text (filled_of store.old) 1 asks.now ++ load_line whole.packets
+    ensures printed { ArePrinted (asks_found asks.now) result.refusal (K.state sink.old).written (K.state sink.new).written
+        (archive_asks_text (filled_of store.old) 1 (asks_found asks.now) ++ load_line whole.packets
         (length store.old.history - before) (whole.routed - (length store.old.history - before)) whole.idle
         (length store.old.history)) }
     ensures report { result ≡ printed_report result.refusal before (length store.old.history) whole.packets whole.routed
@@ -511,7 +517,7 @@ fn print<D: Disk, K: Sink>(
     match print_asks(alloc, asks, store, &mut line_buffer, sink) {
         Ok(()) => {
             put_line(&mut line_buffer, counts, after - before, after);
-            match line_buffer.finish(sink) {
+            match finish(line_buffer, sink) {
                 None => Report::loaded(None, None, before, after, counts),
                 Some(refusal) => stopped(store, before, None, refusal),
             }
@@ -522,7 +528,7 @@ fn print<D: Disk, K: Sink>(
 
 /// Adds the last line.
 fn put_line(line_buffer: &mut LineBuffer, counts: LoadCounts, new: u64, rows: u64)
-    requires { length line_buffer.old < 65536 }
+    requires { HasLineRoom line_buffer.old }
     ensures { line_buffer.new ≡ line_buffer.old ++ load_line counts.packets new counts.duplicates counts.idle rows }
 {
     line_buffer.put_number(b"load packets ", counts.packets);

@@ -2,25 +2,27 @@
 
 ghost use Rattle.std.specs.Prelude.{◌≡◌, ◌≤◌, [], IsSome, IsTrue, None};
 ghost use Rattle.archive_store.specs.StoreView.{filled_of};
-ghost use Rattle.retrieval.specs.AskText.{asks_refusal};
+ghost use Rattle.retrieval.specs.FoundAsks.{AreFound, asks_found};
 ghost use Rattle.command_plans.specs.Plan.{IsDue};
-ghost use Rattle.dump_lines.specs.Output.{WritesCounted};
+ghost use Rattle.archive_cli.specs.Finishing.{WritesCounted};
 ghost use Rattle.archive_cli.specs.Asks.{ArePrinted, archive_asks_text};
 ghost use Rattle.archive_cli.specs.Command.{Ran, RanOver, effects_of};
 ghost use Rattle.archive_cli.specs.query_command.Query.{archive_asks_plan, query_plan};
 ghost use Rattle.archive_cli.specs.query_command.Replying.{IsSheetReply};
 ghost use Rattle.archive_cli.specs.Report.{disk_of_work, report_of_work, status_at};
 
-use crate::asks::{check_asks, print_asks, print_refusal};
+use crate::ask_answers::{check_asks, print_asks, print_refusal};
+use crate::finishing::finish;
 use crate::report::{Ended, Report};
 use arch_disk::Disk;
-use arch_types::ask::{Ask, Asks};
-use arch_types::refusal::Refusal;
 use archive_store::Store;
+use asks::Asks;
 use dump_lines::line_buffer::LineBuffer;
 use mdb_sheets::read_asks;
 use outer_traits::inputs::Inputs;
 use outer_traits::sink::Sink;
+use refusals::Refusal;
+use retrieval::found_asks::FoundAsk;
 use std::alloc::Global;
 
 /// Answers the asks of a sheet over the whole history of a disk's archive.
@@ -103,31 +105,31 @@ fn answer_sheet<D: Disk, K: Sink>(
     ensures writes_later { (K.state sink.old).faults ≤ (K.state sink.new).faults }
     ensures same { store.new ≡ store.old }
 {
-    match check_asks(store.head(), sheet) {
+    match check_asks(alloc, store, sheet) {
         Ok(asks) => answer_asks(alloc, asks.as_slice(), store, line_buffer, sink),
         Err(refusal) => Some(refusal),
     }
 }
 
-/// Prints the answers to asks, of which none is refused.
+/// Prints the answers to asks that were found.
 fn answer_asks<D: Disk, K: Sink>(
     alloc: Global,
-    asks: &[Ask],
+    asks: &[FoundAsk],
     store: &mut Store<D>,
     line_buffer: LineBuffer,
     sink: &mut K,
 ) -> Option<Refusal>
-    requires answerable { asks_refusal store.old.head asks.now ≡ None }
+    requires found { AreFound store.old.head asks.now }
     requires empty { line_buffer ≡ [] }
-    ensures printed { ArePrinted asks.now result (K.state sink.old).written (K.state sink.new).written
-        (archive_asks_text (filled_of store.old) 1 asks.now) }
+    ensures printed { ArePrinted (asks_found asks.now) result (K.state sink.old).written (K.state sink.new).written
+        (archive_asks_text (filled_of store.old) 1 (asks_found asks.now)) }
     ensures writes_counted { WritesCounted result (K.state sink.old).faults (K.state sink.new).faults }
     ensures writes_later { (K.state sink.old).faults ≤ (K.state sink.new).faults }
     ensures same { store.new ≡ store.old }
 {
     let mut line_buffer = line_buffer;
     match print_asks(alloc, asks, store, &mut line_buffer, sink) {
-        Ok(()) => line_buffer.finish(sink),
+        Ok(()) => finish(line_buffer, sink),
         Err(fault) => Some(print_refusal(fault)),
     }
 }

@@ -1,16 +1,16 @@
 //! Reads an input, and names what went wrong.
 
 ghost use Rattle.std.specs.Prelude.{◌≡◌, ◌≤◌, IfOk, IfErr, ◌⊎◌, vec_len};
-ghost use Rattle.arch_types.specs.Limits.{limit_of};
+ghost use Rattle.refusals.specs.Limits.{limit_of};
 ghost use Rattle.outer_traits.specs.Whole.{IsInput};
 ghost use Rattle.input_plans.specs.Inputs.{IsFaultRefusal, WasRead, input_plan};
 ghost use Rattle.archive_cli.specs.Reading.{IsInputUnread, IsOpeningFault};
 
 use arch_types::octets::Octets;
-use arch_types::refusal::{Refusal, Which};
 use outer_traits::fault::OpenFault;
 use outer_traits::inputs::Inputs;
 use outer_traits::whole::{ReadFault, read_input};
+use refusals::{Refusal, Which};
 use std::alloc::Global;
 
 /// The octets of a named input, which may be as many as the quantity's limit. The source is closed whatever comes. The count of faults rises

@@ -7,12 +7,13 @@ ghost use Rattle.archive_cli.specs.Report.{disk_of_work, report_of_work, status_
 ghost use Rattle.archive_cli.specs.recover_command.Recover.{recover_plan};
 
 use crate::fill_late::fill_late;
+use crate::finishing::finish;
 use crate::report::{Ended, Report};
 use arch_disk::Disk;
-use arch_types::refusal::Refusal;
 use archive_store::Store;
 use dump_lines::line_buffer::LineBuffer;
 use outer_traits::sink::Sink;
+use refusals::Refusal;
 use std::alloc::Global;
 
 /// Opens the archive of a disk, fills each late interval, and prints how many rows there are and how many intervals it
@@ -49,7 +50,7 @@ fn work<D: Disk, K: Sink>(alloc: Global, disk: D, sink: &mut K) -> Result<(D, Re
     match fill_late(alloc, &mut store) {
         Ok(filled) => {
             put_recovered(&mut line_buffer, rows, filled);
-            let refusal = line_buffer.finish(sink);
+            let refusal = finish(line_buffer, sink);
             // It tells the proof which fills a crash leaves now.
             store.front();
             Ok((store.into_disk(), Report::read_only(refusal, rows)))

@@ -3,7 +3,7 @@
 ghost use Rattle.std.specs.Prelude.{◌≡◌, ◌≤◌};
 ghost use Rattle.archive_cli.specs.Report.{disk_of_work, loaded, read_only, report_of_work, status_at, unopened};
 
-use arch_types::refusal::Refusal;
+use refusals::Refusal;
 
 /// What a command did.
 #[derive(Debug, Drop)]

@@ -19,11 +19,11 @@ use crate::sql::query_sql;
 use crate::values::values;
 use crate::verify::verify;
 use arch_disk::Disk;
-use arch_types::refusal::Refusal;
 use command_words::job::{Job, job_of};
 use outer_traits::clock::Clock;
 use outer_traits::inputs::Inputs;
 use outer_traits::sink::Sink;
+use refusals::Refusal;
 use std::alloc::Global;
 
 /// Does what the words ask, and says how it ended.

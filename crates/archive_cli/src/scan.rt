@@ -1,6 +1,6 @@
 //! The command `scan`: the rows of a dump, as text.
 
-ghost use Rattle.std.specs.Prelude.{◌≡◌, ◌<◌, ◌≤◌, OnOk, OnErr, IsErr, IsSome, length, ◌++◌, []};
+ghost use Rattle.std.specs.Prelude.{◌≡◌, ◌≤◌, OnOk, OnErr, IsErr, IsSome, ◌++◌, []};
 ghost use Rattle.std.specs.Result.{result_err};
 ghost use Rattle.outer_traits.specs.Outside.{HasRisen, Stays, WritesSome};
 ghost use Rattle.outer_ledgers.specs.Ledger.{UsedClock};
@@ -12,17 +12,18 @@ ghost use Rattle.dump_lines.specs.DumpTable.{IsVisible};
 ghost use Rattle.archive_cli.specs.Command.{RanOver, effects_of};
 ghost use Rattle.archive_cli.specs.Report.{status_at, unopened};
 ghost use Rattle.archive_cli.specs.scan_command.Scan.{scan_plan};
+ghost use Rattle.dump_lines.specs.LineRoom.{HasLineRoom};
 
 use crate::report::Ended;
 use crate::scan_input::{ended, read_scan_input};
 use arch_disk::Disk;
-use arch_types::refusal::Refusal;
 use dump_lines::line_buffer::LineBuffer;
 use dump_lines::rows::DumpTable;
 use outer_traits::clock::Clock;
 use outer_traits::fault::Failed;
 use outer_traits::inputs::Inputs;
 use outer_traits::sink::Sink;
+use refusals::Refusal;
 use space_packet::dump::Why;
 use std::alloc::Global;
 use yarch_table::table::Table;
@@ -102,7 +103,7 @@ fn print<K: Sink>(
 
 /// Adds the counts where nothing is left of the dump.
 fn put_end(line_buffer: &mut LineBuffer, loaded: &DumpTable)
-    requires { length line_buffer.old < 65536 }
+    requires { HasLineRoom line_buffer.old }
     ensures { line_buffer.new ≡ line_buffer.old ++ end_of loaded.now.why loaded.now.counts }
 {
     match loaded.why {
@@ -121,7 +122,7 @@ fn print_rows<K: Sink>(
     requires shown { AllByRecursion IsVisible table.now.stored }
     ensures buffered { OnOk result (IsBuffered (K.state sink.old).written (K.state sink.new).written
         (lines_of table.now.stored) line_buffer.new) }
-    ensures room { OnOk result (length line_buffer.new < 65536) }
+    ensures room { OnOk result (HasLineRoom line_buffer.new) }
     ensures some { OnErr result (WritesSome (K.state sink.old).written (K.state sink.new).written
         (lines_of table.now.stored)) }
     ensures later { (K.state sink.old).faults ≤ (K.state sink.new).faults }

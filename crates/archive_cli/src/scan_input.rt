@@ -9,11 +9,11 @@ ghost use Rattle.archive_cli.specs.ReadDump.{IsDumpReceived, dump_limit, ending_
 
 use crate::read::read_limited;
 use arch_types::octets::Octets;
-use arch_types::refusal::{BadKind, Refusal, Which};
 use dump_lines::line_buffer::LineBuffer;
 use dump_lines::rows::{DumpTable, table_of_dump};
 use outer_traits::clock::Clock;
 use outer_traits::inputs::Inputs;
+use refusals::{BadKind, Refusal, Which};
 use space_packet::dump::Why;
 use std::alloc::{AllocError, Global};
 

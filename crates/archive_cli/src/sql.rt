@@ -11,18 +11,19 @@ ghost use Rattle.archive_cli.specs.sql_command.Replying.{IsTextPrinted, IsTextRe
 ghost use Rattle.archive_cli.specs.sql_command.Sql.{archive_text_plan, sql_plan};
 ghost use Rattle.archive_cli.specs.sql_command.Statements.{packet_names, statements_text};
 
-use crate::asks::print_refusal;
+use crate::ask_answers::print_refusal;
+use crate::finishing::finish;
 use crate::read::read_limited;
 use crate::report::{Ended, Report};
 use crate::scripts::typed_text;
 use crate::statements::answer_statements;
 use arch_disk::Disk;
 use arch_types::name::Names;
-use arch_types::refusal::{Refusal, Which};
 use archive_store::Store;
 use dump_lines::line_buffer::LineBuffer;
 use outer_traits::inputs::Inputs;
 use outer_traits::sink::Sink;
+use refusals::{Refusal, Which};
 use ssql_types::laws::typed_names_tables;
 use ssql_types::place::ScriptPlace;
 use ssql_types::statement::TypedStatement;
@@ -152,7 +153,7 @@ fn print_answers<D: Disk, K: Sink>(
 {
     let mut line_buffer = line_buffer;
     match answer_statements(alloc, statements, names, store, &mut line_buffer, sink) {
-        Ok(()) => line_buffer.finish(sink),
+        Ok(()) => finish(line_buffer, sink),
         Err(fault) => Some(print_refusal(fault)),
     }
 }

@@ -5,24 +5,25 @@ ghost use Rattle.std.specs.List.{AllByRecursion};
 ghost use Rattle.archive_store.specs.StoreView.{archive_of};
 ghost use Rattle.history_items.specs.Items.{rows_in};
 ghost use Rattle.ssql_conditions.specs.ConditionBounds.{bounds_of};
-ghost use Rattle.ssql_select.specs.Printed.{PrintsText};
+ghost use Rattle.dump_lines.specs.Printed.{PrintsText};
 ghost use Rattle.ssql_select.specs.Selection.{HoldsSelected};
 ghost use Rattle.ssql_select.specs.SelectionText.{selection_text};
 ghost use Rattle.ssql_types.specs.Laws.{NamesTables};
 ghost use Rattle.archive_cli.specs.sql_command.Statements as spec;
+ghost use Rattle.dump_lines.specs.LineRoom.{HasLineRoom};
 
 use arch_disk::Disk;
 use arch_types::name::Names;
-use arch_types::refusal::Refusal;
 use arch_types::spans::Span;
 use arch_types::steps::Steps;
 use archive_store::Store;
 use archive_store::laws::archived_rows_have_clock_times;
 use dump_lines::line_buffer::LineBuffer;
-use dump_lines::print_fault::PrintFault;
+use outer_traits::print_fault::PrintFault;
 use outer_traits::sink::Sink;
 use partitions::bounds::Bounds;
 use partitions::lists::PartList;
+use refusals::Refusal;
 use ssql_conditions::bounds::{all_bounds, bounds};
 use ssql_select::laws::pruned_holds_selected;
 use ssql_select::select::select;
@@ -45,7 +46,7 @@ pub(crate) fn answer_statements<D: Disk, K: Sink>(
 ) -> Result<(), PrintFault>
     requires names { names.now ≡ spec.packet_names store.now.head }
     requires tables { AllByRecursion (NamesTables (length store.now.head.tables)) statements.now }
-    requires room { length line_buffer.old < 65536 }
+    requires room { HasLineRoom line_buffer.old }
     ensures { PrintsText result (K.state sink.old) (K.state sink.new)
         (line_buffer.old ++ spec.statements_text (archive_of store.now) statements.now) line_buffer.new }
 {
@@ -66,7 +67,7 @@ fn answer_statement<D: Disk, K: Sink>(
 ) -> Result<(), PrintFault>
     requires names { names.now ≡ spec.packet_names store.now.head }
     requires tables { NamesTables (length store.now.head.tables) statement.now }
-    requires room { length line_buffer.old < 65536 }
+    requires room { HasLineRoom line_buffer.old }
     ensures { PrintsText result (K.state sink.old) (K.state sink.new)
         (line_buffer.old ++ spec.statement_text (archive_of store.now) statement.now) line_buffer.new }
 {
@@ -107,7 +108,7 @@ fn print_selection<D: Disk, K: Sink>(
 ) -> Result<(), PrintFault>
     requires names { names.now ≡ spec.packet_names store.now.head }
     requires tables { AllByRecursion (λ table. table < length store.now.head.tables) query.now.sources }
-    requires room { length line_buffer.old < 65536 }
+    requires room { HasLineRoom line_buffer.old }
     ensures { PrintsText result (K.state sink.old) (K.state sink.new)
         (line_buffer.old ++ spec.statement_text (archive_of store.now) (TypedStatement.Select query.now))
         line_buffer.new }
@@ -129,7 +130,7 @@ fn print_partitions<D: Disk, K: Sink>(
 ) -> Result<(), PrintFault>
     requires names { names.now ≡ spec.packet_names store.now.head }
     requires tables { table < length store.now.head.tables }
-    requires room { length line_buffer.old < 65536 }
+    requires room { HasLineRoom line_buffer.old }
     ensures { PrintsText result (K.state sink.old) (K.state sink.new)
         (line_buffer.old ++ spec.statement_text (archive_of store.now) (TypedStatement.ShowPartitions table))
         line_buffer.new }
@@ -151,7 +152,7 @@ fn print_spans<D: Disk, K: Sink>(
 ) -> Result<(), PrintFault>
     requires names { names.now ≡ spec.packet_names store.now.head }
     requires tables { table < length store.now.head.tables }
-    requires room { length line_buffer.old < 65536 }
+    requires room { HasLineRoom line_buffer.old }
     ensures { PrintsText result (K.state sink.old) (K.state sink.new)
         (line_buffer.old ++ spec.statement_text (archive_of store.now) (TypedStatement.ShowHistogram table))
         line_buffer.new }
@@ -180,7 +181,7 @@ fn selection<'a, D: Disk, L: Ledger>(
     let mut steps = Steps::new(book, share);
     let mut source = store.source();
     let front = store.front();
-    select(alloc, query, names, &mut source, &parts, front, &mut steps)
+    Ok(select(alloc, query, names, &mut source, &parts, front, &mut steps)?)
 }
 
 /// The partitions that hold what a query selects: of each source those that may hold a row in the bounds of the condition.
@@ -239,7 +240,7 @@ fn table_partitions<D: Disk>(
     let parts = store.parts(table, &bounds)?;
     let mut source = store.source();
     let front = store.front();
-    partition_lines(alloc, &mut source, table, parts.as_slice(), front)
+    Ok(partition_lines(alloc, &mut source, table, parts.as_slice(), front)?)
 }
 
 /// The records of a table, packet name after packet name.

@@ -15,22 +15,23 @@ ghost use Rattle.archive_cli.specs.Command.{RanOver, effects_of};
 ghost use Rattle.archive_cli.specs.Report.{status_at, unopened};
 ghost use Rattle.archive_cli.specs.values_command.Values.{values_plan};
 ghost use Rattle.archive_cli.specs.values_command.ValuesPrinting.{line_of, cells_in_row, cells_of_stored, lines_of_cells, end_of_cells, text_of_cells, refusal_of_print};
+ghost use Rattle.dump_lines.specs.LineRoom.{HasLineRoom};
 
 use crate::report::Ended;
 use crate::scan_input::{ended, read_scan_input};
 use arch_disk::Disk;
-use arch_types::refusal::Refusal;
 use arch_types::row::Row;
 use arch_types::steps::Steps;
 use command_words::job::ValuesWords;
 use container_extract::Extractor;
 use dump_lines::line_buffer::LineBuffer;
-use dump_lines::print_fault::PrintFault;
 use dump_lines::rows::DumpTable;
 use mdb_sheets::read_mdb;
 use outer_traits::clock::Clock;
 use outer_traits::inputs::Inputs;
+use outer_traits::print_fault::PrintFault;
 use outer_traits::sink::Sink;
+use refusals::Refusal;
 use retrieval::cell_text::{put_cell, put_values};
 use retrieval::cells::{calibration_of, cell_of};
 use retrieval::parameter::{KnownParameter, known_parameter};
@@ -145,7 +146,7 @@ fn print<K: Sink>(
 
 /// Adds the last line where nothing is left of the dump.
 fn put_end(line_buffer: &mut LineBuffer, why: Why, count: u64)
-    requires { length line_buffer.old < 65536 }
+    requires { HasLineRoom line_buffer.old }
     ensures { line_buffer.new ≡ line_buffer.old ++ end_of_cells why count }
 {
     match why {
@@ -170,7 +171,7 @@ fn print_cells<K: Sink, L: Ledger>(
     requires blank { (blank.name ≡ L.name) × (blank.parts ≡ L.parts) × (0 < blank.parts) }
     ensures buffered { OnOk result (IsBuffered (K.state sink.old).written (K.state sink.new).written
         (lines_of_cells known.now.mdb known.now.number table.now.stored) line_buffer.new) }
-    ensures room { OnOk result (length line_buffer.new < 65536) }
+    ensures room { OnOk result (HasLineRoom line_buffer.new) }
     ensures count { IfOk result (λ count.
         count ≡ length (cells_of_stored known.now.mdb known.now.number table.now.stored)) }
     ensures some { OnErr result (WritesSome (K.state sink.old).written (K.state sink.new).written
@@ -197,7 +198,7 @@ fn put_cell_of<L: Ledger>(
     line_buffer: &mut LineBuffer,
     steps: &mut Steps<L>,
 ) -> u64
-    requires room { length line_buffer.old < 65536 }
+    requires room { HasLineRoom line_buffer.old }
     requires number { known.now.number < length known.now.mdb.parameters }
     ensures line { line_buffer.new ≡ line_buffer.old ++ line_of known.now.mdb known.now.number row.now }
     ensures count { result ≡ cells_in_row known.now.mdb known.now.number row.now }

@@ -8,13 +8,14 @@ ghost use Rattle.archive_cli.specs.Report.{disk_of_work, report_of_work, status_
 ghost use Rattle.archive_cli.specs.verify_command.Replying.{IsVerifyReply};
 ghost use Rattle.archive_cli.specs.verify_command.Verify.{sound_line, verify_plan};
 
+use crate::finishing::finish;
 use crate::report::{Ended, Report};
 use arch_disk::Disk;
-use arch_types::refusal::Refusal;
 use archive_store::Store;
 use archive_verify::Sound;
 use dump_lines::line_buffer::LineBuffer;
 use outer_traits::sink::Sink;
+use refusals::Refusal;
 use std::alloc::Global;
 
 /// Opens the archive of a disk, compares what is stored of its intervals with what their rows give, and prints how much
@@ -67,7 +68,7 @@ fn compare<D: Disk, K: Sink>(
         Ok(sound) => {
             let mut line_buffer = line_buffer;
             put_sound(&mut line_buffer, sound);
-            line_buffer.finish(sink)
+            finish(line_buffer, sink)
         }
         Err(refusal) => Some(refusal),
     }

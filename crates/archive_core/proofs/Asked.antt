@@ -45,18 +45,3 @@ pub cell_is : (db : Database) (q : ℕ) (row : Row) (values : List RawValue) (o 
 cell_is db q row values o calibrated all is =
     ap (λ (found : Option RawValue). option_map (cell_at row.key) (option_map (calibrated_value db) found)) (is ∙ ap (raw_among q) all)
     ∙ ap (option_map (cell_at row.key)) (sym (calibrated db row.packet q))
-
--- ---- the first place of a name
-
-module _ {X : Type 0} (p : X → Bool) (xs : List X) (i : ℕ) (d : X) (before : (k : ℕ) → k < i → p (get_or xs k d) ≡ false) where
-  pub first_at : i < length xs → p (get_or xs i d) ≡ true → Some i ≡ position p xs
-  first_at within here =
-      let e = position_or_len_is p xs i d (omega (arith, within)) before (λ h. here) in
-      let less : nat_lt i (length xs) ≡ true = grind (arith, nat_tests, within) in
-      rw (e, less) refl
-
-  pub nowhere : i ≡ length xs → None ≡ position p xs
-  nowhere end =
-      let e = position_or_len_is p xs i d (omega (arith, end)) before (λ h. absurd (omega (arith, end, h))) in
-      let less : nat_lt i (length xs) ≡ false = grind (arith, nat_tests, end) in
-      rw (e, less) refl

@@ -1,7 +1,7 @@
 -- The cells of an interval without rows at or after a front.
 use Rattle.std.proofs.Common.{◌≡◌, ℕ, List, Some, refl, ap}
 use Rattle.std.specs.List.{filter_map}
-use Rattle.arch_types.specs.declared.interval.Interval.{Interval}
+use Rattle.intervals.specs.declared.interval.Interval.{Interval}
 use Rattle.history_items.specs.Items.{Item, prefix}
 use Rattle.history_items.specs.Fills.{base_in}
 use Rattle.history_items.specs.Late.{IsLate}

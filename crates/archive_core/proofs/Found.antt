@@ -4,15 +4,15 @@ use Rattle.std.specs.Prelude.{filter, ◌&&◌}
 use Rattle.std.specs.Ordering.{int_eq}
 use Rattle.std.proofs.lemmas.Bool.Decides.{nat_tests}
 use Rattle.std.proofs.lemmas.List.Elements.{filter_agree}
-use Rattle.arch_types.specs.declared.interval.Interval.{Interval}
+use Rattle.intervals.specs.declared.interval.Interval.{Interval}
 use Rattle.arch_types.specs.declared.row.Row.{Row}
-use Rattle.arch_types.specs.Interval.{interval_of}
+use Rattle.intervals.specs.Interval.{interval_of, interval_start, interval_end}
 use Rattle.arch_types.specs.Order.{is_before, order_by}
 use Rattle.arch_types.specs.History.{is_in_table}
 use Rattle.arch_types.specs.Table.{range_of, is_in_time_range}
 use Rattle.history_items.specs.Items.{is_row_of_interval}
 use Rattle.archive_core.specs.RowTests.{is_row_of_range}
-use Rattle.interval_fills.specs.Intervals.{rows_of_interval, interval_start, interval_end}
+use Rattle.interval_fills.specs.Intervals.{rows_of_interval}
 use Rattle.interval_fills.proofs.Intervals.{tests_alike, range_in_order}
 
 -- one test after the other is both

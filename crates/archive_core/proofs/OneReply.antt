@@ -1,17 +1,20 @@
 -- Each event has one reply.
-use Rattle.std.proofs.Common.{◌≡◌, ℕ, ℤ, ◌≤ℤ◌, List, [], ◌∷◌, ◌++◌, Some, None, refl, sym, ◌∙◌, ap, subst, arith}
+use Rattle.std.proofs.Common.{◌≡◌, ℕ, ℤ, ◌≤ℤ◌, ◌<ℤ◌, List, [], ◌∷◌, ◌++◌, Bool, true, false, Option, Some, None, refl, sym, ◌∙◌, ap, subst, arith}
+use Rattle.std.specs.Prelude.{int_lt, if◌then◌else◌}
+use Rattle.std.specs.Option.{option_map_or}
 use Rattle.std.proofs.lemmas.Int.{ints}
-use Rattle.arch_types.specs.declared.ask.Answer.{Answer}
-use Rattle.arch_types.specs.declared.ask.ReplayRequest.{ReplayRequest}
-use Rattle.arch_types.specs.declared.ask.Request.{Request}
+use Rattle.asks.specs.declared.ask.Answer.{Answer}
+use Rattle.asks.specs.declared.ask.ReplayRequest.{ReplayRequest}
+use Rattle.asks.specs.declared.ask.Request.{Request}
 use Rattle.arch_types.specs.declared.inserted.Inserted.{Inserted}
-use Rattle.arch_types.specs.declared.interval.Interval.{Interval}
-use Rattle.arch_types.specs.declared.refusal.Refusal.{Refusal}
-use Rattle.arch_types.specs.declared.refusal.Refusal.TheVariants.{UnknownParameter, UnknownTable, BadRange}
+use Rattle.intervals.specs.declared.interval.Interval.{Interval}
+use Rattle.asks.specs.declared.refusal.AskRefusal.{AskRefusal}
+use Rattle.asks.specs.declared.refusal.AskRefusal.TheVariants.{UnknownParameter, BadRange, UnknownTable}
+use Rattle.asks.specs.Refusals.{range_refusal, replay_refusal, request_refusal}
 use Rattle.arch_types.specs.declared.row.Row.{Row}
 use Rattle.history_items.specs.declared.fills.Fill.TheVariants.{Begun}
 use Rattle.history_items.specs.Items.{Item, rows_in}
-use Rattle.archive_core.specs.Asks.{IsAnswered, IsReplayed, RefusesRequest, RefusesReplay, answer_of, replayed_rows}
+use Rattle.archive_core.specs.Asks.{IsAnswered, IsReplayed, answer_of, replayed_rows}
 use Rattle.archive_core.specs.Machine.{MachineStep, MachineRun}
 use Rattle.archive_core.specs.Replies.{RepliesToBegin, RepliesToInstall, RepliesToRequest, RepliesToReplay}
 use Rattle.archive_core.specs.declared.event.Event.{Event}
@@ -78,6 +81,19 @@ install_is_one e old new other interval base (Installed a) (Installed b) x y =
 install_is_one e old new other interval base (Installed a) _ x y = absurd y
 install_is_one e old new other interval base _ s x y = absurd x
 
+-- ---- what is asked
+
+some_refusal : (r s : AskRefusal) → ◌≡◌ {A = Option AskRefusal} (Some r) (Some s) → r ≡ s
+some_refusal r s e = cc
+
+-- a range that doesn't end before it begins isn't refused
+no_range_refused : (from to : ℤ) (s : AskRefusal) → from ≤ℤ to → range_refusal from to ≡ Some s → ⊥
+no_range_refused from to s range refused = either (int_lt to from) refl refused
+  where
+    either : (b : Bool) → int_lt to from ≡ b → (if b then Some (BadRange from to) else None) ≡ Some s → ⊥
+    either true reversed e = let less : to <ℤ from = grind (arith, ints, reversed) in absurd (omega (arith, ints, less, range))
+    either false whole e = cc
+
 -- ---- values
 
 module _ (db : Database) (history : List Item) (request : Request) where
@@ -90,27 +106,17 @@ module _ (db : Database) (history : List Item) (request : Request) where
       ∙ ap (λ (l : List _). let r : Answer = record { front = b.front; cells = l } in r) cells
 
   -- what has an answer isn't refused
-  answered_or_refused : (a : Answer) (s : Refusal) → IsAnswered db history request a → RefusesRequest db request s → ⊥
-  answered_or_refused a UnknownParameter x y = let no_number : Some x.number ≡ None = sym x.named ∙ y in cc
-  answered_or_refused a (BadRange from to) x y = omega (arith, ints, x.range, y.1)
-  answered_or_refused a _ x y = absurd y
-
-  refusal_is_one : (r s : Refusal) → RefusesRequest db request r → RefusesRequest db request s → r ≡ s
-  refusal_is_one UnknownParameter UnknownParameter x y = refl
-  refusal_is_one UnknownParameter (BadRange from to) x y = absurd (y.0 x)
-  refusal_is_one UnknownParameter _ x y = absurd y
-  refusal_is_one (BadRange from to) UnknownParameter x y = absurd (x.0 y)
-  refusal_is_one (BadRange from to) (BadRange low high) x y =
-      ap (λ (t : ℤ). BadRange t to) (x.2 ∙ sym y.2) ∙ ap (BadRange low) (x.3 ∙ sym y.3)
-  refusal_is_one (BadRange from to) _ x y = absurd y
-  refusal_is_one _ s x y = absurd x
+  answered_or_refused : (a : Answer) (s : AskRefusal) → IsAnswered db history request a → request_refusal db request ≡ Some s → ⊥
+  answered_or_refused a s x y =
+      no_range_refused request.from request.to s x.range
+      (ap (λ (o : Option ℕ). option_map_or (λ number. range_refusal request.from request.to) o (Some UnknownParameter)) (sym x.named) ∙ y)
 
   request_is_one : (r s : Reply) → RepliesToRequest db history request r → RepliesToRequest db history request s → r ≡ s
   request_is_one (Answered a) (Answered b) x y = ap Answered (answer_is_one a b x y)
   request_is_one (Answered a) (Refused s) x y = absurd (answered_or_refused a s x y)
   request_is_one (Answered a) _ x y = absurd y
   request_is_one (Refused r) (Answered b) x y = absurd (answered_or_refused b r y x)
-  request_is_one (Refused r) (Refused s) x y = ap Refused (refusal_is_one r s x y)
+  request_is_one (Refused r) (Refused s) x y = ap Refused (some_refusal r s (sym x ∙ y))
   request_is_one (Refused r) _ x y = absurd y
   request_is_one _ s x y = absurd x
 
@@ -124,27 +130,17 @@ module _ (tables : List (List ℕ)) (db : Database) (history : List Item) (reque
       ap (λ (k : ℕ). Replayed k xs) (x.front_is ∙ sym y.front_is) ∙ ap (Replayed m) rows
 
   -- what has rows isn't refused
-  replayed_or_refused : (n : ℕ) (xs : List Row) (s : Refusal) → IsReplayed tables db history request n xs → RefusesReplay tables request s → ⊥
-  replayed_or_refused n xs (UnknownTable name) x y = let no_table : Some x.table ≡ None = sym x.named ∙ y.0 in cc
-  replayed_or_refused n xs (BadRange from to) x y = omega (arith, ints, x.range, y.1)
-  replayed_or_refused n xs _ x y = absurd y
-
-  replay_refusal_is_one : (r s : Refusal) → RefusesReplay tables request r → RefusesReplay tables request s → r ≡ s
-  replay_refusal_is_one (UnknownTable a) (UnknownTable b) x y = ap UnknownTable (x.1 ∙ sym y.1)
-  replay_refusal_is_one (UnknownTable a) (BadRange from to) x y = absurd (y.0 x.0)
-  replay_refusal_is_one (UnknownTable a) _ x y = absurd y
-  replay_refusal_is_one (BadRange from to) (UnknownTable b) x y = absurd (x.0 y.0)
-  replay_refusal_is_one (BadRange from to) (BadRange low high) x y =
-      ap (λ (t : ℤ). BadRange t to) (x.2 ∙ sym y.2) ∙ ap (BadRange low) (x.3 ∙ sym y.3)
-  replay_refusal_is_one (BadRange from to) _ x y = absurd y
-  replay_refusal_is_one _ s x y = absurd x
+  replayed_or_refused : (n : ℕ) (xs : List Row) (s : AskRefusal) → IsReplayed tables db history request n xs → replay_refusal tables request ≡ Some s → ⊥
+  replayed_or_refused n xs s x y =
+      no_range_refused request.from request.to s x.range
+      (ap (λ (o : Option ℕ). option_map_or (λ table. range_refusal request.from request.to) o (Some (UnknownTable request.table))) (sym x.named) ∙ y)
 
   replay_is_one : (r s : Reply) → RepliesToReplay tables db history request r → RepliesToReplay tables db history request s → r ≡ s
   replay_is_one (Replayed n xs) (Replayed m ys) x y = rows_are_one n m xs ys x y
   replay_is_one (Replayed n xs) (Refused s) x y = absurd (replayed_or_refused n xs s x y)
   replay_is_one (Replayed n xs) _ x y = absurd y
   replay_is_one (Refused r) (Replayed m ys) x y = absurd (replayed_or_refused m ys r y x)
-  replay_is_one (Refused r) (Refused s) x y = ap Refused (replay_refusal_is_one r s x y)
+  replay_is_one (Refused r) (Refused s) x y = ap Refused (some_refusal r s (sym x ∙ y))
   replay_is_one (Refused r) _ x y = absurd y
   replay_is_one _ s x y = absurd x
 

@@ -5,7 +5,7 @@ use Rattle.std.specs.Option.{is_some}
 use mathlib.Core.List.{IsPrefix}
 use Rattle.arch_types.proofs.Histories.{only_adds}
 use Rattle.arch_types.specs.declared.inserted.Installed.TheVariants as became
-use Rattle.arch_types.specs.declared.interval.Interval.{Interval}
+use Rattle.intervals.specs.declared.interval.Interval.{Interval}
 use Rattle.history_items.specs.declared.fills.Fill.{Fill}
 use Rattle.history_items.specs.declared.fills.Fill.TheVariants.{Begun, Done, Freed}
 use Rattle.history_items.specs.FillList.{flights_of}

@@ -1,6 +1,6 @@
 -- States that no event tells apart.
 use Rattle.std.specs.Prelude.{◌≡◌}
-use Rattle.arch_types.specs.declared.interval.Interval.{Interval}
+use Rattle.intervals.specs.declared.interval.Interval.{Interval}
 use Rattle.history_items.specs.Fills.{base_in, in_flight}
 use Rattle.interval_fills.specs.Steps.{MachineState}
 

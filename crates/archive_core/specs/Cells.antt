@@ -1,10 +1,10 @@
 -- The cells of an interval.
 use Rattle.std.specs.Prelude.{ℕ, List}
 use Rattle.arch_types.specs.declared.cell.Cell.{Cell}
-use Rattle.arch_types.specs.declared.interval.Interval.{Interval}
+use Rattle.intervals.specs.declared.interval.Interval.{Interval}
 use Rattle.history_items.specs.Items.{Item, rows_in}
 use Rattle.container_extract.specs.Extraction.{values_of}
-use Rattle.interval_fills.specs.Intervals.{interval_start, interval_end}
+use Rattle.intervals.specs.Interval.{interval_start, interval_end}
 use Rattle.mdb_items.specs.Database.{Database}
 
 -- the cells of a parameter over the rows of `tm` in an interval, in the order of their keys

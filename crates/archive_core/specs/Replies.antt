@@ -1,13 +1,14 @@
 -- Which reply each event has in a state, and which state comes next.
-use Rattle.std.specs.Prelude.{◌≡◌, ℕ, List}
-use Rattle.arch_types.specs.declared.ask.ReplayRequest.{ReplayRequest}
-use Rattle.arch_types.specs.declared.ask.Request.{Request}
-use Rattle.arch_types.specs.declared.interval.Interval.{Interval}
+use Rattle.std.specs.Prelude.{◌≡◌, ℕ, List, Some}
+use Rattle.asks.specs.declared.ask.ReplayRequest.{ReplayRequest}
+use Rattle.asks.specs.declared.ask.Request.{Request}
+use Rattle.intervals.specs.declared.interval.Interval.{Interval}
 use Rattle.arch_types.specs.declared.row.Row.{Row}
 use Rattle.history_items.specs.Items.{Item}
 use Rattle.archive_core.specs.declared.reply.Reply.{Reply}
 use Rattle.archive_core.specs.declared.reply.Reply.TheVariants.{Ingested, NoTask, Task, Void, Installed, Abandoned, Answered, Replayed, Refused}
-use Rattle.archive_core.specs.Asks.{IsAnswered, RefusesRequest, IsReplayed, RefusesReplay}
+use Rattle.archive_core.specs.Asks.{IsAnswered, IsReplayed}
+use Rattle.asks.specs.Refusals.{replay_refusal, request_refusal}
 use Rattle.interval_fills.specs.Steps.{MachineState, Ingests, AllLateInFlight, BeginsFill, IsFillBase, InstallsFill, given_up}
 use Rattle.mdb_items.specs.Database.{Database}
 
@@ -37,11 +38,11 @@ RepliesToAbandon old interval _ new = ⊥
 -- to who asks for values
 abbrev pub RepliesToRequest : Database → List Item → Request → Reply → Type 0
 RepliesToRequest db history request (Answered answer) = IsAnswered db history request answer
-RepliesToRequest db history request (Refused refusal) = RefusesRequest db request refusal
+RepliesToRequest db history request (Refused refusal) = request_refusal db request ≡ Some refusal
 RepliesToRequest db history request _ = ⊥
 
 -- to who asks for rows
 abbrev pub RepliesToReplay : List (List ℕ) → Database → List Item → ReplayRequest → Reply → Type 0
 RepliesToReplay tables db history request (Replayed front rows) = IsReplayed tables db history request front rows
-RepliesToReplay tables db history request (Refused refusal) = RefusesReplay tables request refusal
+RepliesToReplay tables db history request (Refused refusal) = replay_refusal tables request ≡ Some refusal
 RepliesToReplay tables db history request _ = ⊥

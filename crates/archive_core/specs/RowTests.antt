@@ -1,8 +1,8 @@
 -- Tests of rows, by which rows and the next interval are found.
 use Rattle.std.specs.Prelude.{ℕ, ℤ, ◌&&◌, ◌==◌, not, Bool, true, List, Option, Some, None, int_lt}
 use Rattle.std.specs.Option.{is_some}
-use Rattle.arch_types.specs.declared.interval.Interval.{Interval}
-use Rattle.arch_types.specs.Interval.{interval_of}
+use Rattle.intervals.specs.declared.interval.Interval.{Interval}
+use Rattle.intervals.specs.Interval.{interval_of}
 use Rattle.arch_types.specs.declared.row.Row.{Row}
 use Rattle.arch_types.specs.History.{is_in_table}
 use Rattle.arch_types.specs.Table.{is_in_time_range}

@@ -1,45 +1,26 @@
 //! Values of a parameter.
 
-ghost use Rattle.std.specs.Prelude.{◌≡◌, ◌≢◌, ◌≤ℤ◌, ◌+◌, ◌<◌, None, IfOk};
+ghost use Rattle.std.specs.Prelude.{◌≡◌, ◌+◌, ◌<◌, IfOk};
 ghost use Rattle.std.specs.List.{filter_map};
-ghost use Rattle.arch_types.specs.declared.refusal.Refusal.{Refusal as RefusalValue};
+ghost use Rattle.asks.specs.Directions.{in_direction};
 ghost use Rattle.container_extract.specs.Extraction.{cell_of};
-ghost use Rattle.mdb_items.specs.Texts.{place_of};
-ghost use Rattle.archive_core.specs.Asks.{answer_of, in_direction, parameter_asked};
+ghost use Rattle.archive_core.specs.Asks.{answer_of};
 ghost use Rattle.replay_merge.specs.Replay.{truncated};
 ghost use Rattle.archive_core.specs.Replies.{RepliesToRequest};
 
 use crate::ordered::{TM, range_of};
 use crate::reply::Reply;
-use arch_types::ask::{Answer, Request};
 use arch_types::cell::{Cell, Cells};
-use arch_types::name::Name;
-use arch_types::refusal::Refusal;
+use arch_types::direction::Direction;
 use arch_types::row::Row;
 use arch_types::steps::Steps;
+use asks::{Answer, AskRefusal, Request, range_refusal};
 use container_extract::laws::{raw_value_is_sound, value_is_calibrated};
 use container_extract::{Extractor, eng_of};
 use mdb_model::Mdb;
 use std::alloc::{AllocError, Global};
 use std::marker::Brand;
 use std::sync::ledger::{Blank, Ledger};
-
-/// A name is a text.
-pub(crate) fn text_of(name: &Name) -> &str
-    ensures { result.now ≡ name.now }
-{
-    match str::from_utf8(name.as_slice()) {
-        Ok(text) => text,
-        Err(_) => unreachable!(),
-    }
-}
-
-/// The number of the parameter that a request names.
-fn number_asked(mdb: &Mdb, request: &Request) -> Option<u16>
-    ensures { result ≡ parameter_asked mdb.now request.now }
-{
-    mdb.parameter_number(text_of(&request.parameter))
-}
 
 /// The cell of a parameter in the packet of a row, where there is one.
 fn cell_of<L: Ledger>(
@@ -89,11 +70,12 @@ fn cells_in<L: Ledger>(
 }
 
 /// Turns cells, where the last are to come first.
-fn turn(cells: &mut Vec<Cell>, descending: bool)
-    ensures { cells.new.items ≡ in_direction descending cells.old.items }
+fn turn(cells: &mut Vec<Cell>, direction: Direction)
+    ensures { cells.new.items ≡ in_direction direction cells.old.items }
 {
-    if descending {
-        cells.as_mut_slice().reverse();
+    match direction {
+        Direction::Ascending => {}
+        Direction::Descending => cells.as_mut_slice().reverse(),
     }
 }
 
@@ -119,7 +101,7 @@ fn cells_asked(
 {
     let in_range = range_of(alloc, rows, TM as usize, request.from, request.to)?;
     let mut cells = cells_in::<Brand>(alloc, Blank::new(1), mdb, number, in_range.as_slice())?;
-    turn(&mut cells, request.descending);
+    turn(&mut cells, request.direction);
     keep_first(&mut cells, request.limit);
     Ok(Cells::from_vec(cells))
 }
@@ -133,14 +115,11 @@ pub(crate) fn answered(
 ) -> Result<Reply, AllocError>
     ensures { IfOk result (RepliesToRequest mdb.now rows.now request.now) }
 {
-    let Some(number) = number_asked(mdb, request) else {
-        return Ok(Reply::Refused(Refusal::UnknownParameter));
+    let Some(number) = mdb.parameter_number(request.parameter.as_str()) else {
+        return Ok(Reply::Refused(AskRefusal::UnknownParameter));
     };
-    if request.from > request.to {
-        return Ok(Reply::Refused(Refusal::BadRange {
-            from: request.from,
-            to: request.to,
-        }));
+    if let Some(refusal) = range_refusal(request.from, request.to) {
+        return Ok(Reply::Refused(refusal));
     }
     Ok(Reply::Answered(Answer {
         front: rows.len() as u64,

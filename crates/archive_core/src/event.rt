@@ -1,8 +1,8 @@
 //! What callers do to an archive.
 
-use arch_types::ask::{ReplayRequest, Request};
-use arch_types::interval::Interval;
 use arch_types::row::Rows;
+use asks::{ReplayRequest, Request};
+use intervals::Interval;
 
 /// What one of many callers does.
 #[derive(Debug, Drop)]

@@ -1,6 +1,6 @@
 //! Fills that begin and end.
 
-ghost use Rattle.std.specs.Prelude.{◌≡◌, ◌≤◌, ◌↔◌, ◌++◌, ◌∷◌, [], List, length, take, true, Some, IfOk, IfSome, IfNone, OnOk, OnErr};
+ghost use Rattle.std.specs.Prelude.{◌≡◌, ◌≤◌, ◌↔◌, ◌++◌, ◌∷◌, [], List, length, take, Some, IfOk, IfSome, IfNone, OnOk, OnErr, IsTrue};
 ghost use Rattle.std.specs.List.{list_any};
 ghost use Rattle.history_items.specs.Items.{Item, is_row_of_interval};
 ghost use Rattle.history_items.specs.Late.{last_in};
@@ -12,9 +12,9 @@ use crate::lateness::{in_flight, last_in, next_to_fill};
 use crate::ordered::{is_row_of_interval, rows_of_interval};
 use crate::reply::Reply;
 use arch_types::inserted::Installed;
-use arch_types::interval::Interval;
 use arch_types::row::Row;
 use history_items::fills::Fill;
+use intervals::{Exponent, Interval};
 use std::alloc::{AllocError, Global};
 
 /// Notes an item of the fill list. Refused for want of memory, the list is as it was.
@@ -38,16 +38,21 @@ fn free(fills: &mut Vec<Fill>, interval: Interval) -> Result<(), AllocError>
 }
 
 /// The next task, where some late interval is free. Refused for want of memory, the list is as it was.
-pub(crate) fn begin(alloc: Global, rows: &[Row], fills: &mut Vec<Fill>) -> Result<Reply, AllocError>
+pub(crate) fn begin(
+    alloc: Global,
+    rows: &[Row],
+    fills: &mut Vec<Fill>,
+    exponent: Exponent,
+) -> Result<Reply, AllocError>
     ensures reply { IfOk result (λ reply.
-        RepliesToBegin 22 (state_of rows.now fills.old.items) reply (state_of rows.now fills.new.items)) }
+        RepliesToBegin exponent (state_of rows.now fills.old.items) reply (state_of rows.now fills.new.items)) }
     ensures err { OnErr result (fills.new.items ≡ fills.old.items) }
 {
-    let Some(interval) = next_to_fill(rows, fills.as_slice()) else {
+    let Some(interval) = next_to_fill(rows, fills.as_slice(), exponent) else {
         return Ok(Reply::NoTask);
     };
     let base = rows.len() as u64;
-    let of_interval = rows_of_interval(alloc, rows, interval)?;
+    let of_interval = rows_of_interval(alloc, rows, interval, exponent)?;
     note(fills, Fill::Begun { interval, base })?;
     Ok(Reply::Task {
         interval,
@@ -57,35 +62,36 @@ pub(crate) fn begin(alloc: Global, rows: &[Row], fills: &mut Vec<Fill>) -> Resul
 }
 
 /// Whether a row of an interval is among these.
-fn has_row(rows: &[Row], interval: Interval) -> bool
-    ensures { result ≡ list_any (is_row_of_interval 22 interval) rows.now }
+fn has_row(rows: &[Row], interval: Interval, exponent: Exponent) -> bool
+    ensures { result ≡ list_any (is_row_of_interval exponent interval) rows.now }
 {
-    rows.iter().any(|row| is_row_of_interval(row, interval))
+    rows.iter()
+        .any(|row| is_row_of_interval(row, interval, exponent))
 }
 
 /// Whether a row of an interval is among the first so many.
-fn has_row_below(rows: &[Row], interval: Interval, front: usize) -> bool
+fn has_row_below(rows: &[Row], interval: Interval, front: usize, exponent: Exponent) -> bool
     requires { front ≤ length rows.now }
-    ensures { result ≡ list_any (is_row_of_interval 22 interval) (take front rows.now) }
+    ensures { result ≡ list_any (is_row_of_interval exponent interval) (take front rows.now) }
 {
     let (first, _) = rows.split_at(front);
-    has_row(first, interval)
+    has_row(first, interval, exponent)
 }
 
 /// Whether a fill of an interval may have a base: it isn't above the history's length, and a row of the interval stands below it.
-fn is_fill_base(rows: &[Row], interval: Interval, base: u64) -> bool
-    ensures { (result ≡ true) ↔ IsFillBase 22 interval base rows.now }
+fn is_fill_base(rows: &[Row], interval: Interval, base: u64, exponent: Exponent) -> bool
+    ensures { IsTrue result ↔ IsFillBase exponent interval base rows.now }
 {
     let base = base as usize;
-    base <= rows.len() && has_row_below(rows, interval, base)
+    base <= rows.len() && has_row_below(rows, interval, base, exponent)
 }
 
 /// The position of an interval's last row, where it stands at or after a base.
-fn last_since(rows: &[Row], interval: Interval, base: u64) -> Option<u64>
-    ensures some { IfSome result (λ last. (base ≤ last) × (last_in 22 interval rows.now ≡ Some last)) }
-    ensures none { IfNone result (NoRowSince 22 interval base rows.now) }
+fn last_since(rows: &[Row], interval: Interval, base: u64, exponent: Exponent) -> Option<u64>
+    ensures some { IfSome result (λ last. (base ≤ last) × (last_in exponent interval rows.now ≡ Some last)) }
+    ensures none { IfNone result (NoRowSince exponent interval base rows.now) }
 {
-    match last_in(rows, interval) {
+    match last_in(rows, interval, exponent) {
         None => None,
         Some(last) => { if base <= last { Some(last) } else { None } }
     }
@@ -97,12 +103,13 @@ fn install(
     fills: &mut Vec<Fill>,
     interval: Interval,
     base: u64,
+    exponent: Exponent,
 ) -> Result<Installed, AllocError>
     ensures became { IfOk result (λ became.
-        InstallsFill 22 (state_of rows.now fills.old.items) interval base became (state_of rows.now fills.new.items)) }
+        InstallsFill exponent (state_of rows.now fills.old.items) interval base became (state_of rows.now fills.new.items)) }
     ensures err { OnErr result (fills.new.items ≡ fills.old.items) }
 {
-    match last_since(rows, interval, base) {
+    match last_since(rows, interval, base, exponent) {
         Some(position) => {
             free(fills, interval)?;
             Ok(Installed::Stale { position })
@@ -120,16 +127,17 @@ pub(crate) fn installed(
     fills: &mut Vec<Fill>,
     interval: Interval,
     base: u64,
+    exponent: Exponent,
 ) -> Result<Reply, AllocError>
     ensures reply { IfOk result (λ reply.
-        RepliesToInstall 22 (state_of rows.now fills.old.items) interval base reply
+        RepliesToInstall exponent (state_of rows.now fills.old.items) interval base reply
         (state_of rows.now fills.new.items)) }
     ensures err { OnErr result (fills.new.items ≡ fills.old.items) }
 {
-    if !is_fill_base(rows, interval, base) {
+    if !is_fill_base(rows, interval, base, exponent) {
         return Ok(Reply::Void);
     }
-    let became = install(rows, fills, interval, base)?;
+    let became = install(rows, fills, interval, base, exponent)?;
     Ok(Reply::Installed(became))
 }
 

@@ -8,9 +8,9 @@ ghost use Rattle.interval_fills.specs.Steps.{IsNextToFill, state_of};
 ghost use Rattle.archive_core.specs.RowTests.{interval_at, is_below_least, shows_late_free};
 
 use crate::ordered::{TM, interval_of_row, is_row_of_interval};
-use arch_types::interval::Interval;
 use arch_types::row::Row;
 use history_items::fills::Fill;
+use intervals::{Exponent, Interval};
 
 /// The base of an interval's last fill after one more item, given the one before.
 fn base_after(interval: Interval, base: Option<u64>, fill: &Fill) -> Option<u64>
@@ -83,21 +83,21 @@ fn last_after(last: Option<u64>, position: u64, passes: bool) -> Option<u64>
 }
 
 /// The position of an interval's last row.
-pub(crate) fn last_in(rows: &[Row], interval: Interval) -> Option<u64>
-    ensures { result ≡ last_in 22 interval rows.now }
+pub(crate) fn last_in(rows: &[Row], interval: Interval, exponent: Exponent) -> Option<u64>
+    ensures { result ≡ last_in exponent interval rows.now }
 {
     let mut last = None;
     for (i, row) in rows.iter().enumerate() {
-        last = last_after(last, i as u64, is_row_of_interval(row, interval));
+        last = last_after(last, i as u64, is_row_of_interval(row, interval, exponent));
     }
     last
 }
 
 /// Whether a row at a position shows that its interval is late, and the interval is free.
-fn shows_late_free(fills: &[Fill], row: &Row, position: u64) -> bool
-    ensures { result ≡ shows_late_free 22 fills.now position row.now }
+fn shows_late_free(fills: &[Fill], row: &Row, position: u64, exponent: Exponent) -> bool
+    ensures { result ≡ shows_late_free exponent fills.now position row.now }
 {
-    let interval = interval_of_row(row);
+    let interval = interval_of_row(row, exponent);
     row.table == TM
         && is_late_by(position, base_in(fills, interval))
         && in_flight(fills, interval).is_none()
@@ -119,24 +119,25 @@ fn least_after(
     least: Option<Interval>,
     row: &Row,
     position: u64,
+    exponent: Exponent,
 ) -> Option<Interval>
-    ensures { result ≡ (if is_below_least least (interval_at 22 row.now)
-        && shows_late_free 22 fills.now position row.now then Some (interval_at 22 row.now) else least) }
+    ensures { result ≡ (if is_below_least least (interval_at exponent row.now)
+        && shows_late_free exponent fills.now position row.now then Some (interval_at exponent row.now) else least) }
 {
-    let interval = interval_of_row(row);
-    if is_below_least(least, interval) && shows_late_free(fills, row, position) {
+    let interval = interval_of_row(row, exponent);
+    if is_below_least(least, interval) && shows_late_free(fills, row, position, exponent) {
         return Some(interval);
     }
     least
 }
 
 /// The least interval that is late and free.
-pub(crate) fn next_to_fill(rows: &[Row], fills: &[Fill]) -> Option<Interval>
-    ensures { IsNextToFill 22 (state_of rows.now fills.now) result }
+pub(crate) fn next_to_fill(rows: &[Row], fills: &[Fill], exponent: Exponent) -> Option<Interval>
+    ensures { IsNextToFill exponent (state_of rows.now fills.now) result }
 {
     let mut least = None;
     for (i, row) in rows.iter().enumerate() {
-        least = least_after(fills, least, row, i as u64);
+        least = least_after(fills, least, row, i as u64, exponent);
     }
     least
 }

@@ -5,7 +5,7 @@ ghost use mathlib.Core.List.{IsPrefix};
 ghost use Rattle.history_items.specs.Items.{items_of};
 ghost use Rattle.archive_core.specs.Machine.{MachineRun, MachineStep};
 ghost use Rattle.interval_fills.specs.Invariant.{MachineInvariant};
-ghost use Rattle.interval_fills.specs.Steps.{first_state};
+ghost use Rattle.archive_core.specs.Core.{first_core};
 
 use crate::answers::answered;
 use crate::event::Event;
@@ -16,6 +16,7 @@ use crate::reply::{Replies, Reply};
 use arch_types::name::Names;
 use arch_types::row::Row;
 use history_items::fills::Fill;
+use intervals::Exponent;
 use mdb_model::Mdb;
 use std::alloc::{AllocError, Global};
 use std::marker::Model;
@@ -29,6 +30,8 @@ pub struct Core {
     /// The history.
     rows: Vec<Row>,
     fills: Vec<Fill>,
+    /// Of the intervals.
+    exponent: Exponent,
 }
 
 impl Model for Core {
@@ -38,37 +41,56 @@ impl Model for Core {
 
     ghost Value = { CoreView };
 
-    ghost view = { λ c. record { tables = c.tables; mdb = c.mdb; state = state_of c.rows.items c.fills.items } };
+    ghost view = { λ c. record {
+      tables = c.tables;
+      mdb = c.mdb;
+      exponent = c.exponent;
+      state = state_of c.rows.items
+          c.fills.items;
+    } };
 
-    ghost invariant = { λ c. MachineInvariant 22 (state_of c.rows.items c.fills.items) };
+    ghost invariant = { λ c. MachineInvariant c.exponent (state_of c.rows.items c.fills.items) };
 }
 
 impl Core {
-    /// A machine before its first event. Takes no memory.
+    /// A machine before its first event, with the intervals of format 1. Takes no memory.
     pub fn new(alloc: Global, tables: Names, mdb: Mdb) -> Self
-        ensures { result ≡ record { tables = tables; mdb = mdb; state = first_state } }
+        ensures { result ≡ first_core tables mdb }
     {
         Core {
             tables,
             mdb,
             rows: Vec::new(alloc),
             fills: Vec::new(alloc),
+            exponent: Exponent::of_format_1(),
         }
     }
 
     /// One event and its reply. The one error is want of memory, and then all is as before.
     pub fn step(&mut self, alloc: Global, event: &Event) -> Result<Reply, AllocError>
         ensures step { IfOk result (λ reply.
-            MachineStep 22 self.old.tables self.old.mdb self.old.state event.now reply self.new.state) }
-        ensures archive { (self.new.tables ≡ self.old.tables) × (self.new.mdb ≡ self.old.mdb) }
-        ensures invariant { MachineInvariant 22 self.new.state }
+            MachineStep self.old.exponent self.old.tables self.old.mdb self.old.state event.now reply self.new.state) }
+        ensures archive { (self.new.tables ≡ self.old.tables) × (self.new.mdb ≡ self.old.mdb)
+            × (self.new.exponent ≡ self.old.exponent) }
+        ensures invariant { MachineInvariant self.new.exponent self.new.state }
         ensures refused { OnErr result (self.new ≡ self.old) }
     {
         match event {
             Event::Ingest { rows, .. } => ingested(alloc, &mut self.rows, rows.as_slice()),
-            Event::Begin { .. } => begin(alloc, self.rows.as_slice(), &mut self.fills),
+            Event::Begin { .. } => begin(
+                alloc,
+                self.rows.as_slice(),
+                &mut self.fills,
+                self.exponent,
+            ),
             Event::Install { interval, base, .. } => {
-                installed(self.rows.as_slice(), &mut self.fills, *interval, *base)
+                installed(
+                    self.rows.as_slice(),
+                    &mut self.fills,
+                    *interval,
+                    *base,
+                    self.exponent,
+                )
             }
             Event::Abandon { interval, .. } => abandoned(&mut self.fills, *interval),
             Event::Retrieve { request, .. } => answered(
@@ -92,9 +114,10 @@ impl Core {
     /// Events one after the other, and their replies. The one error is want of memory, and then all is as before the first.
     pub fn run(&mut self, alloc: Global, events: &[Event]) -> Result<Replies, AllocError>
         ensures run { IfOk result (λ replies.
-            MachineRun 22 self.old.tables self.old.mdb self.old.state events.now replies self.new.state) }
-        ensures archive { (self.new.tables ≡ self.old.tables) × (self.new.mdb ≡ self.old.mdb) }
-        ensures invariant { MachineInvariant 22 self.new.state }
+            MachineRun self.old.exponent self.old.tables self.old.mdb self.old.state events.now replies self.new.state) }
+        ensures archive { (self.new.tables ≡ self.old.tables) × (self.new.mdb ≡ self.old.mdb)
+            × (self.new.exponent ≡ self.old.exponent) }
+        ensures invariant { MachineInvariant self.new.exponent self.new.state }
         ensures refused { OnErr result (self.new ≡ self.old) }
     {
         let rows = self.rows.len();
@@ -112,8 +135,9 @@ impl Core {
     /// The same. Refused for want of memory, the machine stands behind some of the events.
     fn run_each(&mut self, alloc: Global, events: &[Event]) -> Result<Replies, AllocError>
         ensures run { IfOk result (λ replies.
-            MachineRun 22 self.old.tables self.old.mdb self.old.state events.now replies self.new.state) }
-        ensures archive { (self.new.tables ≡ self.old.tables) × (self.new.mdb ≡ self.old.mdb) }
+            MachineRun self.old.exponent self.old.tables self.old.mdb self.old.state events.now replies self.new.state) }
+        ensures archive { (self.new.tables ≡ self.old.tables) × (self.new.mdb ≡ self.old.mdb)
+            × (self.new.exponent ≡ self.old.exponent) }
         ensures history { IsPrefix self.old.state.history self.new.state.history }
         ensures fills { IsPrefix self.old.state.fills self.new.state.fills }
     {

@@ -1,15 +1,15 @@
 //! Rows in the order of their keys.
 
 ghost use Rattle.std.specs.Prelude.{◌≡◌, filter, IfOk, OnOk};
-ghost use Rattle.arch_types.specs.Interval.{interval_of};
+ghost use Rattle.intervals.specs.Interval.{interval_of};
 ghost use Rattle.arch_types.specs.Order.{is_before, order_by};
 ghost use Rattle.arch_types.specs.Table.{range_of};
 ghost use Rattle.history_items.specs.Items.{is_row_of_interval};
 ghost use Rattle.interval_fills.specs.Intervals.{rows_of_interval};
 ghost use Rattle.archive_core.specs.RowTests.{interval_at, is_row_of_range};
 
-use arch_types::interval::Interval;
 use arch_types::row::{Row, Rows};
+use intervals::{Exponent, Interval};
 use std::alloc::{AllocError, Global};
 
 /// The number of table `tm`.
@@ -65,27 +65,32 @@ pub(crate) fn range_of(
 }
 
 /// The interval of a row's time.
-pub(crate) fn interval_of_row(row: &Row) -> Interval
-    ensures interval { result ≡ interval_at 22 row.now }
-    ensures number { result.0 ≡ interval_of 22 row.now.key.time }
+pub(crate) fn interval_of_row(row: &Row, exponent: Exponent) -> Interval
+    ensures interval { result ≡ interval_at exponent row.now }
+    ensures number { result.0 ≡ interval_of exponent row.now.key.time }
 {
-    Interval::of(row.key.time)
+    Interval::at(row.key.time, exponent)
 }
 
 /// Whether a row is of table `tm`, with its time in an interval.
-pub(crate) fn is_row_of_interval(row: &Row, interval: Interval) -> bool
-    ensures { result ≡ is_row_of_interval 22 interval row.now }
+pub(crate) fn is_row_of_interval(row: &Row, interval: Interval, exponent: Exponent) -> bool
+    ensures { result ≡ is_row_of_interval exponent interval row.now }
 {
-    row.table == TM && interval_of_row(row) == interval
+    row.table == TM && interval_of_row(row, exponent) == interval
 }
 
 /// The rows of `tm` in an interval, as they stand in the history.
-fn rows_in_interval(alloc: Global, rows: &[Row], interval: Interval) -> Result<Vec<Row>, AllocError>
-    ensures { IfOk result (λ found. found.items ≡ filter (is_row_of_interval 22 interval) rows.now) }
+fn rows_in_interval(
+    alloc: Global,
+    rows: &[Row],
+    interval: Interval,
+    exponent: Exponent,
+) -> Result<Vec<Row>, AllocError>
+    ensures { IfOk result (λ found. found.items ≡ filter (is_row_of_interval exponent interval) rows.now) }
 {
     let mut found = Vec::new(alloc);
     for row in rows {
-        if is_row_of_interval(row, interval) {
+        if is_row_of_interval(row, interval, exponent) {
             found.push(row.copy()?)?;
         }
     }
@@ -97,10 +102,11 @@ pub(crate) fn rows_of_interval(
     alloc: Global,
     rows: &[Row],
     interval: Interval,
+    exponent: Exponent,
 ) -> Result<Rows, AllocError>
-    ensures { IfOk result (λ found. found ≡ rows_of_interval 22 interval rows.now) }
+    ensures { IfOk result (λ found. found ≡ rows_of_interval exponent interval rows.now) }
 {
-    let mut found = rows_in_interval(alloc, rows, interval)?;
+    let mut found = rows_in_interval(alloc, rows, interval, exponent)?;
     put_in_order(&mut found)?;
     Ok(Rows::from_vec(found))
 }

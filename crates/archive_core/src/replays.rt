@@ -2,48 +2,27 @@
 
 ghost use Rattle.std.specs.Prelude.{◌≡◌, IfOk, filter, nat_eq};
 ghost use Rattle.std.specs.List.{filter_map, list_any};
-ghost use Rattle.mdb_items.specs.Texts.{place_of};
+ghost use Rattle.asks.specs.Names.{packet_name_number, packet_name_numbers};
 ghost use Rattle.replay_merge.specs.Replay.{has_listed_name, is_listed_name, truncated};
-ghost use Rattle.archive_core.specs.Asks.{packet_name_numbered, names_asked, replayed_rows, table_numbered};
+ghost use Rattle.archive_core.specs.Asks.{replayed_rows};
 ghost use Rattle.archive_core.specs.Replies.{RepliesToReplay};
 
-use crate::answers::text_of;
 use crate::ordered::range_of;
 use crate::reply::Reply;
-use arch_types::ask::ReplayRequest;
-use arch_types::name::{Name, Names};
-use arch_types::refusal::Refusal;
+use arch_types::name::Names;
 use arch_types::row::{Row, Rows};
+use asks::{AskRefusal, ReplayRequest, range_refusal, table_number};
 use item_list::Items;
 use mdb_model::Mdb;
 use std::alloc::{AllocError, Global};
 
-/// The number of the table that a request names.
-fn table_numbered(tables: &Names, request: &ReplayRequest) -> Option<usize>
-    ensures { result ≡ table_numbered tables.now request.now }
-{
-    table_number(tables, &request.table)
-}
-
-/// The place of a table's name.
-fn table_number(tables: &Names, name: &Name) -> Option<usize>
-    ensures { result ≡ place_of name.now tables.now }
-{
-    for (i, table) in tables.as_slice().iter().enumerate() {
-        if name.as_slice() == table.as_slice() {
-            return Some(i);
-        }
-    }
-    None
-}
-
 /// The numbers of those packet names that the database has.
 fn numbers_of(alloc: Global, mdb: &Mdb, names: &Names) -> Result<Items<u16>, AllocError>
-    ensures { IfOk result (λ numbers. numbers ≡ filter_map (packet_name_numbered mdb.now) names.now) }
+    ensures { IfOk result (λ numbers. numbers ≡ filter_map (packet_name_number mdb.now) names.now) }
 {
     let mut numbers = Items::new(alloc);
     for name in names.as_slice() {
-        if let Some(number) = mdb.container_number(text_of(name)) {
+        if let Some(number) = mdb.container_number(name.as_str()) {
             numbers.push(number)?;
         }
     }
@@ -56,7 +35,7 @@ fn names_asked(
     mdb: &Mdb,
     names: &Option<Names>,
 ) -> Result<Option<Items<u16>>, AllocError>
-    ensures { IfOk result (λ numbers. numbers ≡ names_asked mdb.now names.now) }
+    ensures { IfOk result (λ numbers. numbers ≡ packet_name_numbers mdb.now names.now) }
 {
     match names {
         Some(names) => Ok(Some(numbers_of(alloc, mdb, names)?)),
@@ -125,15 +104,12 @@ pub(crate) fn replayed(
 ) -> Result<Reply, AllocError>
     ensures { IfOk result (RepliesToReplay tables.now mdb.now rows.now request.now) }
 {
-    let Some(table) = table_numbered(tables, request) else {
+    let Some(table) = table_number(tables, &request.table) else {
         let name = request.table.copy()?;
-        return Ok(Reply::Refused(Refusal::UnknownTable { name }));
+        return Ok(Reply::Refused(AskRefusal::UnknownTable { name }));
     };
-    if request.from > request.to {
-        return Ok(Reply::Refused(Refusal::BadRange {
-            from: request.from,
-            to: request.to,
-        }));
+    if let Some(refusal) = range_refusal(request.from, request.to) {
+        return Ok(Reply::Refused(refusal));
     }
     Ok(Reply::Replayed {
         front: rows.len() as u64,

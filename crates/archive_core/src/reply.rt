@@ -1,10 +1,9 @@
 //! What an archive gives back.
 
-use arch_types::ask::Answer;
 use arch_types::inserted::{Installed, Outcomes};
-use arch_types::interval::Interval;
-use arch_types::refusal::Refusal;
 use arch_types::row::Rows;
+use asks::{Answer, AskRefusal};
+use intervals::Interval;
 use item_list::Items;
 
 /// The reply to an event.
@@ -30,7 +29,8 @@ pub enum Reply {
         front: u64,
         rows: Rows,
     },
-    Refused(Refusal),
+    /// Who asked has no answer.
+    Refused(AskRefusal),
 }
 
 /// Replies in the order of their events.

@@ -7,9 +7,9 @@ use Rattle.std.proofs.lemmas.Bool.{false_from_ne_true}
 use Rattle.std.proofs.lemmas.Bool.Decides.{Decides-int_eq}
 use Rattle.std.proofs.lemmas.Map.Views.{tells_apart}
 use Rattle.block_map.proofs.KeyedLists.{lookup-insert_entry_same, lookup-insert_entry_other}
-use Rattle.arch_types.specs.declared.interval.Interval.{Interval}
-use Rattle.arch_types.specs.Interval.{interval_cmp}
-use Rattle.arch_types.proofs.Ranks.{interval_cmp_total, exact_intervals}
+use Rattle.intervals.specs.declared.interval.Interval.{Interval}
+use Rattle.intervals.specs.Interval.{interval_cmp}
+use Rattle.intervals.proofs.Ranks.{interval_cmp_total, exact_intervals}
 use Rattle.block_map.specs.Index.{tally}
 use Rattle.archive_history.specs.LimitCounts.{HasAtMost, interval_row_count, one_at}
 

@@ -4,51 +4,56 @@ use Rattle.std.specs.Prelude.{◌==◌, ◌&&◌, if◌then◌else◌}
 use Rattle.std.specs.Ordering.{int_eq}
 use Rattle.std.specs.List.{AllByRecursion}
 use Rattle.std.proofs.lemmas.Bool.Decides.{nat_tests}
-use Rattle.arch_types.specs.declared.interval.Interval.{Interval}
+use Rattle.intervals.specs.declared.interval.Interval.{Interval}
 use Rattle.arch_types.specs.declared.row.Row.{Row}
 use Rattle.arch_types.specs.History.{with_row, ingested, IsHistory}
-use Rattle.arch_types.specs.Interval.{interval_of}
+use Rattle.intervals.specs.Interval.{interval_of}
 use Rattle.arch_types.proofs.Histories.{keeps_history}
 use Rattle.history_items.specs.Items.{Item, is_row_of_interval}
 use Rattle.history_items.proofs.Outcomes.{new_in_turn, ingested-append}
-use Rattle.archive_history.specs.History.{HistoryInvariant}
+use Rattle.archive_history.specs.History.{AreCounted}
 use Rattle.archive_history.specs.Limits.{octets_of, interval_rows, IsWithin}
-use Rattle.archive_history.specs.TableSet.{HistoryView}
 use Rattle.archive_history.specs.LimitCounts.{LimitCountsView, interval_row_count, one_at}
 use Rattle.archive_history.proofs.Sums.{octets-append, interval_rows-append, interval_rows-one, within_less}
 
 -- what a row adds to the count of an interval
-abbrev pub adds_to : Interval → Row → ℕ
-adds_to interval row = if is_row_of_interval 22 interval row then 1 else 0
+abbrev pub adds_to : ℕ → Interval → Row → ℕ
+adds_to e interval row = if is_row_of_interval e interval row then 1 else 0
 
-pub adds_here : (row : Row) (at i : Interval) → row.table ≡ 0 → at.0 ≡ interval_of 22 row.key.time → one_at at i ≡ adds_to i row
-adds_here row at i table time =
+pub adds_here : (e : ℕ) (row : Row) (at i : Interval) → row.table ≡ 0 → at.0 ≡ interval_of e row.key.time → one_at at i ≡ adds_to e i row
+adds_here e row at i table time =
     let yes : (row.table == 0) ≡ true = grind (arith, nat_tests, table) in
-    ap (λ t. if int_eq t i.0 then 1 else 0) time ∙ sym (ap (λ (b : Bool). if b && int_eq (interval_of 22 row.key.time) i.0 then 1 else 0) yes)
+    ap (λ t. if int_eq t i.0 then 1 else 0) time ∙ sym (ap (λ (b : Bool). if b && int_eq (interval_of e row.key.time) i.0 then 1 else 0) yes)
 
-pub adds_nothing : (row : Row) (i : Interval) → (row.table ≡ 0 → ⊥) → adds_to i row ≡ 0
-adds_nothing row i other =
+pub adds_nothing : (e : ℕ) (row : Row) (i : Interval) → (row.table ≡ 0 → ⊥) → adds_to e i row ≡ 0
+adds_nothing e row i other =
     let far : (row.table == 0) ≡ false = grind (arith, nat_tests, other) in
-    ap (λ (b : Bool). if b && int_eq (interval_of 22 row.key.time) i.0 then 1 else 0) far
+    ap (λ (b : Bool). if b && int_eq (interval_of e row.key.time) i.0 then 1 else 0) far
 
-pub kept_row : (table_set table_set' : HistoryView) (limit_counts limit_counts' : LimitCountsView) (row : Row) → HistoryInvariant table_set limit_counts → table_set'.items ≡ with_row table_set.items row → table_set'.items ≡ table_set.items ++ row ∷ [] → IsWithin 22 (table_set.items ++ row ∷ []) → table_set.room ≡ table_set'.room + 1
-    → limit_counts'.octets ≡ limit_counts.octets + length row.packet → ((i : Interval) → interval_row_count limit_counts'.rows i ≡ interval_row_count limit_counts.rows i + adds_to i row) → limit_counts.room ≤ limit_counts'.room + 1 → HistoryInvariant table_set' limit_counts'
-kept_row table_set table_set' limit_counts limit_counts' row k is grown within room octets rows left = record {
-  history = subst IsHistory (sym is) (keeps_history table_set.items (row ∷ []) k.history);
-  within = subst (IsWithin 22) (sym grown) within;
-  octets = omega (arith, octets, k.octets, ap octets_of grown, octets-append table_set.items (row ∷ []));
-  rows = λ i. omega (arith, rows i, k.rows i, ap (interval_rows 22 i) grown, interval_rows-append i table_set.items (row ∷ []), interval_rows-one i row);
-  has_room = omega (arith, room, left, k.has_room);
+-- the counts are those of one row more
+pub row_counted : (e : ℕ) (items items' : List Item) (room room' : ℕ) (limit_counts limit_counts' : LimitCountsView) (row : Row) → AreCounted e items room limit_counts → items' ≡ with_row items row → items' ≡ items ++ row ∷ [] → IsWithin e (items ++ row ∷ []) → room ≡ room' + 1
+    → limit_counts'.octets ≡ limit_counts.octets + length row.packet → ((i : Interval) → interval_row_count limit_counts'.rows i ≡ interval_row_count limit_counts.rows i + adds_to e i row) → limit_counts.room ≤ limit_counts'.room + 1 → AreCounted e items' room' limit_counts'
+row_counted e items items' room room' limit_counts limit_counts' row k is grown within one octets rows left = record {
+  history = subst IsHistory (sym is) (keeps_history items (row ∷ []) k.history);
+  within = subst (IsWithin e) (sym grown) within;
+  octets = omega (arith, octets, k.octets, ap octets_of grown, octets-append items (row ∷ []));
+  rows = λ i. omega (arith, rows i, k.rows i, ap (interval_rows e i) grown, interval_rows-append e i items (row ∷ []), interval_rows-one e i row);
+  has_room = omega (arith, one, left, k.has_room);
 }
+
+-- the counts stay where the row's key is known
+pub row_known : (e : ℕ) (items items' : List Item) (room room' : ℕ) (limit_counts : LimitCountsView) → AreCounted e items room limit_counts → items' ≡ items → room ≡ room' + 1 → AreCounted e items' room' limit_counts
+row_known e items items' room room' limit_counts k same one =
+    rw same (let counted : AreCounted e items room' limit_counts = record { history = k.history; within = k.within; octets = k.octets; rows = k.rows; has_room = omega (arith, one, k.has_room) } in counted)
 
 -- ---- rows one after the other
 
 -- the first rows, and one more
-pub first_within : (items : List Item) (first rest rows : List Row) (row : Row) → first ++ row ∷ rest ≡ rows → IsWithin 22 (items ++ rows) → IsWithin 22 ((items ++ first) ++ row ∷ [])
-first_within items first rest rows row is within =
+pub first_within : (e : ℕ) (items : List Item) (first rest rows : List Row) (row : Row) → first ++ row ∷ rest ≡ rows → IsWithin e (items ++ rows) → IsWithin e ((items ++ first) ++ row ∷ [])
+first_within e items first rest rows row is within =
     let whole : ((items ++ first) ++ row ∷ []) ++ rest ≡ items ++ rows =
     append_assoc (items ++ first) (row ∷ []) rest ∙ append_assoc items first (row ∷ rest) ∙ ap (λ (l : List Item). items ++ l) is in
-    within_less ((items ++ first) ++ row ∷ []) rest (subst (IsWithin 22) (sym whole) within)
+    within_less e ((items ++ first) ++ row ∷ []) rest (subst (IsWithin e) (sym whole) within)
 
 pub table_next : (bound : ℕ) (first rest rows : List Row) (row : Row) → first ++ row ∷ rest ≡ rows → AllByRecursion (λ r. r.table < bound) rows → row.table < bound
 table_next bound first rest rows row is all = at_seam first (subst (AllByRecursion (λ r. r.table < bound)) (sym is) all)

@@ -6,11 +6,11 @@ use Rattle.std.specs.List.{AllByRecursion}
 use Rattle.std.proofs.Math.Seq.{take-suc}
 use Rattle.std.proofs.lemmas.Bool.{eqb-true}
 use Rattle.std.proofs.lemmas.Bool.Decides.{Decides-int_eq}
-use Rattle.arch_types.specs.declared.interval.Interval.{Interval}
-use Rattle.arch_types.specs.declared.refusal.Which.TheVariants as limits
+use Rattle.intervals.specs.declared.interval.Interval.{Interval}
+use Rattle.archive_history.specs.declared.row_limit.RowLimit.TheVariants as limits
 use Rattle.arch_types.specs.declared.row.Row.{Row}
-use Rattle.arch_types.specs.Interval.{interval_of}
-use Rattle.arch_types.specs.Limits.{limit_of}
+use Rattle.intervals.specs.Interval.{interval_of}
+use Rattle.archive_history.specs.RowLimits.{number_of}
 use Rattle.history_items.specs.Items.{Item, is_row_of_interval}
 use Rattle.archive_history.specs.Limits.{octets_of, interval_rows, IsWithin}
 use Rattle.archive_history.proofs.Sums.{octets-append, interval_rows-append, interval_rows-one}
@@ -25,33 +25,36 @@ take_more rows i d within =
 pub octets_more : (rows : List Row) (i : ℕ) (d : Row) → i < length rows → octets_of (take (i + 1) rows) ≡ octets_of (take i rows) + length (get_or rows i d).packet
 octets_more rows i d within = omega (arith, ap octets_of (take_more rows i d within), octets-append (take i rows) (get_or rows i d ∷ []))
 
-pub interval_more : (interval : Interval) (rows : List Row) (i : ℕ) (d : Row) → i < length rows → interval_rows 22 interval (take (i + 1) rows) ≡ interval_rows 22 interval (take i rows) + (if is_row_of_interval 22 interval (get_or rows i d) then 1 else 0)
-interval_more interval rows i d within =
-    omega (arith, ap (interval_rows 22 interval) (take_more rows i d within), interval_rows-append interval (take i rows) (get_or rows i d ∷ []), interval_rows-one interval (get_or rows i d))
+pub interval_more : (e : ℕ) (interval : Interval) (rows : List Row) (i : ℕ) (d : Row) → i < length rows → interval_rows e interval (take (i + 1) rows) ≡ interval_rows e interval (take i rows) + (if is_row_of_interval e interval (get_or rows i d) then 1 else 0)
+interval_more e interval rows i d within =
+    omega (arith, ap (interval_rows e interval) (take_more rows i d within), interval_rows-append e interval (take i rows) (get_or rows i d ∷ []), interval_rows-one e interval (get_or rows i d))
 
 -- ---- each interval of the rows
 
 -- the interval of a row of table `tm` has no more rows than it may
-abbrev pub IsCounted : List Item → List Row → Row → Type 0
-IsCounted items rows row = row.table ≡ 0 → (interval : Interval) → interval.0 ≡ interval_of 22 row.key.time → interval_rows 22 interval (items ++ rows) ≤ limit_of limits.IntervalRows
+abbrev pub IsCounted : ℕ → List Item → List Row → Row → Type 0
+IsCounted e items rows row = row.table ≡ 0 → (interval : Interval) → interval.0 ≡ interval_of e row.key.time → interval_rows e interval (items ++ rows) ≤ number_of limits.IntervalRows
+
+pub not_more : (a b : ℕ) → (a < b → ⊥) → b ≤ a
+not_more a b few = omega (arith, few)
 
 and_true : (a b : Bool) → (a && b) ≡ true → (a ≡ true) × (b ≡ true)
 and_true true b e = (refl, e)
 and_true false b e = absurd cc
 
 -- an interval has none of these rows, or not too many
-none_or_few : (interval : Interval) (items : List Item) (all rows : List Row) → AllByRecursion (IsCounted items all) rows → (interval_rows 22 interval rows ≡ 0) ⊎ (interval_rows 22 interval (items ++ all) ≤ limit_of limits.IntervalRows)
-none_or_few interval items all [] each = inl refl
-none_or_few interval items all (row ∷ rows) each = go (is_row_of_interval 22 interval row) refl (none_or_few interval items all rows each.1)
+none_or_few : (e : ℕ) (interval : Interval) (items : List Item) (all rows : List Row) → AllByRecursion (IsCounted e items all) rows → (interval_rows e interval rows ≡ 0) ⊎ (interval_rows e interval (items ++ all) ≤ number_of limits.IntervalRows)
+none_or_few e interval items all [] each = inl refl
+none_or_few e interval items all (row ∷ rows) each = go (is_row_of_interval e interval row) refl (none_or_few e interval items all rows each.1)
   where
-    go : (b : Bool) → is_row_of_interval 22 interval row ≡ b → (interval_rows 22 interval rows ≡ 0) ⊎ (interval_rows 22 interval (items ++ all) ≤ limit_of limits.IntervalRows)
-        → (length (if b then row ∷ filter (is_row_of_interval 22 interval) rows else filter (is_row_of_interval 22 interval) rows) ≡ 0) ⊎ (interval_rows 22 interval (items ++ all) ≤ limit_of limits.IntervalRows)
+    go : (b : Bool) → is_row_of_interval e interval row ≡ b → (interval_rows e interval rows ≡ 0) ⊎ (interval_rows e interval (items ++ all) ≤ number_of limits.IntervalRows)
+        → (length (if b then row ∷ filter (is_row_of_interval e interval) rows else filter (is_row_of_interval e interval) rows) ≡ 0) ⊎ (interval_rows e interval (items ++ all) ≤ number_of limits.IntervalRows)
     go true is rest =
-        let p = and_true (eqb row.table 0) (int_eq (interval_of 22 row.key.time) interval.0) is in
-        inr (each.0 (eqb-true row.table 0 p.0) interval (sym ((Decides-int_eq (interval_of 22 row.key.time) interval.0).0 p.1)))
+        let p = and_true (eqb row.table 0) (int_eq (interval_of e row.key.time) interval.0) is in
+        inr (each.0 (eqb-true row.table 0 p.0) interval (sym ((Decides-int_eq (interval_of e row.key.time) interval.0).0 p.1)))
     go false is rest = rest
 
 -- no interval has too many rows after rows whose intervals have not
-pub intervals_within : (items : List Item) (rows : List Row) → IsWithin 22 items → AllByRecursion (IsCounted items rows) rows → (interval : Interval) → interval_rows 22 interval (items ++ rows) ≤ limit_of limits.IntervalRows
-intervals_within items rows within each interval =
-    ⊎_elim (λ none. omega (arith, none, interval_rows-append interval items rows, within.intervals interval)) (λ few. few) (none_or_few interval items rows rows each)
+pub intervals_within : (e : ℕ) (items : List Item) (rows : List Row) → IsWithin e items → AllByRecursion (IsCounted e items rows) rows → (interval : Interval) → interval_rows e interval (items ++ rows) ≤ number_of limits.IntervalRows
+intervals_within e items rows within each interval =
+    ⊎_elim (λ none. omega (arith, none, interval_rows-append e interval items rows, within.intervals interval)) (λ few. few) (none_or_few e interval items rows rows each)

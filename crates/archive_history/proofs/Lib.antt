@@ -1,7 +1,7 @@
 pub mod Counting
 pub mod Growing
 pub mod Intervals
-pub mod TableSetFacts
+pub mod PlacedRows
 pub mod Steps
 pub mod KeyOrder
 pub mod PartitionRows

@@ -1,8 +1,9 @@
--- That tables of a history may go to another thread, by their parts, since one search through all of them runs out of steps.
+-- That a history may go to another thread, by their parts, since one search through all of them runs out of steps.
 use denote.Param.Send.{IsSend, sendable}
 use Rattle.std.proofs.Crossing.{crosses}
+use Rattle.archive_history.specs.contracts.history.History as History
+use Rattle.archive_history.specs.contracts.limit_counts.LimitCounts as LimitCounts
 use Rattle.archive_history.specs.contracts.partitioned_table.PartitionedTable as PartitionedTable
-use Rattle.archive_history.specs.contracts.table_set.TableSet as TableSet
 use Rattle.partitions.specs.contracts.links.Link as Link
 use Rattle.partitions.specs.contracts.partitions.Partitions as Partitions
 use Rattle.yarch_table.specs.contracts.table.Stored as Stored
@@ -23,5 +24,8 @@ partitions_send = search (crosses, link_send, sendable) depth 60 fits 10000
 partitioned_table_send : IsSend PartitionedTable.the_row
 partitioned_table_send = search (crosses, table_send, partitions_send, sendable) depth 60
 
-pub table_set_send : IsSend TableSet.the_row
-table_set_send = search (crosses, partitioned_table_send, sendable) depth 60
+counts_send : IsSend LimitCounts.the_row
+counts_send = search (crosses, sendable) depth 60
+
+pub history_send : IsSend History.the_row
+history_send = search (crosses, partitioned_table_send, counts_send, sendable) depth 60

@@ -1,7 +1,7 @@
 -- What the limits count, over lists that are joined.
-use Rattle.std.proofs.Common.{◌≡◌, ◌+◌, List, [], ◌∷◌, ◌++◌, length, Bool, true, false, cond, refl, arith, length-append}
+use Rattle.std.proofs.Common.{◌≡◌, ℕ, ◌+◌, List, [], ◌∷◌, ◌++◌, length, Bool, true, false, cond, refl, arith, length-append}
 use Rattle.std.specs.Prelude.{filter, if◌then◌else◌}
-use Rattle.arch_types.specs.declared.interval.Interval.{Interval}
+use Rattle.intervals.specs.declared.interval.Interval.{Interval}
 use Rattle.arch_types.specs.declared.row.Row.{Row}
 use Rattle.history_items.specs.Items.{Item, is_row_of_interval}
 use Rattle.archive_history.specs.Limits.{octets_of, interval_rows, IsWithin}
@@ -14,22 +14,22 @@ one_more : (b : Bool) (item : Item) (items : List Item) → length (cond b (item
 one_more true item items = omega arith
 one_more false item items = omega arith
 
-pub interval_rows-append : (interval : Interval) (a b : List Item) → interval_rows 22 interval (a ++ b) ≡ interval_rows 22 interval a + interval_rows 22 interval b
-interval_rows-append interval [] b = let none : interval_rows 22 interval b ≡ 0 + interval_rows 22 interval b = omega arith in none
-interval_rows-append interval (item ∷ a) b =
-    omega (arith, interval_rows-append interval a b, one_more (is_row_of_interval 22 interval item) item (filter (is_row_of_interval 22 interval) (a ++ b)), one_more (is_row_of_interval 22 interval item) item (filter (is_row_of_interval 22 interval) a))
+pub interval_rows-append : (e : ℕ) (interval : Interval) (a b : List Item) → interval_rows e interval (a ++ b) ≡ interval_rows e interval a + interval_rows e interval b
+interval_rows-append e interval [] b = let none : interval_rows e interval b ≡ 0 + interval_rows e interval b = omega arith in none
+interval_rows-append e interval (item ∷ a) b =
+    omega (arith, interval_rows-append e interval a b, one_more (is_row_of_interval e interval item) item (filter (is_row_of_interval e interval) (a ++ b)), one_more (is_row_of_interval e interval item) item (filter (is_row_of_interval e interval) a))
 
-pub interval_rows-one : (interval : Interval) (item : Item) → interval_rows 22 interval (item ∷ []) ≡ (if is_row_of_interval 22 interval item then 1 else 0)
-interval_rows-one interval item = alone (is_row_of_interval 22 interval item)
+pub interval_rows-one : (e : ℕ) (interval : Interval) (item : Item) → interval_rows e interval (item ∷ []) ≡ (if is_row_of_interval e interval item then 1 else 0)
+interval_rows-one e interval item = alone (is_row_of_interval e interval item)
   where
     alone : (b : Bool) → length (cond b (item ∷ []) []) ≡ (if b then 1 else 0)
     alone true = refl
     alone false = refl
 
 -- fewer rows pass no limit either
-pub within_less : (a b : List Item) → IsWithin 22 (a ++ b) → IsWithin 22 a
-within_less a b w = record {
+pub within_less : (e : ℕ) (a b : List Item) → IsWithin e (a ++ b) → IsWithin e a
+within_less e a b w = record {
   rows = omega (arith, w.rows, length-append a b);
   octets = omega (arith, w.octets, octets-append a b);
-  intervals = λ interval. omega (arith, w.intervals interval, interval_rows-append interval a b);
+  intervals = λ interval. omega (arith, w.intervals interval, interval_rows-append e interval a b);
 }

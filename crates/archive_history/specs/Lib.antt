@@ -1,5 +1,6 @@
 pub mod History
 pub mod Limits
 pub mod PartitionedTable
-pub mod TableSet
+pub mod RowLimits
+pub mod Tables
 pub mod LimitCounts

@@ -1,8 +1,8 @@
 -- What the limits count.
 use Rattle.std.specs.Prelude.{ℕ, ◌≤◌, List, if◌then◌else◌}
 use Rattle.block_map.specs.Index.{tally_of}
-use Rattle.arch_types.specs.declared.interval.Interval.{Interval}
-use Rattle.arch_types.specs.Interval.{interval_cmp}
+use Rattle.intervals.specs.declared.interval.Interval.{Interval}
+use Rattle.intervals.specs.Interval.{interval_cmp}
 use Rattle.history_items.specs.Fills.{is_same}
 
 -- octets, the rows of each interval that has any, and how many more intervals may come without memory

@@ -1,36 +1,38 @@
 //! A history in memory, within its limits.
 
-ghost use Rattle.std.specs.Prelude.{◌≡◌, ◌+◌, ◌*◌, ◌<◌, ◌≤◌, ◌^◌, ◌++◌, [], ◌∷◌, true, false, length, max, IfOk, IfSome, IfNone, OnOk, OnErr, slice_get, Some, ◌↔◌, Contains};
+ghost use Rattle.std.specs.Prelude.{◌≡◌, ◌+◌, ◌*◌, ◌<◌, ◌≤◌, ◌^◌, ◌++◌, [], ◌∷◌, true, false, length, max, IfOk, IfSome, IfNone, OnOk, OnErr, slice_get, Some, ◌↔◌, Contains, IsTrue};
 ghost use Rattle.std.specs.List.{list_any, AllByRecursion};
-ghost use Rattle.arch_types.specs.declared.interval.Interval.{Interval as AnInterval};
+ghost use Rattle.intervals.specs.declared.interval.Interval.{Interval as AnInterval};
 ghost use Rattle.arch_types.specs.History.{IsHistory};
-ghost use Rattle.arch_types.specs.Interval.{interval_of};
+ghost use Rattle.intervals.specs.Interval.{interval_of};
 ghost use Rattle.arch_types.specs.Table.{range_of};
 ghost use Rattle.history_items.specs.Items.{Item, after_row, after_rows, items_of, row_item, rows_in};
 ghost use Rattle.archive_history.specs.PartitionedTable.{named_times_of};
-ghost use Rattle.archive_history.specs.TableSet.{is_at_key, rows_in_table};
+ghost use Rattle.archive_history.specs.History.{is_at_key, rows_in_table};
 ghost use Rattle.histogram.specs.Times.{spans_of_times, times_of};
 ghost use Rattle.partitions.specs.declared.partition.Partition.{Partition as APartition};
 ghost use Rattle.partitions.specs.Bounds.{MayHold};
 ghost use Rattle.partitions.specs.Partitions.{AreRising};
 ghost use Rattle.partitions.specs.Rows.{partition_at, partitions_of, parts_between};
-ghost use Rattle.arch_types.specs.Limits.{limit_of};
-ghost use Rattle.arch_types.specs.declared.refusal.Which.TheVariants as limits;
+ghost use Rattle.archive_history.specs.RowLimits.{number_of};
+ghost use Rattle.archive_history.specs.declared.row_limit.RowLimit.TheVariants as limits;
 ghost use Rattle.archive_history.specs.Limits.{octets_of, interval_rows, IsWithin, PassesFirst};
 ghost use Rattle.archive_history.specs.LimitCounts.{interval_row_count};
 
 use crate::limit_counts::LimitCounts;
-use crate::table_set::TableSet;
-use arch_types::interval::Interval;
+use crate::partitioned_table::PartitionedTable;
+use crate::row_limit::RowLimit;
+use crate::tables::{empty_tables, insert_row, reserve_tables};
 use arch_types::key::Key;
-use arch_types::refusal::Which;
 use arch_types::row::{Row, Rows};
 use arch_types::spans::Spans;
+use intervals::{Exponent, Interval};
 use partitions::bounds::Bounds;
 use partitions::lists::PartList;
 use partitions::partition::Partition;
 use std::alloc::{AllocError, Global};
 use std::marker::Model;
+use std::snapshot::Snapshot;
 use yarch_table::rows::TableRows;
 
 /// The number of table `tm`.
@@ -39,31 +41,39 @@ pub const TM: u8 = 0;
 /// The rows of a history, and what its limits count.
 #[derive(Drop)]
 pub struct History {
-    table_set: TableSet,
+    /// The rows of each table, each with its position in the history.
+    tables: Vec<PartitionedTable>,
+    /// Each row in the order of the history, for contracts alone: a snapshot takes no memory.
+    order: Vec<Snapshot<Row>>,
+    /// How many more rows come without memory.
+    room: usize,
+    /// Of its intervals.
+    exponent: Exponent,
     limit_counts: LimitCounts,
 }
 
 impl Model for History {
-    ghost use Rattle.archive_history.specs.TableSet.{HistoryView};
-    ghost use Rattle.archive_history.specs.History.{HistoryInvariant};
+    ghost use Rattle.std.specs.Prelude.{length};
+    ghost use Rattle.archive_history.specs.History.{HistoryInvariant, HistoryView};
+    ghost use Rattle.archive_history.specs.Tables.{items_in};
 
     ghost Value = { HistoryView };
 
-    ghost view = { λ h. h.table_set };
+    ghost view = { λ h. record { items = items_in h.order.items; tables = length h.tables.items; room = h.room; exponent = h.exponent } };
 
-    ghost invariant = { λ h. HistoryInvariant h.table_set h.limit_counts };
+    ghost invariant = { λ h. HistoryInvariant h.tables.items h.order h.room h.exponent h.limit_counts };
 }
 
 /// The interval of a row's time.
-pub fn interval_of_row(row: &Row) -> Interval
-    ensures { result.0 ≡ interval_of 22 row.now.key.time }
+pub fn interval_of_row(row: &Row, exponent: Exponent) -> Interval
+    ensures { result.0 ≡ interval_of exponent row.now.key.time }
 {
-    Interval::of(row.key.time)
+    Interval::at(row.key.time, exponent)
 }
 
 /// All octets of the packets of rows.
 fn octets_in(rows: &[Row]) -> u64
-    requires { length rows.now ≤ limit_of limits.Rows }
+    requires { length rows.now ≤ number_of limits.Rows }
     ensures { result ≡ octets_of rows.now }
 {
     let mut octets = 0;
@@ -74,12 +84,12 @@ fn octets_in(rows: &[Row]) -> u64
 }
 
 /// How many rows of table `tm` have their time in the interval.
-fn interval_rows_in(rows: &[Row], interval: Interval) -> u64
-    ensures { result ≡ interval_rows 22 interval (items_of rows.now) }
+fn interval_rows_in(rows: &[Row], exponent: Exponent, interval: Interval) -> u64
+    ensures { result ≡ interval_rows exponent interval (items_of rows.now) }
 {
     let mut count = 0;
     for row in rows {
-        if row.table == TM && Interval::of(row.key.time) == interval {
+        if row.table == TM && Interval::at(row.key.time, exponent) == interval {
             count += 1;
         }
     }
@@ -87,28 +97,34 @@ fn interval_rows_in(rows: &[Row], interval: Interval) -> u64
 }
 
 /// Whether an interval would have too many rows with these. They are counted only where it comes that close to the limit.
-fn are_too_many(limit_counts: &LimitCounts, interval: Interval, rows: &[Row]) -> bool
-    requires few { length rows.now ≤ limit_of limits.Rows }
-    requires counted { interval_row_count limit_counts.now.rows interval ≤ limit_of limits.IntervalRows }
-    ensures some { result ≡ true → limit_of limits.IntervalRows < interval_row_count limit_counts.now.rows interval +
-        interval_rows 22 interval (items_of rows.now) }
-    ensures none { result ≡ false → interval_row_count limit_counts.now.rows interval + interval_rows 22 interval
-        (items_of rows.now) ≤ limit_of limits.IntervalRows }
+fn are_too_many(
+    limit_counts: &LimitCounts,
+    exponent: Exponent,
+    interval: Interval,
+    rows: &[Row],
+) -> bool
+    requires few { length rows.now ≤ number_of limits.Rows }
+    requires counted { interval_row_count limit_counts.now.rows interval ≤ number_of limits.IntervalRows }
+    ensures { IsTrue result ↔ (number_of limits.IntervalRows <
+        interval_row_count limit_counts.now.rows interval + interval_rows exponent interval (items_of rows.now)) }
 {
     let known = limit_counts.rows_of(interval);
-    if known + rows.len() as u64 <= Which::IntervalRows.limit() {
+    if known + rows.len() as u64 <= RowLimit::IntervalRows.number() {
         return false;
     }
-    known + interval_rows_in(rows, interval) > Which::IntervalRows.limit()
+    known + interval_rows_in(rows, exponent, interval) > RowLimit::IntervalRows.number()
 }
 
 impl History {
-    /// So many tables without rows, and no room. The one error is want of memory.
-    pub fn new(alloc: Global, tables: usize) -> Result<Self, AllocError>
-        ensures { IfOk result (λ h. h ≡ record { items = []; tables = tables; room = 0 }) }
+    /// So many tables without rows, and no room, with intervals of this exponent. The one error is want of memory.
+    pub fn new(alloc: Global, tables: usize, exponent: Exponent) -> Result<Self, AllocError>
+        ensures { IfOk result (λ h. h ≡ record { items = []; tables = tables; room = 0; exponent = exponent }) }
     {
         Ok(History {
-            table_set: TableSet::new(alloc, tables)?,
+            tables: empty_tables(alloc, tables)?,
+            order: Vec::new(alloc),
+            room: 0,
+            exponent,
             limit_counts: LimitCounts::new(alloc)?,
         })
     }
@@ -116,10 +132,17 @@ impl History {
     /// The length of the history.
     pub fn len(&self) -> usize
         ensures len { result ≡ length self.now.items }
-        ensures within { IsWithin 22 self.now.items }
+        ensures within { IsWithin self.now.exponent self.now.items }
         ensures history { IsHistory (rows_in self.now.items) }
     {
-        self.table_set.len()
+        self.order.len()
+    }
+
+    /// The exponent of its intervals.
+    pub fn exponent(&self) -> Exponent
+        ensures { result ≡ self.now.exponent }
+    {
+        self.exponent
     }
 
     /// Makes the room at least `rows`. The one error is want of memory, and then all is as before.
@@ -129,11 +152,18 @@ impl History {
           tables = self.old.tables;
           room = max
               self.old.room rows;
+          exponent = self.old.exponent;
         }) }
         ensures err { OnErr result (self.new ≡ self.old) }
     {
+        if rows <= self.room {
+            return Ok(());
+        }
         self.limit_counts.reserve(rows)?;
-        self.table_set.reserve(rows)
+        self.order.reserve(rows)?;
+        reserve_tables(&mut self.tables, rows)?;
+        self.room = rows;
+        Ok(())
     }
 
     /// The position of the row that has a key in a table.
@@ -143,27 +173,26 @@ impl History {
             (is_at_key table key there ≡ true)) }
         ensures none { IfNone result (list_any (is_at_key table key) self.now.items ≡ false) }
     {
-        self.table_set.position(table, key)
+        self.tables[table as usize].position(key)
     }
 
     /// Whether an interval would have too many rows with these.
     fn passes_interval(&self, rows: &[Row]) -> bool
-        requires { length rows.now ≤ limit_of limits.Rows }
-        ensures some { result ≡ true → (i : AnInterval) ×
-            (limit_of limits.IntervalRows < interval_rows 22 i (self.now.items ++ items_of rows.now)) }
-        ensures none { result ≡ false → (i : AnInterval) → interval_rows 22 i (self.now.items ++ items_of rows.now) ≤
-            limit_of limits.IntervalRows }
+        requires { length rows.now ≤ number_of limits.Rows }
+        ensures { IsTrue result ↔ ((i : AnInterval) × (number_of limits.IntervalRows <
+            interval_rows self.now.exponent i (self.now.items ++ items_of rows.now))) }
     {
         let limit_counts = &self.limit_counts;
-        let limit = Which::IntervalRows.limit();
+        let exponent = self.exponent;
+        let limit = RowLimit::IntervalRows.number();
         let added = rows.len() as u64;
         if added <= limit && limit_counts.most_rows() <= limit - added {
             return false;
         }
         for row in rows {
             if row.table == TM {
-                let interval = interval_of_row(row);
-                if are_too_many(limit_counts, interval, rows) {
+                let interval = interval_of_row(row, exponent);
+                if are_too_many(limit_counts, exponent, interval, rows) {
                     return true;
                 }
             }
@@ -172,18 +201,18 @@ impl History {
     }
 
     /// The first limit that the history would pass with these rows.
-    pub fn limit_passed(&self, rows: &[Row]) -> Option<Which>
-        ensures none { IfNone result (IsWithin 22 (self.now.items ++ items_of rows.now)) }
-        ensures first { IfSome result (λ which. PassesFirst 22 which (self.now.items ++ items_of rows.now)) }
+    pub fn limit_passed(&self, rows: &[Row]) -> Option<RowLimit>
+        ensures none { IfNone result (IsWithin self.now.exponent (self.now.items ++ items_of rows.now)) }
+        ensures first { IfSome result (λ limit. PassesFirst self.now.exponent limit (self.now.items ++ items_of rows.now)) }
     {
-        if rows.len() as u64 > Which::Rows.limit() - self.table_set.len() as u64 {
-            return Some(Which::Rows);
+        if rows.len() as u64 > RowLimit::Rows.number() - self.len() as u64 {
+            return Some(RowLimit::Rows);
         }
-        if octets_in(rows) > Which::HistoryOctets.limit() - self.limit_counts.octets() {
-            return Some(Which::HistoryOctets);
+        if octets_in(rows) > RowLimit::HistoryOctets.number() - self.limit_counts.octets() {
+            return Some(RowLimit::HistoryOctets);
         }
         if self.passes_interval(rows) {
-            return Some(Which::IntervalRows);
+            return Some(RowLimit::IntervalRows);
         }
         None
     }
@@ -192,17 +221,19 @@ impl History {
     fn add(&mut self, row: Row) -> bool
         requires room { 0 < self.old.room }
         requires table { row.table < self.old.tables }
-        requires within { IsWithin 22 (self.old.items ++ row_item row ∷ []) }
+        requires within { IsWithin self.old.exponent (self.old.items ++ row_item row ∷ []) }
         ensures items { self.new.items ≡ after_row self.old.items row }
         ensures fresh { result ≡ true → self.new.items ≡ self.old.items ++ row_item row ∷ [] }
         ensures known { result ≡ false → self.new.items ≡ self.old.items }
         ensures tables { self.new.tables ≡ self.old.tables }
+        ensures exponent { self.new.exponent ≡ self.old.exponent }
         ensures room { self.old.room ≡ self.new.room + 1 }
     {
         let octets = row.packet.len();
         let table = row.table;
-        let interval = interval_of_row(&row);
-        if !self.table_set.add(row) {
+        let interval = interval_of_row(&row, self.exponent);
+        self.room -= 1;
+        if !insert_row(&mut self.tables, &mut self.order, row) {
             return false;
         }
         self.limit_counts.add_octets(octets);
@@ -216,11 +247,11 @@ impl History {
     pub fn add_all(&mut self, rows: Rows) -> bool
         requires room { length rows ≤ self.old.room }
         requires tables { AllByRecursion (λ row. row.table < self.old.tables) rows }
-        requires within { IsWithin 22 (self.old.items ++ items_of rows) }
-        ensures all { result ≡ true → (after_rows self.old.items rows ≡ self.old.items ++ items_of rows) ×
-            (self.new.items ≡ self.old.items ++ items_of rows) }
-        ensures some { result ≡ false → after_rows self.old.items rows ≡ self.old.items ++ items_of rows → ⊥ }
+        requires within { IsWithin self.old.exponent (self.old.items ++ items_of rows) }
+        ensures all { IsTrue result ↔ (after_rows self.old.items rows ≡ self.old.items ++ items_of rows) }
+        ensures items { IsTrue result → self.new.items ≡ self.old.items ++ items_of rows }
         ensures tables { self.new.tables ≡ self.old.tables }
+        ensures exponent { self.new.exponent ≡ self.old.exponent }
     {
         for row in rows.into_vec() {
             if !self.add(row) {
@@ -235,7 +266,7 @@ impl History {
         requires { 0 < self.now.tables }
         ensures { result ≡ range_of 0 from to (rows_in self.now.items) }
     {
-        self.table_set.range(TM, from, to)
+        self.tables[TM as usize].range_at(self.order.len() as u64, from, to)
     }
 
     /// The rows of a partition of a table at a front, in the order of their keys. The one error is want of memory.
@@ -249,7 +280,7 @@ impl History {
         requires { table < self.now.tables }
         ensures { IfOk result (λ rows. rows ≡ partition_at front table part.now (rows_in self.now.items)) }
     {
-        self.table_set.partition_rows(alloc, table, part, front)
+        self.tables[table as usize].partition_rows(alloc, part, front)
     }
 
     /// The rows of some partitions of a table at a front, which rise, with `from <= time < to`, in the order of their keys. The
@@ -267,8 +298,7 @@ impl History {
         requires rising { AreRising parts.now }
         ensures { IfOk result (λ rows. rows ≡ parts_between front table parts.now from to (rows_in self.now.items)) }
     {
-        self.table_set
-            .rows_between(alloc, table, parts, from, to, front)
+        self.tables[table as usize].rows_between(alloc, parts, from, to, front)
     }
 
     /// The partitions of a table that hold a row and may hold one in the bounds, by day and then by the packet name's
@@ -279,7 +309,7 @@ impl History {
             ↔ (Contains (partitions_of (rows_in_table table self.now.items)) p × MayHold bounds.now p)) }
         ensures rising { IfOk result (λ parts. AreRising parts) }
     {
-        self.table_set.pruned(table, bounds)
+        self.tables[table as usize].pruned(bounds)
     }
 
     /// The spans of time in which a packet name has rows in a table. The one error is want of memory.
@@ -288,6 +318,6 @@ impl History {
         ensures { IfOk result (λ spans. spans
             ≡ spans_of_times (times_of pname (named_times_of (rows_in_table table self.now.items)))) }
     {
-        self.table_set.spans(table, pname)
+        self.tables[table as usize].spans(pname)
     }
 }

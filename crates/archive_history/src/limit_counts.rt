@@ -1,11 +1,11 @@
 //! What the limits count: octets of packets, and rows in each interval.
 
 ghost use Rattle.std.specs.Prelude.{◌≡◌, ◌+◌, ◌<◌, ◌≤◌, ◌^◌, [], max, IfOk, OnOk, OnErr};
-ghost use Rattle.arch_types.specs.declared.interval.Interval.{Interval as AnInterval};
+ghost use Rattle.intervals.specs.declared.interval.Interval.{Interval as AnInterval};
 ghost use Rattle.archive_history.specs.LimitCounts.{HasAtMost, interval_row_count, one_at};
 
-use arch_types::interval::Interval;
 use block_map::growing_index::GrowingIndex;
+use intervals::Interval;
 use std::alloc::{AllocError, Global};
 use std::marker::Model;
 

@@ -1,8 +1,8 @@
 -- What may follow an archive, and what breaks a rule.
 use Rattle.std.proofs.Common.{◌≡◌, ℕ, List, ◌++◌, Option, sym, ◌∙◌, subst, arith}
 use Rattle.std.specs.List.{AllByRecursion}
-use Rattle.arch_types.specs.declared.refusal.Which.{Which}
-use Rattle.arch_types.specs.declared.refusal.Which.TheVariants as limits
+use Rattle.archive_history.specs.declared.row_limit.RowLimit.{RowLimit}
+use Rattle.archive_history.specs.declared.row_limit.RowLimit.TheVariants as limits
 use Rattle.arch_types.specs.declared.row.Row.{Row}
 use Rattle.arch_types.specs.History.{ingested}
 use Rattle.octet_fields.specs.Exact.{IsOctets}
@@ -14,55 +14,22 @@ use Rattle.field_codec.specs.Spelling.{entry_octets}
 use Rattle.field_codec.proofs.EntryKinds.{one_spelling}
 use Rattle.archive_store.specs.declared.head.Head.{Head}
 use Rattle.archive_store.specs.Entries.{FilledArchive, archive, Applies, IsPlaced, AreAdmitted}
-use Rattle.archive_history.specs.Limits.{IsWithin, PassesFirst, IsLimit}
+use Rattle.archive_history.specs.Limits.{IsWithin, PassesFirst}
+use Rattle.archive_store.specs.Limits.{IsLimit, limit_named}
 use Rattle.archive_store.specs.Stands.{Breaks}
 use Rattle.archive_store.proofs.Exact.{takes_entry}
 
 -- a history that passes a limit is not within all of them
-pub passed_not_within : (which : Which) (items : List Item) → PassesFirst 22 which items → IsWithin 22 items → ⊥
-passed_not_within limits.DumpOctets items p w = absurd p
+pub passed_not_within : (limit : RowLimit) (items : List Item) → PassesFirst 22 limit items → IsWithin 22 items → ⊥
 passed_not_within limits.Rows items p w = omega (arith, p, w.rows)
 passed_not_within limits.HistoryOctets items p w = omega (arith, p.1, w.octets)
 passed_not_within limits.IntervalRows items p w = omega (arith, p.3, w.intervals p.2)
-passed_not_within limits.Dumps items p w = absurd p
-passed_not_within limits.Fillers items p w = absurd p
-passed_not_within limits.Links items p w = absurd p
-passed_not_within limits.Asks items p w = absurd p
-passed_not_within limits.Files items p w = absurd p
-passed_not_within limits.SheetOctets items p w = absurd p
-passed_not_within limits.Parameters items p w = absurd p
-passed_not_within limits.Calibrations items p w = absurd p
-passed_not_within limits.Containers items p w = absurd p
-passed_not_within limits.CalibrationRows items p w = absurd p
-passed_not_within limits.Entries items p w = absurd p
-passed_not_within limits.ScriptOctets items p w = absurd p
-passed_not_within limits.Statements items p w = absurd p
-passed_not_within limits.SqlDepth items p w = absurd p
-passed_not_within limits.Tables items p w = absurd p
-passed_not_within limits.Records items p w = absurd p
 
 -- the first limit that a history passes is the first of all
-pub limit_is : (which : Which) (records : ℕ) (items : List Item) → PassesFirst 22 which items → IsLimit 22 which records items
-limit_is limits.DumpOctets records items p = p
+pub limit_is : (limit : RowLimit) (records : ℕ) (items : List Item) → PassesFirst 22 limit items → IsLimit 22 (limit_named limit) records items
 limit_is limits.Rows records items p = p
 limit_is limits.HistoryOctets records items p = p
 limit_is limits.IntervalRows records items p = p
-limit_is limits.Dumps records items p = p
-limit_is limits.Fillers records items p = p
-limit_is limits.Links records items p = p
-limit_is limits.Asks records items p = p
-limit_is limits.Files records items p = p
-limit_is limits.SheetOctets records items p = p
-limit_is limits.Parameters records items p = p
-limit_is limits.Calibrations records items p = p
-limit_is limits.Containers records items p = p
-limit_is limits.CalibrationRows records items p = p
-limit_is limits.Entries records items p = p
-limit_is limits.ScriptOctets records items p = p
-limit_is limits.Statements records items p = p
-limit_is limits.SqlDepth records items p = p
-limit_is limits.Tables records items p = p
-limit_is limits.Records records items p = absurd p
 
 pub all_admitted : (head : Head) (items : List Item) (rows : List Row) → IsArchiveEntry (entries.Rows rows) → AllByRecursion (IsPlaced head) rows → AllByRecursion (λ row. IsOctets row.packet) rows → IsWithin 22 (items ++ items_of rows) → ingested items rows ≡ items ++ items_of rows → AreAdmitted (archive head items) rows
 all_admitted head items rows spelled placed octets within fresh = record { spelled = spelled; placed = placed; octets = octets; fresh = fresh; within = within }

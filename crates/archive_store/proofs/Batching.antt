@@ -1,11 +1,11 @@
 -- The rows of a batch are rows that a record may add.
-use Rattle.std.proofs.Common.{◌≡◌, ℕ, ℤ, ◌*◌, ◌<◌, ◌≤◌, ◌^◌, List, [], ◌∷◌, ◌++◌, length, map, refl, arith, length-append}
+use Rattle.std.proofs.Common.{◌≡◌, ℕ, ℤ, ◌*◌, ◌<◌, ◌≤◌, ◌^◌, List, [], ◌∷◌, ◌++◌, length, map, refl, sym, ap, subst, ◌∙◌, arith, length-append}
 use Rattle.std.specs.List.{flat_map, AllByRecursion}
 use Rattle.block_map.proofs.Rising.{all_append}
 use Rattle.arch_types.specs.declared.inserted.Inserted.{Inserted}
 use Rattle.arch_types.specs.declared.inserted.Inserted.TheVariants.{New, Duplicate}
 use Rattle.arch_types.specs.declared.row.Row.{Row}
-use Rattle.arch_types.specs.Packet.{IsPacket}
+use Rattle.arch_types.specs.GenerationTime.{key_of}
 use Rattle.octet_fields.specs.Exact.{IsOctets}
 use Rattle.history_items.specs.Items.{Item, items_of}
 use Rattle.history_items.specs.Outcomes.{answered_new, outcomes_of, fresh_of}
@@ -16,7 +16,7 @@ use Rattle.text_forms.specs.ClockTime.{IsClockTime}
 use Rattle.archive_store.specs.declared.batch.Arrival.{Arrival}
 use Rattle.archive_store.specs.declared.batch.Batch.{Batch}
 use Rattle.archive_store.specs.declared.head.Head.{Head}
-use Rattle.archive_store.specs.Batches.{arrival_row, arrival_rows, batch_rows, IsArrival, IsBatch}
+use Rattle.archive_store.specs.Batches.{arrival_rows, batch_rows, in_table, IsArrival, IsBatch}
 use Rattle.archive_store.specs.Entries.{archive, IsPlaced, AreAdmitted}
 use Rattle.archive_history.specs.Limits.{IsWithin}
 
@@ -35,36 +35,36 @@ module _ (head : Head) (rectime : ℤ) (clock : IsClockTime rectime) (few : leng
   abbrev Fits : Row → Type 0
   Fits row = IsStored row × IsPlaced head row
 
-  row_fits : (arrival : Arrival) (table : ℕ) → IsArrival head arrival → table < length head.tables → Fits (arrival_row rectime arrival table)
+  row_fits : (arrival : Arrival) (table : ℕ) → IsArrival head rectime arrival → table < length head.tables → Fits (in_table arrival.row table)
   row_fits arrival table is within = (
     record {
       table = omega (arith, within, few);
-      rectime = clock;
+      rectime = subst IsClockTime (sym is.received) clock;
       link = (is.link_low, omega (arith, is.link_high));
       pname = omega (arith, is.pname, names);
       packet = is.packet;
       kept = is.carries;
-      key = refl;
+      key = is.key ∙ ap (key_of arrival.row.packet) (sym is.received);
     },
     record { table = within; pname = is.pname },
   )
 
-  tables_fit : (arrival : Arrival) (tables : List ℕ) → IsArrival head arrival → AllByRecursion (λ table. table < length head.tables) tables → AllByRecursion Fits (map (arrival_row rectime arrival) tables)
+  tables_fit : (arrival : Arrival) (tables : List ℕ) → IsArrival head rectime arrival → AllByRecursion (λ table. table < length head.tables) tables → AllByRecursion Fits (map (in_table arrival.row) tables)
   tables_fit arrival [] is all = tt
   tables_fit arrival (t ∷ tables) is all = (row_fits arrival t is all.0, tables_fit arrival tables is all.1)
 
-  rows_fit : (arrivals : List Arrival) → AllByRecursion (IsArrival head) arrivals → AllByRecursion Fits (flat_map (arrival_rows rectime) arrivals)
+  rows_fit : (arrivals : List Arrival) → AllByRecursion (IsArrival head rectime) arrivals → AllByRecursion Fits (flat_map arrival_rows arrivals)
   rows_fit [] all = tt
-  rows_fit (a ∷ arrivals) all = all_append Fits (arrival_rows rectime a) (flat_map (arrival_rows rectime) arrivals) (tables_fit a a.tables all.0 all.0.tables) (rows_fit arrivals all.1)
+  rows_fit (a ∷ arrivals) all = all_append Fits (arrival_rows a) (flat_map arrival_rows arrivals) (tables_fit a a.tables all.0 all.0.tables) (rows_fit arrivals all.1)
 
 length-map-row : (f : ℕ → Row) (xs : List ℕ) → length (map f xs) ≡ length xs
 length-map-row f [] = refl
 length-map-row f (x ∷ xs) = omega (arith, length-map-row f xs)
 
-few_rows : (head : Head) (rectime : ℤ) (arrivals : List Arrival) → AllByRecursion (IsArrival head) arrivals → length (flat_map (arrival_rows rectime) arrivals) ≤ 16 * length arrivals
+few_rows : (head : Head) (rectime : ℤ) (arrivals : List Arrival) → AllByRecursion (IsArrival head rectime) arrivals → length (flat_map arrival_rows arrivals) ≤ 16 * length arrivals
 few_rows head rectime [] all = omega arith
 few_rows head rectime (a ∷ arrivals) all =
-    omega (arith, few_rows head rectime arrivals all.1, length-append (arrival_rows rectime a) (flat_map (arrival_rows rectime) arrivals), length-map-row (arrival_row rectime a) a.tables, all.0.few_tables)
+    omega (arith, few_rows head rectime arrivals all.1, length-append (arrival_rows a) (flat_map arrival_rows arrivals), length-map-row (in_table a.row) a.tables, all.0.few_tables)
 
 -- the new rows of a batch may be added
 pub admitted : (head : Head) (history : List Item) (batch : Batch) → IsArchiveEntry (entries.Head head.tables head.mdb) → length head.mdb.containers < 2 ^ 16 → IsBatch head batch
@@ -87,9 +87,9 @@ admitted head history batch fits names is some within octets =
     }
 
 -- what the sorting of a batch needs
-pub sortable : (head : Head) (batch : Batch) (tables : ℕ) → tables ≡ length head.tables → IsBatch head batch → AllByRecursion (λ arrival. IsPacket arrival.packet × AllByRecursion (λ table. table < tables) arrival.tables) batch.arrivals
-sortable head batch tables same is = all_weaker (IsArrival head) (λ arrival. IsPacket arrival.packet × AllByRecursion (λ table. table < tables) arrival.tables) batch.arrivals
-    (λ arrival a. (a.packet, all_weaker (λ table. table < length head.tables) (λ table. table < tables) arrival.tables (λ t within. omega (arith, within, same)) a.tables)) is.each
+pub sortable : (head : Head) (batch : Batch) (tables : ℕ) → tables ≡ length head.tables → IsBatch head batch → AllByRecursion (λ arrival. AllByRecursion (λ table. table < tables) arrival.tables) batch.arrivals
+sortable head batch tables same is = all_weaker (IsArrival head batch.rectime) (λ arrival. AllByRecursion (λ table. table < tables) arrival.tables) batch.arrivals
+    (λ arrival a. all_weaker (λ table. table < length head.tables) (λ table. table < tables) arrival.tables (λ t within. omega (arith, within, same)) a.tables) is.each
 
 -- the tables of rows that are placed
 pub placed_tables : (head : Head) (rows : List Row) (tables : ℕ) → tables ≡ length head.tables → AllByRecursion (IsPlaced head) rows → AllByRecursion (λ row. row.table < tables) rows

@@ -3,16 +3,16 @@ use Rattle.std.proofs.Common.{◌≡◌, ◌≢◌, ◌⊎◌, inl, inr, ⊎_eli
 use Rattle.std.specs.Prelude.{IsTrue, Result, Ok, Err, OnOk, IfErr, IsErrAnd, MatchResult}
 use Rattle.arch_disk.specs.Image.{Image}
 use Rattle.arch_disk.specs.Disk.{Device, HasCause, CountsFailure, raised}
-use Rattle.arch_types.specs.declared.refusal.Refusal.{Refusal}
-use Rattle.arch_types.specs.declared.refusal.Refusal.TheVariants.{Usage, Missing, ReadFault, WriteFault, BadPacket, BadSheet, BadSql, NoArchive, Exists, Damaged, DiskFault, NeedsReopen, UnknownParameter, BadRange, UnknownTable, Limit, Mismatch, Late, OutOfMemory}
-use Rattle.arch_types.specs.declared.refusal.Which.{Which}
+use Rattle.refusals.specs.declared.refusal.Refusal.{Refusal}
+use Rattle.refusals.specs.declared.refusal.Refusal.TheVariants.{Usage, Missing, ReadFault, WriteFault, BadPacket, BadSheet, BadSql, NoArchive, Exists, Damaged, DiskFault, NeedsReopen, UnknownParameter, BadRange, UnknownTable, Limit, Mismatch, Late, OutOfMemory}
+use Rattle.refusals.specs.declared.refusal.Which.{Which}
 use Rattle.arch_types.specs.declared.row.Row.{Row}
 use Rattle.arch_types.specs.History.{ingested}
-use Rattle.arch_types.specs.Limits.{limit_of}
+use Rattle.refusals.specs.Limits.{limit_of}
 use Rattle.history_items.specs.declared.fills.Addition.TheVariants.{Rows}
 use Rattle.history_items.specs.Fills.{pending_fault_of}
 use Rattle.history_items.specs.Outcomes.{fresh_of}
-use Rattle.archive_history.specs.Limits.{IsLimit, IsBelowLimits}
+use Rattle.archive_store.specs.Limits.{IsLimit, IsBelowLimits}
 use Rattle.disk_journal.specs.Calls.{IsJournalCreateFailed, CountsNeverFall}
 use Rattle.archive_store.specs.Calls.{IsFailure, IsIngestRefusal, IsRowsRefusal, IsStoreReopened, IsStoreReopenRefusal, IsStoreOpenRefusal, IsStoreCreateRefusal, IsDecidedByImage}
 use Rattle.archive_store.specs.Stands.{StandsFor}

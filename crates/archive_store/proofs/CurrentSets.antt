@@ -3,7 +3,7 @@ use Rattle.std.proofs.Common.{◌≡◌, ◌⊎◌, inl, inr, ℕ, ◌≤◌, Li
 use Rattle.std.specs.Prelude.{option_map, IfSome, IsSome, MatchOption, ⊤}
 use Rattle.std.specs.List.{AllByRecursion}
 use Rattle.std.specs.Option.{is_some}
-use Rattle.arch_types.specs.declared.interval.Interval.{Interval}
+use Rattle.intervals.specs.declared.interval.Interval.{Interval}
 use Rattle.history_items.specs.declared.fills.Fill.{Fill}
 use Rattle.fill_tracker.specs.FillTracker.{AreMarksOf, mark_by}
 use Rattle.history_items.specs.Fills.{base_in, in_flight}
@@ -22,7 +22,7 @@ use Rattle.archive_store.specs.CurrentSets.{IsCurrentSet}
 use Rattle.archive_store.specs.Entries.{IsArchivedRow, IsSoundArchive, filled_archive}
 use Rattle.archive_store.specs.Inside.{HoldsFills}
 use Rattle.archive_store.specs.StoreView.{StoreView}
-use Rattle.archive_store.specs.Tasks.{HasClockTime}
+use Rattle.intervals.specs.Interval.{HasClockTime}
 use Rattle.archive_store.proofs.Times.{stands_in_clock}
 
 -- what holds whatever an option has holds of what it has
@@ -54,10 +54,10 @@ marked_last marks fills history i are marked = go (last_in 22 i history) (sym ma
     go (Some last) some = refl
 
 -- it has a moment of the clock
-pub last_in_clock : (head : Head) (history : List Item) (i : Interval) → AllByRecursion (IsArchivedRow head) history → IsSome (last_in 22 i history) → HasClockTime i
+pub last_in_clock : (head : Head) (history : List Item) (i : Interval) → AllByRecursion (IsArchivedRow head) history → IsSome (last_in 22 i history) → HasClockTime 22 i
 last_in_clock head history i all some = go (last_in 22 i history) some (last_is_greatest 22 i history)
   where
-    go : (o : Option ℕ) → IsSome o → IsLastIn 22 i history o → HasClockTime i
+    go : (o : Option ℕ) → IsSome o → IsLastIn 22 i history o → HasClockTime 22 i
     go None no_row last = absurd (true≢false (sym no_row))
     go (Some l) row last = stands_in_clock head history i l all last.0
 

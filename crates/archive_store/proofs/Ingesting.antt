@@ -1,14 +1,15 @@
 -- What an ingest of classified rows comes to.
 use Rattle.std.proofs.Common.{◌≡◌, ℕ, ◌<◌, List, [], ◌∷◌, ◌++◌, length, refl, sym, ◌∙◌, ap, subst, arith}
 use Rattle.std.proofs.lemmas.List.{append-nil}
-use Rattle.arch_types.specs.declared.refusal.Which.TheVariants as limits
+use Rattle.refusals.specs.declared.refusal.Which.TheVariants as limits
 use Rattle.arch_types.specs.declared.row.Row.{Row}
 use Rattle.arch_types.specs.History.{ingested}
-use Rattle.arch_types.specs.Limits.{limit_of}
+use Rattle.refusals.specs.Limits.{limit_of}
 use Rattle.history_items.specs.Items.{Item, items_of}
 use Rattle.history_items.specs.Outcomes.{fresh_of}
 use Rattle.history_items.proofs.Outcomes.{fresh_added}
-use Rattle.archive_history.specs.Limits.{IsWithin, IsBelowLimits}
+use Rattle.archive_history.specs.Limits.{IsWithin}
+use Rattle.archive_store.specs.Limits.{IsBelowLimits}
 
 -- the history with the new rows is the ingested one
 pub added : (history : List Item) (rows fresh : List Row) → fresh ≡ fresh_of history rows → history ++ items_of fresh ≡ ingested history rows

@@ -3,14 +3,14 @@ use Rattle.std.proofs.Common.{◌≡◌, ℕ, pos, List, [], ◌∷◌, Option, 
 use Rattle.std.specs.Prelude.{option_map, IsSome}
 use Rattle.std.specs.List.{AllByRecursion}
 use Rattle.std.proofs.lemmas.Int.{ints}
-use Rattle.arch_types.specs.declared.interval.Interval.{Interval}
+use Rattle.intervals.specs.declared.interval.Interval.{Interval}
 use Rattle.arch_types.specs.declared.row.Row.{Row}
 use Rattle.history_items.specs.Fills.{base_in}
 use Rattle.history_items.specs.Items.{Item}
 use Rattle.history_items.specs.Late.{IsLastIn, StandsIn, last_in}
 use Rattle.history_items.proofs.Late.{last_is_greatest}
 use Rattle.history_items.specs.declared.fills.Fill.{Fill}
-use Rattle.interval_fills.specs.Intervals.{interval_end, interval_start}
+use Rattle.intervals.specs.Interval.{interval_end, interval_start}
 use Rattle.interval_fills.proofs.Intervals.{in_range}
 use Rattle.interval_walks.specs.Turns.{MeetsRange}
 use Rattle.interval_walks.proofs.Rising.{after_low, before_high, range_is}

@@ -26,5 +26,4 @@ pub mod ReplayedRows
 pub mod SameFaults
 pub mod Sending
 pub mod TaskRows
-pub mod Texts
 pub mod Times

@@ -21,7 +21,7 @@ use Rattle.arch_types.proofs.Histories.{keeps_history}
 use Rattle.history_items.specs.Items.{Item, has_key_of}
 use Rattle.history_items.specs.Outcomes.{Says, outcome_of, outcomes_of, fresh_of, answered_new}
 use Rattle.history_items.proofs.Outcomes.{outcomes_say, outcomes-append, length-outcomes, fresh_added}
-use Rattle.archive_history.specs.TableSet.{is_at_key}
+use Rattle.archive_history.specs.History.{is_at_key}
 use Rattle.archive_store.specs.Classifying.{IsFoundAt, NoneAbove, is_above, table_key_cmp, table_key_of}
 use Rattle.archive_store.specs.declared.classifying.TableKey.{TableKey}
 

@@ -5,7 +5,7 @@ use Rattle.std.specs.Arc.{arc_value}
 use Rattle.std.specs.List.{AllByRecursion}
 use Rattle.std.proofs.lemmas.Bool.{false_from_ne_true}
 use Rattle.std.proofs.lemmas.Int.{ints}
-use Rattle.arch_types.specs.declared.interval.Interval.{Interval}
+use Rattle.intervals.specs.declared.interval.Interval.{Interval}
 use Rattle.arch_types.specs.declared.row.Row.{Row}
 use Rattle.arch_types.specs.Table.{is_in_time_range, range_of, table_of}
 use Rattle.fill_tracker.specs.FillTracker.{AreMarksOf}
@@ -13,7 +13,8 @@ use Rattle.history_items.specs.declared.fills.Fill.{Fill}
 use Rattle.history_items.specs.Items.{Item, rows_in}
 use Rattle.history_items.specs.Late.{is_late_in, last_in}
 use Rattle.history_items.proofs.Late.{late_by_last}
-use Rattle.interval_fills.specs.Intervals.{interval_end, interval_start, rows_of_interval}
+use Rattle.interval_fills.specs.Intervals.{rows_of_interval}
+use Rattle.intervals.specs.Interval.{interval_end, interval_start}
 use Rattle.interval_walks.specs.Turns.{CoverRange, IntervalsRise, MeetsRange, meets_range, rows_in_turn}
 use Rattle.interval_walks.proofs.Rising.{range_is}
 use Rattle.interval_walks.proofs.Turns.{few_in_turn, ranges}

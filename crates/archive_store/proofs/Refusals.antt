@@ -3,8 +3,8 @@ use Rattle.std.proofs.Common.{◌≡◌, inl, ◌≤◌, ℕ, refl, subst, arith
 use Rattle.std.specs.Prelude.{IsTrue, Result, Ok, Err, IfErr, OnErr}
 use Rattle.arch_disk.specs.Disk.{Device}
 use Rattle.arch_disk.specs.Image.{Image}
-use Rattle.arch_types.specs.declared.refusal.Refusal.{Refusal}
-use Rattle.arch_types.specs.declared.refusal.Refusal.TheVariants as refused
+use Rattle.refusals.specs.declared.refusal.Refusal.{Refusal}
+use Rattle.refusals.specs.declared.refusal.Refusal.TheVariants as refused
 use Rattle.disk_journal.specs.Calls.{IsBeginRefusal, IsJournalCreateRefusal, IsNextRefusal, content_read, read_so_far}
 use Rattle.disk_journal.specs.Reading.{IsCutShortAt, gate_of}
 use Rattle.disk_journal.specs.declared.opening.Opening.{Opening}

@@ -93,18 +93,3 @@ module _ {X Y : Type 0} (f : X → Option Y) (xs : List X) (i : ℕ) (d : X) (do
 
   pub none_more : f (get_or xs i d) ≡ None → done ++ filter_map f (drop (i + 1) xs) ≡ all
   none_more is = ap (λ (rest : List Y). done ++ rest) (sym (next_is ∙ ap (λ (o : Option Y). cons_option o (filter_map f (drop (i + 1) xs))) is)) ∙ so_far
-
--- ---- the place of a name
-
-module _ {X : Type 0} (p : X → Bool) (xs : List X) (i : ℕ) (d : X) (before : (k : ℕ) → k < i → p (get_or xs k d) ≡ false) where
-  pub first_at : i < length xs → p (get_or xs i d) ≡ true → Some i ≡ position p xs
-  first_at within here =
-      let e = position_or_len_is p xs i d (omega (arith, within)) before (λ h. here) in
-      let less : nat_lt i (length xs) ≡ true = grind (arith, nat_tests, within) in
-      rw (e, less) refl
-
-  pub nowhere : i ≡ length xs → None ≡ position p xs
-  nowhere end =
-      let e = position_or_len_is p xs i d (omega (arith, end)) before (λ h. absurd (omega (arith, end, h))) in
-      let less : nat_lt i (length xs) ≡ false = grind (arith, nat_tests, end) in
-      rw (e, less) refl

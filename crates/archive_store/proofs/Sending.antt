@@ -6,9 +6,7 @@ use Rattle.arch_disk.specs.declared.disk.Disk as disk
 use Rattle.arch_types.specs.contracts.row.Row as Row
 use Rattle.fill_tracker.specs.contracts.tracker.FillTracker as FillTracker
 use Rattle.history_items.specs.contracts.fills.Fill as Fill
-use Rattle.archive_history.specs.contracts.history.History as History
-use Rattle.archive_history.specs.contracts.limit_counts.LimitCounts as LimitCounts
-use Rattle.archive_history.proofs.Sending.{table_set_send}
+use Rattle.archive_history.proofs.Sending.{history_send}
 use Rattle.archive_store.specs.contracts.store.Store as Store
 use Rattle.late_marks.specs.contracts.marks.LateMarks as LateMarks
 use Rattle.mdb_items.specs.contracts.calibration.Calibration as Calibration
@@ -61,12 +59,6 @@ mdb_sync = search (crosses, inner_send, inner_sync, sendable) depth 60
 -- ---- the history
 row_send : IsSend Row.the_row
 row_send = search (crosses, sendable) depth 60
-
-counts_send : IsSend LimitCounts.the_row
-counts_send = search (crosses, sendable) depth 60
-
-history_send : IsSend History.the_row
-history_send = search (crosses, table_set_send, counts_send, sendable) depth 60
 
 fill_send : IsSend Fill.the_row
 fill_send = search (crosses, row_send, sendable) depth 60 fits 10000

@@ -5,17 +5,17 @@ use Rattle.std.specs.List.{AllByRecursion}
 use Rattle.std.specs.List.Sorted.{IsStrictlySortedBy}
 use Rattle.std.specs.declared.cmp.Ordering.TheVariants.{Less}
 use Rattle.std.proofs.lemmas.List.Kept.{IsSortedBy-filter}
-use Rattle.arch_types.specs.declared.interval.Interval.{Interval}
+use Rattle.intervals.specs.declared.interval.Interval.{Interval}
 use Rattle.arch_types.specs.declared.key.Key.{Key}
 use Rattle.arch_types.specs.declared.row.Row.{Row}
 use Rattle.arch_types.specs.History.{IsHistory, is_in_table}
-use Rattle.arch_types.specs.Interval.{interval_of}
+use Rattle.intervals.specs.Interval.{interval_of, interval_end, interval_start}
 use Rattle.arch_types.specs.Order.{is_before, key_cmp}
 use Rattle.arch_types.specs.Table.{is_in_time_range, table_of}
 use Rattle.arch_types.proofs.InOrder.{order_sorted}
 use Rattle.arch_types.proofs.Ranks.{rows_rank}
 use Rattle.history_items.specs.Items.{Item, rows_in}
-use Rattle.interval_fills.specs.Intervals.{interval_end, interval_start, rows_of_interval}
+use Rattle.interval_fills.specs.Intervals.{rows_of_interval}
 use Rattle.interval_fills.proofs.Intervals.{range_in}
 use Rattle.replay_merge.proofs.Sorting.{ascending}
 use Rattle.replay_merge.proofs.Sources.{strictly}

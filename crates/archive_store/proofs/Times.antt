@@ -4,7 +4,7 @@ use Rattle.std.specs.Prelude.{if◌then◌else◌, slice_get}
 use Rattle.std.specs.List.{AllByRecursion}
 use Rattle.std.proofs.lemmas.Int.{ints}
 use Rattle.std.proofs.Math.Nat.{div-le_self}
-use Rattle.arch_types.specs.declared.interval.Interval.{Interval}
+use Rattle.intervals.specs.declared.interval.Interval.{Interval}
 use Rattle.arch_types.specs.declared.key.Key.{Key}
 use Rattle.arch_types.specs.declared.row.Row.{Row}
 use Rattle.arch_types.specs.GenerationTime.{generation_time, is_timed, number_of_2, number_of_4}
@@ -14,7 +14,7 @@ use Rattle.history_items.specs.Items.{Item}
 use Rattle.history_items.specs.Late.{StandsIn}
 use Rattle.archive_store.specs.declared.head.Head.{Head}
 use Rattle.archive_store.specs.Entries.{IsArchivedRow}
-use Rattle.archive_store.specs.Tasks.{HasClockTime}
+use Rattle.intervals.specs.Interval.{HasClockTime}
 
 -- ---- rows
 
@@ -47,7 +47,7 @@ all_stands P (x ∷ items) zero item all there = let same : x ≡ item = cc (the
 all_stands P (x ∷ items) (suc n) item all there = all_stands P items n item all.1 there
 
 -- an interval in which a row of an archive stands
-pub stands_in_clock : (head : Head) (history : List Item) (interval : Interval) (position : ℕ) → AllByRecursion (IsArchivedRow head) history → StandsIn 22 interval position history → HasClockTime interval
+pub stands_in_clock : (head : Head) (history : List Item) (interval : Interval) (position : ℕ) → AllByRecursion (IsArchivedRow head) history → StandsIn 22 interval position history → HasClockTime 22 interval
 stands_in_clock head history interval position all stands = (
   stands.row.key.time,
   archived_time head stands.row (all_stands (IsArchivedRow head) history position stands.row all stands.there),

@@ -3,31 +3,36 @@ use Rattle.std.specs.Prelude.{◌≡◌, ℕ, ℤ, ◌<◌, ◌≤◌, List, len
 use Rattle.std.specs.List.{flat_map, AllByRecursion}
 use Rattle.arch_types.specs.declared.row.Row.{Row}
 use Rattle.arch_types.specs.Packet.{IsPacket, is_idle}
-use Rattle.arch_types.specs.Arrivals.{row_of}
+use Rattle.arch_types.specs.GenerationTime.{key_of}
 use Rattle.text_forms.specs.ClockTime.{IsClockTime}
+use Rattle.refusals.specs.declared.refusal.Which.TheVariants.{Links}
+use Rattle.refusals.specs.Limits.{limit_of}
 use Rattle.archive_store.specs.declared.head.Head.{Head}
 use Rattle.archive_store.specs.declared.batch.Arrival.{Arrival}
 use Rattle.archive_store.specs.declared.batch.Batch.{Batch}
 
--- the row of an arrival in a table
-abbrev pub arrival_row : ℤ → Arrival → ℕ → Row
-arrival_row rectime arrival table = row_of arrival.link rectime (λ _. arrival.pname) arrival.packet table
+-- a row as one of another table
+abbrev pub in_table : Row → ℕ → Row
+in_table row table = record row { table = table }
 
 -- the rows of an arrival, in the order of its tables
-abbrev pub arrival_rows : ℤ → Arrival → List Row
-arrival_rows rectime arrival = map (arrival_row rectime arrival) arrival.tables
+abbrev pub arrival_rows : Arrival → List Row
+arrival_rows arrival = map (in_table arrival.row) arrival.tables
 
 -- the rows of a batch, in the order of its arrivals
 abbrev pub batch_rows : Batch → List Row
-batch_rows batch = flat_map (arrival_rows batch.rectime) batch.arrivals
+batch_rows batch = flat_map arrival_rows batch.arrivals
 
--- a packet that isn't idle, of a link from 1 to 255, with a packet name and at most 16 tables that the head has
-pub record IsArrival (head : Head) (arrival : Arrival) : Type 0 where
-  pub link_low : 1 ≤ arrival.link
-  pub link_high : arrival.link ≤ 255
-  pub packet : IsPacket arrival.packet
-  pub carries : is_idle arrival.packet ≡ false
-  pub pname : arrival.pname < length head.mdb.containers
+-- the row of a packet that isn't idle, received then by a link from 1 to the limit of links, with a packet name and at most 16 tables
+-- that the head has
+pub record IsArrival (head : Head) (rectime : ℤ) (arrival : Arrival) : Type 0 where
+  pub link_low : 1 ≤ arrival.row.link
+  pub link_high : arrival.row.link ≤ limit_of Links
+  pub packet : IsPacket arrival.row.packet
+  pub carries : is_idle arrival.row.packet ≡ false
+  pub received : arrival.row.rectime ≡ rectime
+  pub key : arrival.row.key ≡ key_of arrival.row.packet rectime
+  pub pname : arrival.row.pname < length head.mdb.containers
   pub few_tables : length arrival.tables ≤ 16
   pub tables : AllByRecursion (λ table. table < length head.tables) arrival.tables
 
@@ -35,4 +40,4 @@ pub record IsArrival (head : Head) (arrival : Arrival) : Type 0 where
 pub record IsBatch (head : Head) (batch : Batch) : Type 0 where
   pub few : length batch.arrivals ≤ 64
   pub rectime : IsClockTime batch.rectime
-  pub each : AllByRecursion (IsArrival head) batch.arrivals
+  pub each : AllByRecursion (IsArrival head batch.rectime) batch.arrivals

@@ -4,17 +4,17 @@ use Rattle.std.specs.List.{AllByRecursion}
 use Rattle.arch_disk.specs.Image.{Image}
 use Rattle.arch_disk.specs.Disk.{Device, LeavesOnly, NoWriteFailed, raised}
 use Rattle.arch_types.specs.declared.inserted.Inserted.{Inserted}
-use Rattle.arch_types.specs.declared.refusal.Refusal.{Refusal}
-use Rattle.arch_types.specs.declared.refusal.Refusal.TheVariants.{NoArchive, Exists, Damaged, DiskFault, NeedsReopen, Limit, OutOfMemory}
-use Rattle.arch_types.specs.declared.refusal.Which.{Which}
+use Rattle.refusals.specs.declared.refusal.Refusal.{Refusal}
+use Rattle.refusals.specs.declared.refusal.Refusal.TheVariants.{NoArchive, Exists, Damaged, DiskFault, NeedsReopen, Limit, OutOfMemory}
+use Rattle.refusals.specs.declared.refusal.Which.{Which}
 use Rattle.arch_types.specs.declared.row.Row.{Row}
-use Rattle.arch_types.specs.Limits.{limit_of}
+use Rattle.refusals.specs.Limits.{limit_of}
 use Rattle.history_items.specs.declared.fills.Addition.TheVariants.{Rows}
 use Rattle.history_items.specs.Fills.{pending_fault_of, reopened, unacknowledged_rows}
 use Rattle.store_fills.specs.Faults.{IsDone}
 use Rattle.history_items.specs.Items.{after_rows, items_of}
 use Rattle.history_items.specs.Outcomes.{outcomes_of, fresh_of}
-use Rattle.archive_history.specs.Limits.{IsLimit, IsBelowLimits}
+use Rattle.archive_store.specs.Limits.{IsLimit, IsBelowLimits}
 use Rattle.disk_journal.specs.Calls.{BeginsOpen, IsJournalCreateFailed, IsJournalOpenFailed}
 use Rattle.disk_journal.specs.Format.{HasRecords, HoldsNone}
 use Rattle.store_fills.specs.FilledSets.{fillings_in}

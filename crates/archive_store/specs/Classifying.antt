@@ -8,7 +8,7 @@ use Rattle.arch_types.specs.declared.row.Row.{Row}
 use Rattle.octet_fields.specs.Exact.{IsOctets}
 use Rattle.history_items.specs.Items.{Item, items_of, row_item}
 use Rattle.history_items.specs.Outcomes.{outcomes_of, fresh_of}
-use Rattle.archive_history.specs.TableSet.{is_at_key}
+use Rattle.archive_history.specs.History.{is_at_key}
 use Rattle.archive_store.specs.declared.classifying.ClassifiedBatch.{ClassifiedBatch}
 use Rattle.archive_store.specs.declared.classifying.TableKey.{TableKey}
 

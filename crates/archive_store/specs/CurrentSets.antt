@@ -1,6 +1,6 @@
 -- The sets that stand for intervals.
 use Rattle.std.specs.Prelude.{◌≡◌, ℕ, List, Some}
-use Rattle.arch_types.specs.declared.interval.Interval.{Interval}
+use Rattle.intervals.specs.declared.interval.Interval.{Interval}
 use Rattle.history_items.specs.Late.{IsLate}
 use Rattle.param_segments.specs.Extracted.{IsSetOf}
 use Rattle.param_segments.specs.Rows.{SetRow}

@@ -1,7 +1,7 @@
 -- What the entries of a journal make, one after the other.
 use Rattle.std.specs.Prelude.{◌≡◌, ◌<◌, ℕ, List, [], ◌++◌, length, Option, Some, None}
 use Rattle.std.specs.List.{AllByRecursion}
-use Rattle.arch_types.specs.declared.interval.Interval.{Interval}
+use Rattle.intervals.specs.declared.interval.Interval.{Interval}
 use Rattle.arch_types.specs.declared.row.Row.{Row}
 use Rattle.octet_fields.specs.Exact.{IsOctets}
 use Rattle.history_items.specs.Items.{Item, after_rows, items_of, rows_in}

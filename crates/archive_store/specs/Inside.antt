@@ -1,9 +1,9 @@
 -- What a store keeps of its fields.
-use Rattle.std.specs.Prelude.{◌≡◌, ℕ, IsTrue, List, Option, Some}
+use Rattle.std.specs.Prelude.{◌≡◌, ℕ, IsTrue, List, Option, Some, length}
 use Rattle.std.specs.List.{AllByRecursion}
 use mathlib.Core.List.{IsPrefix}
 use Rattle.arch_disk.specs.Disk.{Device}
-use Rattle.arch_types.specs.declared.interval.Interval.{Interval}
+use Rattle.intervals.specs.declared.interval.Interval.{Interval}
 use Rattle.history_items.specs.declared.fills.Fill.{Fill}
 use Rattle.history_items.specs.Items.{Item, rows_in}
 use Rattle.history_items.specs.Fills.{base_in, pending_fault_of}
@@ -15,6 +15,7 @@ use Rattle.param_segments.specs.Extracted.{IsSetOf}
 use Rattle.param_segments.specs.Rows.{SetRow}
 use Rattle.store_fills.specs.FilledSets.{FilledIntervals, fillings_in}
 use Rattle.store_fills.specs.Sound.{Filling, Fillings, base_of_filling}
+use Rattle.archive_history.specs.History.{HistoryView}
 use Rattle.archive_store.specs.declared.head.Head.{Head}
 use Rattle.archive_store.specs.Entries.{IsArchivedRow, IsSoundArchive, filled_archive}
 use Rattle.archive_store.specs.PlainLog.{RowsInvariant}
@@ -51,6 +52,10 @@ pub record StoreInvariant {D : Type 0} (device : Device D) (disk opened : D) (jo
   pub journal_fault : (faults : ℕ) → unhealed_fault journal ≡ Some faults → pending_fault_of fills ≡ Some faults
   pub head_is : IsArchiveEntry (kinds.Head head.tables head.mdb)
   pub rows : AllByRecursion (IsArchivedRow head) (rows_in history)
+
+-- the history has a table for each name of the head, and its intervals are those of format 1
+abbrev pub IsHistoryOf : Head → HistoryView → Type 0
+IsHistoryOf head history = (history.tables ≡ length head.tables) × (history.exponent ≡ 22)
 
 -- the fill list and the fills that are there tell one base of each interval, and each set is one of its interval and of
 -- the database

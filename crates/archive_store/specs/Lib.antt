@@ -1,9 +1,11 @@
 pub mod Batches
 pub mod Calls
 pub mod Entries
+pub mod Finding
 pub mod Images
 pub mod Inside
 pub mod Laws
+pub mod Limits
 pub mod PartialArchive
 pub mod PlainLog
 pub mod Plans

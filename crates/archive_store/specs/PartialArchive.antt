@@ -2,9 +2,9 @@
 use Rattle.std.specs.Prelude.{◌≡◌, ◌≤◌, IsTrue, List, Option, Some, None, ℕ, map, length, option_map}
 use Rattle.std.specs.List.{AllByRecursion}
 use Rattle.arch_disk.specs.Disk.{Device, raised}
-use Rattle.arch_types.specs.declared.interval.Interval.{Interval}
-use Rattle.arch_types.specs.declared.refusal.Refusal.{Refusal}
-use Rattle.arch_types.specs.declared.refusal.Refusal.TheVariants as refused
+use Rattle.intervals.specs.declared.interval.Interval.{Interval}
+use Rattle.refusals.specs.declared.refusal.Refusal.{Refusal}
+use Rattle.refusals.specs.declared.refusal.Refusal.TheVariants as refused
 use Rattle.disk_journal.specs.Format.{HasRecords, written}
 use Rattle.disk_journal.specs.State.{extents_from, file_of, unhealed_fault}
 use Rattle.disk_journal.specs.declared.journal.Journal.{Journal}
@@ -24,7 +24,7 @@ use Rattle.archive_store.specs.declared.head.Head.{Head}
 use Rattle.archive_store.specs.declared.reading.PartialArchive.{PartialArchive}
 use Rattle.archive_store.specs.declared.reading.ReadArchive.{ReadArchive}
 use Rattle.archive_store.specs.Entries.{FilledArchive, filled_archive, HasArchivedRows, Replays}
-use Rattle.archive_store.specs.Inside.{HoldsFills}
+use Rattle.archive_store.specs.Inside.{HoldsFills, IsHistoryOf}
 use Rattle.archive_store.specs.Stands.{IsArchiveDamagedAt}
 
 -- the archive of what entries have made
@@ -35,11 +35,11 @@ filled_made made = filled_archive made.head made.history.items (fillings_in made
 abbrev pub archive_made : Option PartialArchive → Option FilledArchive
 archive_made made = option_map filled_made made
 
--- there are as many tables as the head has names, and the head has a spelling
+-- the history is one of the head, which has a spelling
 abbrev pub HasTables : Option PartialArchive → Type 0
 HasTables None = Unit {0}
 HasTables (Some made) =
-    (made.history.tables ≡ length made.head.tables) × IsArchiveEntry (entries.Head made.head.tables made.head.mdb)
+    IsHistoryOf made.head made.history × IsArchiveEntry (entries.Head made.head.tables made.head.mdb)
 
 -- fills that are there were noted and nothing else, the marks are those of the history and of these, and their sets are
 -- kept

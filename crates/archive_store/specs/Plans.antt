@@ -1,11 +1,8 @@
 -- What a plan holds.
-use Rattle.std.specs.Prelude.{◌≡◌, ◌≤ℤ◌, ◌<ℤ◌, ℤ, List, Bool, ◌&&◌, filter, length, IsSome, None, map}
+use Rattle.std.specs.Prelude.{◌≡◌, ◌<ℤ◌, ℤ, List, Bool, ◌&&◌, filter, length, IsSome, map}
 use Rattle.std.specs.List.{AllByRecursion}
 use Rattle.std.specs.Arc.{arc_value}
-use Rattle.arch_types.specs.declared.ask.Request.{Request}
-use Rattle.arch_types.specs.declared.interval.Interval.{Interval}
-use Rattle.arch_types.specs.declared.refusal.Refusal.{Refusal}
-use Rattle.arch_types.specs.declared.refusal.Refusal.TheVariants.{UnknownParameter, BadRange, OutOfMemory}
+use Rattle.intervals.specs.declared.interval.Interval.{Interval}
 use Rattle.arch_types.specs.declared.row.Row.{Row}
 use Rattle.arch_types.specs.Table.{is_in_time_range, range_of, table_of}
 use Rattle.history_items.specs.declared.fills.Fill.{Fill}
@@ -14,7 +11,6 @@ use Rattle.history_items.specs.Late.{IsLate, is_late_in, last_in}
 use Rattle.interval_fills.specs.Intervals.{rows_of_interval}
 use Rattle.interval_walks.specs.Counts.{item_interval}
 use Rattle.interval_walks.specs.Turns.{CoverRange, IntervalsRise, MeetsRange, meets_range}
-use Rattle.mdb_items.specs.Texts.{place_of}
 use Rattle.param_segments.specs.declared.plan.Part.{Part}
 use Rattle.param_segments.specs.declared.plan.Part.TheVariants.{Rows, Set}
 use Rattle.param_segments.specs.declared.plan.Plan.{Plan}
@@ -69,19 +65,3 @@ is_late_of_range history fills low high interval =
 abbrev pub late_rows_of_range : List Item → List Fill → ℤ → ℤ → List Row
 late_rows_of_range history fills low high =
     filter (λ row. is_late_of_range history fills low high (item_interval 22 row)) (table_of 0 (rows_in history))
-
--- the database has no parameter of the name
-abbrev pub LacksParameter : Head → Request → Type 0
-LacksParameter head request = place_of request.parameter (map (λ p. p.name) head.mdb.parameters) ≡ None
-
--- it has one, and the range doesn't end before it begins
-abbrev pub IsPlannable : Head → Request → Type 0
-IsPlannable head request = (LacksParameter head request → ⊥) × (request.from ≤ℤ request.to)
-
--- the refusals of a plan: first the name is looked for, then at the range
-abbrev pub IsPlanRefusal : Head → Request → Refusal → Type 0
-IsPlanRefusal head request UnknownParameter = LacksParameter head request
-IsPlanRefusal head request (BadRange from to) =
-    (LacksParameter head request → ⊥) × (request.to <ℤ request.from) × (from ≡ request.from) × (to ≡ request.to)
-IsPlanRefusal head request OutOfMemory = IsPlannable head request
-IsPlanRefusal head request _ = ⊥

@@ -1,16 +1,9 @@
 -- How a fill begins.
 use Rattle.std.specs.Prelude.{◌≡◌, ℤ, Option, Some, None}
 use Rattle.std.specs.Arc.{arc_value}
-use Rattle.arch_types.specs.declared.interval.Interval.{Interval}
-use Rattle.arch_types.specs.Interval.{interval_of}
-use Rattle.text_forms.specs.ClockTime.{IsClockTime}
 use Rattle.interval_fills.specs.Steps.{MachineState, AllLateInFlight, BeginsFill, state_of}
 use Rattle.store_fills.specs.declared.task.FillTask.{FillTask}
 use Rattle.archive_store.specs.StoreView.{StoreView}
-
--- a moment of the clock is in the interval
-abbrev pub HasClockTime : Interval → Type 0
-HasClockTime interval = (time : ℤ) × IsClockTime time × (interval_of 22 time ≡ interval.0)
 
 -- a store as a state of the plain machine
 abbrev pub machine_state : {D : Type 0} → StoreView D → MachineState

@@ -1,6 +1,6 @@
 -- What a write that failed may have made.
 use Rattle.std.specs.Prelude.{◌≡◌, ℕ, List, ◌++◌, Option, Some, None}
-use Rattle.arch_types.specs.declared.interval.Interval.{Interval}
+use Rattle.intervals.specs.declared.interval.Interval.{Interval}
 use Rattle.history_items.specs.Items.{Item}
 use Rattle.interval_fills.specs.Intervals.{NoRowSince}
 use Rattle.param_segments.specs.Rows.{SetRow}

@@ -1,21 +1,39 @@
 //! What comes in at once.
 
 ghost use Rattle.std.specs.Prelude.{◌≡◌, OnOk, OnErr, ◌++◌, [], ◌∷◌};
+ghost use Rattle.arch_types.specs.Arrivals.{row_of};
+ghost use Rattle.arch_types.specs.Packet.{IsPacket};
 
 use arch_types::inserted::Outcomes;
 use arch_types::octets::Octets;
+use arch_types::row::Row;
 use arch_types::tables::TableList;
+use space_packet::key::key_of;
 use std::alloc::{AllocError, Global};
 use std::marker::Model;
 
-/// A packet of a link, and the tables that it goes into.
+/// A packet that was received, and the tables that it goes into.
 #[derive(Debug, Drop)]
 pub struct Arrival {
-    pub link: u16,
-    /// The number of the container that names the packet.
-    pub pname: u16,
-    pub packet: Octets,
+    /// Its row in table `tm`, from which that in any of its tables differs by the table alone.
+    pub row: Row,
     pub tables: TableList,
+}
+
+/// The row in table `tm` of a packet that came by a link and was received at a time, in milliseconds since 1970, and
+/// which the container of a number names.
+pub fn received_row(packet: Octets, rectime: i64, link: u16, pname: u16) -> Row
+    requires { IsPacket packet }
+    ensures { result ≡ row_of link rectime (λ _. pname) packet 0 }
+{
+    Row {
+        key: key_of(packet.as_slice(), rectime),
+        rectime,
+        packet,
+        link,
+        pname,
+        table: 0,
+    }
 }
 
 /// Arrivals in their order.

@@ -4,12 +4,10 @@ ghost use Rattle.std.specs.Prelude.{◌≡◌, ◌<◌, ◌++◌, [], ◌∷◌,
 ghost use Rattle.std.specs.List.{AllByRecursion};
 ghost use Rattle.arch_types.specs.declared.row.Row.{Row as ARow};
 ghost use Rattle.arch_types.specs.History.{IsHistory};
-ghost use Rattle.arch_types.specs.Packet.{IsPacket};
 ghost use Rattle.history_items.specs.Items.{items_of, rows_in};
 ghost use Rattle.history_items.specs.Outcomes.{Says};
 ghost use Rattle.archive_store.specs.Classifying.{IsClassified, IsFoundAt, NoneAbove, is_above, table_key_of};
-ghost use Rattle.archive_store.specs.Batches.{arrival_row, arrival_rows, batch_rows};
-ghost use Rattle.arch_types.specs.GenerationTime.{key_of};
+ghost use Rattle.archive_store.specs.Batches.{arrival_rows, batch_rows, in_table};
 
 use crate::batch::{Arrival, Batch};
 use crate::packets::packet_is_octets;
@@ -17,7 +15,6 @@ use arch_types::inserted::{Inserted, Outcomes};
 use arch_types::key::Key;
 use arch_types::row::{Row, Rows};
 use archive_history::history::History;
-use space_packet::key::key_of;
 use std::alloc::{AllocError, Global};
 
 /// A key in a table. Rows mostly come in this order: keys rise from packet to packet, and a packet's tables rise.
@@ -116,75 +113,55 @@ fn keep(classified: &mut ClassifiedBatch, row: Row) -> Result<(), AllocError>
     Ok(())
 }
 
-/// The key of an arrival of a batch.
-fn key_at(batch: &Batch, arrival: &Arrival) -> Key
-    requires { IsPacket arrival.now.packet }
-    ensures { result ≡ key_of arrival.now.packet batch.now.rectime }
+/// A copy of a row, as one of another table.
+fn copy_in(row: &Row, table: u8) -> Result<Row, AllocError>
+    ensures { IfOk result (λ copy. copy ≡ in_table row.now table) }
 {
-    key_of(arrival.packet.as_slice(), batch.rectime)
+    let copy = row.copy()?;
+    Ok(Row { table, ..copy })
 }
 
-/// The row of an arrival of a batch, at its key.
-fn row_at(batch: &Batch, arrival: &Arrival, at: TableKey) -> Result<Row, AllocError>
-    requires { at.key ≡ key_of arrival.now.packet batch.now.rectime }
-    ensures { IfOk result (λ row. row ≡ arrival_row batch.now.rectime arrival.now at.table) }
-{
-    let packet = arrival.packet.copy()?;
-    Ok(Row {
-        key: at.key,
-        rectime: batch.rectime,
-        packet,
-        link: arrival.link,
-        pname: arrival.pname,
-        table: at.table,
-    })
-}
-
-/// One arrival more, in one of its tables.
+/// One row more, as one of a table, whichever it names itself.
 fn classify_row(
     history: &History,
     classified: &mut ClassifiedBatch,
-    batch: &Batch,
-    arrival: &Arrival,
+    row: &Row,
     table: u8,
 ) -> Result<(), AllocError>
     requires table { table < history.now.tables }
-    requires packet { IsPacket arrival.now.packet }
     requires classified { (rows : List ARow) × IsClassified history.now.items rows classified.old }
     ensures { (rows : List ARow) → IsClassified history.now.items rows classified.old →
-        OnOk result (IsClassified history.now.items (rows ++ arrival_row batch.now.rectime arrival.now table ∷ [])
-        classified.new) }
+        OnOk result (IsClassified history.now.items (rows ++ in_table row.now table ∷ []) classified.new) }
 {
-    packet_is_octets(&arrival.packet);
-    let key = key_at(batch, arrival);
-    let at = TableKey { key, table };
+    packet_is_octets(&row.packet);
+    let at = TableKey {
+        key: row.key,
+        table,
+    };
     let outcome = outcome(history, classified, at);
     classified.outcomes.push(outcome)?;
     match outcome {
         Inserted::Duplicate(_) => Ok(()),
         Inserted::New(_) => {
-            let row = row_at(batch, arrival, at)?;
-            keep(classified, row)
+            let fresh = copy_in(row, table)?;
+            keep(classified, fresh)
         }
     }
 }
 
-/// One arrival more.
+/// One arrival more, in each of its tables.
 fn classify_arrival(
     history: &History,
     classified: &mut ClassifiedBatch,
-    batch: &Batch,
     arrival: &Arrival,
 ) -> Result<(), AllocError>
-    requires packet { IsPacket arrival.now.packet }
     requires tables { AllByRecursion (λ table. table < history.now.tables) arrival.now.tables }
     requires classified { (rows : List ARow) × IsClassified history.now.items rows classified.old }
     ensures { (rows : List ARow) → IsClassified history.now.items rows classified.old →
-        OnOk result (IsClassified history.now.items (rows ++ arrival_rows batch.now.rectime arrival.now)
-        classified.new) }
+        OnOk result (IsClassified history.now.items (rows ++ arrival_rows arrival.now) classified.new) }
 {
     for table in arrival.tables.as_slice() {
-        classify_row(history, classified, batch, arrival, *table)?;
+        classify_row(history, classified, &arrival.row, *table)?;
     }
     Ok(())
 }
@@ -195,8 +172,8 @@ pub(crate) fn classify(
     history: &History,
     batch: &Batch,
 ) -> Result<ClassifiedBatch, AllocError>
-    requires { AllByRecursion (λ arrival. IsPacket arrival.packet ×
-        AllByRecursion (λ table. table < history.now.tables) arrival.tables) batch.now.arrivals }
+    requires { AllByRecursion (λ arrival. AllByRecursion (λ table. table < history.now.tables) arrival.tables)
+        batch.now.arrivals }
     ensures { IfOk result (λ classified. IsClassified history.now.items (batch_rows batch.now) classified) }
 {
     let mut classified = ClassifiedBatch {
@@ -205,7 +182,7 @@ pub(crate) fn classify(
         last: None,
     };
     for arrival in batch.arrivals.as_slice() {
-        classify_arrival(history, &mut classified, batch, arrival)?;
+        classify_arrival(history, &mut classified, arrival)?;
     }
     Ok(classified)
 }

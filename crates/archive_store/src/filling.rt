@@ -1,45 +1,26 @@
 //! Late intervals and their fills.
 
-ghost use Rattle.std.specs.Prelude.{◌≡◌, ◌↔◌, ◌<◌, ◌≤◌, length, true, IfOk, IfErr, IfSome, OnOk};
+ghost use Rattle.std.specs.Prelude.{◌≡◌, ◌↔◌, ◌<◌, ◌≤◌, length, IfOk, IfErr, IfSome, OnOk, IsTrue};
 ghost use Rattle.std.specs.Arc.{arc_value};
-ghost use Rattle.arch_types.specs.declared.refusal.Refusal.TheVariants.{OutOfMemory};
+ghost use Rattle.refusals.specs.declared.refusal.Refusal.TheVariants.{OutOfMemory};
 ghost use Rattle.history_items.specs.Late.{IsLate};
-ghost use Rattle.interval_fills.specs.Intervals.{interval_end, interval_start, rows_of_interval};
+ghost use Rattle.interval_fills.specs.Intervals.{rows_of_interval};
+ghost use Rattle.intervals.specs.Interval.{interval_end, interval_start, HasClockTime};
 ghost use Rattle.interval_fills.specs.Steps.{all_freed, freed};
 ghost use Rattle.store_fills.specs.Built.{IsTaskRows};
-ghost use Rattle.archive_store.specs.Tasks.{HasClockTime};
 
 use crate::store::Store;
 use arch_disk::Disk;
-use arch_types::interval::Interval;
-use arch_types::refusal::Refusal;
 use arch_types::row::Rows;
 use archive_history::history::History;
 use fill_tracker::FillTracker;
+use intervals::Interval;
 use mdb_model::Mdb;
+use refusals::Refusal;
 use std::alloc::{AllocError, Global};
 use std::sync::Arc;
 use store_fills::FillTask;
 use yarch_table::rows::TableRows;
-
-/// The number of milliseconds of an interval.
-const INTERVAL_SIZE: i64 = 1 << 22;
-
-/// The first time of an interval, in milliseconds.
-fn start_of(interval: Interval) -> i64
-    requires { HasClockTime interval }
-    ensures { result ≡ interval_start 22 interval }
-{
-    interval.0 * INTERVAL_SIZE
-}
-
-/// The first time after an interval, in milliseconds.
-fn end_of(interval: Interval) -> i64
-    requires { HasClockTime interval }
-    ensures { result ≡ interval_end 22 interval }
-{
-    (interval.0 + 1) * INTERVAL_SIZE
-}
 
 /// Copies of rows, which share their packets.
 fn copies_of(alloc: Global, rows: TableRows<'_>) -> Result<Rows, AllocError>
@@ -59,10 +40,15 @@ pub(crate) fn rows_of(
     interval: Interval,
 ) -> Result<Rows, AllocError>
     requires tables { 0 < history.now.tables }
-    requires interval { HasClockTime interval }
+    requires format { history.now.exponent ≡ 22 }
+    requires interval { HasClockTime 22 interval }
     ensures { IfOk result (λ rows. rows ≡ rows_of_interval 22 interval history.now.items) }
 {
-    copies_of(alloc, history.range(start_of(interval), end_of(interval)))
+    let exponent = history.exponent();
+    copies_of(
+        alloc,
+        history.range(interval.start_at(exponent), interval.end_at(exponent)),
+    )
 }
 
 /// Takes all memory that a fill of an interval over a history needs to begin and to end, and makes its task.
@@ -74,7 +60,8 @@ fn prepare_task(
     interval: Interval,
 ) -> Result<FillTask, AllocError>
     requires tables { 0 < history.now.tables }
-    requires interval { HasClockTime interval }
+    requires format { history.now.exponent ≡ 22 }
+    requires interval { HasClockTime 22 interval }
     ensures at { IfOk result (λ task. (task.interval ≡ interval) × (task.base ≡ length history.now.items)) }
     ensures rows { IfOk result (λ task. task.rows ≡ rows_of_interval 22 interval history.now.items) }
     ensures in_order { IfOk result (λ task. IsTaskRows 22 task.interval task.rows) }
@@ -97,7 +84,7 @@ impl<D: Disk> Store<D> {
 
     /// Whether an interval has rows that no fill has seen. Takes no memory.
     pub fn is_late(&self, interval: Interval) -> bool
-        ensures { (result ≡ true) ↔ IsLate 22 interval self.now.history self.now.fills }
+        ensures { IsTrue result ↔ IsLate 22 interval self.now.history self.now.fills }
     {
         self.tracker.is_late(interval)
     }

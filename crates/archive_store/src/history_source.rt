@@ -6,8 +6,8 @@ ghost use Rattle.history_items.specs.Items.{rows_in};
 use crate::head::Head;
 use crate::store::Store;
 use arch_disk::Disk;
-use arch_types::refusal::Refusal;
 use arch_types::row::Rows;
+use arch_types::row_fault::RowFault;
 use archive_history::history::History;
 use partitions::partition::Partition;
 use replay_merge::source::RowSource;
@@ -46,7 +46,7 @@ impl<'a> RowSource for HistorySource<'a> {
         table: u8,
         part: &Partition,
         front: u64,
-    ) -> Result<Rows, Refusal> {
+    ) -> Result<Rows, RowFault> {
         // It tells the proof that the rows are a history.
         let _known = self.history.len();
         if table as usize >= self.head.tables.as_slice().len() {
@@ -64,7 +64,7 @@ impl<'a> RowSource for HistorySource<'a> {
         from: i64,
         to: i64,
         front: u64,
-    ) -> Result<Rows, Refusal> {
+    ) -> Result<Rows, RowFault> {
         // It tells the proof that the rows are a history.
         let _known = self.history.len();
         if table as usize >= self.head.tables.as_slice().len() {
@@ -102,7 +102,7 @@ impl<D: Disk> RowSource for Store<D> {
         table: u8,
         part: &Partition,
         front: u64,
-    ) -> Result<Rows, Refusal> {
+    ) -> Result<Rows, RowFault> {
         let mut source = self.source();
         source.rows(alloc, table, part, front)
     }
@@ -116,7 +116,7 @@ impl<D: Disk> RowSource for Store<D> {
         from: i64,
         to: i64,
         front: u64,
-    ) -> Result<Rows, Refusal> {
+    ) -> Result<Rows, RowFault> {
         let mut source = self.source();
         source.rows_between(alloc, table, parts, from, to, front)
     }

@@ -9,22 +9,26 @@ ghost use Rattle.field_codec.specs.Spelling.{entry_octets};
 ghost use Rattle.fill_tracker.specs.FillTracker.{KeepsMarks};
 ghost use Rattle.archive_store.specs.Batches.{batch_rows, IsBatch};
 ghost use Rattle.archive_store.specs.Entries.{AreAdmitted};
-ghost use Rattle.arch_types.specs.Limits.{limit_of};
-ghost use Rattle.arch_types.specs.declared.refusal.Which.TheVariants as limits;
+ghost use Rattle.refusals.specs.Limits.{limit_of};
+ghost use Rattle.refusals.specs.declared.refusal.Which.TheVariants as limits;
 ghost use Rattle.history_items.specs.Items.{items_of};
-ghost use Rattle.archive_history.specs.Limits.{IsLimit, IsWithin};
+ghost use Rattle.archive_history.specs.Limits.{IsWithin};
+ghost use Rattle.archive_history.specs.RowLimits.{number_of};
+ghost use Rattle.archive_store.specs.Limits.{IsLimit};
+ghost use Rattle.archive_store.specs.Limits as spec;
 
 use crate::batch::{Batch, Ingested};
 use crate::classifying::{ClassifiedBatch, classify};
 use crate::store::Store;
 use arch_disk::Disk;
-use arch_types::refusal::{Refusal, Which};
 use arch_types::row::{Row, Rows};
 use archive_history::history::History;
+use archive_history::row_limit::RowLimit;
 use disk_journal::{Frame, Journal};
 use field_codec::{put_rows, rows_entry_len};
 use fill_tracker::FillTracker;
 use history_items::fills::Addition;
+use refusals::{Refusal, Which};
 use std::alloc::{AllocError, Global};
 
 /// A record with these rows.
@@ -35,6 +39,18 @@ fn rows_frame(alloc: Global, rows: &[Row]) -> Result<Frame, AllocError>
     let mut octets = Frame::begin(alloc, rows_entry_len(rows))?;
     put_rows(&mut octets, rows)?;
     Frame::finish(octets)
+}
+
+/// The quantity that a limit of a history is one of, with the same number.
+fn limit_named(limit: RowLimit) -> Which
+    ensures named { result ≡ spec.limit_named limit }
+    ensures number { limit_of result ≡ number_of limit }
+{
+    match limit {
+        RowLimit::Rows => Which::Rows,
+        RowLimit::HistoryOctets => Which::HistoryOctets,
+        RowLimit::IntervalRows => Which::IntervalRows,
+    }
 }
 
 /// Takes all memory that an ingest of these rows needs.
@@ -51,7 +67,8 @@ fn prepare(
     ensures room { OnOk result (HasRoom journal.new × (length fresh.now ≤ history.new.room) ×
         (1 ≤ tracker.new.room) × (length fresh.now ≤ tracker.new.marks.room)) }
     ensures journal { IsSame journal.old journal.new }
-    ensures history { (history.new.items ≡ history.old.items) × (history.new.tables ≡ history.old.tables) }
+    ensures history { (history.new.items ≡ history.old.items) × (history.new.tables ≡ history.old.tables)
+        × (history.new.exponent ≡ history.old.exponent) }
     ensures fills { tracker.new.fills ≡ tracker.old.fills }
     ensures marks { KeepsMarks tracker.old tracker.new }
 {
@@ -75,8 +92,8 @@ impl<D: Disk> Store<D> {
         ensures first { IfSome result (λ which.
             IsLimit 22 which self.now.records (self.now.history ++ items_of fresh.now)) }
     {
-        if let Some(which) = self.history.limit_passed(fresh) {
-            return Some(which);
+        if let Some(limit) = self.history.limit_passed(fresh) {
+            return Some(limit_named(limit));
         }
         if self.journal.count() >= Which::Records.limit() {
             return Some(Which::Records);
@@ -109,7 +126,8 @@ impl<D: Disk> Store<D> {
         match self.journal.append(&mut self.disk, &frame) {
             Ok(_) => {
                 let first = self.history.len() as u64;
-                self.tracker.touch(fresh.as_slice(), first);
+                self.tracker
+                    .touch(fresh.as_slice(), first, self.history.exponent());
                 let _ = self.history.add_all(fresh);
                 Ok(())
             }

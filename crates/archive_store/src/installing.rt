@@ -2,8 +2,8 @@
 
 ghost use Rattle.std.specs.Prelude.{◌≡◌, true, false, ◌≤◌, ◌<◌, ◌⊎◌, IsTrue, None, Some, OnOk, IfOk, IfErr, IfSome, IfNone};
 ghost use Rattle.arch_disk.specs.Disk.{LeavesOnly};
-ghost use Rattle.arch_types.specs.declared.refusal.Which.TheVariants as limits;
-ghost use Rattle.arch_types.specs.Limits.{limit_of};
+ghost use Rattle.refusals.specs.declared.refusal.Which.TheVariants as limits;
+ghost use Rattle.refusals.specs.Limits.{limit_of};
 ghost use Rattle.disk_journal.specs.State.{HasRoom, IsSame};
 ghost use Rattle.history_items.specs.Fills.{pending_fault_of};
 ghost use Rattle.history_items.specs.Late.{last_in};
@@ -13,11 +13,11 @@ ghost use Rattle.store_fills.specs.Filled.{IsRightFill};
 use crate::store::Store;
 use arch_disk::Disk;
 use arch_types::inserted::Installed;
-use arch_types::interval::Interval;
-use arch_types::refusal::{Refusal, Which};
 use disk_journal::Journal;
 use fill_tracker::FillTracker;
 use history_items::fills::Addition;
+use intervals::Interval;
+use refusals::{Refusal, Which};
 use std::alloc::AllocError;
 use store_fills::{Filled, FilledSets};
 

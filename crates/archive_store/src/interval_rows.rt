@@ -3,8 +3,8 @@
 ghost use Rattle.std.specs.Prelude.{◌≡◌, ℕ, map, true, IfOk, IsSome};
 ghost use Rattle.std.specs.List.{list_any, AllByRecursion};
 ghost use Rattle.std.specs.List.Sorted.{IsStrictlySortedBy};
-ghost use Rattle.arch_types.specs.declared.interval.Interval.{Interval as AnInterval};
-ghost use Rattle.arch_types.specs.Interval.{interval_of};
+ghost use Rattle.intervals.specs.declared.interval.Interval.{Interval as AnInterval};
+ghost use Rattle.intervals.specs.Interval.{interval_of};
 ghost use Rattle.arch_types.specs.Order.{key_cmp};
 ghost use Rattle.history_items.specs.Fills.{is_same};
 ghost use Rattle.history_items.specs.Late.{StandsIn, last_in};
@@ -15,9 +15,9 @@ ghost use Rattle.store_fills.specs.FilledSets.{fillings_in};
 use crate::filling::rows_of;
 use crate::store::Store;
 use arch_disk::Disk;
-use arch_types::interval::Interval;
 use arch_types::row::Rows;
 use interval_walks::intervals_meeting;
+use intervals::Interval;
 use std::alloc::{AllocError, Global};
 
 impl<D: Disk> Store<D> {
@@ -34,7 +34,7 @@ impl<D: Disk> Store<D> {
             IsSome (fillings_in self.now.filled i) → list_any (is_same i) intervals.items ≡ true) }
     {
         // no row has a time outside of this range
-        intervals_meeting(alloc, &self.tracker, 0, i64::MAX)
+        intervals_meeting(alloc, &self.tracker, 0, i64::MAX, self.history.exponent())
     }
 
     /// The rows of table `tm` in an interval that has some, in the order of their keys. They share their packets with the

@@ -16,7 +16,8 @@
 //
 // Which intervals are late is read from marks that the type keeps beside history and fill list (`AreMarksOf` of
 // fill_tracker): contracts speak of the two lists alone. In memory the rows stand in a table with its partitions for each
-// name of the head; their order is kept for contracts alone (archive_history). A plan of param_segments shares
+// name of the head; their order is kept for contracts alone (archive_history). What an ask names is looked up once
+// (src/finding.rt), and plans and replays take what was found. A plan of param_segments shares
 // the sets that stand for intervals, and has copies of the rows of those that are late. A replay goes over them by a cursor of replay_merge; a step of it borrows them.
 // To be changed together: `Applies` in specs/Entries.antt, src/reading.rt and `IsBatch`; the limits, in archive_history.
 #![tactic(auto)]
@@ -24,13 +25,13 @@
 mod batch;
 mod classifying;
 mod filling;
+mod finding;
 mod head;
 mod history_source;
 mod ingest;
 mod installing;
 mod interval_rows;
 pub mod laws;
-mod names;
 mod packets;
 mod reading;
 mod replaying;
@@ -38,7 +39,8 @@ mod retrieving;
 mod segments;
 mod store;
 
-pub use batch::{Arrival, Arrivals, Batch, Ingested};
+pub use batch::{Arrival, Arrivals, Batch, Ingested, received_row};
+pub use finding::{FoundReplay, FoundRequest, refusal_of_ask};
 pub use head::Head;
 pub use history_source::HistorySource;
 pub use store::Store;

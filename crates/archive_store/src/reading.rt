@@ -5,7 +5,7 @@ ghost use Rattle.std.specs.List.{AllByRecursion};
 ghost use Rattle.arch_disk.specs.Disk.{OnlyReads};
 ghost use Rattle.disk_journal.specs.Calls.{BeginsOpen};
 ghost use Rattle.disk_journal.specs.Reading.{IsAt, file_read, IsReadJournal};
-ghost use Rattle.arch_types.specs.declared.refusal.Refusal.TheVariants.{Damaged};
+ghost use Rattle.refusals.specs.declared.refusal.Refusal.TheVariants.{Damaged};
 ghost use Rattle.octet_fields.specs.Exact.{IsOctets};
 ghost use Rattle.std.specs.Arc.{arc_value};
 ghost use Rattle.history_items.specs.declared.fills.Fill.TheVariants as noted;
@@ -19,21 +19,22 @@ ghost use Rattle.field_codec.specs.declared.entry.Entry.TheVariants as entries;
 ghost use Rattle.field_codec.specs.Entries.{IsArchiveEntry};
 ghost use Rattle.field_codec.specs.Spelling.{entry_octets};
 ghost use Rattle.archive_store.specs.Entries.{archive, filled_archive, Applies, AreAdmitted, FilledArchive, IsFillable, IsPlaced};
+ghost use Rattle.archive_store.specs.Inside.{IsHistoryOf};
 ghost use Rattle.archive_store.specs.PartialArchive.{archive_made, filled_made, IsSetRead, HasMarks, HasTables, read_refusal, IsArchiveRead, IsArchiveReadRefusal};
 ghost use Rattle.archive_store.specs.Stands.{Breaks};
 
 use crate::head::Head;
 use crate::packets::packet_is_octets;
 use arch_disk::Disk;
-use arch_types::interval::Interval;
 use arch_types::octets::Octets;
-use arch_types::refusal::Refusal;
 use arch_types::row::{Row, Rows};
 use archive_history::history::History;
 use disk_journal::{Journal, JournalFault, Opening};
 use field_codec::{Entry, NotAnEntry, read_shared};
 use fill_tracker::FillTracker;
+use intervals::{Exponent, Interval};
 use param_segments::{NotASegment, SegSet};
+use refusals::Refusal;
 use std::alloc::{AllocError, Global};
 use std::sync::Arc;
 use store_fills::FilledSets;
@@ -56,7 +57,7 @@ fn of_head(alloc: Global, head: Head) -> Result<PartialArchive, AllocError>
     ensures tables { IfOk result (λ made. HasTables (Some made)) }
     ensures marks { IfOk result (λ made. HasMarks (Some made)) }
 {
-    let history = History::new(alloc, head.tables.as_slice().len())?;
+    let history = History::new(alloc, head.tables.as_slice().len(), Exponent::of_format_1())?;
     let tracker = FillTracker::new(alloc);
     let sets = FilledSets::new(alloc);
     Ok(PartialArchive {
@@ -87,13 +88,14 @@ fn are_placed(head: &Head, rows: &[Row]) -> bool
 /// Whether these rows may follow; then they do.
 fn admit(made: &mut PartialArchive, rows: Rows) -> Result<bool, AllocError>
     requires entry { IsArchiveEntry (entries.Rows rows) }
-    requires tables { made.old.history.tables ≡ length made.old.head.tables }
+    requires tables { IsHistoryOf made.old.head made.old.history }
     requires marks { HasMarks (Some made.old) }
     ensures yes { IfOk result (λ ok. ok ≡ true → AreAdmitted (archive made.old.head made.old.history.items) rows
         × (made.new.history.items ≡ made.old.history.items ++ rows)) }
     ensures no { IfOk result (λ ok. ok ≡ false → AreAdmitted (archive made.old.head made.old.history.items) rows → ⊥) }
     ensures head { (made.new.head ≡ made.old.head) × (made.new.sets.filled ≡ made.old.sets.filled) }
-    ensures tables { made.new.history.tables ≡ made.old.history.tables }
+    ensures tables { (made.new.history.tables ≡ made.old.history.tables)
+        × (made.new.history.exponent ≡ made.old.history.exponent) }
     ensures marks { IfOk result (λ ok. ok ≡ true → HasMarks (Some made.new)) }
 {
     if !are_placed(&made.head, rows.as_slice()) {
@@ -105,7 +107,8 @@ fn admit(made: &mut PartialArchive, rows: Rows) -> Result<bool, AllocError>
     made.history.reserve(rows.len())?;
     made.tracker.reserve_rows(rows.len() as u64)?;
     let first = made.history.len() as u64;
-    made.tracker.touch(rows.as_slice(), first);
+    made.tracker
+        .touch(rows.as_slice(), first, made.history.exponent());
     Ok(made.history.add_all(rows))
 }
 
@@ -148,12 +151,14 @@ fn note_fill(
 fn read_set(
     alloc: Global,
     interval: Interval,
+    exponent: Exponent,
     octets: Octets,
     head: &Head,
 ) -> Result<Option<SegSet>, AllocError>
+    requires { exponent ≡ 22 }
     ensures { IfOk result (IsSetRead head.now interval octets) }
 {
-    match SegSet::from_octets(alloc, interval, octets, &head.mdb) {
+    match SegSet::from_octets(alloc, interval, exponent, octets, &head.mdb) {
         Ok(set) => Ok(Some(set)),
         Err(NotASegment::Malformed) => Ok(None),
         Err(NotASegment::OutOfMemory) => Err(AllocError),
@@ -169,6 +174,7 @@ fn admit_fill(
     octets: Octets,
 ) -> Result<bool, AllocError>
     requires entry { IsArchiveEntry (entries.Fill interval base octets) }
+    requires tables { HasTables (Some made.old) }
     requires marks { HasMarks (Some made.old) }
     ensures yes { IfOk result (λ ok. ok ≡ true →
         Applies (Some (filled_made made.old)) (entries.Fill interval base octets) (filled_made made.new)) }
@@ -179,7 +185,7 @@ fn admit_fill(
     if !may_fill(made, interval, base) {
         return Ok(false);
     }
-    let found = read_set(alloc, interval, octets, &made.head)?;
+    let found = read_set(alloc, interval, made.history.exponent(), octets, &made.head)?;
     let Some(set) = found else {
         return Ok(false);
     };

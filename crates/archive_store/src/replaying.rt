@@ -1,53 +1,40 @@
 //! Replays, and the partitions and times of packet names.
 
-ghost use Rattle.std.specs.Prelude.{◌≡◌, ◌<◌, ◌≤◌, ◌++◌, List, [], length, IfOk, IfErr, OnOk, IfSome};
+ghost use Rattle.std.specs.Prelude.{◌≡◌, ◌<◌, ◌≤◌, ◌++◌, List, [], length, IfOk, IfErr};
 ghost use Rattle.std.specs.List.{AllByRecursion, filter_map};
 ghost use mathlib.Core.List.{IsPrefix};
-ghost use Rattle.arch_types.specs.declared.refusal.Refusal.TheVariants.{OutOfMemory};
+ghost use Rattle.refusals.specs.declared.refusal.Refusal.TheVariants.{OutOfMemory};
 ghost use Rattle.history_items.specs.Items.{Item, rows_in};
 ghost use Rattle.archive_history.specs.PartitionedTable.{named_times_of};
-ghost use Rattle.archive_history.specs.TableSet.{rows_in_table};
-ghost use Rattle.archive_store.specs.Replays.{packet_number, packet_numbers, replay_asked};
+ghost use Rattle.archive_history.specs.History.{rows_in_table};
+ghost use Rattle.archive_store.specs.Finding.{IsReplayFound};
+ghost use Rattle.archive_store.specs.Replays.{replay_asked};
 ghost use Rattle.histogram.specs.Times.{spans_of_times, times_of};
-ghost use Rattle.mdb_items.specs.Texts.{place_of};
+ghost use Rattle.asks.specs.Names.{packet_name_number, packet_name_numbers};
 ghost use Rattle.replay_merge.specs.Cursor.{rest_of};
 
+use crate::finding::FoundReplay;
 use crate::head::Head;
-use crate::names::text_of;
 use crate::store::Store;
 use arch_disk::Disk;
-use arch_types::ask::ReplayRequest;
-use arch_types::name::{Name, Names};
-use arch_types::refusal::Refusal;
+use arch_types::name::Names;
 use arch_types::row::Rows;
 use arch_types::spans::Spans;
 use archive_history::history::History;
+use asks::ReplayRequest;
 use partitions::bounds::Bounds;
 use partitions::lists::{PartList, PnameList};
+use refusals::Refusal;
 use replay_merge::cursor::Cursor;
 use std::alloc::{AllocError, Global};
 
-/// The number of the table that has a name.
-fn table_number(tables: &Names, name: &Name) -> Option<u8>
-    requires { length tables.now ≤ 16 }
-    ensures value { result ≡ place_of name.now tables.now }
-    ensures within { IfSome result (λ n. n < length tables.now) }
-{
-    for (i, table) in tables.as_slice().iter().enumerate() {
-        if name.as_slice() == table.as_slice() {
-            return Some(i as u8);
-        }
-    }
-    None
-}
-
 /// The numbers of those packet names that the database has.
 fn numbers_of(alloc: Global, head: &Head, names: &Names) -> Result<PnameList, AllocError>
-    ensures { IfOk result (λ numbers. numbers ≡ filter_map (packet_number head.now) names.now) }
+    ensures { IfOk result (λ numbers. numbers ≡ filter_map (packet_name_number head.now.mdb) names.now) }
 {
     let mut numbers = PnameList::new(alloc);
     for name in names.as_slice() {
-        if let Some(number) = head.mdb.container_number(text_of(name)) {
+        if let Some(number) = head.mdb.container_number(name.as_str()) {
             numbers.push(number)?;
         }
     }
@@ -60,7 +47,7 @@ fn asked_numbers(
     head: &Head,
     names: &Option<Names>,
 ) -> Result<Option<PnameList>, AllocError>
-    ensures { IfOk result (λ numbers. numbers ≡ packet_numbers head.now names.now) }
+    ensures { IfOk result (λ numbers. numbers ≡ packet_name_numbers head.now.mdb names.now) }
 {
     match names {
         Some(names) => Ok(Some(numbers_of(alloc, head, names)?)),
@@ -101,32 +88,23 @@ fn cursor_at_front(
 }
 
 impl<D: Disk> Store<D> {
-    ghost use Rattle.archive_store.specs.Replays.{AreParts, IsNamedPart, IsReplayable, IsReplayOpened, IsReplayRefusal};
+    ghost use Rattle.archive_store.specs.Replays.{AreParts, IsNamedPart, IsReplayOpened};
     ghost use Rattle.replay_merge.specs.Cursor.{AsksTheSame, steps_at_most, EndsExactly, IsRowAsked};
 
-    /// Opens the replay of a request: of the rows that its table holds now, whatever comes to the history later.
-    pub fn replay_open(&mut self, alloc: Global, request: &ReplayRequest) -> Result<Cursor, Refusal>
-        ensures opened { IfOk result (IsReplayOpened self.old.head self.old.history request.now) }
+    /// Opens the replay of a request whose table was found: of the rows that its table holds now, whatever comes to the
+    /// history later. The one error is want of memory.
+    pub fn replay_open(&mut self, alloc: Global, found: &FoundReplay) -> Result<Cursor, AllocError>
+        requires found { IsReplayFound self.old.head.tables found.now }
+        ensures opened { IfOk result (IsReplayOpened self.old.head self.old.history found.now.request) }
         ensures same { self.new ≡ self.old }
-
-        // UnknownTable comes exactly where the head lacks the table, and then BadRange exactly where the range ends before it begins.
-        ensures refused { IfErr result (IsReplayRefusal self.old.head request.now) }
-        ensures replayable { OnOk result (IsReplayable self.old.head request.now) }
     {
-        let Some(table) = table_number(&self.head.tables, &request.table) else {
-            let name = request.table.copy()?;
-            return Err(Refusal::UnknownTable { name });
-        };
-        if request.from > request.to {
-            return Err(Refusal::BadRange {
-                from: request.from,
-                to: request.to,
-            });
-        }
-        match cursor_at_front(alloc, &self.head, &self.history, table, request) {
-            Ok(cursor) => Ok(cursor),
-            Err(_) => Err(Refusal::OutOfMemory),
-        }
+        cursor_at_front(
+            alloc,
+            &self.head,
+            &self.history,
+            found.table,
+            &found.request,
+        )
     }
 
     /// The next rows of a replay, at most `limit`: there may be more although these are fewer. No row, for a limit above 0, is the end.
@@ -147,7 +125,7 @@ impl<D: Disk> Store<D> {
         ensures same { self.new ≡ self.old }
     {
         let mut source = self.source();
-        cursor.next(alloc, &mut source, limit)
+        Ok(cursor.next(alloc, &mut source, limit)?)
     }
 
     /// The spans of time in which a packet name, by its number, has rows in a table, in milliseconds since 1970.

@@ -1,39 +1,30 @@
 //! What a retrieval needs of the store.
 
-ghost use Rattle.std.specs.Prelude.{◌≡◌, ◌≤◌, ◌<ℤ◌, map, IsSome, IsTrue, OnOk, IfOk, IfErr, Err, length};
+ghost use Rattle.std.specs.Prelude.{◌≡◌, ◌≤◌, ◌<ℤ◌, map, IsSome, IsTrue, IfOk, IfErr, length};
 ghost use Rattle.std.specs.Arc.{arc_value};
 ghost use Rattle.std.specs.List.{AllByRecursion};
-ghost use Rattle.std.specs.Option.{is_some};
-ghost use Rattle.arch_types.specs.declared.refusal.Refusal.TheVariants.{UnknownParameter, BadRange, OutOfMemory};
+ghost use Rattle.refusals.specs.declared.refusal.Refusal.TheVariants.{OutOfMemory};
 ghost use Rattle.history_items.specs.Late.{last_in};
 ghost use Rattle.interval_walks.specs.Turns.{CoverRange, IntervalsRise};
-ghost use Rattle.mdb_items.specs.Texts.{place_of};
 ghost use Rattle.param_segments.specs.Plans.{HasValuesOf, part_interval, rows_of_parts};
 ghost use Rattle.archive_store.specs.Plans.{IsPlan, IsPlanPart, IsRangeInterval, plan_intervals};
 ghost use Rattle.archive_store.specs.Stands.{IsSoundImage};
 
 use crate::filling::rows_of;
-use crate::names::text_of;
+use crate::finding::FoundRequest;
 use crate::segments::{current_fill, shared_set};
 use crate::store::Store;
 use arch_disk::Disk;
-use arch_types::ask::Request;
-use arch_types::interval::Interval;
 use arch_types::name::{Name, Names};
 use arch_types::octets::Octets;
-use arch_types::refusal::Refusal;
+use asks::Request;
 use interval_walks::intervals_meeting;
+use intervals::Interval;
 use mdb_model::Mdb;
 use param_segments::{Part, Parts, Plan};
+use refusals::Refusal;
 use std::alloc::{AllocError, Global};
 use std::sync::Arc;
-
-/// Whether the database has a parameter of that name.
-fn has_parameter(mdb: &Mdb, name: &Name) -> bool
-    ensures { result ≡ is_some (place_of name.now (map (λ p. p.name) mdb.now.parameters)) }
-{
-    mdb.parameter_number(text_of(name)).is_some()
-}
 
 /// The names of the containers, in their order.
 fn container_names(alloc: Global, mdb: &Mdb) -> Result<Names, AllocError>
@@ -41,11 +32,7 @@ fn container_names(alloc: Global, mdb: &Mdb) -> Result<Names, AllocError>
 {
     let mut names = Names::new(alloc);
     for container in mdb.container_list() {
-        let octets = Octets::from_slice(alloc, container.name.as_bytes())?;
-        let Some(name) = Name::of(octets) else {
-            unreachable!()
-        };
-        names.push(name)?;
+        names.push(Name::copy_of(alloc, container.name.as_bytes())?)?;
     }
     Ok(names)
 }
@@ -69,7 +56,7 @@ fn parts_of<D: Disk>(
 }
 
 impl<D: Disk> Store<D> {
-    ghost use Rattle.archive_store.specs.Plans.{IsPlanOver, IsPlanRefusal, IsPlannable, late_rows_of_range};
+    ghost use Rattle.archive_store.specs.Plans.{IsPlanOver, late_rows_of_range};
 
     /// The intervals that a retrieval reads: those that have rows of table `tm` and meet the request's range, in the
     /// order of their numbers. The one error is want of memory.
@@ -83,7 +70,13 @@ impl<D: Disk> Store<D> {
         if request.from >= request.to {
             return Ok(Vec::new(alloc));
         }
-        intervals_meeting(alloc, &self.tracker, request.from, request.to)
+        intervals_meeting(
+            alloc,
+            &self.tracker,
+            request.from,
+            request.to,
+            self.history.exponent(),
+        )
     }
 
     /// What a plan has of an interval that has rows of table `tm`: its set, where it isn't late, else its rows.
@@ -100,13 +93,18 @@ impl<D: Disk> Store<D> {
         Ok(Part::Set { interval, set })
     }
 
-    /// The plan of a request over the whole history.
-    fn planned(&self, alloc: Global, request: &Request) -> Result<Plan, AllocError>
+    /// The plan of a request over the whole history, with the database in force.
+    fn planned(
+        &self,
+        alloc: Global,
+        request: &Request,
+        mdb: Arc<Mdb, Global>,
+    ) -> Result<Plan, AllocError>
+        requires { arc_value mdb ≡ self.now.head.mdb }
         ensures { IfOk result (IsPlan self.now request.now.from request.now.to) }
     {
         let intervals = self.range_intervals(alloc, request)?;
         let parts = parts_of(alloc, self, intervals.as_slice())?;
-        let mdb = self.shared_mdb()?;
         Ok(Plan {
             front: self.front(),
             mdb,
@@ -115,40 +113,25 @@ impl<D: Disk> Store<D> {
     }
 
     /// What a retrieval reads: the sets of the intervals that its range meets, and the rows of those that are late. The
-    /// request names a parameter of the database and a range that doesn't end before it begins.
-    pub fn plan(&mut self, alloc: Global, request: &Request) -> Result<Plan, Refusal>
-        ensures planned { IfOk result (IsPlan self.old request.now.from request.now.to) }
+    /// request was found in the database in force. The one error is want of memory.
+    pub fn plan(&mut self, alloc: Global, found: &FoundRequest) -> Result<Plan, AllocError>
+        requires in_force { arc_value found.now.mdb ≡ self.old.head.mdb }
+        ensures planned { IfOk result (IsPlan self.old found.now.request.from found.now.request.to) }
 
         // Whatever the disk reads as, a set's values are of the database.
         ensures values { IfOk result (λ plan. AllByRecursion (HasValuesOf self.old.head.mdb) plan.parts) }
 
         // Where the fills of the disk were sound when it was opened, the parts are over the rows of the range.
-        ensures over { IsTrue D.device.is_transparent → IsSoundImage (D.device.reads self.old.opened) →
-            IfOk result (IsPlanOver self.old.head self.old.history request.now.from request.now.to) }
+        ensures over { IsTrue D.device.is_transparent → IsSoundImage (D.device.reads self.old.opened) → IfOk result
+            (IsPlanOver self.old.head self.old.history found.now.request.from found.now.request.to) }
 
         // Rows are left to extract of late intervals that meet the range alone.
-        ensures steps { IfOk result (λ plan. length (rows_of_parts plan.parts)
-            ≤ length (late_rows_of_range self.old.history self.old.fills request.now.from request.now.to)) }
+        ensures steps { IfOk result (λ plan. length (rows_of_parts plan.parts) ≤ length (late_rows_of_range
+            self.old.history self.old.fills found.now.request.from found.now.request.to)) }
         ensures same { self.new ≡ self.old }
-
-        // UnknownParameter comes exactly where the database lacks the name, and then BadRange exactly where the range
-        // ends before it begins.
-        ensures refused { IfErr result (IsPlanRefusal self.old.head request.now) }
-        ensures plannable { OnOk result (IsPlannable self.old.head request.now) }
     {
-        if !has_parameter(&self.head.mdb, &request.parameter) {
-            return Err(Refusal::UnknownParameter);
-        }
-        if request.from > request.to {
-            return Err(Refusal::BadRange {
-                from: request.from,
-                to: request.to,
-            });
-        }
-        match self.planned(alloc, request) {
-            Ok(plan) => Ok(plan),
-            Err(_) => Err(Refusal::OutOfMemory),
-        }
+        let mdb = Arc::try_clone(&self.mdb)?;
+        self.planned(alloc, &found.request, mdb)
     }
 
     /// The head's database, shared. The one error is want of memory.

@@ -13,8 +13,8 @@ ghost use Rattle.archive_store.specs.Stands.{IsSoundImage};
 
 use crate::store::Store;
 use arch_disk::Disk;
-use arch_types::interval::Interval;
 use fill_tracker::FillTracker;
+use intervals::Interval;
 use param_segments::SegSet;
 use std::alloc::{AllocError, Global};
 use std::sync::Arc;

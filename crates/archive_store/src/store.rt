@@ -11,18 +11,20 @@ ghost use Rattle.history_items.specs.Items.{rows_in};
 ghost use Rattle.archive_history.specs.Limits.{IsWithin};
 ghost use Rattle.archive_store.specs.Entries.{IsArchivedRow};
 ghost use Rattle.std.specs.List.{AllByRecursion};
+ghost use Rattle.archive_store.specs.Inside.{IsHistoryOf};
 ghost use Rattle.archive_store.specs.PartialArchive.{refusal_of_create};
 ghost use Rattle.std.specs.Arc.{arc_value};
 
 use crate::head::Head;
 use crate::reading::{PartialArchive, ReadArchive, read_archive, refusal_of};
 use arch_disk::Disk;
-use arch_types::refusal::Refusal;
 use archive_history::history::History;
 use disk_journal::{Frame, Journal, JournalFault, Opening};
 use field_codec::write_head;
 use fill_tracker::FillTracker;
+use intervals::Exponent;
 use mdb_model::Mdb;
+use refusals::Refusal;
 use std::alloc::{AllocError, Global};
 use std::marker::Model;
 use std::snapshot::Snapshot;
@@ -48,11 +50,11 @@ pub struct Store<D: Disk> {
 }
 
 impl<D: Disk> Model for Store<D> {
-    ghost use Rattle.std.specs.Prelude.{◌≡◌, length};
+    ghost use Rattle.std.specs.Prelude.{◌≡◌};
     ghost use Rattle.std.specs.Arc.{arc_value};
     ghost use Rattle.fill_tracker.specs.FillTracker.{AreMarksOf};
     ghost use Rattle.archive_store.specs.StoreView.{StoreView};
-    ghost use Rattle.archive_store.specs.Inside.{view_of, HoldsFills, StoreInvariant};
+    ghost use Rattle.archive_store.specs.Inside.{view_of, HoldsFills, IsHistoryOf, StoreInvariant};
 
     ghost Value = { StoreView D };
 
@@ -62,7 +64,7 @@ impl<D: Disk> Model for Store<D> {
     ghost invariant = { λ s.
         StoreInvariant D.device s.disk s.opened.value s.journal s.head s.history.items s.tracker.fills s.sets.filled
         s.pending_fault
-        × (s.history.tables ≡ length s.head.tables) × (arc_value s.mdb ≡ s.head.mdb)
+        × IsHistoryOf s.head s.history × (arc_value s.mdb ≡ s.head.mdb)
         × AreMarksOf 22 s.history.items s.tracker.fills s.tracker.marks
         × HoldsFills s.head s.tracker.fills s.sets.filled };
 }
@@ -105,11 +107,11 @@ fn prepare_new(alloc: Global, head: Head) -> Result<NewArchive, AllocError>
     requires { IsArchiveEntry (entries.Head head.tables head.mdb) }
     ensures { IfOk result (λ f. (f.frame ≡ entry_octets (entries.Head head.tables head.mdb)) × (f.head ≡ head) ×
         (arc_value f.mdb ≡ head.mdb)
-        × (f.history.items ≡ []) × (f.history.tables ≡ length head.tables)) }
+        × IsHistoryOf head f.history × (f.history.items ≡ [])) }
 {
     let frame = head_frame(alloc, &head)?;
     let mdb = shared(alloc, &head.mdb)?;
-    let history = History::new(alloc, head.tables.as_slice().len())?;
+    let history = History::new(alloc, head.tables.as_slice().len(), Exponent::of_format_1())?;
     Ok(NewArchive {
         frame,
         head,
@@ -119,7 +121,7 @@ fn prepare_new(alloc: Global, head: Head) -> Result<NewArchive, AllocError>
 }
 
 impl<D: Disk> Store<D> {
-    ghost use Rattle.arch_types.specs.declared.interval.Interval.{Interval as AnInterval};
+    ghost use Rattle.intervals.specs.declared.interval.Interval.{Interval as AnInterval};
     ghost use Rattle.history_items.specs.Fills.{base_in, pending_fault_of};
     ghost use Rattle.store_fills.specs.FilledSets.{fillings_in};
     ghost use Rattle.store_fills.specs.Sound.{base_of_filling};

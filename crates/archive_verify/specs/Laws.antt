@@ -1,7 +1,7 @@
 -- What holds of mismatches, of images, and of counts.
 use Rattle.std.specs.Prelude.{◌≡◌, ◌↔◌, List}
 use Rattle.arch_disk.specs.Image.{Image}
-use Rattle.arch_types.specs.declared.interval.Interval.{Interval}
+use Rattle.intervals.specs.declared.interval.Interval.{Interval}
 use Rattle.history_items.specs.declared.fills.Fill.{Fill}
 use Rattle.history_items.specs.Fills.{base_in}
 use Rattle.interval_walks.specs.Counts.{late_intervals}

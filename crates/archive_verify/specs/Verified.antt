@@ -4,9 +4,9 @@ use Rattle.std.specs.Prelude.{◌≡◌, ℕ, ◌<◌, ◌<ℤ◌, Bool, true, f
 use Rattle.std.specs.List.{filter_map, list_any}
 use Rattle.std.specs.Option.{option_map_or}
 use Rattle.arch_types.specs.declared.cell.Cell.{Cell}
-use Rattle.arch_types.specs.declared.interval.Interval.{Interval}
-use Rattle.arch_types.specs.declared.refusal.Refusal.{Refusal}
-use Rattle.arch_types.specs.declared.refusal.Refusal.TheVariants.{Mismatch, OutOfMemory}
+use Rattle.intervals.specs.declared.interval.Interval.{Interval}
+use Rattle.refusals.specs.declared.refusal.Refusal.{Refusal}
+use Rattle.refusals.specs.declared.refusal.Refusal.TheVariants.{Mismatch, OutOfMemory}
 use Rattle.mdb_items.specs.Database.{Database}
 use Rattle.container_extract.specs.Extraction.{cell_of}
 use Rattle.history_items.specs.Fills.{is_same}

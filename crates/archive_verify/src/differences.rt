@@ -1,6 +1,6 @@
 //! Where two lists of cells differ.
 
-ghost use Rattle.std.specs.Prelude.{◌≡◌, ◌↔◌, map, option_copied, true, IfSome, IfNone};
+ghost use Rattle.std.specs.Prelude.{◌≡◌, ◌↔◌, map, option_copied, IfSome, IfNone, IsTrue};
 ghost use Rattle.std.specs.List.Sorted.{IsStrictlySortedBy};
 ghost use Rattle.arch_types.specs.Order.{key_cmp};
 ghost use Rattle.archive_verify.specs.Differences.{IsCommonLength, IsFirstDifference, IsSameRaw, difference_at, difference_of_cells, only_replayed, only_stored, raws_of};
@@ -21,7 +21,7 @@ pub struct CellDifference {
 
 /// Whether two cells have one key and one raw number.
 fn is_same_raw(stored: &Cell, replayed: &Cell) -> bool
-    ensures { (result ≡ true) ↔ IsSameRaw stored.now replayed.now }
+    ensures { IsTrue result ↔ IsSameRaw stored.now replayed.now }
 {
     stored.key == replayed.key && stored.raw == replayed.raw
 }

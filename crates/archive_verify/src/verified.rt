@@ -9,13 +9,13 @@ ghost use Rattle.archive_verify.specs.Verified.{HoldBelow, HoldCurrentFills, Hol
 
 use crate::compared_sets::{SetDifference, set_difference};
 use arch_disk::Disk;
-use arch_types::interval::Interval;
 use arch_types::name::Name;
 use arch_types::octets::Octets;
-use arch_types::refusal::Refusal;
 use archive_store::Store;
+use intervals::{Exponent, Interval};
 use mdb_model::Mdb;
 use param_segments::SegSet;
+use refusals::Refusal;
 use std::alloc::{AllocError, Global};
 
 /// What a sound archive has.
@@ -55,7 +55,7 @@ fn interval_difference<D: Disk>(
     let mdb = &store.head().mdb;
     mdb.is_sound();
     let rows = store.interval_rows(alloc, interval)?;
-    let replayed = SegSet::build(alloc, interval, &rows, mdb)?;
+    let replayed = SegSet::build(alloc, interval, Exponent::of_format_1(), &rows, mdb)?;
     set_difference(alloc, mdb, &*stored, &replayed)
 }
 
@@ -99,11 +99,7 @@ fn name_of(alloc: Global, mdb: &Mdb, parameter: u16) -> Result<Name, AllocError>
     ensures { IfOk result (λ name. slice_get (map (λ p. p.name) mdb.now.parameters) parameter ≡ Some name) }
 {
     mdb.is_sound();
-    let octets = Octets::from_slice(alloc, mdb.parameter(parameter).name.as_bytes())?;
-    let Some(name) = Name::of(octets) else {
-        unreachable!()
-    };
-    Ok(name)
+    Name::copy_of(alloc, mdb.parameter(parameter).name.as_bytes())
 }
 
 /// The refusal of an archive with this first difference.

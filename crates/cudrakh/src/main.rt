@@ -5,11 +5,10 @@
 //! folder that the environment's `YARCH_HOME` names, or else `yarch`; that it isn't there is met by the first call that wants it.
 #![tactic(auto)]
 
-use arch_types::refusal::Refusal;
 use archive_cli::Ended;
 use archive_cli::run::run;
-use dump_lines::text::FaultText;
 use outer_real::{RealClock, RealDisk, RealInputs, RealSink, StandardStreams, keep_freed_memory};
+use refusals::{FaultText, Refusal};
 use std::env::{self, VarError};
 use std::process::ExitCode;
 

@@ -20,6 +20,8 @@ use Rattle.stream_graph.specs.Laws.{AreTablesBelow}
 use Rattle.stream_graph.proofs.ReachedTables.{tables_named}
 use Rattle.load_session.specs.Receiving.{Receiving, IsRouteOver, arrived, rows_received, tables_of_packet}
 use Rattle.load_session.specs.Batches.{arrival_from, arrivals_with, IsBatchOf}
+use Rattle.refusals.specs.declared.refusal.Which.TheVariants.{Links}
+use Rattle.refusals.specs.Limits.{limit_of}
 
 -- ---- rows
 
@@ -71,12 +73,12 @@ all_push P (y ∷ xs) x all h = (all.0, all_push P xs x all.1 h)
 -- Packets can be received so: there is such a link, the database keeps the rules, and the tables that the route names are among at most 16.
 pub record CanReceive (r : Receiving) : Type 0 where
   pub link_low : 1 ≤ r.link
-  pub link_high : r.link ≤ 255
+  pub link_high : r.link ≤ limit_of Links
   pub database : IsDatabase r.head.mdb
   pub few : length r.head.tables ≤ 16
   pub over : IsRouteOver r.head r.route
 
-arrival_fits : (r : Receiving) (packet : List ℕ) → CanReceive r → IsPacket packet → is_idle packet ≡ false → IsArrival r.head (arrival_from r packet)
+arrival_fits : (r : Receiving) (packet : List ℕ) → CanReceive r → IsPacket packet → is_idle packet ≡ false → IsArrival r.head r.moment (arrival_from r packet)
 arrival_fits r packet can whole carries =
     let there = tables_there r packet can.over in
     let few = there.few in
@@ -85,6 +87,8 @@ arrival_fits r packet can whole carries =
       link_high = can.link_high;
       packet = whole;
       carries = carries;
+      received = refl;
+      key = refl;
       pname = packet_name_is_known r.head.mdb packet can.database;
       few_tables = omega (arith, few, most);
       tables = there.each;
@@ -99,8 +103,8 @@ batch_none r batch at none time = record {
   count = rw none refl;
 }
 
-rows-push : (rectime : ℤ) (before : List Arrival) (a : Arrival) → flat_map (arrival_rows rectime) (before ++ a ∷ []) ≡ flat_map (arrival_rows rectime) before ++ (arrival_rows rectime a ++ [])
-rows-push rectime before a = flat_map-append (arrival_rows rectime) before (a ∷ [])
+rows-push : (before : List Arrival) (a : Arrival) → flat_map arrival_rows (before ++ a ∷ []) ≡ flat_map arrival_rows before ++ (arrival_rows a ++ [])
+rows-push before a = flat_map-append arrival_rows before (a ∷ [])
 
 batch_kept : (r : Receiving) (packets : List (List ℕ)) (packet : List ℕ) (old new : Batch) → CanReceive r → length packets < 64 → IsPacket packet
     → is_idle packet ≡ false → IsBatchOf r packets old → new.rectime ≡ old.rectime → new.arrivals ≡ old.arrivals ++ arrival_from r packet ∷ [] → IsBatchOf r (packets ++ packet ∷ []) new
@@ -115,14 +119,12 @@ batch_kept r packets packet old new can few whole carries b at grown =
       takes = record {
         few = omega (arith, len, count, less, few);
         rectime = subst IsClockTime (sym at) b.takes.rectime;
-        each = subst (AllByRecursion (IsArrival r.head)) (sym grown) (all_push (IsArrival r.head) old.arrivals (arrival_from r packet) b.takes.each (arrival_fits r packet can whole carries));
+        each = subst (λ (t : ℤ). AllByRecursion (IsArrival r.head t) new.arrivals) (sym at) (subst (AllByRecursion (IsArrival r.head old.rectime)) (sym grown) (all_push (IsArrival r.head old.rectime) old.arrivals (arrival_from r packet) b.takes.each (subst (λ (t : ℤ). IsArrival r.head t (arrival_from r packet)) (sym b.received) (arrival_fits r packet can whole carries))));
       };
       rows =
-          ap (λ (l : List Arrival). flat_map (arrival_rows new.rectime) l) grown
-          ∙ rows-push new.rectime old.arrivals (arrival_from r packet)
-          ∙ ap (λ (t : ℤ). flat_map (arrival_rows t) old.arrivals ++ (arrival_rows t (arrival_from r packet) ++ [])) at
-          ∙ ap (λ (l : List Row). l ++ (arrival_rows old.rectime (arrival_from r packet) ++ [])) b.rows
-          ∙ ap (λ (t : ℤ). rows_received r packets ++ (arrival_rows t (arrival_from r packet) ++ [])) b.received
+          ap (λ (l : List Arrival). flat_map arrival_rows l) grown
+          ∙ rows-push old.arrivals (arrival_from r packet)
+          ∙ ap (λ (l : List Row). l ++ (arrival_rows (arrival_from r packet) ++ [])) b.rows
           ∙ ap (λ (l : List (List ℕ)). rows_received r packets ++ flat_map (rows_of_packet r) l) (sym one)
           ∙ sym (rows-append r packets (packet ∷ []));
       count = omega (arith, len, count, more);
@@ -135,8 +137,8 @@ batch_idle r packets packet old new idle b at same =
     let alike : kept (packets ++ packet ∷ []) ≡ kept packets = kept-append packets (packet ∷ []) ∙ ap (λ (l : List (List ℕ)). kept packets ++ l) none ∙ append-nil (kept packets) in
     record {
       received = at ∙ b.received;
-      takes = record { few = rw same b.takes.few; rectime = rw at b.takes.rectime; each = rw same b.takes.each };
-      rows = ap (λ (l : List Arrival). flat_map (arrival_rows new.rectime) l) same ∙ ap (λ (t : ℤ). flat_map (arrival_rows t) old.arrivals) at ∙ b.rows
+      takes = record { few = rw same b.takes.few; rectime = rw at b.takes.rectime; each = rw (same, at) b.takes.each };
+      rows = ap (λ (l : List Arrival). flat_map arrival_rows l) same ∙ b.rows
           ∙ ap (flat_map (rows_of_packet r)) (sym alike);
       count = ap length same ∙ b.count ∙ ap length (sym alike);
     }

@@ -6,12 +6,12 @@ use Rattle.std.proofs.lemmas.Bool.{ltb-true, ltb-false}
 use Rattle.std.proofs.lemmas.List.{take_all}
 use Rattle.std.proofs.lemmas.List.Elements.{All-nil}
 use Rattle.arch_disk.specs.Disk.{Device, raised}
-use Rattle.arch_types.specs.declared.refusal.Refusal.{Refusal}
-use Rattle.arch_types.specs.declared.refusal.Refusal.TheVariants.{DiskFault, Limit, OutOfMemory, NeedsReopen}
+use Rattle.refusals.specs.declared.refusal.Refusal.{Refusal}
+use Rattle.refusals.specs.declared.refusal.Refusal.TheVariants.{DiskFault, Limit, OutOfMemory, NeedsReopen}
 use Rattle.arch_types.specs.declared.row.Row.{Row}
 use Rattle.arch_types.specs.Dump.{IsDump, BeginsWithNoPacket}
 use Rattle.arch_types.specs.History.{ingested}
-use Rattle.arch_types.specs.Limits.{limit_of}
+use Rattle.refusals.specs.Limits.{limit_of}
 use Rattle.arch_types.specs.Packet.{IsPacket}
 use Rattle.history_items.specs.declared.fills.Addition.TheVariants.{Rows}
 use Rattle.history_items.specs.declared.fills.Fill.{Fill}
@@ -29,7 +29,7 @@ use Rattle.space_packet.specs.Rest.{why_of}
 use Rattle.space_packet.proofs.Cuts.{cut_whole}
 use Rattle.archive_store.specs.Calls.{IsIngestRefusal}
 use Rattle.archive_store.specs.Batches.{batch_rows}
-use Rattle.archive_history.specs.Limits.{IsLimit}
+use Rattle.archive_store.specs.Limits.{IsLimit}
 use Rattle.archive_store.specs.StoreView.{AddsFault, StoreView}
 use Rattle.archive_store.proofs.Calls.{ingest_cases}
 use Rattle.load_session.specs.declared.batches.NextBatch.{NextBatch}

@@ -1,12 +1,13 @@
 -- The packets of a dump, ingested in batches.
 use Rattle.std.specs.Prelude.{◌≡◌, ℕ, ◌+◌, ◌≤◌, true, Option, Some, List, [], ◌∷◌, ◌++◌, length, take, drop, if◌then◌else◌}
 use Rattle.arch_disk.specs.Disk.{raised}
-use Rattle.arch_types.specs.declared.refusal.Refusal.{Refusal}
-use Rattle.arch_types.specs.declared.refusal.Refusal.TheVariants.{DiskFault, Limit, OutOfMemory}
+use Rattle.refusals.specs.declared.refusal.Refusal.{Refusal}
+use Rattle.refusals.specs.declared.refusal.Refusal.TheVariants.{DiskFault, Limit, OutOfMemory}
 use Rattle.arch_types.specs.declared.row.Row.{Row}
+use Rattle.arch_types.specs.Arrivals.{row_of}
 use Rattle.arch_types.specs.Dump.{IsDump}
 use Rattle.arch_types.specs.Packet.{is_idle}
-use Rattle.arch_types.specs.Limits.{limit_of}
+use Rattle.refusals.specs.Limits.{limit_of}
 use Rattle.history_items.specs.declared.fills.Addition.TheVariants.{Rows}
 use Rattle.history_items.specs.declared.fills.Fill.TheVariants.{Fault}
 use Rattle.store_fills.specs.Faults.{faults_in}
@@ -18,7 +19,7 @@ use Rattle.space_packet.specs.Rest.{why_of}
 use Rattle.archive_store.specs.declared.batch.Arrival.{Arrival}
 use Rattle.archive_store.specs.declared.batch.Batch.{Batch}
 use Rattle.archive_store.specs.Batches.{batch_rows, IsBatch}
-use Rattle.archive_history.specs.Limits.{IsLimit}
+use Rattle.archive_store.specs.Limits.{IsLimit}
 use Rattle.archive_store.specs.StoreView.{StoreView}
 use Rattle.load_session.specs.declared.batches.NextBatch.{NextBatch}
 use Rattle.load_session.specs.declared.batches.DumpSummary.{DumpSummary}
@@ -33,7 +34,7 @@ batch_at place packets = take 64 (drop place packets)
 -- the arrival of a packet
 abbrev pub arrival_from : Receiving → List ℕ → Arrival
 arrival_from r packet =
-    record { link = r.link; pname = packet_name_of r.head.mdb packet; packet = packet; tables = tables_of_packet r packet }
+    record { row = row_of r.link r.moment (packet_name_of r.head.mdb) packet 0; tables = tables_of_packet r packet }
 
 -- arrivals, and that of one packet more where it isn't idle
 abbrev pub arrivals_with : Receiving → List Arrival → List ℕ → List Arrival

@@ -2,17 +2,17 @@
 use Rattle.std.specs.Prelude.{◌≡◌, ◌⊎◌, ◌≤◌, ◌+◌, ℕ, List, [], ◌∷◌, ◌++◌, length, take, drop, Bool, false, IfOk, Option, Some, None, Result}
 use Rattle.std.specs.Result.{result_err}
 use Rattle.arch_disk.specs.Disk.{Device, raised}
-use Rattle.arch_types.specs.declared.refusal.Refusal.{Refusal}
-use Rattle.arch_types.specs.declared.refusal.Refusal.TheVariants.{DiskFault, Limit, OutOfMemory}
+use Rattle.refusals.specs.declared.refusal.Refusal.{Refusal}
+use Rattle.refusals.specs.declared.refusal.Refusal.TheVariants.{DiskFault, Limit, OutOfMemory}
 use Rattle.arch_types.specs.declared.row.Row.{Row}
 use Rattle.arch_types.specs.Dump.{IsDump}
-use Rattle.arch_types.specs.Limits.{limit_of}
+use Rattle.refusals.specs.Limits.{limit_of}
 use Rattle.history_items.specs.declared.fills.Addition.TheVariants.{Rows}
 use Rattle.history_items.specs.declared.fills.Fill.TheVariants.{Fault}
 use Rattle.store_fills.specs.Faults.{faults_in}
 use Rattle.history_items.specs.Items.{Item, after_rows}
 use Rattle.history_items.specs.Outcomes.{fresh_of}
-use Rattle.archive_history.specs.Limits.{IsLimit}
+use Rattle.archive_store.specs.Limits.{IsLimit}
 use Rattle.space_packet.specs.Rest.{why_of}
 use Rattle.archive_store.specs.StoreView.{StoreView}
 use Rattle.load_session.specs.declared.batches.DumpSummary.{DumpSummary}

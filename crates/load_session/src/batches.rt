@@ -1,6 +1,8 @@
 //! The packets of a dump, ingested in batches.
 
 ghost use Rattle.std.specs.Prelude.{◌≡◌, ◌+◌, ◌<◌, ◌≤◌, [], drop, length, IfOk, IfErr, OnOk};
+ghost use Rattle.refusals.specs.Limits.{limit_of};
+ghost use Rattle.refusals.specs.declared.refusal.Which.TheVariants as limits;
 ghost use Rattle.arch_types.specs.Dump.{BeginsWithNoPacket};
 ghost use Rattle.arch_types.specs.Packet.{IsPacket};
 ghost use Rattle.text_forms.specs.ClockTime.{IsClockTime};
@@ -13,13 +15,11 @@ ghost use Rattle.load_session.specs.Receiving.{receiving, IsRouteOver};
 
 use arch_disk::Disk;
 use arch_types::octets::Octets;
-use arch_types::refusal::Refusal;
-use arch_types::row::Row;
-use archive_store::{Arrival, Arrivals, Batch, Head, Store};
+use archive_store::{Arrival, Arrivals, Batch, Head, Store, received_row};
 use container_extract::Extractor;
+use refusals::Refusal;
 use space_packet::dump::{DumpPackets, Why};
 use space_packet::header::is_idle_packet;
-use space_packet::key::key_of;
 use std::alloc::{AllocError, Global};
 use stream_graph::graph::Graph;
 
@@ -57,8 +57,8 @@ pub(crate) fn ingest_dump<D: Disk>(
     link: u16,
     moment: i64,
 ) -> Result<DumpSummary, Refusal>
-    requires short { length dump.now ≤ 268435456 }
-    requires link { (1 ≤ link) × (link ≤ 255) }
+    requires short { length dump.now ≤ limit_of limits.DumpOctets }
+    requires link { (1 ≤ link) × (link ≤ limit_of limits.Links) }
     requires moment { IsClockTime moment }
     requires route { IsRouteOver store.old.head graph.now }
     requires no_fault { faults_in store.old.fills ≡ [] }
@@ -113,7 +113,7 @@ fn next_batch(
     moment: i64,
 ) -> Result<NextBatch, AllocError>
     requires dump { places.old.dump ≡ dump.now }
-    requires link { (1 ≤ link) × (link ≤ 255) }
+    requires link { (1 ≤ link) × (link ≤ limit_of limits.Links) }
     requires moment { IsClockTime moment }
     requires head { IsArchiveEntry (entries.Head head.now.tables head.now.mdb) }
     requires route { IsRouteOver head.now graph.now }
@@ -181,19 +181,7 @@ fn arrival_of(
     ensures { IfOk result (λ arrival. arrival ≡ arrival_from (receiving head.now graph.now link moment) packet) }
 {
     let pname = extractor.packet_name(&head.mdb, packet.as_slice());
-    let row = Row {
-        key: key_of(packet.as_slice(), moment),
-        rectime: moment,
-        packet,
-        link,
-        pname,
-        table: 0,
-    };
+    let row = received_row(packet, moment, link, pname);
     let tables = graph.route(alloc, &row)?;
-    Ok(Arrival {
-        link,
-        pname,
-        packet: row.packet,
-        tables,
-    })
+    Ok(Arrival { row, tables })
 }

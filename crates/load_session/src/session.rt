@@ -1,6 +1,8 @@
 //! A session: the packets of a dump, ingested, and a failed write taken back.
 
 ghost use Rattle.std.specs.Prelude.{◌≡◌, ◌≢◌, ◌≤◌, [], length, Some};
+ghost use Rattle.refusals.specs.Limits.{limit_of};
+ghost use Rattle.refusals.specs.declared.refusal.Which.TheVariants as limits;
 ghost use Rattle.std.specs.Result.{result_err};
 ghost use Rattle.text_forms.specs.ClockTime.{IsClockTime};
 ghost use Rattle.store_fills.specs.Faults.{faults_in};
@@ -11,8 +13,8 @@ ghost use Rattle.load_session.specs.Session.{IsSessionRun, OneAtMost, OneOrTwo};
 use crate::batches::{DumpSummary, ingest_dump};
 use arch_disk::Disk;
 use arch_types::octets::Octets;
-use arch_types::refusal::Refusal;
 use archive_store::Store;
+use refusals::Refusal;
 use std::alloc::Global;
 use stream_graph::graph::Graph;
 
@@ -30,8 +32,8 @@ pub fn run_session<D: Disk>(
     link: u16,
     moment: i64,
 ) -> Result<DumpSummary, Refusal>
-    requires short { length dump.now ≤ 268435456 }
-    requires link { (1 ≤ link) × (link ≤ 255) }
+    requires short { length dump.now ≤ limit_of limits.DumpOctets }
+    requires link { (1 ≤ link) × (link ≤ limit_of limits.Links) }
     requires moment { IsClockTime moment }
     requires route { IsRouteOver store.old.head graph.now }
     requires no_fault { faults_in store.old.fills ≡ [] }

@@ -2,7 +2,7 @@
 use Rattle.std.proofs.Common.{◌≡◌, ◌∙◌, ◌+◌, ◌≤◌, ℕ, zero, suc, List, [], ◌∷◌, ◌++◌, drop, take, map, length, Option, Some, None, refl, ap, sym, arith}
 use Rattle.std.specs.Prelude.{slice_get}
 use Rattle.std.proofs.lemmas.List.{map-append}
-use Rattle.arch_types.specs.declared.ask.Ask.{Ask}
+use Rattle.asks.specs.declared.ask.Ask.{Ask}
 use Rattle.mdb_items.specs.Checks.{first_broken}
 use Rattle.mdb_items.proofs.Ends.{take-next}
 use Rattle.mdb_sheets.specs.Asks.{ask_checks, ask_of, rows_fault}

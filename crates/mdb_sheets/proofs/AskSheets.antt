@@ -3,14 +3,14 @@ use Rattle.std.proofs.Common.{◌≡◌, ◌∙◌, ◌⊎◌, ◌<◌, ◌≤�
 use Rattle.std.specs.Prelude.{Result, Ok, Err, nat_lt, option_map, if◌then◌else◌}
 use Rattle.std.proofs.lemmas.Bool.Decides.{nat_tests}
 use Rattle.std.proofs.lemmas.List.{length-map}
-use Rattle.arch_types.specs.declared.ask.Ask.{Ask}
-use Rattle.arch_types.specs.declared.refusal.Refusal.{Refusal}
-use Rattle.arch_types.specs.declared.refusal.Refusal.TheVariants.{BadSheet, Limit, OutOfMemory}
-use Rattle.arch_types.specs.declared.refusal.Sheet.{Sheet}
-use Rattle.arch_types.specs.declared.refusal.Sheet.TheVariants as sheet
-use Rattle.arch_types.specs.declared.refusal.Which.{Which}
-use Rattle.arch_types.specs.declared.refusal.Which.TheVariants as which
-use Rattle.arch_types.specs.Limits.{limit_of}
+use Rattle.asks.specs.declared.ask.Ask.{Ask}
+use Rattle.refusals.specs.declared.refusal.Refusal.{Refusal}
+use Rattle.refusals.specs.declared.refusal.Refusal.TheVariants.{BadSheet, Limit, OutOfMemory}
+use Rattle.refusals.specs.declared.refusal.SheetName.{SheetName}
+use Rattle.refusals.specs.declared.refusal.SheetName.TheVariants as sheet
+use Rattle.refusals.specs.declared.refusal.Which.{Which}
+use Rattle.refusals.specs.declared.refusal.Which.TheVariants as which
+use Rattle.refusals.specs.Limits.{limit_of}
 use Rattle.command_plans.specs.Plan.{is_interruption}
 use Rattle.mdb_items.specs.Checks.{or_else}
 use Rattle.mdb_sheets.specs.Asks.{IsAsksResult, IsSheetAnswer, ask_of, ask_sheet_fault, ask_sheet_refusal, asks_of, asks_unless}
@@ -33,7 +33,7 @@ by_fault more fault = or_else (option_map (λ (broken : ℕ × ℕ). BadSheet sh
 abbrev more_than : List Fields → Bool
 more_than records = nat_lt (limit_of which.Asks) (length (drop 1 records))
 
-same_bad : (name : Sheet) (row rule : ℕ) → name ≡ sheet.Asks → ◌≡◌ {A = Option Refusal} (Some (BadSheet sheet.Asks row rule)) (Some (BadSheet name row rule))
+same_bad : (name : SheetName) (row rule : ℕ) → name ≡ sheet.Asks → ◌≡◌ {A = Option Refusal} (Some (BadSheet sheet.Asks row rule)) (Some (BadSheet name row rule))
 same_bad name row rule e = cc
 
 same_limit : (quantity : Which) (number : ℕ) → quantity ≡ which.Asks → number ≡ limit_of which.Asks →
@@ -41,7 +41,7 @@ same_limit : (quantity : Which) (number : ℕ) → quantity ≡ which.Asks → n
 same_limit quantity number is e = cc
 
 -- it breaks a rule,
-pub broken_refusal : (records : List Fields) (name : Sheet) (row rule : ℕ) → name ≡ sheet.Asks → ask_sheet_fault records ≡ Some (row, rule) →
+pub broken_refusal : (records : List Fields) (name : SheetName) (row rule : ℕ) → name ≡ sheet.Asks → ask_sheet_fault records ≡ Some (row, rule) →
     ask_sheet_refusal records ≡ Some (BadSheet name row rule)
 broken_refusal records name row rule is e = ap (by_fault (more_than records)) e ∙ same_bad name row rule is
 

@@ -2,9 +2,9 @@
 use Rattle.std.proofs.Common.{◌≡◌, ◌≤◌, ℕ, ◌+◌, List, length, Option, Some, None, refl, subst}
 use Rattle.std.specs.Prelude.{Err, IsSomeAnd}
 use Rattle.std.specs.FinMap.{get}
-use Rattle.arch_types.specs.declared.refusal.Refusal.{Refusal}
-use Rattle.arch_types.specs.declared.refusal.Which.TheVariants.{SheetOctets}
-use Rattle.arch_types.specs.Limits.{limit_of}
+use Rattle.refusals.specs.declared.refusal.Refusal.{Refusal}
+use Rattle.refusals.specs.declared.refusal.Which.TheVariants.{SheetOctets}
+use Rattle.refusals.specs.Limits.{limit_of}
 use Rattle.mdb_items.specs.declared.sheet.RawMdb.{RawMdb}
 use Rattle.outer_traits.specs.Outside.{Files}
 use Rattle.outer_traits.specs.declared.whole.ReadFault.{ReadFault}

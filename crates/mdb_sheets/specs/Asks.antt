@@ -2,13 +2,15 @@
 use Rattle.std.specs.Prelude.{◌≡◌, ◌⊎◌, ℕ, suc, ◌<◌, ◌≤◌, ◌==◌, ◌&&◌, ◌||◌, not, Bool, true, false, List, [], ◌∷◌, length, map, drop, Option, Some, None, is_some, option_map, unwrap_or, nat_lt, if◌then◌else◌, codes, pos, Result, Ok, Err}
 use Rattle.std.specs.List.{slice_split}
 use Rattle.std.specs.Str.{bytes_eq}
-use Rattle.arch_types.specs.declared.ask.Ask.{Ask}
-use Rattle.arch_types.specs.declared.ask.Ask.TheVariants.{Values, Replay}
-use Rattle.arch_types.specs.declared.refusal.Refusal.{Refusal}
-use Rattle.arch_types.specs.declared.refusal.Refusal.TheVariants.{BadSheet, Limit, OutOfMemory}
-use Rattle.arch_types.specs.declared.refusal.Sheet.TheVariants as sheet
-use Rattle.arch_types.specs.declared.refusal.Which.TheVariants as which
-use Rattle.arch_types.specs.Limits.{limit_of}
+use Rattle.arch_types.specs.declared.direction.Direction.{Direction}
+use Rattle.arch_types.specs.declared.direction.Direction.TheVariants.{Ascending, Descending}
+use Rattle.asks.specs.declared.ask.Ask.{Ask}
+use Rattle.asks.specs.declared.ask.Ask.TheVariants.{Values, Replay}
+use Rattle.refusals.specs.declared.refusal.Refusal.{Refusal}
+use Rattle.refusals.specs.declared.refusal.Refusal.TheVariants.{BadSheet, Limit, OutOfMemory}
+use Rattle.refusals.specs.declared.refusal.SheetName.TheVariants as sheet
+use Rattle.refusals.specs.declared.refusal.Which.TheVariants as which
+use Rattle.refusals.specs.Limits.{limit_of}
 use Rattle.text_forms.specs.Names.{is_name}
 use Rattle.mdb_items.specs.Checks.{Checks, first_broken, or_else}
 use Rattle.mdb_items.specs.Conditions.{all_of}
@@ -33,13 +35,14 @@ abbrev pub is_ascending : List ℕ → Bool
 is_ascending text = is_empty text || bytes_eq text (codes "asc")
 
 -- desc, or asc
-abbrev pub descending_of : List ℕ → Option Bool
-descending_of text = if is_ascending text then Some false else (if bytes_eq text (codes "desc") then Some true else None)
+abbrev pub direction_of : List ℕ → Option Direction
+direction_of text =
+    if is_ascending text then Some Ascending else (if bytes_eq text (codes "desc") then Some Descending else None)
 
 -- the order of an ask of a kind; a replay is asc
-unfoldable pub order_of : Option AskKind → List ℕ → Option Bool
-order_of (Some kind.Replay) text = if is_ascending text then Some false else None
-order_of other text = descending_of text
+unfoldable pub order_of : Option AskKind → List ℕ → Option Direction
+order_of (Some kind.Replay) text = if is_ascending text then Some Ascending else None
+order_of other text = direction_of text
 
 -- a limit, by its number
 abbrev pub most_from : Option ℕ → Option (Option ℕ)
@@ -96,7 +99,7 @@ ask_of_kind other row = Values (record {
   parameter = field row 1;
   from = unwrap_or (time_of (field row 2)) (pos 0);
   to = unwrap_or (time_of (field row 3)) (pos 0);
-  descending = unwrap_or (order_of (Some kind.Values) (field row 4)) false;
+  direction = unwrap_or (order_of (Some kind.Values) (field row 4)) Ascending;
   limit = unwrap_or (most_of (field row 5)) None;
 })
 

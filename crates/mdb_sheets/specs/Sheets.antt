@@ -1,10 +1,10 @@
 -- The sheets of a mission database, and why they aren't read.
 use Rattle.std.specs.Prelude.{◌≡◌, ℕ, ◌<◌, ◌≤◌, ◌⊎◌, List, Option, Some, IfSome, IsNone, IsSomeAnd, length}
 use Rattle.std.specs.FinMap.{get}
-use Rattle.arch_types.specs.declared.refusal.Refusal.{Refusal}
-use Rattle.arch_types.specs.declared.refusal.Refusal.TheVariants.{Missing, ReadFault, Limit, OutOfMemory}
-use Rattle.arch_types.specs.declared.refusal.Which.TheVariants.{SheetOctets}
-use Rattle.arch_types.specs.Limits.{limit_of}
+use Rattle.refusals.specs.declared.refusal.Refusal.{Refusal}
+use Rattle.refusals.specs.declared.refusal.Refusal.TheVariants.{Missing, ReadFault, Limit, OutOfMemory}
+use Rattle.refusals.specs.declared.refusal.Which.TheVariants.{SheetOctets}
+use Rattle.refusals.specs.Limits.{limit_of}
 use Rattle.csv.specs.Reading.{default_config, records, strip_bom}
 use Rattle.mdb_items.specs.declared.sheet.RawMdb.{RawMdb}
 use Rattle.outer_traits.specs.Outside.{Files, HasRisen, IsOneMoreAtMost, Stays, one_more}

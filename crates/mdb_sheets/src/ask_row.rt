@@ -1,12 +1,13 @@
 //! One row of the sheet of asks.
 
 ghost use Rattle.std.specs.Prelude.{◌≡◌, IfOk, Some};
-ghost use Rattle.mdb_sheets.specs.Asks.{IsAskResult, ask_kind, asked_names, descending_of, is_ascending, most_of, order_of};
+ghost use Rattle.mdb_sheets.specs.Asks.{IsAskResult, ask_kind, asked_names, direction_of, is_ascending, most_of, order_of};
 
 use crate::name_list::listed_names;
-use arch_types::ask::{Ask, ReplayRequest, Request};
+use arch_types::direction::Direction;
 use arch_types::name::{Name, Names};
 use arch_types::octets::Octets;
+use asks::{Ask, ReplayRequest, Request};
 use mdb_model::SheetRecord;
 use std::alloc::{AllocError, Global};
 use text_forms::number_of;
@@ -56,28 +57,28 @@ fn is_ascending(text: &[u8]) -> bool
     text.is_empty() || text == b"asc".as_slice()
 }
 
-fn descending_of(text: &[u8]) -> Option<bool>
-    ensures { result ≡ descending_of text.now }
+fn direction_of(text: &[u8]) -> Option<Direction>
+    ensures { result ≡ direction_of text.now }
 {
     if is_ascending(text) {
-        Some(false)
+        Some(Direction::Ascending)
     } else if text == b"desc".as_slice() {
-        Some(true)
+        Some(Direction::Descending)
     } else {
         None
     }
 }
 
-/// Whether an ask of a kind is descending, which a replay never is.
+/// The direction of an ask of a kind: a replay is ascending.
 #[tactic(auto, unfolding(crate::specs::Asks::order_of))]
-fn order_of(kind: AskKind, text: &[u8]) -> Option<bool>
+fn order_of(kind: AskKind, text: &[u8]) -> Option<Direction>
     ensures { result ≡ order_of (Some kind) text.now }
 {
     match kind {
-        AskKind::Values => descending_of(text),
+        AskKind::Values => direction_of(text),
         AskKind::Replay => {
             if is_ascending(text) {
-                Some(false)
+                Some(Direction::Ascending)
             } else {
                 None
             }
@@ -139,7 +140,7 @@ pub(crate) fn read_ask(alloc: Global, row: &SheetRecord<'_>) -> Result<Ask, AskF
     let Ok(to) = read_time_octets(row.field(3)) else {
         return Err(AskFault::Broken(31));
     };
-    let Some(descending) = order_of(kind, row.field(4)) else {
+    let Some(direction) = order_of(kind, row.field(4)) else {
         return Err(AskFault::Broken(32));
     };
     let Some(limit) = most_of(row.field(5)) else {
@@ -149,18 +150,18 @@ pub(crate) fn read_ask(alloc: Global, row: &SheetRecord<'_>) -> Result<Ask, AskF
         return Err(AskFault::Broken(34));
     };
     match kind {
-        AskKind::Values => Ok(values(name, from, to, descending, limit)),
+        AskKind::Values => Ok(values(name, from, to, direction, limit)),
         AskKind::Replay => Ok(replay(name, from, to, names, limit)),
     }
 }
 
 /// The ask for the values of a parameter.
-fn values(parameter: Name, from: i64, to: i64, descending: bool, limit: Option<u64>) -> Ask
+fn values(parameter: Name, from: i64, to: i64, direction: Direction, limit: Option<u64>) -> Ask
     ensures { result ≡ Ask.Values (record {
       parameter = parameter;
       from = from;
       to = to;
-      descending = descending;
+      direction = direction;
       limit = limit;
     }) }
 {
@@ -168,7 +169,7 @@ fn values(parameter: Name, from: i64, to: i64, descending: bool, limit: Option<u
         parameter,
         from,
         to,
-        descending,
+        direction,
         limit,
     })
 }

@@ -19,12 +19,12 @@
 #![tactic(auto)]
 
 mod ask_row;
-mod asks;
+mod ask_sheet;
 mod mdb;
 mod name_list;
 mod records;
 mod refusal;
 mod sheet;
 
-pub use asks::read_asks;
+pub use ask_sheet::read_asks;
 pub use mdb::read_mdb;

@@ -9,9 +9,9 @@ ghost use Rattle.mdb_sheets.specs.Plans.{sheets_plan};
 ghost use Rattle.mdb_sheets.specs.Sheets.{AreSheets, IsRefusal, ReadsCounted};
 
 use crate::sheet::read_sheet;
-use arch_types::refusal::Refusal;
 use mdb_model::RawMdb;
 use outer_traits::inputs::Inputs;
+use refusals::Refusal;
 use std::alloc::Global;
 
 /// The records of the three named sheets, which are read in this order. Of the first that isn't read it answers `Missing` where no input has

@@ -4,8 +4,8 @@ ghost use Rattle.std.specs.Prelude.{◌≡◌, ◌⊎◌};
 ghost use Rattle.mdb_sheets.specs.Refusal.{IsRefusalOf};
 
 use arch_types::octets::Octets;
-use arch_types::refusal::{Refusal, Which};
 use outer_traits::whole::ReadFault;
+use refusals::{Refusal, Which};
 use std::alloc::Global;
 
 /// The refusal of a sheet by the fault of reading it.

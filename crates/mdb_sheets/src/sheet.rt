@@ -9,10 +9,10 @@ ghost use Rattle.mdb_sheets.specs.Sheets.{IsSheet, IsSheetRefused, ReadsCounted}
 
 use crate::records::records;
 use crate::refusal::refusal;
-use arch_types::refusal::{Refusal, Which};
 use mdb_model::Sheet;
 use outer_traits::inputs::Inputs;
 use outer_traits::whole::read_input;
+use refusals::{Refusal, Which};
 use std::alloc::Global;
 
 /// The records of the named sheet. It is opened once, and its source is closed whatever comes. The count of faults rises exactly where the

@@ -5,11 +5,12 @@ use Rattle.std.specs.List.{AllByRecursion}
 use Rattle.std.specs.Option.{is_some, option_map, option_map_or}
 use Rattle.std.proofs.lemmas.Bool.Decides.{nat_tests}
 use Rattle.std.proofs.lemmas.Option.{slice_get_within}
-use Rattle.arch_types.specs.declared.ask.Ask.{Ask}
-use Rattle.arch_types.specs.declared.ask.Ask.TheVariants.{Values, Replay}
-use Rattle.arch_types.specs.declared.ask.Request.{Request}
+use Rattle.asks.specs.declared.ask.Ask.{Ask}
+use Rattle.asks.specs.declared.ask.Ask.TheVariants.{Values, Replay}
+use Rattle.asks.specs.declared.ask.Request.{Request}
+use Rattle.asks.specs.Names.{parameter_named}
 use Rattle.arch_types.specs.declared.cell.Cell.{Cell}
-use Rattle.arch_types.specs.declared.interval.Interval.{Interval}
+use Rattle.intervals.specs.declared.interval.Interval.{Interval}
 use Rattle.history_items.specs.Items.{Item}
 use Rattle.history_items.specs.Late.{IsLastIn, last_in}
 use Rattle.history_items.proofs.Late.{last_is_greatest}
@@ -24,7 +25,6 @@ use Rattle.retrieval.specs.AnswerText.{answer_lines, as_asked}
 use Rattle.retrieval.specs.AskText.{ask_text, asks_text}
 use Rattle.retrieval.specs.FilledAnswer.{cells_of_fill, cells_of_interval, filled_answer, intervals_of_range, is_late_by_fill}
 use Rattle.retrieval.specs.Laws.{AddedFillsAnswerAlike}
-use Rattle.retrieval.specs.Parameter.{number_named}
 use Rattle.retrieval.specs.PartCells.{cells_of_rows, is_cell_in_range}
 use Rattle.retrieval.proofs.OneList.{asked_have}
 use Rattle.retrieval.proofs.OverRows.{timely_cells}
@@ -76,7 +76,7 @@ module _ (head : Head) (history : List Item) (old new : Fillings (List SetRow)) 
 
   text_same : (k : ℕ) (ask : Ask) → ask_text head history new k ask ≡ ask_text head history old k ask
   text_same k (Values request) =
-      let number = unwrap_or (number_named head.mdb request.parameter) 0 in
+      let number = unwrap_or (parameter_named head.mdb request.parameter) 0 in
       ap (answer_lines k (length history) head.mdb number) (answer_same number request)
   text_same k (Replay request) = refl
 

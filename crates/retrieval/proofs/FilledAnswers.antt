@@ -6,9 +6,9 @@ use Rattle.std.specs.Option.{is_some, option_map_or}
 use Rattle.std.proofs.lemmas.Bool.{and_parts, false_from_ne_true}
 use Rattle.std.proofs.lemmas.Bool.Decides.{nat_tests}
 use Rattle.std.proofs.lemmas.Int.{ints}
-use Rattle.arch_types.specs.declared.ask.Request.{Request}
+use Rattle.asks.specs.declared.ask.Request.{Request}
 use Rattle.arch_types.specs.declared.cell.Cell.{Cell}
-use Rattle.arch_types.specs.declared.interval.Interval.{Interval}
+use Rattle.intervals.specs.declared.interval.Interval.{Interval}
 use Rattle.arch_types.specs.declared.row.Row.{Row}
 use Rattle.container_extract.specs.Extraction.{cell_of}
 use Rattle.history_items.specs.Fills.{base_in}
@@ -33,10 +33,9 @@ use Rattle.archive_store.proofs.Planning.{none_in_range}
 use Rattle.retrieval.specs.AnswerText.{as_asked}
 use Rattle.retrieval.specs.FilledAnswer.{cells_of_fill, cells_of_interval, filled_answer, intervals_of_range, is_late_by_fill}
 use Rattle.retrieval.specs.Laws.{FilledIsAnswered}
-use Rattle.retrieval.specs.Parameter.{number_named}
 use Rattle.retrieval.specs.PartCells.{answer_over_parts, cells_of_part, cells_of_rows, is_cell_in_range}
 use Rattle.retrieval.proofs.OneList.{asked_covers, asked_have, asked_rises, range_one}
-use Rattle.retrieval.proofs.OverRows.{joined, of_number, timely_cells}
+use Rattle.retrieval.proofs.OverRows.{joined, timely_cells}
 
 -- ---- a part has the cells of its interval
 
@@ -101,11 +100,10 @@ module _ (low high : ℤ) (empty : high ≤ℤ low) where
 -- ---- the answer
 
 pub plan_filled : {D : Type 0} (store : StoreView D) (q : ℕ) (request : Request) (plan : Plan) → ((i : Interval) → base_in i store.fills ≡ base_of_filling (fillings_in store.filled) i)
-    → number_named store.head.mdb request.parameter ≡ Some q → IsPlan store request.from request.to plan
-    → answer_over_parts store.head.mdb request plan.parts ≡ filled_answer store.head.mdb q request store.history (fillings_in store.filled)
-plan_filled store q request plan bases named planned =
-    sym (of_number store.head.mdb q request plan.parts named)
-    ∙ ap (as_asked request) (parts_cells store bases store.head.mdb q request.from request.to plan.parts planned.each ∙ by_range (int_lt request.from request.to) refl)
+    → IsPlan store request.from request.to plan
+    → answer_over_parts store.head.mdb q request plan.parts ≡ filled_answer store.head.mdb q request store.history (fillings_in store.filled)
+plan_filled store q request plan bases planned =
+    ap (as_asked request) (parts_cells store bases store.head.mdb q request.from request.to plan.parts planned.each ∙ by_range (int_lt request.from request.to) refl)
   where
     f : Interval → List Cell
     f = cells_of_interval store.head.mdb q request.from request.to store.history (fillings_in store.filled)

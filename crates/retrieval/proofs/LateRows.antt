@@ -5,14 +5,15 @@ use Rattle.std.specs.List.{AllByRecursion}
 use Rattle.std.proofs.lemmas.Bool.{false_from_ne_true}
 use Rattle.std.proofs.lemmas.Int.{ints}
 use Rattle.std.proofs.lemmas.List.Elements.{filter-append}
-use Rattle.arch_types.specs.declared.interval.Interval.{Interval}
+use Rattle.intervals.specs.declared.interval.Interval.{Interval}
 use Rattle.arch_types.specs.declared.row.Row.{Row}
 use Rattle.arch_types.specs.Table.{is_in_time_range, range_of, table_of}
 use Rattle.history_items.specs.Items.{Item, rows_in}
 use Rattle.history_items.specs.Late.{is_late_in}
 use Rattle.history_items.proofs.Late.{late_by_last}
 use Rattle.partitions.proofs.Filters.{filter_swap, none_pass}
-use Rattle.interval_fills.specs.Intervals.{interval_end, interval_start, rows_of_interval}
+use Rattle.interval_fills.specs.Intervals.{rows_of_interval}
+use Rattle.intervals.specs.Interval.{interval_end, interval_start}
 use Rattle.interval_fills.proofs.Intervals.{range_in}
 use Rattle.interval_walks.specs.Counts.{item_interval}
 use Rattle.interval_walks.specs.Turns.{CoverRange, IntervalsRise, meets_range, rows_in_turn}

@@ -5,7 +5,7 @@ pub mod Limited
 pub mod Counted
 pub mod PacketNames
 pub mod Replays
-pub mod ReplayRefusals
+pub mod FoundAsks
 pub mod ReplayTexts
 pub mod Timely
 pub mod OverRows

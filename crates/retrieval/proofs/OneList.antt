@@ -8,10 +8,10 @@ use Rattle.std.proofs.lemmas.Bool.{and_parts, eq-eqb, eqb-true, false_from_ne_tr
 use Rattle.std.proofs.lemmas.Bool.Decides.{Decides-int_eq}
 use Rattle.std.proofs.lemmas.Int.{ints}
 use Rattle.std.proofs.lemmas.List.Folds.{list_any-append}
-use Rattle.arch_types.specs.declared.interval.Interval.{Interval}
+use Rattle.intervals.specs.declared.interval.Interval.{Interval}
 use Rattle.arch_types.specs.declared.row.Row.{Row}
 use Rattle.arch_types.specs.History.{is_in_table}
-use Rattle.arch_types.specs.Interval.{interval_of}
+use Rattle.intervals.specs.Interval.{interval_of, interval_end, interval_start}
 use Rattle.arch_types.specs.Order.{is_before, place_by}
 use Rattle.arch_types.specs.Table.{table_of}
 use Rattle.arch_types.proofs.Ordered.{IsAscending}
@@ -20,7 +20,6 @@ use Rattle.history_items.specs.Items.{Item, is_row_of_interval, rows_in}
 use Rattle.history_items.specs.Late.{IsLastIn, last_in}
 use Rattle.history_items.specs.Places.{last_place, last_with}
 use Rattle.history_items.proofs.Late.{last_is_greatest}
-use Rattle.interval_fills.specs.Intervals.{interval_end, interval_start}
 use Rattle.interval_fills.proofs.Steps.{same_interval}
 use Rattle.interval_walks.specs.Counts.{intervals_in, item_interval, with_interval}
 use Rattle.interval_walks.specs.Turns.{CoverRange, IntervalsRise, MeetsRange, meets_range}

@@ -1,15 +1,15 @@
 -- The answer over parts is that over the rows that they are over.
-use Rattle.std.proofs.Common.{◌≡◌, ◌∙◌, ℕ, ℤ, List, [], ◌∷◌, ◌++◌, Bool, true, false, cond, Option, Some, None, ap, sym, refl}
-use Rattle.std.specs.Prelude.{Result, Ok, Err, IfOk, filter, flat_map, option_map, unwrap_or}
+use Rattle.std.proofs.Common.{◌≡◌, ◌∙◌, ℕ, ℤ, List, [], ◌∷◌, ◌++◌, length, Bool, true, false, cond, Option, Some, None, ap, sym, refl}
+use Rattle.std.specs.Prelude.{Result, Ok, Err, IfOk, filter, flat_map, option_map}
 use Rattle.std.specs.List.{cons_option, filter_map}
 use Rattle.std.proofs.lemmas.List.Elements.{filter-append, filter_map-append}
 use Rattle.std.specs.declared.alloc.AllocError.{AllocError}
-use Rattle.arch_types.specs.declared.ask.Answer.{Answer}
-use Rattle.arch_types.specs.declared.ask.Request.{Request}
+use Rattle.asks.specs.declared.ask.Answer.{Answer}
+use Rattle.asks.specs.declared.ask.Request.{Request}
 use Rattle.arch_types.specs.declared.cell.Cell.{Cell}
 use Rattle.arch_types.specs.declared.row.Row.{Row}
 use Rattle.arch_types.specs.Table.{is_in_time_range, range_of}
-use Rattle.history_items.specs.Items.{rows_in}
+use Rattle.history_items.specs.Items.{Item, rows_in}
 use Rattle.mdb_items.specs.Database.{Database}
 use Rattle.container_extract.specs.declared.values.ParameterValue.{ParameterValue}
 use Rattle.container_extract.specs.Extraction.{cell_at, cell_of, extraction}
@@ -18,9 +18,12 @@ use Rattle.param_segments.specs.declared.plan.Part.{Part}
 use Rattle.param_segments.specs.declared.plan.Part.TheVariants.{Rows, Set}
 use Rattle.param_segments.specs.Plans.{ArePartsOver, IsPartOver}
 use Rattle.retrieval.specs.AnswerText.{answered, as_asked}
+use Rattle.param_segments.specs.Rows.{SetRow}
+use Rattle.store_fills.specs.Sound.{Fillings}
+use Rattle.archive_store.specs.declared.finding.FoundRequest.{FoundRequest}
+use Rattle.retrieval.specs.FilledAnswer.{IsFilledAnswer, filled_answer}
 use Rattle.retrieval.specs.Laws.{PlannedIsAnswered}
-use Rattle.retrieval.specs.Parameter.{number_named}
-use Rattle.retrieval.specs.PartCells.{answer_over_parts, answer_over_rows, cells_of_part, cells_of_rows, is_cell_in_range, number_asked}
+use Rattle.retrieval.specs.PartCells.{answer_over_parts, answer_over_rows, cells_of_part, cells_of_rows, is_cell_in_range}
 
 same_both : (b : Bool) (cells : List Cell) → cells ≡ cond b cells cells
 same_both true cells = refl
@@ -66,37 +69,30 @@ parts_over db q low high (part ∷ parts) rows over =
     ∙ ap (cells_of_rows db q low high) (sym over.2)
 
 -- the answers are the same
-pub answer_over : (db : Database) (request : Request) (parts : List Part) (rows : List Row) → ArePartsOver db parts rows → answer_over_parts db request parts ≡ answer_over_rows db request rows
-answer_over db request parts rows over =
-    ap (as_asked request) (parts_over db (number_asked db request) request.from request.to parts rows over)
-
--- the parameter asked for has this number
-pub of_number : (db : Database) (q : ℕ) (request : Request) (parts : List Part) → number_named db request.parameter ≡ Some q →
-    as_asked request (flat_map (cells_of_part db q request.from request.to) parts) ≡ answer_over_parts db request parts
-of_number db q request parts named =
-    ap (λ (number : Option ℕ). as_asked request (flat_map (cells_of_part db (unwrap_or number 0) request.from request.to) parts)) (sym named)
+pub answer_over : (db : Database) (q : ℕ) (request : Request) (parts : List Part) (rows : List Row) → ArePartsOver db parts rows → answer_over_parts db q request parts ≡ answer_over_rows db q request rows
+answer_over db q request parts rows over = ap (as_asked request) (parts_over db q request.from request.to parts rows over)
 
 -- over rows of which those in the range are the history's, the answer is that over the history
-pub answer_of_history : (db : Database) (q : ℕ) (request : Request) (rows history : List Row) → number_named db request.parameter ≡ Some q →
-    filter (is_in_time_range request.from request.to) rows ≡ range_of 0 request.from request.to history → answer_over_rows db request rows ≡ answered db q request history
-answer_of_history db q request rows history named in_range =
-    ap (λ (number : Option ℕ). as_asked request (cells_of_rows db (unwrap_or number 0) request.from request.to rows)) named
-    ∙ ap (λ (timely : List Row). as_asked request (filter_map (cell_of db q) timely)) in_range
+pub answer_of_history : (db : Database) (q : ℕ) (request : Request) (rows history : List Row) →
+    filter (is_in_time_range request.from request.to) rows ≡ range_of 0 request.from request.to history → answer_over_rows db q request rows ≡ answered db q request history
+answer_of_history db q request rows history in_range = ap (λ (timely : List Row). as_asked request (filter_map (cell_of db q) timely)) in_range
 
 -- the answer over a plan is that over the history
 pub planned : PlannedIsAnswered
-planned head history request number plan named is =
-    answer_over head.mdb request plan.parts is.rows is.over ∙ answer_of_history head.mdb number request is.rows (rows_in history) named is.in_range
+planned head history request number plan is =
+    answer_over head.mdb number request plan.parts is.rows is.over ∙ answer_of_history head.mdb number request is.rows (rows_in history) is.in_range
 
 -- the cells of an answer by one name of them or another
 pub same_cells : (r : Result Answer AllocError) (these those : List Cell) → these ≡ those → IfOk r (λ answer. answer.cells ≡ these) → IfOk r (λ answer. answer.cells ≡ those)
 same_cells (Ok answer) these those same is = is ∙ same
 same_cells (Err error) these those same is = tt
 
--- and its front
-pub same_front : (r : Result Answer AllocError) (this that : ℕ) → this ≡ that → IfOk r (λ answer. answer.front ≡ this) → IfOk r (λ answer. answer.front ≡ that)
-same_front (Ok answer) this that same is = is ∙ same
-same_front (Err error) this that same is = tt
+-- an answer of this front and these cells is that over a history with its fills
+pub filled_is : (db : Database) (history : List Item) (fillings : Fillings (List SetRow)) (found : FoundRequest) (r : Result Answer AllocError) (front : ℕ) (cells : List Cell) → front ≡ length history →
+    cells ≡ filled_answer db found.number found.request history fillings → IfOk r (λ answer. answer.front ≡ front) → IfOk r (λ answer. answer.cells ≡ cells) →
+    IfOk r (IsFilledAnswer db history fillings found)
+filled_is db history fillings found (Ok answer) front cells at gives front_is cells_are = record { front = front_is ∙ at; cells = cells_are ∙ gives }
+filled_is db history fillings found (Err error) front cells at gives front_is cells_are = tt
 
 -- the cells of an answer, where two facts are known
 pub where_known : (r : Result Answer AllocError) (P Q : Type 0) (cells : List Cell) → (P → Q → IfOk r (λ answer. answer.cells ≡ cells)) → IfOk r (λ answer. P → Q → answer.cells ≡ cells)

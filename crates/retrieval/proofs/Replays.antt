@@ -4,14 +4,15 @@ use Rattle.std.specs.Prelude.{filter, fold, unwrap_or, if◌then◌else◌}
 use Rattle.std.proofs.lemmas.Grind.{flat_map-append}
 use Rattle.std.proofs.lemmas.List.{nil_from_length}
 use Rattle.std.proofs.lemmas.List.Filters.{length-filter_both}
-use Rattle.arch_types.specs.declared.ask.ReplayRequest.{ReplayRequest}
+use Rattle.asks.specs.declared.ask.ReplayRequest.{ReplayRequest}
 use Rattle.arch_types.specs.declared.row.Row.{Row}
 use Rattle.arch_types.specs.History.{is_in_table}
 use Rattle.arch_types.specs.Order.{is_before, order_by, place_by}
 use Rattle.arch_types.specs.Table.{is_in_time_range}
 use Rattle.history_items.specs.Items.{Item, rows_in}
 use Rattle.archive_store.specs.declared.head.Head.{Head}
-use Rattle.archive_store.specs.Replays.{IsReplayOpened, packet_numbers, replay_asked, table_asked}
+use Rattle.asks.specs.Names.{packet_name_numbers, table_named}
+use Rattle.archive_store.specs.Replays.{IsReplayOpened, replay_asked}
 use Rattle.mdb_items.specs.Database.{Database}
 use Rattle.replay_merge.specs.Cursor.{CursorView, rest_of}
 use Rattle.replay_merge.specs.Replay.{has_listed_name, truncated, replay_of}
@@ -63,13 +64,13 @@ few_replayed table from to names limit history =
 pub opened_is : (head : Head) (history : List Item) (request : ReplayRequest) (c : CursorView) → IsReplayOpened head history request c →
     rest_of c (rows_in history) ≡ rows_replayed head request (rows_in history)
 opened_is head history request c is =
-    let table : c.table ≡ unwrap_or (table_asked head request) 0 = sym (ap (λ (place : Option ℕ). unwrap_or place 0) is.table) in
+    let table : c.table ≡ unwrap_or (table_named head.tables request.table) 0 = sym (ap (λ (place : Option ℕ). unwrap_or place 0) is.table) in
     is.replay history ([], append-nil history) ∙ ap (λ (number : ℕ). replay_asked head request number (rows_in history)) table
 
 -- no more rows than the history has
 pub few_rest : (head : Head) (history : List Item) (request : ReplayRequest) (c : CursorView) → IsReplayOpened head history request c → length (rest_of c (rows_in history)) ≤ length history
 few_rest head history request c is =
-    let few = few_replayed c.table request.from request.to (packet_numbers head request.names) request.limit (rows_in history) in
+    let few = few_replayed c.table request.from request.to (packet_name_numbers head.mdb request.names) request.limit (rows_in history) in
     let same = ap (λ (rows : List Row). length rows) (is.replay history ([], append-nil history)) in
     omega (arith, few, same)
 

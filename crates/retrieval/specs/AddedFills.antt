@@ -1,6 +1,6 @@
 -- Fills that were added to a history.
 use Rattle.std.specs.Prelude.{◌≡◌, ◌⊎◌, true, List, length, Option, Some}
-use Rattle.arch_types.specs.declared.interval.Interval.{Interval}
+use Rattle.intervals.specs.declared.interval.Interval.{Interval}
 use Rattle.history_items.specs.Items.{Item}
 use Rattle.interval_fills.specs.Intervals.{rows_of_interval}
 use Rattle.param_segments.specs.Rows.{SetRow}

@@ -1,17 +1,17 @@
 -- The asks of a sheet: why one isn't answered, and the text of their answers.
-use Rattle.std.specs.Prelude.{ℕ, suc, List, [], ◌∷◌, ◌++◌, Option, None}
-use Rattle.arch_types.specs.declared.ask.Ask.{Ask}
-use Rattle.arch_types.specs.declared.ask.Ask.TheVariants.{Values, Replay}
-use Rattle.arch_types.specs.declared.refusal.Refusal.{Refusal}
+use Rattle.std.specs.Prelude.{ℕ, suc, List, [], ◌∷◌, ◌++◌, Option, None, option_map}
+use Rattle.asks.specs.declared.ask.Ask.{Ask}
+use Rattle.asks.specs.declared.ask.Ask.TheVariants.{Values, Replay}
+use Rattle.asks.specs.Refusals.{ask_refusal}
+use Rattle.refusals.specs.declared.refusal.Refusal.{Refusal}
 use Rattle.history_items.specs.Items.{Item}
 use Rattle.archive_store.specs.declared.head.Head.{Head}
+use Rattle.archive_store.specs.Finding.{refusal_of_ask}
 use Rattle.mdb_items.specs.Checks.{or_else}
 use Rattle.param_segments.specs.Rows.{SetRow}
 use Rattle.store_fills.specs.Sound.{Fillings}
-use Rattle.retrieval.specs.AnswerText.{request_refusal}
 use Rattle.retrieval.specs.FilledAnswer.{request_text}
-use Rattle.retrieval.specs.Parameter.{number_named}
-use Rattle.retrieval.specs.ReplayText.{replay_refusal, replay_text}
+use Rattle.retrieval.specs.ReplayText.{replay_text}
 
 -- the text of the ask with a number
 abbrev pub ask_text : Head → List Item → Fillings (List SetRow) → ℕ → Ask → List ℕ
@@ -24,12 +24,8 @@ asks_text head history fillings k [] = []
 asks_text head history fillings k (ask ∷ asks) =
     ask_text head history fillings k ask ++ asks_text head history fillings (suc k) asks
 
--- why an ask isn't answered: its parameter or its table is unknown, or else its range ends before it begins
-abbrev pub ask_refusal : Head → Ask → Option Refusal
-ask_refusal head (Values request) = request_refusal (number_named head.mdb request.parameter) request
-ask_refusal head (Replay request) = replay_refusal head request
-
 -- the refusal of the first ask that isn't answered
 abbrev pub asks_refusal : Head → List Ask → Option Refusal
 asks_refusal head [] = None
-asks_refusal head (ask ∷ asks) = or_else (ask_refusal head ask) (asks_refusal head asks)
+asks_refusal head (ask ∷ asks) =
+    or_else (option_map refusal_of_ask (ask_refusal head.tables head.mdb ask)) (asks_refusal head asks)

@@ -46,6 +46,10 @@ eng_text calibration raw (Fixed millionths) = fixed_text millionths
 eng_text calibration raw (Label row) = label_text (slice_get (labels_of calibration) row)
 eng_text calibration raw Undef = codes "UNDEF"
 
+-- the octets that an engineering value takes at most
+abbrev pub longest_eng : ℕ
+longest_eng = 82
+
 -- the line of a cell of a parameter with this calibration: its time, its number, its raw number and its engineering value
 abbrev pub cell_line : Option Calibration → Cell → List ℕ
 cell_line calibration cell =

@@ -1,10 +1,11 @@
 -- The answer over an archive with fills.
 use Rattle.std.specs.Prelude.{◌≡◌, ℕ, ℤ, Bool, false, List, [], filter, flat_map, length, unwrap_or, Option, Some, None, if◌then◌else◌}
-use Rattle.std.specs.Arc.{arc_value}
 use Rattle.std.specs.Option.{option_map_or}
-use Rattle.arch_types.specs.declared.ask.Request.{Request}
+use Rattle.asks.specs.declared.ask.Answer.{Answer}
+use Rattle.asks.specs.declared.ask.Request.{Request}
+use Rattle.asks.specs.Names.{parameter_named}
 use Rattle.arch_types.specs.declared.cell.Cell.{Cell}
-use Rattle.arch_types.specs.declared.interval.Interval.{Interval}
+use Rattle.intervals.specs.declared.interval.Interval.{Interval}
 use Rattle.arch_types.specs.Table.{table_of}
 use Rattle.history_items.specs.Items.{Item, rows_in}
 use Rattle.history_items.specs.Late.{last_in}
@@ -16,9 +17,8 @@ use Rattle.mdb_items.specs.Database.{Database}
 use Rattle.param_segments.specs.Cells.{set_cells}
 use Rattle.param_segments.specs.Rows.{SetRow}
 use Rattle.store_fills.specs.Sound.{Filling, Fillings, base_of_filling}
-use Rattle.retrieval.specs.declared.answer.ParameterAnswer.{ParameterAnswer}
+use Rattle.archive_store.specs.declared.finding.FoundRequest.{FoundRequest}
 use Rattle.retrieval.specs.AnswerText.{answer_lines, as_asked}
-use Rattle.retrieval.specs.Parameter.{number_named}
 use Rattle.retrieval.specs.PartCells.{cells_of_rows, is_cell_in_range}
 
 -- The intervals that have rows of `tm` and meet a range of times, in the order of their numbers: that in which the rows of
@@ -51,16 +51,14 @@ filled_answer db number request history fillings =
     as_asked request (flat_map (cells_of_interval db number request.from request.to history fillings)
     (intervals_of_range request.from request.to history))
 
--- the answer to a request over a database and a history with fills
-pub record IsParameterAnswer (db : Database) (history : List Item) (fillings : Fillings (List SetRow)) (request : Request)
-    (found : ParameterAnswer) : Type 0 where
-  pub mdb : arc_value found.mdb ≡ db
-  pub number : number_named db request.parameter ≡ Some found.number
-  pub front : found.answer.front ≡ length history
-  pub cells : found.answer.cells ≡ filled_answer db found.number request history fillings
+-- the answer to a request that was found, over a database and a history with fills
+pub record IsFilledAnswer (db : Database) (history : List Item) (fillings : Fillings (List SetRow)) (found : FoundRequest)
+    (answer : Answer) : Type 0 where
+  pub front : answer.front ≡ length history
+  pub cells : answer.cells ≡ filled_answer db found.number found.request history fillings
 
 -- the text of the answer to a request, the ask with a number
 abbrev pub request_text : Database → List Item → Fillings (List SetRow) → ℕ → Request → List ℕ
 request_text db history fillings k request =
-    let number = unwrap_or (number_named db request.parameter) 0 in
+    let number = unwrap_or (parameter_named db request.parameter) 0 in
     answer_lines k (length history) db number (filled_answer db number request history fillings)

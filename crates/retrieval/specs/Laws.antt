@@ -1,7 +1,7 @@
 -- What the definitions come to.
-use Rattle.std.specs.Prelude.{◌≡◌, ℕ, List, Some}
-use Rattle.arch_types.specs.declared.ask.Ask.{Ask}
-use Rattle.arch_types.specs.declared.ask.Request.{Request}
+use Rattle.std.specs.Prelude.{◌≡◌, ℕ, List}
+use Rattle.asks.specs.declared.ask.Ask.{Ask}
+use Rattle.asks.specs.declared.ask.Request.{Request}
 use Rattle.history_items.specs.Items.{Item, rows_in}
 use Rattle.mdb_items.specs.Database.{Database}
 use Rattle.param_segments.specs.declared.plan.Plan.{Plan}
@@ -14,7 +14,6 @@ use Rattle.retrieval.specs.AddedFills.{AddsWholeFills}
 use Rattle.retrieval.specs.AnswerText.{answered}
 use Rattle.retrieval.specs.AskText.{asks_text}
 use Rattle.retrieval.specs.FilledAnswer.{filled_answer}
-use Rattle.retrieval.specs.Parameter.{number_named}
 use Rattle.retrieval.specs.PartCells.{answer_over_parts}
 
 -- where the fills are sound, what is asked of a history with them is the answer over the history
@@ -32,5 +31,5 @@ AddedFillsAnswerAlike = (head : Head) (history : List Item) (old new : Fillings 
 -- what is answered over the parts of a store's plan is the answer over its whole history
 abbrev pub PlannedIsAnswered : Type 0
 PlannedIsAnswered = (head : Head) (history : List Item) (request : Request) (number : ℕ) (plan : Plan) →
-    number_named head.mdb request.parameter ≡ Some number → IsPlanOver head history request.from request.to plan →
-    answer_over_parts head.mdb request plan.parts ≡ answered head.mdb number request (rows_in history)
+    IsPlanOver head history request.from request.to plan →
+    answer_over_parts head.mdb number request plan.parts ≡ answered head.mdb number request (rows_in history)

@@ -4,6 +4,7 @@ pub mod ValuesText
 pub mod AnswerText
 pub mod ReplayText
 pub mod AskText
+pub mod FoundAsks
 pub mod PartCells
 pub mod FilledAnswer
 pub mod AddedFills

@@ -1,8 +1,8 @@
 -- The cells that the parts of a plan have of a parameter, and the answer over them.
-use Rattle.std.specs.Prelude.{ℕ, ℤ, Bool, not, ◌&&◌, List, filter, flat_map, unwrap_or, int_lt, Option, Some, None, if◌then◌else◌}
+use Rattle.std.specs.Prelude.{ℕ, ℤ, Bool, not, ◌&&◌, List, filter, flat_map, int_lt, Option, Some, None, if◌then◌else◌}
 use Rattle.std.specs.List.{filter_map}
 use Rattle.std.specs.Arc.{arc_value}
-use Rattle.arch_types.specs.declared.ask.Request.{Request}
+use Rattle.asks.specs.declared.ask.Request.{Request}
 use Rattle.arch_types.specs.declared.cell.Cell.{Cell}
 use Rattle.arch_types.specs.declared.row.Row.{Row}
 use Rattle.arch_types.specs.Table.{is_in_time_range}
@@ -12,7 +12,6 @@ use Rattle.param_segments.specs.declared.plan.Part.{Part}
 use Rattle.param_segments.specs.declared.plan.Part.TheVariants.{Set, Rows}
 use Rattle.param_segments.specs.Cells.{set_cells}
 use Rattle.retrieval.specs.AnswerText.{as_asked}
-use Rattle.retrieval.specs.Parameter.{number_named}
 
 -- whether a cell's time lies in a half-open range
 abbrev pub is_cell_in_range : ℤ → ℤ → Cell → Bool
@@ -35,16 +34,12 @@ abbrev pub cells_of_part : Database → ℕ → ℤ → ℤ → Part → List Ce
 cells_of_part db q low high (Set interval set) = filter (is_cell_in_range low high) (set_cells db q (arc_value set))
 cells_of_part db q low high (Rows interval rows) = cells_of_rows db q low high rows
 
--- the number of the parameter that a request asks for
-abbrev pub number_asked : Database → Request → ℕ
-number_asked db request = unwrap_or (number_named db request.parameter) 0
+-- the cells that a request for the parameter with a number asks of parts
+abbrev pub answer_over_parts : Database → ℕ → Request → List Part → List Cell
+answer_over_parts db number request parts =
+    as_asked request (flat_map (cells_of_part db number request.from request.to) parts)
 
--- the cells that a request asks of parts
-abbrev pub answer_over_parts : Database → Request → List Part → List Cell
-answer_over_parts db request parts =
-    as_asked request (flat_map (cells_of_part db (number_asked db request) request.from request.to) parts)
-
--- the cells that a request asks of rows
-abbrev pub answer_over_rows : Database → Request → List Row → List Cell
-answer_over_rows db request rows =
-    as_asked request (cells_of_rows db (number_asked db request) request.from request.to rows)
+-- the cells that such a request asks of rows
+abbrev pub answer_over_rows : Database → ℕ → Request → List Row → List Cell
+answer_over_rows db number request rows =
+    as_asked request (cells_of_rows db number request.from request.to rows)

@@ -1,17 +1,16 @@
 -- The replays that are asked for, and their text.
 use Rattle.std.specs.Prelude.{ℕ, List, [], ◌++◌, flat_map, length, Option, Some, None, codes, decimal, slice_get, unwrap_or}
 use Rattle.std.specs.Fmt.{signed_decimal}
-use Rattle.arch_types.specs.declared.ask.ReplayRequest.{ReplayRequest}
+use Rattle.asks.specs.declared.ask.ReplayRequest.{ReplayRequest}
+use Rattle.asks.specs.Names.{table_named}
 use Rattle.arch_types.specs.declared.key.Key.{Key}
-use Rattle.arch_types.specs.declared.refusal.Refusal.{Refusal}
-use Rattle.arch_types.specs.declared.refusal.Refusal.TheVariants.{UnknownTable}
 use Rattle.arch_types.specs.declared.row.Row.{Row}
 use Rattle.history_items.specs.Items.{Item, rows_in}
 use Rattle.archive_store.specs.declared.head.Head.{Head}
-use Rattle.archive_store.specs.Replays.{replay_asked, table_asked}
+use Rattle.archive_store.specs.Replays.{replay_asked}
 use Rattle.mdb_items.specs.declared.container.Container.{Container}
 use Rattle.mdb_items.specs.Database.{Database}
-use Rattle.retrieval.specs.AnswerText.{end_line, front_line, range_refusal}
+use Rattle.retrieval.specs.AnswerText.{end_line, front_line}
 
 -- a container's name; none has none
 abbrev pub container_name : Option Container → List ℕ
@@ -31,6 +30,14 @@ abbrev pub packet_words : Database → Row → List ℕ
 packet_words db row =
     codes " " ++ decimal row.link ++ codes " " ++ pname_text db row.pname ++ codes " " ++ decimal (length row.packet) ++ codes "\n"
 
+-- the octets that the first words take at most
+abbrev pub longest_key_words : ℕ
+longest_key_words = 153
+
+-- the octets that the other words take at most
+abbrev pub longest_packet_words : ℕ
+longest_packet_words = 148
+
 -- the line of a row of a table
 abbrev pub packet_line : Database → List ℕ → Row → List ℕ
 packet_line db table row = key_words table row.key ++ packet_words db row
@@ -45,18 +52,10 @@ replay_lines k front db table rows = front_line k front ++ packet_lines db table
 
 -- the rows that a request asks of a history, where the head has its table
 abbrev pub rows_replayed : Head → ReplayRequest → List Row → List Row
-rows_replayed head request history = replay_asked head request (unwrap_or (table_asked head request) 0) history
+rows_replayed head request history =
+    replay_asked head request (unwrap_or (table_named head.tables request.table) 0) history
 
 -- the text of the replay of a request, the ask with a number
 abbrev pub replay_text : Head → List Item → ℕ → ReplayRequest → List ℕ
 replay_text head history k request =
     replay_lines k (length history) head.mdb request.table (rows_replayed head request (rows_in history))
-
--- why there's no replay: no table has the name, or else the range is reversed
-abbrev pub table_refusal : Option ℕ → ReplayRequest → Option Refusal
-table_refusal None request = Some (UnknownTable request.table)
-table_refusal (Some table) request = range_refusal request.from request.to
-
--- why a replay isn't given: the head has no table of its name, or else its range ends before it begins
-abbrev pub replay_refusal : Head → ReplayRequest → Option Refusal
-replay_refusal head request = table_refusal (table_asked head request) request

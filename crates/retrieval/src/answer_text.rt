@@ -7,13 +7,14 @@ ghost use Rattle.retrieval.specs.AnswerText.{answer_lines, end_line, front_line}
 ghost use Rattle.retrieval.specs.CellText.{HasShortLabels, cell_line};
 ghost use Rattle.retrieval.specs.ValuesText.{cell_lines};
 ghost use Rattle.dump_lines.specs.Output.{IsBuffered};
+ghost use Rattle.dump_lines.specs.LineRoom.{HasLineRoom};
 
-use crate::answer::ParameterAnswer;
 use crate::cell_text::put_cell;
 use crate::cells::calibration_of;
-use arch_types::ask::Answer;
 use arch_types::cell::Cell;
 use arch_types::octets::Octets;
+use archive_store::FoundRequest;
+use asks::Answer;
 use dump_lines::line_buffer::LineBuffer;
 use mdb_model::{Calibration, Mdb};
 use outer_traits::fault::Failed;
@@ -54,29 +55,30 @@ fn cells_text(
     Ok(text)
 }
 
-/// Prints an answer, of which the end may still be buffered.
+/// Prints the answer to a request that was found, of which the end may still be buffered.
 pub fn print_found<K: Sink>(
     k: u64,
-    found: &ParameterAnswer,
+    found: &FoundRequest,
+    answer: &Answer,
     line_buffer: &mut LineBuffer,
     sink: &mut K,
 ) -> Result<(), Failed>
-    requires room { length line_buffer.old < 65536 }
+    requires room { HasLineRoom line_buffer.old }
     requires number { found.now.number < length (arc_value found.now.mdb).parameters }
     ensures buffered { OnOk result (IsBuffered (K.state sink.old).written (K.state sink.new).written
-        (line_buffer.old ++ answer_lines k found.now.answer.front (arc_value found.now.mdb) found.now.number
-        found.now.answer.cells) line_buffer.new) }
-    ensures room { OnOk result (length line_buffer.new < 65536) }
+        (line_buffer.old ++ answer_lines k answer.now.front (arc_value found.now.mdb) found.now.number
+        answer.now.cells) line_buffer.new) }
+    ensures room { OnOk result (HasLineRoom line_buffer.new) }
     ensures some { OnErr result (WritesSome (K.state sink.old).written (K.state sink.new).written
-        (line_buffer.old ++ answer_lines k found.now.answer.front (arc_value found.now.mdb) found.now.number
-        found.now.answer.cells)) }
+        (line_buffer.old ++ answer_lines k answer.now.front (arc_value found.now.mdb) found.now.number
+        answer.now.cells)) }
     ensures later { (K.state sink.old).faults ≤ (K.state sink.new).faults }
     ensures failed { IsErr result → HasRisen (K.state sink.old).faults (K.state sink.new).faults }
     ensures no_fault { OnOk result (Stays (K.state sink.old).faults (K.state sink.new).faults) }
 {
     let calibration = calibration_of(&found.mdb, found.number);
-    let cells = found.answer.cells.as_slice();
-    put_front(line_buffer, k, found.answer.front);
+    let cells = answer.cells.as_slice();
+    put_front(line_buffer, k, answer.front);
     line_buffer.flush_if_full(sink)?;
     print_cells(cells, calibration, line_buffer, sink)?;
     put_end(line_buffer, cells.len());
@@ -90,11 +92,11 @@ fn print_cells<K: Sink>(
     line_buffer: &mut LineBuffer,
     sink: &mut K,
 ) -> Result<(), Failed>
-    requires room { length line_buffer.old < 65536 }
+    requires room { HasLineRoom line_buffer.old }
     requires labels { HasShortLabels (option_copied calibration) }
     ensures buffered { OnOk result (IsBuffered (K.state sink.old).written (K.state sink.new).written
         (line_buffer.old ++ flat_map (cell_line (option_copied calibration.entry)) cells.now) line_buffer.new) }
-    ensures room { OnOk result (length line_buffer.new < 65536) }
+    ensures room { OnOk result (HasLineRoom line_buffer.new) }
     ensures some { OnErr result (WritesSome (K.state sink.old).written (K.state sink.new).written
         (line_buffer.old ++ flat_map (cell_line (option_copied calibration.entry)) cells.now)) }
     ensures later { (K.state sink.old).faults ≤ (K.state sink.new).faults }
@@ -110,7 +112,7 @@ fn print_cells<K: Sink>(
 
 /// Adds the first line: the number of the ask, and the front.
 pub(crate) fn put_front(line_buffer: &mut LineBuffer, k: u64, front: u64)
-    requires { length line_buffer.old < 65536 }
+    requires { HasLineRoom line_buffer.old }
     ensures { line_buffer.new ≡ line_buffer.old ++ front_line k front }
 {
     line_buffer.put_number(b"ask ", k);
@@ -120,7 +122,7 @@ pub(crate) fn put_front(line_buffer: &mut LineBuffer, k: u64, front: u64)
 
 /// Adds the last line: how many cells or rows there are.
 pub(crate) fn put_end(line_buffer: &mut LineBuffer, count: usize)
-    requires { length line_buffer.old < 65536 }
+    requires { HasLineRoom line_buffer.old }
     ensures { line_buffer.new ≡ line_buffer.old ++ end_line count }
 {
     line_buffer.put_number(b"end ", count);

@@ -2,8 +2,9 @@
 
 ghost use Rattle.std.specs.Prelude.{◌≡◌, ◌+◌, ◌<◌, ◌≤◌, ◌++◌, length, codes, slice_get, option_copied};
 ghost use Rattle.std.specs.List.{AllByRecursion};
-ghost use Rattle.retrieval.specs.CellText.{cell_line, eng_text, fixed_text, label_text, labels_of, sign_text, six_digits, HasShortLabels};
+ghost use Rattle.retrieval.specs.CellText.{cell_line, eng_text, fixed_text, label_text, labels_of, longest_eng, sign_text, six_digits, HasShortLabels};
 ghost use Rattle.retrieval.specs.ValuesText.{values_line};
+ghost use Rattle.dump_lines.specs.LineRoom.{HasLineRoom, HasRoomFor, longest_number};
 
 use arch_types::cell::{Cell, Eng};
 use dump_lines::line_buffer::LineBuffer;
@@ -12,7 +13,7 @@ use mdb_model::{Calibration, EnumRow, Table};
 
 /// Adds the line of a cell of a parameter with this calibration.
 pub fn put_cell(line_buffer: &mut LineBuffer, cell: Cell, calibration: Option<&Calibration>)
-    requires room { length line_buffer.old < 65536 }
+    requires room { HasLineRoom line_buffer.old }
     requires labels { HasShortLabels (option_copied calibration) }
     ensures { line_buffer.new ≡ line_buffer.old ++ cell_line (option_copied calibration.entry) cell }
 {
@@ -26,10 +27,10 @@ pub fn put_cell(line_buffer: &mut LineBuffer, cell: Cell, calibration: Option<&C
 
 /// Adds an engineering value.
 fn put_eng(line_buffer: &mut LineBuffer, cell: Cell, calibration: Option<&Calibration>)
-    requires room { length line_buffer.old < 65700 }
+    requires room { HasRoomFor longest_eng line_buffer.old }
     requires labels { HasShortLabels (option_copied calibration) }
     ensures text { line_buffer.new ≡ line_buffer.old ++ eng_text (option_copied calibration.entry) cell.raw cell.eng }
-    ensures short { length line_buffer.new ≤ length line_buffer.old + 82 }
+    ensures short { length line_buffer.new ≤ length line_buffer.old + longest_eng }
 {
     match cell.eng {
         Eng::Whole => line_buffer.put_digits(cell.raw),
@@ -41,9 +42,9 @@ fn put_eng(line_buffer: &mut LineBuffer, cell: Cell, calibration: Option<&Calibr
 
 /// Adds millionths as a decimal.
 fn put_fixed(line_buffer: &mut LineBuffer, millionths: i64)
-    requires { length line_buffer.old < 65700 }
+    requires { HasRoomFor longest_eng line_buffer.old }
     ensures text { line_buffer.new ≡ line_buffer.old ++ fixed_text millionths }
-    ensures short { length line_buffer.new ≤ length line_buffer.old + 82 }
+    ensures short { length line_buffer.new ≤ length line_buffer.old + longest_eng }
 {
     let size = millionths.unsigned_abs();
     line_buffer.put(sign(millionths));
@@ -54,10 +55,10 @@ fn put_fixed(line_buffer: &mut LineBuffer, millionths: i64)
 /// Adds a point and the six digits of a number.
 #[tactic(auto, using(std::proofs::lemmas::Fmt::decimal_nonempty))]
 fn put_fraction(line_buffer: &mut LineBuffer, number: u64)
-    requires room { length line_buffer.old < 65750 }
+    requires room { HasRoomFor longest_number line_buffer.old }
     requires below { number < 1000000 }
     ensures text { line_buffer.new ≡ line_buffer.old ++ codes "." ++ six_digits number }
-    ensures short { length line_buffer.new ≤ length line_buffer.old + 40 }
+    ensures short { length line_buffer.new ≤ length line_buffer.old + longest_number }
 {
     let mut buffer = Buffer::new();
     let digits = buffer.format(1_000_000 + number).as_bytes();
@@ -68,7 +69,7 @@ fn put_fraction(line_buffer: &mut LineBuffer, number: u64)
 
 /// Adds the last line.
 pub fn put_values(line_buffer: &mut LineBuffer, count: u64)
-    requires { length line_buffer.old < 65536 }
+    requires { HasLineRoom line_buffer.old }
     ensures { line_buffer.new ≡ line_buffer.old ++ values_line count }
 {
     line_buffer.put_number(b"values ", count);

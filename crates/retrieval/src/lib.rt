@@ -3,7 +3,8 @@
 //! Stands for: the cells that the parts of a plan have of a parameter, those of a set or those that extraction of each
 //! row's packet gives, in the order that was asked, up to the limit (`specs/PartCells.antt`), and how a value is
 //! written (`specs/CellText.antt`); the rows of a replay, each with the name of its packet (`specs/ReplayText.antt`);
-//! and what is printed of the asks of a sheet (`specs/AskText.antt`). Called by the commands that print them.
+//! and what is printed of the asks of a sheet (`specs/AskText.antt`), each of which is found before the first is answered
+//! (`specs/FoundAsks.antt`). Called by the commands that print them.
 //!
 //! The two ideas: a descending ask goes from the last part and its last row and stops at its limit, and gives what the
 //! ascending cells, turned, begin with (`proofs/Limited.antt`); over which rows the parts are matters nowhere but in
@@ -15,9 +16,9 @@ pub mod answer;
 pub mod answer_text;
 pub mod cell_text;
 pub mod cells;
+pub mod found_asks;
 pub mod laws;
 mod packet_text;
 pub mod parameter;
 mod part_cells;
-pub mod refusals;
 pub mod replay;

@@ -1,8 +1,9 @@
 //! The lines of packets.
 
-ghost use Rattle.std.specs.Prelude.{◌≡◌, ◌+◌, ◌<◌, ◌≤◌, ◌++◌, length, slice_get};
+ghost use Rattle.std.specs.Prelude.{◌≡◌, ◌+◌, ◌≤◌, ◌++◌, length, slice_get};
 ghost use Rattle.std.specs.List.{AllByRecursion};
-ghost use Rattle.retrieval.specs.ReplayText.{container_name, key_words, packet_line, packet_words, pname_text};
+ghost use Rattle.retrieval.specs.ReplayText.{container_name, key_words, longest_key_words, longest_packet_words, packet_line, packet_words, pname_text};
+ghost use Rattle.dump_lines.specs.LineRoom.{HasLineRoom, HasRoomFor};
 
 use arch_types::key::Key;
 use arch_types::name::Name;
@@ -12,7 +13,7 @@ use mdb_model::{Container, Mdb};
 
 /// Adds the line of a row of a table.
 pub(crate) fn put_packet(line_buffer: &mut LineBuffer, mdb: &Mdb, table: &Name, row: &Row)
-    requires { length line_buffer.old < 65536 }
+    requires { HasLineRoom line_buffer.old }
     ensures { line_buffer.new ≡ line_buffer.old ++ packet_line mdb.now table.now row.now }
 {
     put_key(line_buffer, table, row.key);
@@ -21,9 +22,9 @@ pub(crate) fn put_packet(line_buffer: &mut LineBuffer, mdb: &Mdb, table: &Name, 
 
 /// Adds the table and the key.
 fn put_key(line_buffer: &mut LineBuffer, table: &Name, key: Key)
-    requires { length line_buffer.old < 65536 }
+    requires { HasLineRoom line_buffer.old }
     ensures text { line_buffer.new ≡ line_buffer.old ++ key_words table.now key }
-    ensures short { length line_buffer.new ≤ length line_buffer.old + 153 }
+    ensures short { length line_buffer.new ≤ length line_buffer.old + longest_key_words }
 {
     line_buffer.put(b"packet ");
     line_buffer.put(octets_of(table));
@@ -33,7 +34,7 @@ fn put_key(line_buffer: &mut LineBuffer, table: &Name, key: Key)
 
 /// Adds the link, the packet's name, and how many octets it has.
 fn put_packet_words(line_buffer: &mut LineBuffer, mdb: &Mdb, row: &Row)
-    requires { length line_buffer.old ≤ 65700 }
+    requires { HasRoomFor longest_packet_words line_buffer.old }
     ensures { line_buffer.new ≡ line_buffer.old ++ packet_words mdb.now row.now }
 {
     line_buffer.put_field(row.link);

@@ -3,8 +3,8 @@
 ghost use Rattle.std.specs.Prelude.{◌≡◌, IfOk, IfErr};
 ghost use Rattle.retrieval.specs.Parameter.{IsNamedParameter, IsNoParameter, refusal_of_sheets, sheet_named, limit_named};
 
-use arch_types::refusal::{Refusal, Sheet, Which};
 use mdb_model::{Mdb, MdbFault, MdbLimit, MdbSheet, RawMdb};
+use refusals::{Refusal, SheetName, Which};
 use std::alloc::Global;
 
 /// A parameter, and the database that has it.
@@ -53,13 +53,13 @@ pub fn refusal_of_sheets(fault: MdbFault) -> Refusal
 }
 
 /// A sheet, as refusals name it.
-fn sheet_named(sheet: MdbSheet) -> Sheet
+fn sheet_named(sheet: MdbSheet) -> SheetName
     ensures { result ≡ sheet_named sheet }
 {
     match sheet {
-        MdbSheet::Parameters => Sheet::Parameters,
-        MdbSheet::Calibrations => Sheet::Calibrations,
-        MdbSheet::Containers => Sheet::Containers,
+        MdbSheet::Parameters => SheetName::Parameters,
+        MdbSheet::Calibrations => SheetName::Calibrations,
+        MdbSheet::Containers => SheetName::Containers,
     }
 }
 

@@ -9,10 +9,11 @@ ghost use Rattle.retrieval.specs.AnswerText.{as_asked, cell_list};
 ghost use Rattle.retrieval.specs.PartCells.{cell_in_range, cells_of_part, timely_cell};
 
 use crate::cells::{add_cell, is_full};
-use arch_types::ask::Request;
 use arch_types::cell::Cell;
+use arch_types::direction::Direction;
 use arch_types::row::Row;
 use arch_types::steps::Steps;
+use asks::Request;
 use container_extract::Extractor;
 use mdb_model::Mdb;
 use param_segments::Part;
@@ -34,10 +35,10 @@ pub(crate) fn cells_over_parts<L: Ledger>(
     ensures steps { steps.new ≤ steps.old + length (filter (is_in_time_range request.now.from request.now.to)
         (rows_of_parts parts.now)) }
 {
-    if request.descending {
-        return last_part_cells(alloc, mdb, number, request, parts, steps);
+    match request.direction {
+        Direction::Ascending => first_part_cells(alloc, mdb, number, request, parts, steps),
+        Direction::Descending => last_part_cells(alloc, mdb, number, request, parts, steps),
     }
-    first_part_cells(alloc, mdb, number, request, parts, steps)
 }
 
 /// The first cells of parts. None behind the limit is read.

@@ -1,76 +1,66 @@
 //! The lines of a replay.
 
-ghost use Rattle.std.specs.Prelude.{◌≡◌, ◌<◌, ◌≤◌, ◌^◌, ◌++◌, [], OnOk, OnErr, IfOk, IsErr, None, length};
+ghost use Rattle.std.specs.Prelude.{◌≡◌, ◌<◌, ◌≤◌, ◌^◌, ◌++◌, [], OnOk, OnErr, IfOk, IsErr, length};
 ghost use Rattle.std.specs.Result.{result_err};
 ghost use Rattle.outer_traits.specs.Outside.{HasRisen, Stays, WritesSome};
 ghost use Rattle.history_items.specs.Items.{rows_in};
-ghost use Rattle.archive_store.specs.Replays.{IsReplayOpened};
+ghost use Rattle.archive_store.specs.Finding.{IsReplayFound};
 ghost use Rattle.dump_lines.specs.Output.{IsBuffered, PrintCounted};
 ghost use Rattle.replay_merge.specs.Cursor.{steps_at_most, rest_of};
-ghost use Rattle.retrieval.specs.ReplayText.{packet_lines, replay_refusal, replay_text};
+ghost use Rattle.retrieval.specs.ReplayText.{packet_lines, replay_text};
+ghost use Rattle.dump_lines.specs.LineRoom.{HasLineRoom};
 
 use crate::answer_text::{put_end, put_front};
 use crate::packet_text::put_packet;
 use arch_disk::Disk;
-use arch_types::ask::ReplayRequest;
 use arch_types::name::Name;
-use arch_types::refusal::Refusal;
 use arch_types::row::{Row, Rows};
-use archive_store::Store;
+use archive_store::{FoundReplay, Store};
 use dump_lines::line_buffer::LineBuffer;
-use dump_lines::print_fault::PrintFault;
 use mdb_model::Mdb;
 use outer_traits::fault::Failed;
+use outer_traits::print_fault::PrintFault;
 use outer_traits::sink::Sink;
+use refusals::Refusal;
 use replay_merge::cursor::Cursor;
 use replay_merge::laws::end_has_no_rest;
 use std::alloc::{AllocError, Global};
 
-/// Prints the replay of a request over the whole history of a store, the ask with number `k`. The store has its table, and its range doesn't end
-/// before it begins. Rows are printed as they come, so no more than a day's are held. The end may still be buffered.
+/// Prints the replay of a request over the whole history of a store in which its table was found, the ask with number `k`.
+/// Rows are printed as they come, so no more than a day's are held. The end may still be buffered.
 pub fn print_replay<D: Disk, K: Sink>(
     alloc: Global,
     k: u64,
-    request: &ReplayRequest,
+    found: &FoundReplay,
     store: &mut Store<D>,
     line_buffer: &mut LineBuffer,
     sink: &mut K,
 ) -> Result<(), PrintFault>
-    requires known { replay_refusal store.old.head request.now ≡ None }
-    requires room { length line_buffer.old < 65536 }
+    requires known { IsReplayFound store.old.head.tables found.now }
+    requires room { HasLineRoom line_buffer.old }
     ensures buffered { OnOk result (IsBuffered (K.state sink.old).written (K.state sink.new).written
-        (line_buffer.old ++ replay_text store.old.head store.old.history k request.now) line_buffer.new) }
-    ensures room { OnOk result (length line_buffer.new < 65536) }
+        (line_buffer.old ++ replay_text store.old.head store.old.history k found.now.request) line_buffer.new) }
+    ensures room { OnOk result (HasLineRoom line_buffer.new) }
     ensures some { OnErr result (WritesSome (K.state sink.old).written (K.state sink.new).written
-        (line_buffer.old ++ replay_text store.old.head store.old.history k request.now)) }
+        (line_buffer.old ++ replay_text store.old.head store.old.history k found.now.request)) }
     ensures later { (K.state sink.old).faults ≤ (K.state sink.new).faults }
     ensures counted { PrintCounted (result_err result) (K.state sink.old).faults (K.state sink.new).faults }
     ensures same { store.new ≡ store.old }
 {
-    let cursor = opened(alloc, request, store)?;
+    let cursor = store.replay_open(alloc, found)?;
     put_front(line_buffer, k, cursor.front());
     line_buffer.flush_if_full(sink)?;
-    let count = print_rest(alloc, &request.table, cursor, store, line_buffer, sink)?;
+    let count = print_rest(
+        alloc,
+        &found.request.table,
+        cursor,
+        store,
+        line_buffer,
+        sink,
+    )?;
     put_end(line_buffer, count);
     line_buffer.flush_if_full(sink)?;
     Ok(())
-}
-
-/// A cursor before the replay of a request.
-fn opened<D: Disk>(
-    alloc: Global,
-    request: &ReplayRequest,
-    store: &mut Store<D>,
-) -> Result<Cursor, AllocError>
-    requires { replay_refusal store.old.head request.now ≡ None }
-    ensures opened { IfOk result (IsReplayOpened store.old.head store.old.history request.now) }
-    ensures same { store.new ≡ store.old }
-{
-    match store.replay_open(alloc, request) {
-        Ok(cursor) => Ok(cursor),
-        Err(Refusal::OutOfMemory) => Err(AllocError),
-        Err(_) => unreachable!(),
-    }
 }
 
 /// Prints the rows that are left of a replay, of which the last may still be buffered, and counts them.
@@ -82,12 +72,12 @@ fn print_rest<D: Disk, K: Sink>(
     line_buffer: &mut LineBuffer,
     sink: &mut K,
 ) -> Result<usize, PrintFault>
-    requires room { length line_buffer.old < 65536 }
+    requires room { HasLineRoom line_buffer.old }
     requires few { length (rest_of cursor (rows_in store.old.history)) < 2 ^ 64 }
     ensures buffered { OnOk result (IsBuffered (K.state sink.old).written (K.state sink.new).written
         (line_buffer.old ++ packet_lines store.old.head.mdb table.now (rest_of cursor (rows_in store.old.history)))
         line_buffer.new) }
-    ensures room { OnOk result (length line_buffer.new < 65536) }
+    ensures room { OnOk result (HasLineRoom line_buffer.new) }
     ensures count { IfOk result (λ count. count ≡ length (rest_of cursor (rows_in store.old.history))) }
     ensures some { OnErr result (WritesSome (K.state sink.old).written (K.state sink.new).written
         (line_buffer.old ++ packet_lines store.old.head.mdb table.now (rest_of cursor (rows_in store.old.history)))) }
@@ -135,10 +125,10 @@ fn print_rows<K: Sink>(
     line_buffer: &mut LineBuffer,
     sink: &mut K,
 ) -> Result<(), Failed>
-    requires { length line_buffer.old < 65536 }
+    requires { HasLineRoom line_buffer.old }
     ensures buffered { OnOk result (IsBuffered (K.state sink.old).written (K.state sink.new).written
         (line_buffer.old ++ packet_lines mdb.now table.now rows.now) line_buffer.new) }
-    ensures room { OnOk result (length line_buffer.new < 65536) }
+    ensures room { OnOk result (HasLineRoom line_buffer.new) }
     ensures some { OnErr result (WritesSome (K.state sink.old).written (K.state sink.new).written
         (line_buffer.old ++ packet_lines mdb.now table.now rows.now)) }
     ensures later { (K.state sink.old).faults ≤ (K.state sink.new).faults }

@@ -2,11 +2,11 @@
 use Rattle.std.proofs.Common.{◌≡◌, ◌∙◌, ◌⊎◌, inl, inr, ℕ, ◌+◌, ◌-◌, ◌≤◌, List, [], ◌++◌, length, Option, Some, None, append_assoc, refl, sym, ap, subst, arith}
 use Rattle.std.specs.Prelude.{IfErr, IfOk, Result, Ok, Err}
 use Rattle.arch_disk.specs.Disk.{Device}
-use Rattle.arch_types.specs.declared.ask.Ask.{Ask}
-use Rattle.arch_types.specs.declared.refusal.Refusal.{Refusal}
-use Rattle.arch_types.specs.declared.refusal.Refusal.TheVariants.{BadPacket, DiskFault, Limit, OutOfMemory}
-use Rattle.arch_types.specs.declared.refusal.BadKind.{BadKind}
-use Rattle.arch_types.specs.declared.refusal.BadKind.TheVariants as bad
+use Rattle.asks.specs.declared.ask.Ask.{Ask}
+use Rattle.refusals.specs.declared.refusal.Refusal.{Refusal}
+use Rattle.refusals.specs.declared.refusal.Refusal.TheVariants.{BadPacket, DiskFault, Limit, OutOfMemory}
+use Rattle.refusals.specs.declared.refusal.BadKind.{BadKind}
+use Rattle.refusals.specs.declared.refusal.BadKind.TheVariants as bad
 use Rattle.space_packet.specs.declared.dump.Why.{Why}
 use Rattle.space_packet.specs.declared.dump.Why.TheVariants as why
 use Rattle.history_items.specs.Items.{Item}

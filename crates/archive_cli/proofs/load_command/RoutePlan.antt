@@ -2,8 +2,8 @@
 use Rattle.std.proofs.Common.{◌≡◌, ◌∙◌, ℕ, List, Option, Some, None, sym, ap}
 use Rattle.std.specs.Prelude.{map, Result, Ok, Err}
 use Rattle.arch_disk.specs.Disk.{Device}
-use Rattle.arch_types.specs.declared.refusal.Refusal.{Refusal}
-use Rattle.arch_types.specs.declared.refusal.Which.TheVariants.{ScriptOctets}
+use Rattle.refusals.specs.declared.refusal.Refusal.{Refusal}
+use Rattle.refusals.specs.declared.refusal.Which.TheVariants.{ScriptOctets}
 use Rattle.archive_store.specs.declared.head.Head.{Head}
 use Rattle.command_plans.specs.Plan.{CommandPlan, IsDetermined, map_done}
 use Rattle.command_plans.proofs.Plans.{determined, determined_map_done}

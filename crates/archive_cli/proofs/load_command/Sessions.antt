@@ -3,10 +3,10 @@ use Rattle.std.proofs.Common.{◌≡◌, inl, inr, ℕ, ◌+◌, ◌-◌, ◌<�
 use Rattle.std.specs.Prelude.{IsTrue}
 use Rattle.std.specs.List.{AllByRecursion}
 use Rattle.arch_disk.specs.Disk.{Device, raised}
-use Rattle.arch_types.specs.declared.ask.Ask.{Ask}
-use Rattle.arch_types.specs.declared.interval.Interval.{Interval}
-use Rattle.arch_types.specs.declared.refusal.Refusal.{Refusal}
-use Rattle.arch_types.specs.declared.refusal.Refusal.TheVariants.{WriteFault, BadPacket, DiskFault, Limit, OutOfMemory}
+use Rattle.asks.specs.declared.ask.Ask.{Ask}
+use Rattle.intervals.specs.declared.interval.Interval.{Interval}
+use Rattle.refusals.specs.declared.refusal.Refusal.{Refusal}
+use Rattle.refusals.specs.declared.refusal.Refusal.TheVariants.{WriteFault, BadPacket, DiskFault, Limit, OutOfMemory}
 use Rattle.arch_types.specs.declared.row.Row.{Row}
 use Rattle.history_items.specs.declared.fills.Addition.TheVariants.{Rows}
 use Rattle.history_items.specs.declared.fills.Fill.{Fill}
@@ -24,7 +24,7 @@ use Rattle.archive_store.specs.StoreView.{StoreView, filled_of, FaultInvariant, 
 use Rattle.archive_store.specs.Stands.{StandsFilled}
 use Rattle.archive_store.specs.Unacknowledged.{with_rows}
 use Rattle.command_plans.specs.Plan.{OfMemory, OfOutput, CommandPlan, Stop, May, Way, Stopped, Interrupted, Allows}
-use Rattle.dump_lines.specs.Output.{WritesCounted}
+use Rattle.archive_cli.specs.Finishing.{WritesCounted}
 use Rattle.load_session.specs.Receiving.{Receiving, arrived, rows_received}
 use Rattle.load_session.specs.Session.{HasReached, HoldsFailedWrite, IsSession, IsSessionEnd, OneOrTwo, SessionResult, next_fresh_rows}
 use Rattle.load_session.proofs.Sessions.{more_faults, session_from}

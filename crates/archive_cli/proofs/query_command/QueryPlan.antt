@@ -2,14 +2,14 @@
 use Rattle.std.proofs.Common.{◌≡◌, ◌≤◌, inl, inr, ℕ, false, List, length, Option, Some, None, refl}
 use Rattle.std.specs.Prelude.{IsSome, IsTrue, Result, Ok, Err}
 use Rattle.arch_disk.specs.Disk.{Device}
-use Rattle.arch_types.specs.declared.ask.Ask.{Ask}
-use Rattle.arch_types.specs.declared.refusal.Refusal.{Refusal}
-use Rattle.arch_types.specs.declared.refusal.Refusal.TheVariants.{WriteFault, OutOfMemory}
+use Rattle.asks.specs.declared.ask.Ask.{Ask}
+use Rattle.refusals.specs.declared.refusal.Refusal.{Refusal}
+use Rattle.refusals.specs.declared.refusal.Refusal.TheVariants.{WriteFault, OutOfMemory}
 use Rattle.outer_traits.specs.Outside.{Files}
 use Rattle.archive_store.specs.Entries.{Archive, FilledArchive}
 use Rattle.command_plans.specs.Plan.{OfMemory, Interrupted, EachEnd, IsDetermined}
 use Rattle.command_plans.proofs.Plans.{determined, each_end}
-use Rattle.dump_lines.specs.Output.{WritesCounted}
+use Rattle.archive_cli.specs.Finishing.{WritesCounted}
 use Rattle.archive_cli.specs.Asks.{ArePrinted, after_asks_check, archive_asks_text, asks_check_plan}
 use Rattle.archive_cli.specs.Command.{HasDiskOutcome, Opened, Effects, Progress, Ran, archive_opened, opening_plan, printing_plan}
 use Rattle.archive_cli.specs.query_command.Query.{answering_plan, answers_plan, archive_asks_plan, query_plan}

@@ -3,10 +3,10 @@ use Rattle.std.proofs.Common.{◌≡◌, ◌≤◌, ◌+◌, ◌∙◌, inl, inr
 use Rattle.std.specs.Prelude.{IsSome, Err}
 use Rattle.std.proofs.lemmas.List.{length-drop}
 use Rattle.arch_disk.specs.Disk.{Device}
-use Rattle.arch_types.specs.declared.refusal.BadKind.TheVariants as bad
-use Rattle.arch_types.specs.declared.refusal.Refusal.{Refusal}
-use Rattle.arch_types.specs.declared.refusal.Refusal.TheVariants.{WriteFault}
-use Rattle.arch_types.specs.declared.refusal.Which.TheVariants.{DumpOctets}
+use Rattle.refusals.specs.declared.refusal.BadKind.TheVariants as bad
+use Rattle.refusals.specs.declared.refusal.Refusal.{Refusal}
+use Rattle.refusals.specs.declared.refusal.Refusal.TheVariants.{WriteFault}
+use Rattle.refusals.specs.declared.refusal.Which.TheVariants.{DumpOctets}
 use Rattle.arch_types.specs.Dump.{IsDump}
 use Rattle.arch_types.proofs.Dumps.{dump_is_one}
 use Rattle.space_packet.specs.declared.dump.Why.{Why}

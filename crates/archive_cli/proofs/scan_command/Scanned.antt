@@ -3,8 +3,8 @@ use Rattle.std.proofs.Common.{◌≡◌, ℕ, ℤ, ◌+◌, ◌-◌, ◌≤◌, 
 use Rattle.std.specs.Prelude.{IfSome, flat_map, nat_lt, if◌then◌else◌}
 use Rattle.std.proofs.lemmas.List.{length-drop}
 use Rattle.arch_types.specs.declared.row.Row.{Row}
-use Rattle.arch_types.specs.declared.refusal.BadKind.{BadKind}
-use Rattle.arch_types.specs.declared.refusal.BadKind.TheVariants as bad
+use Rattle.refusals.specs.declared.refusal.BadKind.{BadKind}
+use Rattle.refusals.specs.declared.refusal.BadKind.TheVariants as bad
 use Rattle.arch_types.specs.History.{firsts}
 use Rattle.arch_types.specs.Table.{table_of}
 use Rattle.text_forms.specs.ClockTime.{IsClockTime}

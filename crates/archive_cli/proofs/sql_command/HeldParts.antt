@@ -1,6 +1,6 @@
 -- Partitions that hold what is selected.
 use Rattle.std.proofs.Common.{◌≡◌, ℕ, ◌+◌, ◌^◌, ◌<◌, ◌≤◌, List, [], ◌∷◌, ◌++◌, length, get_or, map, take, zero, suc, refl, sym, ap, ◌∙◌, subst, arith, append-nil, append_assoc}
-use Rattle.std.specs.Prelude.{filter, flat_map, Result, Ok, Err, IfOk, IfErr}
+use Rattle.std.specs.Prelude.{filter, flat_map, Result, Ok, Err, IfOk}
 use Rattle.std.specs.List.{AllByRecursion, range_with_len}
 use Rattle.std.proofs.Math.Seq.{take-suc}
 use Rattle.std.proofs.lemmas.List.{length-map, map-append, take_all}
@@ -8,15 +8,12 @@ use Rattle.std.proofs.lemmas.List.Elements.{Contains-append_left, Contains-appen
 use Rattle.text_forms.specs.ClockTime.{IsClockTime}
 use Rattle.arch_types.specs.declared.row.Row.{Row}
 use Rattle.arch_types.specs.declared.spans.Span.{Span}
-use Rattle.arch_types.specs.declared.refusal.Refusal.{Refusal}
-use Rattle.arch_types.specs.declared.refusal.Refusal.TheVariants.{DiskFault, Damaged, OutOfMemory}
 use Rattle.arch_types.specs.History.{is_in_table}
 use Rattle.history_items.specs.Items.{Item, rows_in}
 use Rattle.mdb_items.specs.declared.container.Container.{Container}
 use Rattle.partitions.specs.declared.bounds.Bounds.{Bounds}
 use Rattle.partitions.specs.declared.partition.Partition.{Partition}
 use Rattle.replay_merge.specs.Laws.{HoldsPruned}
-use Rattle.replay_merge.specs.Source.{IsRowSourceRefusal}
 use Rattle.ssql_select.specs.declared.show.ShowLine.{ShowLine}
 use Rattle.ssql_select.specs.declared.show.ShowLine.TheVariants.{Histogram}
 use Rattle.ssql_select.specs.Selection.{HoldsSelected}
@@ -25,25 +22,13 @@ use Rattle.ssql_types.specs.declared.query.TypedSelect.{TypedSelect}
 use Rattle.archive_store.specs.declared.head.Head.{Head}
 use Rattle.archive_store.specs.Entries.{IsArchivedRow}
 use Rattle.archive_store.specs.Laws.{ArchivedRowsHaveClockTimes}
-use Rattle.archive_store.specs.Replays.{AreParts, memory_state}
+use Rattle.archive_store.specs.Replays.{AreParts}
 use Rattle.archive_cli.specs.sql_command.Statements.{AreSourceParts, name_spans, packet_names}
 
 -- each row of an archive has a moment of the clock
 pub all_clocked : (head : Head) (rows : List Row) → ArchivedRowsHaveClockTimes → AllByRecursion (IsArchivedRow head) rows → AllByRecursion (λ row. IsClockTime row.key.time) rows
 all_clocked head [] law all = tt
 all_clocked head (row ∷ rows) law all = (law head row all.0, all_clocked head rows law all.1)
-
--- ---- rows in memory are refused for want of memory alone
-
-only_memory : (old new : List Row) (refusal : Refusal) → IsRowSourceRefusal (memory_state old) (memory_state new) refusal → refusal ≡ OutOfMemory
-only_memory old new OutOfMemory is = refl
-only_memory old new DiskFault is = absurd (omega (arith, is))
-only_memory old new (Damaged file at) is = absurd (cc (is))
-only_memory old new other is = absurd is
-
-pub refused_alone : {X : Type 0} (r : Result X Refusal) (old new : List Row) → IfErr r (IsRowSourceRefusal (memory_state old) (memory_state new)) → IfErr r (λ refusal. refusal ≡ OutOfMemory)
-refused_alone (Ok x) old new is = tt
-refused_alone (Err refusal) old new is = only_memory old new refusal is
 
 -- ---- the partitions of tables
 

@@ -1,18 +1,19 @@
 -- How the answers to a script are printed to their end.
-use Rattle.std.proofs.Common.{◌≤◌, ◌<◌, ◌∙◌, ℕ, List, [], ◌++◌, length, Option, Some, None, refl, sym, subst, arith, append-nil}
+use Rattle.std.proofs.Common.{◌≤◌, ◌∙◌, ℕ, List, [], ◌++◌, Option, Some, None, refl, sym, subst, arith, append-nil}
 use Rattle.std.specs.Prelude.{IfErr, Result, Ok, Err}
-use Rattle.arch_types.specs.declared.refusal.Refusal.{Refusal}
-use Rattle.arch_types.specs.declared.refusal.Refusal.TheVariants.{WriteFault}
+use Rattle.refusals.specs.declared.refusal.Refusal.{Refusal}
+use Rattle.refusals.specs.declared.refusal.Refusal.TheVariants.{WriteFault}
 use Rattle.outer_traits.specs.Outside.{WritesSome}
 use Rattle.outer_traits.specs.States.{OutputState}
-use Rattle.dump_lines.specs.declared.print_fault.PrintFault.{PrintFault}
-use Rattle.dump_lines.specs.declared.print_fault.PrintFault.TheVariants.{Write, OutOfMemory}
-use Rattle.dump_lines.specs.Output.{IsFinished, WritesCounted}
+use Rattle.outer_traits.specs.declared.print_fault.PrintFault.{PrintFault}
+use Rattle.outer_traits.specs.declared.print_fault.PrintFault.TheVariants.{Write, OutOfMemory}
+use Rattle.archive_cli.specs.Finishing.{IsFinished, WritesCounted}
 use Rattle.dump_lines.proofs.LineBuffers.{buffered_all, buffered_front, buffered_none, wrote_then}
-use Rattle.ssql_select.specs.Printed.{IsPartPrinted, IsPrinted, PrintsText}
+use Rattle.dump_lines.specs.Printed.{IsPartPrinted, IsPrinted, PrintsText}
 use Rattle.ssql_select.proofs.Printings.{nothing_printed}
 use Rattle.archive_cli.specs.Asks.{print_refusal}
 use Rattle.archive_cli.specs.sql_command.Replying.{IsTextPrinted}
+use Rattle.dump_lines.specs.LineRoom.{HasLineRoom}
 
 pub if_err : {X E : Type 0} (r : Result X E) (P Q : E → Type 0) → ((e : E) → P e → Q e) → IfErr r P → IfErr r Q
 if_err (Ok x) P Q f p = tt
@@ -40,5 +41,5 @@ pub unprinted : (first : OutputState) (text : List ℕ) → IsPartPrinted first 
 unprinted first text = record { some = buffered_front first.written first.written text text (buffered_none first.written text); no_fault = refl }
 
 -- there is nothing to print
-pub none_printed : (first : OutputState) (held : List ℕ) → length held < 65536 → IsPrinted first first (held ++ []) held
+pub none_printed : (first : OutputState) (held : List ℕ) → HasLineRoom held → IsPrinted first first (held ++ []) held
 none_printed first held room = rw (append-nil held) (nothing_printed first held room)

@@ -19,7 +19,7 @@ use Rattle.partitions.specs.Rows.{partitions_of}
 use Rattle.partitions.proofs.Order.{exact_partitions, partition_cmp_total}
 use Rattle.replay_merge.proofs.Sources.{each_tested}
 use Rattle.ssql_conditions.specs.ConditionBounds.{all_bounds}
-use Rattle.archive_history.specs.TableSet.{rows_in_table}
+use Rattle.archive_history.specs.History.{rows_in_table}
 use Rattle.archive_store.specs.Replays.{AreParts}
 use Rattle.archive_cli.specs.sql_command.Statements.{parts_of_rows, placed_by, with_part}
 

@@ -2,8 +2,8 @@
 use Rattle.std.proofs.Common.{◌≡◌, ◌≤◌, ◌+◌, ◌∙◌, inl, inr, ℕ, ℤ, false, true, List, drop, Option, Some, None, refl, sym, ap, subst}
 use Rattle.std.specs.Prelude.{IsSome, Err}
 use Rattle.arch_disk.specs.Disk.{Device}
-use Rattle.arch_types.specs.declared.refusal.Refusal.{Refusal}
-use Rattle.arch_types.specs.declared.refusal.Which.TheVariants.{DumpOctets}
+use Rattle.refusals.specs.declared.refusal.Refusal.{Refusal}
+use Rattle.refusals.specs.declared.refusal.Which.TheVariants.{DumpOctets}
 use Rattle.mdb_items.specs.Database.{Database}
 use Rattle.mdb_items.specs.declared.sheet.RawMdb.{RawMdb}
 use Rattle.mdb_model.specs.Sheets.{sheets_database}
@@ -13,8 +13,8 @@ use Rattle.outer_traits.specs.Outside.{Files, WritesSome}
 use Rattle.command_plans.specs.Plan.{OfMemory, OfOutput, CommandPlan, Returned, Stopped, Interrupted, EachEnd, IsDetermined, map_done}
 use Rattle.command_plans.proofs.Plans.{determined, determined_map_done, gave}
 use Rattle.command_words.specs.Job.{ValuesWords}
-use Rattle.dump_lines.specs.declared.print_fault.PrintFault.{PrintFault}
-use Rattle.dump_lines.specs.declared.print_fault.PrintFault.TheVariants as printing
+use Rattle.outer_traits.specs.declared.print_fault.PrintFault.{PrintFault}
+use Rattle.outer_traits.specs.declared.print_fault.PrintFault.TheVariants as printing
 use Rattle.dump_lines.specs.declared.rows.DumpTable.{DumpTable}
 use Rattle.dump_lines.specs.DumpTable.{IsDumpTable}
 use Rattle.dump_lines.specs.Output.{Appends, PrintCounted}
@@ -23,7 +23,8 @@ use Rattle.input_plans.proofs.Inputs.{reads_determined}
 use Rattle.input_plans.proofs.Readings.{first_not_read, then_not_read, then_read}
 use Rattle.outer_traits.specs.States.{InputsState}
 use Rattle.outer_ledgers.proofs.Ledgers.{risen_counted}
-use Rattle.retrieval.specs.Parameter.{IsNamedParameter, IsNoParameter, number_named}
+use Rattle.asks.specs.Names.{parameter_named}
+use Rattle.retrieval.specs.Parameter.{IsNamedParameter, IsNoParameter}
 use Rattle.retrieval.specs.ValuesText.{values_text}
 use Rattle.archive_cli.specs.Moment.{IsMomentOf}
 use Rattle.archive_cli.specs.Command.{Effects, RanOver, nothing_done}
@@ -107,7 +108,7 @@ module _ {D : Type 0} (device : Device D) (e : Effects D) (files : Option Files)
           e.output'.faults ≡ e.output.faults → RanOver device (values_plan files next words) e a b
       ran_valued report printed still = ran_read device e (values_inputs_plan files words) (valuing_plan next words.name) a b 4 (raw, dump) read (valued_after next words.name (raw, dump)) (record {
         way = Stopped (record (nothing_done 4) { text = text; is_whole = true }) (ending_of_rest dump (drop loaded.at dump));
-        allows = (moment, told, inr (None, sym p.admitted, (number, ap (λ (d : Database). number_named d words.name) (sym p.database) ∙ p.named, ((l.packets, drop loaded.at dump), l.parts, inr (inr refl)))));
+        allows = (moment, told, inr (None, sym p.admitted, (number, ap (λ (d : Database). parameter_named d words.name) (sym p.database) ∙ p.named, ((l.packets, drop loaded.at dump), l.parts, inr (inr refl)))));
         did = record {
           report = report ∙ ap unopened (ending_is dump moment loaded l);
           printed = subst (Appends e.output.written e.output'.written) text_is printed;
@@ -122,7 +123,7 @@ module _ {D : Type 0} (device : Device D) (e : Effects D) (files : Option Files)
           PrintCounted (Some fault) e.output.faults e.output'.faults → RanOver device (values_plan files next words) e a b
       ran_some_valued printing.Write report printed later counted = ran_read device e (values_inputs_plan files words) (valuing_plan next words.name) a b 4 (raw, dump) read (valued_after next words.name (raw, dump)) (record {
         way = Interrupted (record (nothing_done 4) { text = text; is_whole = false }) OfOutput;
-        allows = (moment, told, inr (None, sym p.admitted, (number, ap (λ (d : Database). number_named d words.name) (sym p.database) ∙ p.named, ((l.packets, drop loaded.at dump), l.parts, inr (inl refl)))));
+        allows = (moment, told, inr (None, sym p.admitted, (number, ap (λ (d : Database). parameter_named d words.name) (sym p.database) ∙ p.named, ((l.packets, drop loaded.at dump), l.parts, inr (inl refl)))));
         did = record {
           report = report;
           printed = subst (WritesSome e.output.written e.output'.written) text_is printed;
@@ -132,7 +133,7 @@ module _ {D : Type 0} (device : Device D) (e : Effects D) (files : Option Files)
       })
       ran_some_valued printing.OutOfMemory report printed later counted = ran_read device e (values_inputs_plan files words) (valuing_plan next words.name) a b 4 (raw, dump) read (valued_after next words.name (raw, dump)) (record {
         way = Interrupted (record (nothing_done 4) { text = text; is_whole = false }) OfMemory;
-        allows = (moment, told, inr (None, sym p.admitted, (number, ap (λ (d : Database). number_named d words.name) (sym p.database) ∙ p.named, ((l.packets, drop loaded.at dump), l.parts, inl refl))));
+        allows = (moment, told, inr (None, sym p.admitted, (number, ap (λ (d : Database). parameter_named d words.name) (sym p.database) ∙ p.named, ((l.packets, drop loaded.at dump), l.parts, inl refl))));
         did = record {
           report = report;
           printed = subst (WritesSome e.output.written e.output'.written) text_is printed;
@@ -150,7 +151,7 @@ values_follow : (next : Option ℤ) (name : List ℕ) (given : RawMdb × List �
 values_follow next name given = λ moment told. (λ a b h k. h ∙ sym k, λ found is. each moment found)
   where
     each : (moment : ℤ) (found : Option Refusal) → IsDetermined (after_parameter_check given.0 name given.1 moment found)
-    each moment None = (λ a b h k. some_number (number_named (sheets_database given.0) name) a b h k, λ number named. (cut_once given.1, λ cut is. tt))
+    each moment None = (λ a b h k. some_number (parameter_named (sheets_database given.0) name) a b h k, λ number named. (cut_once given.1, λ cut is. tt))
     each moment (Some refusal) = tt
 
 pub values_determined : (files : Option Files) (next : Option ℤ) (words : ValuesWords) → IsSome files → IsDetermined (values_plan files next words)

@@ -1,12 +1,12 @@
 -- The steps of a load: how its asks are checked and its dump is read, and what is printed and reported of its session.
 use Rattle.std.specs.Prelude.{◌≡◌, ◌⊎◌, ◌<◌, ◌-◌, ℕ, List, [], length, map, Option, Some, None, IfSome, Result, Ok, Err, nat_lt, if◌then◌else◌}
 use Rattle.arch_disk.specs.Disk.{Device}
-use Rattle.arch_types.specs.declared.ask.Ask.{Ask}
-use Rattle.arch_types.specs.declared.refusal.Refusal.{Refusal}
-use Rattle.arch_types.specs.declared.refusal.Refusal.TheVariants as refused
-use Rattle.arch_types.specs.declared.refusal.BadKind.{BadKind}
-use Rattle.arch_types.specs.declared.refusal.Which.TheVariants.{DumpOctets, Links}
-use Rattle.arch_types.specs.Limits.{limit_of}
+use Rattle.asks.specs.declared.ask.Ask.{Ask}
+use Rattle.refusals.specs.declared.refusal.Refusal.{Refusal}
+use Rattle.refusals.specs.declared.refusal.Refusal.TheVariants as refused
+use Rattle.refusals.specs.declared.refusal.BadKind.{BadKind}
+use Rattle.refusals.specs.declared.refusal.Which.TheVariants.{DumpOctets, Links}
+use Rattle.refusals.specs.Limits.{limit_of}
 use Rattle.outer_traits.specs.declared.whole.ReadFault.{ReadFault}
 use Rattle.outer_traits.specs.declared.whole.ReadFault.TheVariants as faulted
 use Rattle.outer_traits.specs.Outside.{Stays}

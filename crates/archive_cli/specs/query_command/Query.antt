@@ -1,8 +1,8 @@
 -- The command `query --ask`.
 use Rattle.std.specs.Prelude.{List, ℕ, Option, Some, Result}
 use Rattle.arch_disk.specs.Disk.{Device}
-use Rattle.arch_types.specs.declared.ask.Ask.{Ask}
-use Rattle.arch_types.specs.declared.refusal.Refusal.{Refusal}
+use Rattle.asks.specs.declared.ask.Ask.{Ask}
+use Rattle.refusals.specs.declared.refusal.Refusal.{Refusal}
 use Rattle.outer_traits.specs.Outside.{Files}
 use Rattle.archive_store.specs.Entries.{FilledArchive}
 use Rattle.command_plans.specs.Plan.{OfMemory, CommandPlan, May, and_then}

@@ -1,10 +1,10 @@
 -- How a sheet of asks is answered.
 use Rattle.std.specs.Prelude.{◌≡◌, ◌⊎◌, ℕ, List, Result, Option, IsSomeAnd}
-use Rattle.arch_types.specs.declared.ask.Ask.{Ask}
-use Rattle.arch_types.specs.declared.refusal.Refusal.{Refusal}
+use Rattle.asks.specs.declared.ask.Ask.{Ask}
+use Rattle.refusals.specs.declared.refusal.Refusal.{Refusal}
 use Rattle.archive_store.specs.Entries.{FilledArchive}
 use Rattle.outer_traits.specs.Outside.{Stays}
-use Rattle.dump_lines.specs.Output.{WritesCounted}
+use Rattle.archive_cli.specs.Finishing.{WritesCounted}
 use Rattle.archive_cli.specs.Asks.{AreAnswerable, ArePrinted, AreRefused, archive_asks_text}
 
 -- how a sheet of asks is answered over an archive: it is refused and nothing was written, or its answers are printed

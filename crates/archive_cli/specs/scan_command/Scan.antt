@@ -1,7 +1,7 @@
 -- The command `scan`.
 use Rattle.std.specs.Prelude.{ℕ, ℤ, List, Option}
 use Rattle.arch_types.specs.Dump.{IsDump}
-use Rattle.arch_types.specs.declared.refusal.Which.TheVariants.{DumpOctets}
+use Rattle.refusals.specs.declared.refusal.Which.TheVariants.{DumpOctets}
 use Rattle.outer_traits.specs.Outside.{Files}
 use Rattle.command_plans.specs.Plan.{CommandPlan, Question, Choose, and_then, map_done}
 use Rattle.input_plans.specs.Inputs.{input_plan}

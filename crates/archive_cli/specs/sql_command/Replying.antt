@@ -1,13 +1,13 @@
 -- How a script is answered.
 use Rattle.std.specs.Prelude.{◌≡◌, ◌⊎◌, ℕ, List, Option, Some, None, IsSomeAnd, Result, Ok, Err}
-use Rattle.arch_types.specs.declared.refusal.Refusal.{Refusal}
-use Rattle.arch_types.specs.declared.refusal.Refusal.TheVariants.{OutOfMemory, WriteFault}
+use Rattle.refusals.specs.declared.refusal.Refusal.{Refusal}
+use Rattle.refusals.specs.declared.refusal.Refusal.TheVariants.{OutOfMemory, WriteFault}
 use Rattle.archive_store.specs.declared.head.Head.{Head}
 use Rattle.archive_store.specs.Entries.{Archive}
 use Rattle.dump_lines.specs.Output.{Appends}
 use Rattle.outer_traits.specs.Outside.{Stays}
 use Rattle.outer_traits.specs.States.{OutputState}
-use Rattle.ssql_select.specs.Printed.{IsCutOff, IsPartPrinted}
+use Rattle.dump_lines.specs.Printed.{IsCutOff, IsPartPrinted}
 use Rattle.ssql_types.specs.declared.place.ScriptPlace.TheVariants.{Sql}
 use Rattle.ssql_types.specs.declared.statement.TypedStatement.{TypedStatement}
 use Rattle.archive_cli.specs.Scripts.{IsScriptAnswer, OrNoMemory}

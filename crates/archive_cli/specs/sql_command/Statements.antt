@@ -10,7 +10,7 @@ use Rattle.partitions.specs.declared.partition.Partition.{Partition}
 use Rattle.partitions.specs.Partition.{partition_cmp, partition_of}
 use Rattle.history_items.specs.Items.{Item, rows_in}
 use Rattle.archive_history.specs.PartitionedTable.{named_times_of}
-use Rattle.archive_history.specs.TableSet.{rows_in_table}
+use Rattle.archive_history.specs.History.{rows_in_table}
 use Rattle.archive_store.specs.declared.head.Head.{Head}
 use Rattle.archive_store.specs.Entries.{Archive}
 use Rattle.archive_store.specs.Replays.{AreParts}

@@ -1,14 +1,15 @@
 -- The command `values`.
 use Rattle.std.specs.Prelude.{◌≡◌, ℕ, ◌+◌, ℤ, List, Option, Some, None}
 use Rattle.arch_types.specs.Dump.{IsDump}
-use Rattle.arch_types.specs.declared.refusal.Refusal.{Refusal}
+use Rattle.refusals.specs.declared.refusal.Refusal.{Refusal}
 use Rattle.mdb_items.specs.declared.sheet.RawMdb.{RawMdb}
 use Rattle.mdb_model.specs.Sheets.{sheets_database}
 use Rattle.mdb_sheets.specs.Plans.{sheets_plan}
 use Rattle.outer_traits.specs.Outside.{Files}
 use Rattle.command_plans.specs.Plan.{OfMemory, CommandPlan, Return, Stop, May, Question, Choose, and_then, map_done}
 use Rattle.command_words.specs.Job.{ValuesWords}
-use Rattle.retrieval.specs.Parameter.{number_named, parameter_refusal}
+use Rattle.asks.specs.Names.{parameter_named}
+use Rattle.retrieval.specs.Parameter.{parameter_refusal}
 use Rattle.retrieval.specs.ValuesText.{values_text}
 use Rattle.archive_cli.specs.Moment.{IsMomentOf}
 use Rattle.archive_cli.specs.Command.{Progress, nothing_done, stepwise_printing_then_plan}
@@ -37,7 +38,7 @@ cutting_cells_plan raw dump moment number = Question (λ cut. IsDump dump cut.0 
 
 -- what sheets and a name lead to that are refused, or that have a parameter
 abbrev pub after_parameter_check : RawMdb → List ℕ → List ℕ → ℤ → Option Refusal → CommandPlan Progress ⊥
-after_parameter_check raw name dump moment None = Question (λ number. number_named (sheets_database raw) name ≡ Some number) (cutting_cells_plan raw dump moment)
+after_parameter_check raw name dump moment None = Question (λ number. parameter_named (sheets_database raw) name ≡ Some number) (cutting_cells_plan raw dump moment)
 after_parameter_check raw name dump moment (Some refusal) = Stop (nothing_done 4) (Some refusal)
 
 -- looks for a parameter: BadSheet, a limit of the database, or UnknownParameter

@@ -2,9 +2,9 @@
 use Rattle.std.specs.Prelude.{ℕ, List, [], ◌++◌, flat_map, length, Option, Some, None}
 use Rattle.std.specs.List.{filter_map}
 use Rattle.arch_types.specs.declared.cell.Cell.{Cell}
-use Rattle.arch_types.specs.declared.refusal.Refusal.{Refusal}
-use Rattle.arch_types.specs.declared.refusal.Refusal.TheVariants.{WriteFault}
-use Rattle.arch_types.specs.declared.refusal.Refusal.TheVariants as refused
+use Rattle.refusals.specs.declared.refusal.Refusal.{Refusal}
+use Rattle.refusals.specs.declared.refusal.Refusal.TheVariants.{WriteFault}
+use Rattle.refusals.specs.declared.refusal.Refusal.TheVariants as refused
 use Rattle.arch_types.specs.declared.row.Row.{Row}
 use Rattle.arch_types.specs.Table.{sorted}
 use Rattle.mdb_items.specs.declared.calibration.Calibration.{Calibration}
@@ -14,8 +14,8 @@ use Rattle.space_packet.specs.declared.dump.Why.{Why}
 use Rattle.space_packet.specs.declared.dump.Why.TheVariants.{End, Version, Truncated}
 use Rattle.yarch_table.specs.declared.table.Stored.{Stored}
 use Rattle.yarch_table.specs.Stored.{rows_of}
-use Rattle.dump_lines.specs.declared.print_fault.PrintFault.{PrintFault}
-use Rattle.dump_lines.specs.declared.print_fault.PrintFault.TheVariants.{Write, OutOfMemory}
+use Rattle.outer_traits.specs.declared.print_fault.PrintFault.{PrintFault}
+use Rattle.outer_traits.specs.declared.print_fault.PrintFault.TheVariants.{Write, OutOfMemory}
 use Rattle.retrieval.specs.CellText.{cell_line}
 use Rattle.mdb_lookups.specs.Lookups.{calibration_of}
 use Rattle.retrieval.specs.ValuesText.{values_line}

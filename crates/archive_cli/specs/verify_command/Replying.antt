@@ -1,9 +1,9 @@
 -- How an archive is verified.
 use Rattle.std.specs.Prelude.{◌≡◌, ◌⊎◌, ◌≤◌, Option, IsSomeAnd}
-use Rattle.arch_types.specs.declared.refusal.Refusal.{Refusal}
+use Rattle.refusals.specs.declared.refusal.Refusal.{Refusal}
 use Rattle.archive_store.specs.Entries.{FilledArchive}
 use Rattle.archive_verify.specs.Verified.{HoldCurrentFills, IsVerifyRefusal}
-use Rattle.dump_lines.specs.Output.{IsFinished, WritesCounted}
+use Rattle.archive_cli.specs.Finishing.{IsFinished, WritesCounted}
 use Rattle.outer_traits.specs.States.{OutputState}
 use Rattle.archive_cli.specs.verify_command.Verify.{verify_line}
 

@@ -1,8 +1,8 @@
 -- The command `verify`.
 use Rattle.std.specs.Prelude.{ℕ, List, ◌++◌, length, codes, decimal, Option, Some, None}
 use Rattle.arch_disk.specs.Disk.{Device}
-use Rattle.arch_types.specs.declared.refusal.Refusal.{Refusal}
-use Rattle.arch_types.specs.declared.refusal.Refusal.TheVariants.{Mismatch}
+use Rattle.refusals.specs.declared.refusal.Refusal.{Refusal}
+use Rattle.refusals.specs.declared.refusal.Refusal.TheVariants.{Mismatch}
 use Rattle.interval_walks.specs.Counts.{intervals_in}
 use Rattle.archive_store.specs.Entries.{FilledArchive}
 use Rattle.archive_verify.specs.Verified.{HoldCurrentFills, IsVerifyRefusal, late_in_archive}

@@ -1,7 +1,7 @@
 use Rattle.std.proofs.lemmas.Result.{err_from_is_err_and}
 use Rattle.std.proofs.Common.{Some, ◌≡◌, false, inl, refl, sym, subst, arith}
 use Rattle.command_plans.specs.Plan.{OfMemory, Interrupted}
-use Rattle.dump_lines.specs.Output.{IsFinished}
+use Rattle.archive_cli.specs.Finishing.{IsFinished}
 use Rattle.archive_cli.specs.Command.{HasDiskOutcome, Made, Ran, effects_of, nothing_done}
 use Rattle.archive_cli.specs.create_command.Create.{made, new_archive_plan}
 use Rattle.archive_cli.specs.create_command.Creation.{create_line}

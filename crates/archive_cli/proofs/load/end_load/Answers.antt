@@ -1,11 +1,12 @@
 use Rattle.std.proofs.Common.{◌≡◌, ◌∙◌, inl, inr, ℕ, length, Some, None, refl, sym, ap, arith}
-use Rattle.arch_types.specs.declared.refusal.Refusal.{Refusal}
+use Rattle.refusals.specs.declared.refusal.Refusal.{Refusal}
+use Rattle.retrieval.specs.FoundAsks.{asks_found}
 use Rattle.archive_cli.specs.Report.{loaded}
 use Rattle.archive_cli.proofs.load_command.LoadReports.{all_was_printed, bad_was_left, fill_was_refused, went_or_failed}
 use Rattle.archive_cli.proofs.load.end_load.Goals as goal
 
-pub print-requires-clause-answerable : goal.print-requires-clause-answerable
-print-requires-clause-answerable g c = rw (c.fill_late-filled.ensures.left.head, c.as_slice.ensures) c.requires.answerable
+pub print-requires-clause-found : goal.print-requires-clause-found
+print-requires-clause-found g c = rw (c.fill_late-filled.ensures.left.head, c.as_slice.ensures) c.requires.found
 
 pub print-requires-clause-grown : goal.print-requires-clause-grown
 print-requires-clause-grown g c =
@@ -69,5 +70,5 @@ returns-in-Ok-clause-ending g c = λ r s summary all history head link.
     let rows = fill.ensures.left.rows ∙ history in
     let same_head : fill.new.store.head ≡ r.head = fill.ensures.left.head ∙ head in
     rw c.print.ensures.same
-    (inr (inr (all_was_printed r c.args.before c.args.received.now.dump s c.args.whole summary all device c.args.store.now fill.new.store written written' c.print.result c.args.received.now.asks _
+    (inr (inr (all_was_printed r c.args.before c.args.received.now.dump s c.args.whole summary all device c.args.store.now fill.new.store written written' c.print.result (asks_found c.args.received.now.asks) _
     (rw c.in-Ok.is at fill.ensures.filled) (sym c.refusal_of_rest.ensures ∙ c.in-None.is) (rw (rows, same_head, c.as_slice.ensures) at c.print.ensures.printed) (rw rows at c.print.ensures.report))))

@@ -3,7 +3,8 @@ use Rattle.std.specs.Prelude.{option_map}
 use Rattle.std.proofs.lemmas.Int.{to_z-of_z}
 use Rattle.archive_store.specs.StoreView.{filled_of}
 use Rattle.command_words.specs.JobView.{load_words_of}
-use Rattle.arch_types.specs.declared.refusal.Refusal.TheVariants.{OutOfMemory}
+use Rattle.refusals.specs.declared.refusal.Refusal.TheVariants.{OutOfMemory}
+use Rattle.retrieval.specs.FoundAsks.{asks_found}
 use Rattle.archive_cli.specs.Command.{effects_of}
 use Rattle.archive_cli.specs.load_command.Loading.{IsLoadRun}
 use Rattle.archive_cli.specs.Report.{unopened}
@@ -27,10 +28,10 @@ named = option_map (λ (text : Bor (List ℕ)). text.now)
 pub load_dump-report-requires-clause-opened : goal.load_dump-report-requires-clause-opened
 load_dump-report-requires-clause-opened g c = c.in-Ok-open-2.ensures.opened.fills
 
--- and no ask is refused
+-- and each ask was found
 
-pub load_dump-report-requires-clause-answerable : goal.load_dump-report-requires-clause-answerable
-load_dump-report-requires-clause-answerable g c = c.in-Ok-received.ensures.ready.2.1
+pub load_dump-report-requires-clause-found : goal.load_dump-report-requires-clause-found
+load_dump-report-requires-clause-found g c = c.in-Ok-received.ensures.found
 
 -- the way that its plan went
 
@@ -96,15 +97,15 @@ returns-clause-ran g c =
           let used = closed_again (state c.args.inputs.now) (state c.open.new.self) (state c.close-2.new.self) source.same back.same source.gave back.closed
           (λ sure. let one = source.reliable sure in let two = back.reliable one.0 still in (two.0, two.1 ∙ one.1)) false (back.kept still ∙ source.counted) in
           let r : Receiving = receiving s.head received.graph words.link moment in
-          let session : IsLoadRun device s last received.asks received.dump r (g.K.Sink.state c.args.sink.now).written (g.K.Sink.state w.load_dump-report.new.sink).written report =
+          let session : IsLoadRun device s last (asks_found received.asks) received.dump r (g.K.Sink.state c.args.sink.now).written (g.K.Sink.state w.load_dump-report.new.sink).written report =
           rw (to_z-of_z w64 moment fits, link.0) at w.load_dump-report.ensures.session in
           let went = effects_of c.args.disk last.disk output output' report in
-          let ran = ran_load device c.args.disk s last received.asks received.dump r output output' report
+          let ran = ran_load device c.args.disk s last (asks_found received.asks) received.dump r output output' report
           (λ known. opened_store device c.args.disk s (e.opened.filled known) e.reads e.opened.opening e.crash) e.opened.records e.counts.faults e.opened.no_failed_write
           (rw w.store-is at c.into_disk.ensures.images) (rw w.store-is at c.into_disk.ensures.faults) c.front-opened.ensures.bases (rw w.store-is at c.front-loaded.ensures.bases)
           (rw w.store-is at c.front-loaded.ensures.kept) refl w.load_dump-report.ensures.writes_counted w.load_dump-report.ensures.writes_later session in
           let over = load_received device went files next words (named c.args.text) c.args.sheet (state c.args.inputs.now) (state c.close-2.new.self) (gives_there files c.args.words.dump.now _ source.found) (filled_of s)
-          (λ known. e.opened.filled known) received.dump moment received.graph received.asks ready (gives_input files c.args.words.dump.now _ received.dump source.found w.in-Ok-received.ensures.whole)
+          (λ known. e.opened.filled known) received.dump moment received.graph (asks_found received.asks) ready (gives_input files c.args.words.dump.now _ received.dump source.found w.in-Ok-received.ensures.whole)
           w.in-Ok-received.ensures.short (moment_of next moment w.now-moment.ensures.known w.now-moment.ensures.range) used ran in
           rw (c.into_disk.ensures.disk, w.sink-is, w.report-is, w.store-is) over
       | in-Err-received w ↦

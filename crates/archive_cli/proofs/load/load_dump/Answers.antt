@@ -26,10 +26,10 @@ end_load-requires-clause-no_fault g c =
     let r : Receiving = receiving c.args.store.now.head c.args.received.now.graph c.args.received.now.link c.args.moment in
     none_behind g.D.Disk.device c.args.store.now c.run_session.new.store r run.came_to run.reached run.answer_is c.requires.opened
 
-pub end_load-requires-clause-answerable : goal.end_load-requires-clause-answerable
-end_load-requires-clause-answerable g c =
+pub end_load-requires-clause-found : goal.end_load-requires-clause-found
+end_load-requires-clause-found g c =
     let run = rw c.in-Ok.is at c.run_session.ensures.session in
-    rw run.reached.head c.requires.answerable
+    rw run.reached.head c.requires.found
 
 pub end_load-requires-clause-grown : goal.end_load-requires-clause-grown
 end_load-requires-clause-grown g c =

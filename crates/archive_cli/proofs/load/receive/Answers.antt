@@ -1,5 +1,6 @@
 use Rattle.std.proofs.Common.{inl, inr, refl}
 use Rattle.std.proofs.lemmas.Result.{err_from_is_err_and}
+use Rattle.retrieval.specs.FoundAsks.{asks_found}
 use Rattle.archive_cli.proofs.load.receive.Goals as goal
 
 -- no link of the number
@@ -22,7 +23,7 @@ pub returns-in_err-asks-clause-unread : goal.returns-in_err-asks-clause-unread
 returns-in_err-asks-clause-unread g c =
     let p = err_from_is_err_and c.from_residual-in_err-asks.result c.from_residual-in_err-asks.ensures.1 in
     rw (p.1, p.2.0, p.2.1)
-    (inl (inr (inr (c.in_ok-link.ensures.link.2, (c.in_ok-graph.graph, c.in_ok-graph.ensures.answer, rw c.head.ensures.head at c.in_err-asks.ensures.refused))), refl, refl))
+    (inl (inr (inr (c.in_ok-link.ensures.link.2, (c.in_ok-graph.graph, c.in_ok-graph.ensures.answer, c.in_err-asks.ensures.refused))), refl, refl))
 
 -- a dump that isn't read
 
@@ -30,9 +31,9 @@ pub returns-in_err-dump-clause-unread : goal.returns-in_err-dump-clause-unread
 returns-in_err-dump-clause-unread g c =
     let p = err_from_is_err_and c.from_residual-in_err-dump.result c.from_residual-in_err-dump.ensures.1 in
     let link = c.in_ok-link.ensures.link in
-    let answerable = rw c.head.ensures.head at c.in_ok-asks.ensures.answerable in
+    let answerable = c.in_ok-asks.ensures.answerable in
     rw (p.1, p.2)
-    (inr (c.in_ok-graph.graph, c.in_ok-asks.asks, (link.2, c.in_ok-graph.ensures.answer, answerable), rw link.0 at c.in_err-dump.ensures.unread, c.in_err-dump.ensures.counted))
+    (inr (c.in_ok-graph.graph, asks_found c.in_ok-asks.asks, (link.2, c.in_ok-graph.ensures.answer, answerable), rw link.0 at c.in_err-dump.ensures.unread, c.in_err-dump.ensures.counted))
 
 pub returns-clause-ready : goal.returns-clause-ready
-returns-clause-ready g c = (c.in_ok-link.ensures.link.2, c.in_ok-graph.ensures.answer, rw c.head.ensures.head at c.in_ok-asks.ensures.answerable)
+returns-clause-ready g c = (c.in_ok-link.ensures.link.2, c.in_ok-graph.ensures.answer, c.in_ok-asks.ensures.answerable)

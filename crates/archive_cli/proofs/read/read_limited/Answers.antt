@@ -1,5 +1,5 @@
 use Rattle.std.proofs.Common.{◌≤◌, ℕ, List, length, arith, subst}
-use Rattle.arch_types.specs.Limits.{limit_of}
+use Rattle.refusals.specs.Limits.{limit_of}
 use Rattle.outer_traits.specs.Whole.{IsInputFault}
 use Rattle.input_plans.proofs.Whole.{not_read, was_read}
 use Rattle.archive_cli.proofs.read.read_limited.Goals as goal

@@ -1,7 +1,7 @@
 use Rattle.std.proofs.lemmas.Result.{err_from_is_err_and}
 use Rattle.std.proofs.Common.{◌≡◌, ◌∙◌, ℕ, ◌++◌, List, Some, true, false, length, refl, sym, ap, subst}
 use Rattle.std.specs.Prelude.{IsTrue, codes, decimal}
-use Rattle.arch_types.specs.declared.refusal.Refusal.TheVariants.{DiskFault}
+use Rattle.refusals.specs.declared.refusal.Refusal.TheVariants.{DiskFault}
 use Rattle.load_session.specs.Session.{OneOrTwo}
 use Rattle.history_items.specs.Items.{Item}
 use Rattle.interval_walks.specs.Counts.{late_intervals}
@@ -11,7 +11,7 @@ use Rattle.archive_store.specs.StoreView.{filled_of}
 use Rattle.archive_verify.specs.Verified.{late_in_archive}
 use Rattle.retrieval.specs.AddedFills.{AddsWholeFills}
 use Rattle.command_plans.specs.Plan.{OfMemory, and_then}
-use Rattle.dump_lines.specs.Output.{IsFinished}
+use Rattle.archive_cli.specs.Finishing.{IsFinished}
 use Rattle.archive_cli.specs.Command.{AllFilled, Extended, FillingFailed, HasDiskOutcome, Ran, effects_of, nothing_done, opening_plan}
 use Rattle.archive_cli.specs.Filling.{AllLateFilled, filling_refusal}
 use Rattle.archive_cli.specs.FillingPlan.{IsRecordCount}

@@ -1,7 +1,7 @@
 use Rattle.std.proofs.Common.{ap, refl, Some}
 use Rattle.std.specs.Result.{result_err}
 use Rattle.std.proofs.lemmas.Result.{err_from_is_err_and}
-use Rattle.arch_types.specs.declared.refusal.Refusal.TheVariants.{WriteFault}
+use Rattle.refusals.specs.declared.refusal.Refusal.TheVariants.{WriteFault}
 use Rattle.archive_cli.specs.Command.{effects_of}
 use Rattle.archive_cli.specs.Report.{unopened}
 use Rattle.archive_cli.proofs.scan_command.ScanPlan.{ran_scan_failed, ran_scanned, ran_unscanned}

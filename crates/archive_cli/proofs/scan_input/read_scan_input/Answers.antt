@@ -1,7 +1,7 @@
 use Rattle.std.proofs.Common.{◌≤◌, length, arith, rules, w64, SFits}
 use Rattle.std.proofs.lemmas.Int.{to_z-of_z}
 use Rattle.archive_cli.specs.ReadDump.{dump_limit}
-use Rattle.arch_types.specs.declared.refusal.Which.TheVariants.{DumpOctets}
+use Rattle.refusals.specs.declared.refusal.Which.TheVariants.{DumpOctets}
 use Rattle.outer_ledgers.proofs.Ledgers.{clock_unused}
 use Rattle.archive_cli.proofs.OverInputs.{memory_behind}
 use Rattle.archive_cli.proofs.scan_command.Scanned.{moment_of}

@@ -1,7 +1,7 @@
 use Rattle.std.proofs.Common.{◌++◌, take}
 use Rattle.std.specs.Prelude.{flat_map}
 use Rattle.archive_store.specs.StoreView.{archive_of}
-use Rattle.ssql_select.specs.Printed.{IsPrinted}
+use Rattle.dump_lines.specs.Printed.{IsPrinted}
 use Rattle.archive_cli.specs.sql_command.Statements.{statement_text}
 use Rattle.archive_cli.proofs.statements.answer_statements.Given as goal
 

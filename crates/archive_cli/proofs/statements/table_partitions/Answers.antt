@@ -1,10 +1,9 @@
 use Rattle.std.proofs.Common.{◌∙◌, ℕ, List, ap}
 use Rattle.partitions.specs.declared.partition.Partition.{Partition}
-use Rattle.archive_history.specs.TableSet.{rows_in_table}
+use Rattle.archive_history.specs.History.{rows_in_table}
 use Rattle.ssql_select.specs.ShowText.{partition_lines}
 use Rattle.archive_cli.specs.sql_command.Statements.{parts_of_rows}
-use Rattle.archive_cli.proofs.sql_command.HeldParts.{all_clocked, refused_alone}
-use Rattle.ssql_select.proofs.Selected.{if_ok}
+use Rattle.archive_cli.proofs.sql_command.HeldParts.{all_clocked}
 use Rattle.archive_cli.proofs.sql_command.RisingParts.{parts_are}
 use Rattle.archive_cli.proofs.statements.table_partitions.Goals as goal
 
@@ -14,10 +13,5 @@ returns-clause-lines g c =
     let clocks = all_clocked store.head store.history c.archived_rows_have_clock_times.ensures c.front-front.ensures.rows in
     let are = parts_are store.history c.args.table c.in_ok-parts.parts clocks (rw c.all_bounds-bounds.ensures at c.in_ok-parts.ensures.parts) in
     let rows = parts_of_rows (rows_in_table c.args.table store.history) in
-    if_ok c.partition_lines.result _ _
-    (λ lines is. is ∙ ap (λ (l : List Partition). partition_lines c.front-front.result c.args.table store.history l) are
-    ∙ ap (λ (front : ℕ). partition_lines front c.args.table store.history rows) c.front-front.ensures.front)
-    (rw (c.as_slice.ensures, c.source-source.ensures) at c.partition_lines.ensures.lines)
-
-pub returns-clause-refused : goal.returns-clause-refused
-returns-clause-refused g c = refused_alone c.partition_lines.result c.source-source.result c.partition_lines.new.source c.partition_lines.ensures.refused
+    (rw (c.as_slice.ensures, c.source-source.ensures) at c.in_ok-partition_lines.ensures.lines) ∙ ap (λ (l : List Partition). partition_lines c.front-front.result c.args.table store.history l) are
+    ∙ ap (λ (front : ℕ). partition_lines front c.args.table store.history rows) c.front-front.ensures.front

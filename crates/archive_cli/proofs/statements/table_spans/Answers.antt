@@ -1,6 +1,6 @@
 use Rattle.std.proofs.Common.{◌++◌, ◌∙◌, List, map, ap}
 use Rattle.arch_types.specs.declared.spans.Span.{Span}
-use Rattle.archive_history.specs.TableSet.{rows_in_table}
+use Rattle.archive_history.specs.History.{rows_in_table}
 use Rattle.ssql_select.specs.declared.show.ShowLine.TheVariants.{Histogram}
 use Rattle.archive_cli.proofs.sql_command.HeldParts.{records_more}
 use Rattle.archive_cli.proofs.statements.table_spans.Goals as goal

@@ -1,7 +1,7 @@
 use Rattle.std.proofs.Common.{◌≡◌}
 use Rattle.std.specs.Prelude.{flat_map}
 use Rattle.std.specs.List.{range_with_len}
-use Rattle.archive_history.specs.TableSet.{rows_in_table}
+use Rattle.archive_history.specs.History.{rows_in_table}
 use Rattle.archive_cli.specs.sql_command.Statements.{name_spans}
 use Rattle.archive_cli.proofs.statements.table_spans.Given as goal
 

@@ -1,8 +1,8 @@
 use Rattle.std.proofs.Common.{ap, refl, subst, Option, Some}
 use Rattle.std.specs.Result.{result_err}
 use Rattle.std.proofs.lemmas.Result.{err_from_is_err_and}
-use Rattle.arch_types.specs.declared.refusal.Refusal.{Refusal}
-use Rattle.arch_types.specs.declared.refusal.Which.TheVariants.{DumpOctets}
+use Rattle.refusals.specs.declared.refusal.Refusal.{Refusal}
+use Rattle.refusals.specs.declared.refusal.Which.TheVariants.{DumpOctets}
 use Rattle.command_words.specs.JobView.{words_of}
 use Rattle.outer_traits.specs.Outside.{Files}
 use Rattle.input_plans.specs.Inputs.{WasRead}

@@ -1,6 +1,6 @@
 use Rattle.std.proofs.Common.{◌≡◌, ◌∙◌, List, ℕ, inl, inr, refl, subst}
 use Rattle.archive_store.specs.StoreView.{filled_of}
-use Rattle.dump_lines.specs.Output.{IsFinished}
+use Rattle.archive_cli.specs.Finishing.{IsFinished}
 use Rattle.archive_cli.specs.verify_command.Verify.{verify_line}
 use Rattle.archive_cli.proofs.Comparing.{counted_line}
 use Rattle.archive_cli.proofs.verify.compare.Goals as goal

@@ -4,6 +4,6 @@ use Rattle.archive_core.proofs.fill_events.is_fill_base.Goals as goal
 
 pub returns-then-base-rows : goal.returns-then-base-rows
 returns-then-base-rows c = (
-  λ yes. base_is 22 c.args.interval c.args.base c.args.rows.now (omega (arith, c.if-base-rows.true)) (sym c.has_row_below.ensures ∙ yes),
-  λ is. c.has_row_below.ensures ∙ (base_back 22 c.args.interval c.args.base c.args.rows.now is).1,
+  λ yes. base_is c.args.exponent c.args.interval c.args.base c.args.rows.now (omega (arith, c.if-base-rows.true)) (sym c.has_row_below.ensures ∙ yes),
+  λ is. c.has_row_below.ensures ∙ (base_back c.args.exponent c.args.interval c.args.base c.args.rows.now is).1,
 )

@@ -15,8 +15,8 @@ loop-i-preserved c =
     let at : slice_get rows i ≡ Some row = slice_get_read rows (length rows) i row refl (omega (arith, c.loop-i-test.true)) c.index-rows-i.is in
     c.last_after-last.ensures
     ∙ ap (λ (b : Bool). if b then Some i else c.loop-i.last) c.is_row_of_interval.ensures
-    ∙ ap (λ (o : Option ℕ). if is_row_of_interval 22 interval row then Some i else o) c.loop-i.invariant
-    ∙ last_more 22 interval rows i row at
+    ∙ ap (λ (o : Option ℕ). if is_row_of_interval c.args.exponent interval row then Some i else o) c.loop-i.invariant
+    ∙ last_more c.args.exponent interval rows i row at
 
 pub returns : goal.returns
-returns c = c.loop-i.invariant ∙ last_all 22 c.args.interval c.args.rows.now c.loop-i.i (omega (arith, c.loop-i-test.false))
+returns c = c.loop-i.invariant ∙ last_all c.args.exponent c.args.interval c.args.rows.now c.loop-i.i (omega (arith, c.loop-i-test.false))

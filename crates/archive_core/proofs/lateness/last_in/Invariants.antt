@@ -3,4 +3,4 @@ use Rattle.history_items.specs.Late.{last_in}
 use Rattle.archive_core.proofs.lateness.last_in.Given as goal
 
 abbrev pub invariant-loop-i : goal.invariant-loop-i
-invariant-loop-i l = l.last ≡ last_in 22 l.interval (take l.i l.rows)
+invariant-loop-i l = l.last ≡ last_in l.exponent l.interval (take l.i l.rows)

@@ -12,7 +12,7 @@ loop-i-preserved c =
     let i = c.loop-i.i in
     let row : Row = c.index-rows-i.result in
     let at : slice_get rows i ≡ Some row = slice_get_read rows (length rows) i row refl (omega (arith, c.loop-i-test.true)) c.index-rows-i.is in
-    subst (IsLeastSoFar 22 rows fills (i + 1)) (sym c.least_after-least.ensures) (least_more 22 rows fills i row at c.loop-i.least c.loop-i.invariant)
+    subst (IsLeastSoFar c.args.exponent rows fills (i + 1)) (sym c.least_after-least.ensures) (least_more c.args.exponent rows fills i row at c.loop-i.least c.loop-i.invariant)
 
 pub returns : goal.returns
-returns c = least_is 22 c.args.rows.now c.args.fills.now c.loop-i.i c.loop-i.least (omega (arith, c.loop-i-test.false)) c.loop-i.invariant
+returns c = least_is c.args.exponent c.args.rows.now c.args.fills.now c.loop-i.i c.loop-i.least (omega (arith, c.loop-i-test.false)) c.loop-i.invariant

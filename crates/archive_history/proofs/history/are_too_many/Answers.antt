@@ -3,12 +3,14 @@ use Rattle.history_items.specs.Items.{is_row_of_interval}
 use Rattle.archive_history.proofs.Steps.{few_filter}
 use Rattle.archive_history.proofs.history.are_too_many.Goals as goal
 
-pub returns-then-known-rows-clause-none : goal.returns-then-known-rows-clause-none
-returns-then-known-rows-clause-none c few =
-    omega (arith, c.rows_of-known.ensures, few_filter (is_row_of_interval 22 c.args.interval) c.args.rows.now, c.if-known-rows.true, c.limit.ensures)
+pub returns-then-known-rows : goal.returns-then-known-rows
+returns-then-known-rows c = (
+  λ is. absurd cc,
+  λ many. absurd (omega (arith, many, c.rows_of-known.ensures, few_filter (is_row_of_interval c.args.exponent c.args.interval) c.args.rows.now, c.if-known-rows.true, c.number.ensures)),
+)
 
 pub overflow_add-result : goal.overflow_add-result
 overflow_add-result c =
     let less : c.rows_of-known.result + c.interval_rows_in.result < 2 ^ 64 =
-    omega (arith, c.rows_of-known.ensures, c.requires.counted, c.interval_rows_in.ensures, few_filter (is_row_of_interval 22 c.args.interval) c.args.rows.now, c.requires.few) in
+    omega (arith, c.rows_of-known.ensures, c.requires.counted, c.interval_rows_in.ensures, few_filter (is_row_of_interval c.args.exponent c.args.interval) c.args.rows.now, c.requires.few) in
     search (rules, arith)

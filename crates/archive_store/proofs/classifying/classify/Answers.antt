@@ -9,10 +9,9 @@ use Rattle.archive_store.proofs.classifying.classify.Goals as goal
 
 pub loop-arrival-preserved : goal.loop-arrival-preserved
 loop-arrival-preserved c =
-    let rows = arrival_rows c.args.batch.now.rectime in
     let arrivals = c.args.batch.now.arrivals in
     let i = c.loop-arrival.arrival-index in
     let within : i < length arrivals = subst (λ (l : List Arrival). i < length l) c.as_slice-arrival-items.ensures c.loop-arrival-test.true in
     let is = subst (λ (l : List Arrival). c.arrival-item.result ≡ get_or l i c.arrival-item.result) c.as_slice-arrival-items.ensures c.arrival-item.is in
-    subst (λ (l : List Row). IsClassified c.args.history.now.items l c.classify_arrival.new.classified) (sym (flat_more rows arrivals i c.arrival-item.result within is))
-    (c.in_ok-classify_arrival.ensures (flat_map rows (take i arrivals)) c.loop-arrival.invariant)
+    subst (λ (l : List Row). IsClassified c.args.history.now.items l c.classify_arrival.new.classified) (sym (flat_more arrival_rows arrivals i c.arrival-item.result within is))
+    (c.in_ok-classify_arrival.ensures (flat_map arrival_rows (take i arrivals)) c.loop-arrival.invariant)

@@ -5,4 +5,4 @@ use Rattle.archive_store.specs.Classifying.{IsClassified}
 use Rattle.archive_store.proofs.classifying.classify.Given as goal
 
 abbrev pub invariant-loop-arrival : goal.invariant-loop-arrival
-invariant-loop-arrival l = IsClassified l.history.items (flat_map (arrival_rows l.batch.rectime) (take l.arrival-index l.batch.arrivals)) l.classified
+invariant-loop-arrival l = IsClassified l.history.items (flat_map arrival_rows (take l.arrival-index l.batch.arrivals)) l.classified

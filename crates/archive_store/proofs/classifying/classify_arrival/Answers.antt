@@ -1,13 +1,13 @@
 use Rattle.std.proofs.Common.{◌<◌, ◌++◌, ℕ, length, List, map, take, sym, ◌∙◌, ap, subst, append_assoc, [], ◌∷◌, get_or}
 use Rattle.arch_types.specs.declared.row.Row.{Row}
-use Rattle.archive_store.specs.Batches.{arrival_row}
+use Rattle.archive_store.specs.Batches.{in_table}
 use Rattle.archive_store.specs.Classifying.{IsClassified}
 use Rattle.archive_history.proofs.Steps.{map_more}
 use Rattle.archive_store.proofs.classifying.classify_arrival.Goals as goal
 
 pub loop-table-preserved : goal.loop-table-preserved
 loop-table-preserved c rows was =
-    let row = arrival_row c.args.batch.now.rectime c.args.arrival.now in
+    let row = in_table c.args.arrival.now.row in
     let tables = c.args.arrival.now.tables in
     let i = c.loop-table.table-index in
     let within : i < length tables = subst (λ (l : List ℕ). i < length l) c.as_slice-table-items.ensures c.loop-table-test.true in

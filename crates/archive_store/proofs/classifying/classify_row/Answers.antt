@@ -1,16 +1,14 @@
-use Rattle.std.proofs.Common.{◌≡◌, ◌++◌, [], ◌∷◌, List, sym, ◌∙◌, ap, subst}
+use Rattle.std.proofs.Common.{◌≡◌, ◌++◌, [], ◌∷◌, List, refl, sym, ◌∙◌, ap, subst}
 use Rattle.std.specs.List.{AllByRecursion}
 use Rattle.std.proofs.lemmas.List.{append-nil}
 use Rattle.block_map.proofs.Rising.{all_append}
 use Rattle.octet_fields.specs.Exact.{IsOctets}
 use Rattle.arch_types.specs.declared.inserted.Inserted.{Inserted}
 use Rattle.arch_types.specs.declared.inserted.Inserted.TheVariants.{New, Duplicate}
-use Rattle.arch_types.specs.declared.key.Key.{Key}
 use Rattle.arch_types.specs.declared.row.Row.{Row}
 use Rattle.history_items.specs.Outcomes.{Says, fresh_of}
-use Rattle.archive_store.specs.Batches.{arrival_row}
+use Rattle.archive_store.specs.Batches.{in_table}
 use Rattle.archive_store.specs.Classifying.{IsClassified, NoneAbove}
-use Rattle.archive_store.specs.declared.classifying.TableKey.{TableKey}
 use Rattle.archive_store.proofs.Outcomes.{outcomes_more, fresh_more}
 use Rattle.archive_history.proofs.Steps.{on_both}
 use Rattle.archive_store.proofs.classifying.classify_row.Goals as goal
@@ -19,8 +17,8 @@ pub returns-in-Duplicate : goal.returns-in-Duplicate
 returns-in-Duplicate c rows s =
     let items = c.args.history.now.items in
     let old = c.args.classified.now in
-    let row : Row = arrival_row c.args.batch.now.rectime c.args.arrival.now c.args.table in
-    let says = subst (λ (l : List Row). Says (items ++ l) row (Duplicate c.in-Duplicate.field-0)) s.fresh (subst (Says (items ++ old.fresh) row) c.in-Duplicate.is (c.outcome-outcome.ensures.says row (ap (λ (k : Key). let at : TableKey = record { key = k; table = c.args.table } in at) (sym c.key_at-key.ensures)))) in
+    let row : Row = in_table c.args.row.now c.args.table in
+    let says = subst (λ (l : List Row). Says (items ++ l) row (Duplicate c.in-Duplicate.field-0)) s.fresh (subst (Says (items ++ old.fresh) row) c.in-Duplicate.is (c.outcome-outcome.ensures.says row refl)) in
     let outcomes = outcomes_more items rows row (Duplicate c.in-Duplicate.field-0) c.outcome-outcome.ensures.history says in
     let fresh = fresh_more items rows row (Duplicate c.in-Duplicate.field-0) c.outcome-outcome.ensures.history says in
     record {
@@ -30,21 +28,21 @@ returns-in-Duplicate c rows s =
       octets = s.octets;
     }
 
-pub returns-in_ok-row-in-New : goal.returns-in_ok-row-in-New
-returns-in_ok-row-in-New c rows s =
+pub returns-in_ok-fresh-in-New : goal.returns-in_ok-fresh-in-New
+returns-in_ok-fresh-in-New c rows s =
     let items = c.args.history.now.items in
     let old = c.args.classified.now in
     let n = c.in-New.field-0 in
-    let row : Row = arrival_row c.args.batch.now.rectime c.args.arrival.now c.args.table in
-    let says = subst (λ (l : List Row). Says (items ++ l) row (New n)) s.fresh (subst (Says (items ++ old.fresh) row) c.in-New.is (c.outcome-outcome.ensures.says row (ap (λ (k : Key). let at : TableKey = record { key = k; table = c.args.table } in at) (sym c.key_at-key.ensures)))) in
+    let row : Row = in_table c.args.row.now c.args.table in
+    let says = subst (λ (l : List Row). Says (items ++ l) row (New n)) s.fresh (subst (Says (items ++ old.fresh) row) c.in-New.is (c.outcome-outcome.ensures.says row refl)) in
     let outcomes = outcomes_more items rows row (New n) c.outcome-outcome.ensures.history says in
     let fresh = fresh_more items rows row (New n) c.outcome-outcome.ensures.history says in
-    on_both c.keep.result (c.keep.new.classified.fresh ≡ old.fresh ++ c.in_ok-row-in-New.row ∷ []) (NoneAbove c.keep.new.classified.last c.keep.new.classified.fresh) (IsClassified items (rows ++ row ∷ []) c.keep.new.classified)
+    on_both c.keep.result (c.keep.new.classified.fresh ≡ old.fresh ++ c.in_ok-fresh-in-New.fresh ∷ []) (NoneAbove c.keep.new.classified.last c.keep.new.classified.fresh) (IsClassified items (rows ++ row ∷ []) c.keep.new.classified)
     (λ is last. record {
       outcomes = c.keep.ensures.outcomes ∙ c.in_ok-push.ensures.ok ∙ ap (λ (o : Inserted). old.outcomes ++ o ∷ []) c.in-New.is ∙ ap (λ (l : List Inserted). l ++ New n ∷ []) s.outcomes ∙ sym outcomes;
-      fresh = is ∙ ap (λ (r : Row). old.fresh ++ r ∷ []) c.in_ok-row-in-New.ensures ∙ ap (λ (l : List Row). l ++ row ∷ []) s.fresh ∙ sym fresh;
+      fresh = is ∙ ap (λ (r : Row). old.fresh ++ r ∷ []) c.in_ok-fresh-in-New.ensures ∙ ap (λ (l : List Row). l ++ row ∷ []) s.fresh ∙ sym fresh;
       last = last;
-      octets = subst (AllByRecursion (λ r. IsOctets r.packet)) (sym (is ∙ ap (λ (r : Row). old.fresh ++ r ∷ []) c.in_ok-row-in-New.ensures))
+      octets = subst (AllByRecursion (λ r. IsOctets r.packet)) (sym (is ∙ ap (λ (r : Row). old.fresh ++ r ∷ []) c.in_ok-fresh-in-New.ensures))
           (all_append (λ r. IsOctets r.packet) old.fresh (row ∷ []) s.octets (c.packet_is_octets.ensures, tt));
     })
     c.keep.ensures.fresh c.keep.ensures.last

@@ -4,7 +4,7 @@ use Rattle.std.proofs.lemmas.Bool.{or_from}
 use Rattle.std.proofs.lemmas.List.{take_all}
 use Rattle.std.proofs.lemmas.List.Folds.{list_any_more}
 use Rattle.std.proofs.lemmas.Option.{slice_get_read}
-use Rattle.archive_history.specs.TableSet.{is_at_key}
+use Rattle.archive_history.specs.History.{is_at_key}
 use Rattle.archive_store.proofs.Outcomes.{key_test}
 use Rattle.archive_store.proofs.classifying.place_of.Goals as goal
 

@@ -1,6 +1,6 @@
 use Rattle.std.proofs.Common.{◌≡◌, take, false}
 use Rattle.std.specs.List.{list_any}
-use Rattle.archive_history.specs.TableSet.{is_at_key}
+use Rattle.archive_history.specs.History.{is_at_key}
 use Rattle.archive_store.proofs.classifying.place_of.Given as goal
 
 -- none of the rows before has that table and key

@@ -1,10 +1,10 @@
-use Rattle.std.proofs.Common.{◌≡◌, ◌++◌, List, length, sym, ◌∙◌, ap, subst, arith}
+use Rattle.std.proofs.Common.{◌≡◌, ◌++◌, ℕ, List, length, sym, ◌∙◌, ap, subst, arith}
 use Rattle.arch_types.specs.declared.row.Row.{Row}
 use Rattle.std.specs.List.{AllByRecursion}
 use Rattle.history_items.specs.declared.fills.Fill.{Fill}
 use Rattle.store_fills.specs.Faults.{IsDone}
 use Rattle.history_items.specs.Items.{Item}
-use Rattle.archive_history.specs.TableSet.{HistoryView}
+use Rattle.archive_history.specs.History.{HistoryView}
 use Rattle.fill_tracker.specs.FillTracker.{AreMarksOf}
 use Rattle.archive_store.specs.Inside.{HoldsFills}
 use Rattle.archive_store.proofs.reading.admit.Goals as goal
@@ -17,9 +17,11 @@ returns-clause-marks c all =
     let items : List Item = c.args.made.now.history.items in
     let rows : List Row = c.args.rows in
     let roomy : c.reserve.new.self.items ≡ items = ap (λ (h : HistoryView). h.items) c.in_ok-reserve.ensures.ok in
-    let marks = c.touch.ensures.marks items (omega (arith, c.len-first.ensures.len, ap length roomy)) (c.reserve_rows.ensures.marks items c.requires.marks.1) in
+    let format = c.exponent.ensures ∙ ap (λ (h : HistoryView). h.exponent) c.in_ok-reserve.ensures.ok ∙ c.requires.tables.1 in
+    let before = subst (λ (e : ℕ). AreMarksOf e items c.reserve_rows.new.self.fills c.reserve_rows.new.self.marks) (sym format) (c.reserve_rows.ensures.marks 22 items c.requires.marks.1) in
+    let marks = subst (λ (e : ℕ). AreMarksOf e (items ++ c.as_slice-3.result.now) c.touch.new.self.fills c.touch.new.self.marks) format (c.touch.ensures.marks items (omega (arith, c.len-first.ensures.len, ap length roomy)) before) in
     let touched = subst (λ (l : List Row). AreMarksOf 22 (items ++ l) c.touch.new.self.fills c.touch.new.self.marks) c.as_slice-3.ensures marks in
-    let added = (c.add_all.ensures.all all).1 ∙ ap (λ (l : List Item). l ++ rows) roomy in
+    let added = c.add_all.ensures.items all ∙ ap (λ (l : List Item). l ++ rows) roomy in
     let fills = c.touch.ensures.fills ∙ c.reserve_rows.ensures.fills in (
       subst (AllByRecursion IsDone) (sym fills) c.requires.marks.0,
       subst (λ (l : List Item). AreMarksOf 22 l c.touch.new.self.fills c.touch.new.self.marks) (sym added) touched,

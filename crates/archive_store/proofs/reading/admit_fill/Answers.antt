@@ -4,7 +4,7 @@ use Rattle.std.specs.List.{AllByRecursion}
 use Rattle.history_items.specs.declared.fills.Fill.TheVariants.{Done}
 use Rattle.store_fills.specs.Faults.{IsDone}
 use Rattle.store_fills.proofs.Faults.{all_done}
-use Rattle.archive_history.specs.TableSet.{HistoryView}
+use Rattle.archive_history.specs.History.{HistoryView}
 use Rattle.fill_tracker.specs.FillTracker.{AreMarksOf}
 use Rattle.param_segments.specs.Extracted.{IsSetOf}
 use Rattle.param_segments.specs.Octets.{rows_in_octets, set_octets}
@@ -62,7 +62,7 @@ returns-clause-marks c ok =
     let fills = c.in_ok-note_fill.ensures.fills in
     let is : IsSetOf made.head.mdb 22 i.0 (arc_value c.in_ok-shared.shared) = subst (IsSetOf made.head.mdb 22 i.0) (sym c.in_ok-shared.ensures.ok) read.0 in (
       subst (AllByRecursion IsDone) (sym fills) (all_done made.tracker.fills (Done i base) c.requires.marks.0 tt),
-      subst (λ (h : HistoryView). AreMarksOf 22 h.items new.tracker.fills new.tracker.marks) (sym rest.1) (c.in_ok-note_fill.ensures.marks made.history.items c.requires.marks.1),
+      subst (λ (h : HistoryView). AreMarksOf 22 h.items new.tracker.fills new.tracker.marks) (sym rest.1) (c.in_ok-note_fill.ensures.marks 22 made.history.items c.requires.marks.1),
       subst (λ (h : Head). HoldsFills h new.tracker.fills new.sets.filled) (sym rest.0)
           (holds_done made.head made.tracker.fills new.tracker.fills made.sets.filled new.sets.filled i base (arc_value c.in_ok-shared.shared) c.requires.marks.2 fills c.in_ok-note_fill.ensures.sets is),
     )

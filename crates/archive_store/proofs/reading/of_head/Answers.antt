@@ -1,7 +1,7 @@
 use Rattle.std.proofs.Common.{◌≡◌, [], ◌∙◌, List, ap, subst, sym}
 use Rattle.param_segments.specs.Rows.{SetRow}
 use Rattle.history_items.specs.Items.{Item}
-use Rattle.archive_history.specs.TableSet.{HistoryView}
+use Rattle.archive_history.specs.History.{HistoryView}
 use Rattle.fill_tracker.specs.FillTracker.{AreMarksOf}
 use Rattle.store_fills.specs.Faults.{IsDone}
 use Rattle.std.specs.List.{AllByRecursion}
@@ -23,6 +23,6 @@ returns-clause-marks c =
     let empty : c.in_ok-history.history.items ≡ [] = ap (λ (h : HistoryView). h.items) c.in_ok-history.ensures in
     let tracker = c.new-tracker.result in (
       subst (AllByRecursion IsDone) (sym c.new-tracker.ensures.fills) tt,
-      subst (λ (l : List Item). AreMarksOf 22 l tracker.fills tracker.marks) (sym empty) c.new-tracker.ensures.marks,
+      subst (λ (l : List Item). AreMarksOf 22 l tracker.fills tracker.marks) (sym empty) (c.new-tracker.ensures.marks 22),
       holds_none c.args.head tracker.fills c.new-sets.result.filled c.new-tracker.ensures.fills (none_filled c.new-sets.result.filled c.new-sets.ensures),
     )

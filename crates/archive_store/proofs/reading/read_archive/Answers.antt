@@ -1,7 +1,7 @@
 use Rattle.std.proofs.Common.{◌≡◌, ◌++◌, [], ◌∷◌, ℕ, List, None, Some, map, refl, sym, ◌∙◌, ap, subst}
 use Rattle.arch_disk.specs.Image.{Image}
 use Rattle.arch_disk.proofs.Moments.{looked_on}
-use Rattle.arch_types.specs.declared.refusal.Refusal.TheVariants.{Damaged}
+use Rattle.refusals.specs.declared.refusal.Refusal.TheVariants.{Damaged}
 use Rattle.disk_journal.specs.Calls.{content_read}
 use Rattle.disk_journal.specs.Format.{HasRecords}
 use Rattle.disk_journal.specs.Reading.{IsAt, IsCutShortAt, IsReadJournal, file_read}

@@ -2,7 +2,7 @@ use Rattle.std.proofs.Common.{◌≡◌, Option, Some, true, false, refl, sym, �
 use Rattle.std.specs.Prelude.{length}
 use Rattle.field_codec.specs.declared.entry.Entry.TheVariants as kinds
 use Rattle.field_codec.specs.Entries.{IsArchiveEntry}
-use Rattle.archive_history.specs.TableSet.{HistoryView}
+use Rattle.archive_history.specs.History.{HistoryView}
 use Rattle.archive_history.proofs.Steps.{if_ok}
 use Rattle.archive_store.specs.declared.head.Head.{Head}
 use Rattle.archive_store.specs.declared.reading.PartialArchive.{PartialArchive}
@@ -13,7 +13,7 @@ use Rattle.archive_store.proofs.reading.take_fill.Goals as goal
 -- the tables of what has the same head and history
 tables_rest : (made now : PartialArchive) → (now.head ≡ made.head) × (now.history ≡ made.history) → HasTables (Some made) → HasTables (Some now)
 tables_rest made now rest has = (
-  ap (λ (h : HistoryView). h.tables) rest.1 ∙ has.0 ∙ ap (λ (h : Head). length h.tables) (sym rest.0),
+  (ap (λ (h : HistoryView). h.tables) rest.1 ∙ has.0.0 ∙ ap (λ (h : Head). length h.tables) (sym rest.0), ap (λ (h : HistoryView). h.exponent) rest.1 ∙ has.0.1),
   subst (λ (h : Head). IsArchiveEntry (kinds.Head h.tables h.mdb)) (sym rest.0) has.1,
 )
 

@@ -1,7 +1,7 @@
 use Rattle.std.proofs.Common.{◌≡◌, ◌++◌, drop}
 use Rattle.std.specs.List.{filter_map}
-use Rattle.archive_store.specs.Replays.{packet_number}
+use Rattle.asks.specs.Names.{packet_name_number}
 use Rattle.archive_store.proofs.replaying.numbers_of.Given as goal
 
 abbrev pub invariant-loop-name : goal.invariant-loop-name
-invariant-loop-name l = l.numbers ++ filter_map (packet_number l.head) (drop l.name-index l.names) ≡ filter_map (packet_number l.head) l.names
+invariant-loop-name l = l.numbers ++ filter_map (packet_name_number l.head.mdb) (drop l.name-index l.names) ≡ filter_map (packet_name_number l.head.mdb) l.names

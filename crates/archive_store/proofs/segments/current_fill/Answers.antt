@@ -8,13 +8,13 @@ use Rattle.archive_store.proofs.CurrentSets.{if_any}
 use Rattle.archive_store.proofs.segments.current_fill.Goals as goal
 
 pub returns-then-is_late-clause-none : goal.returns-then-is_late-clause-none
-returns-then-is_late-clause-none c = λ history are. inl ((c.is_late.ensures history are).0 c.if-is_late.true)
+returns-then-is_late-clause-none c = λ history are. inl ((c.is_late.ensures 22 history are).0 c.if-is_late.true)
 
 pub returns-clause-current : goal.returns-clause-current
 returns-clause-current c =
     let tracker = c.args.tracker.now in
     if_any c.get.result ((history : List Item) → AreMarksOf 22 history tracker.fills tracker.marks → IsLate 22 c.args.interval history tracker.fills → ⊥)
-    (λ history are late. true≢false (sym ((c.is_late.ensures history are).1 late) ∙ c.if-is_late.false))
+    (λ history are late. true≢false (sym ((c.is_late.ensures 22 history are).1 late) ∙ c.if-is_late.false))
 
 pub returns-clause-none : goal.returns-clause-none
 returns-clause-none c =

@@ -1,7 +1,7 @@
 use Rattle.std.proofs.Common.{◌≡◌, Some, get_or, pos, subst}
 use Rattle.std.specs.Prelude.{slice_get, IfNone, IfSome}
 use Rattle.std.proofs.lemmas.Option.{slice_get-get_or}
-use Rattle.arch_types.specs.declared.interval.Interval.{Interval}
+use Rattle.intervals.specs.declared.interval.Interval.{Interval}
 use Rattle.archive_store.specs.StoreView.{filled_of}
 use Rattle.archive_verify.specs.Verified.{HoldsWhereCurrent, IsIntervalMismatch}
 use Rattle.archive_verify.proofs.Currents.{holds_before, holds_more}

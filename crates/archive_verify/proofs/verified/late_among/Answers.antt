@@ -1,7 +1,7 @@
 use Rattle.std.proofs.Common.{◌≡◌, ◌∙◌, ◌+◌, length, take, Bool, Some, get_or, pos, ap, arith}
 use Rattle.std.specs.Prelude.{slice_get, filter, if◌then◌else◌}
 use Rattle.std.proofs.lemmas.Option.{slice_get-get_or}
-use Rattle.arch_types.specs.declared.interval.Interval.{Interval}
+use Rattle.intervals.specs.declared.interval.Interval.{Interval}
 use Rattle.history_items.specs.Late.{is_late_in}
 use Rattle.archive_verify.proofs.Counting.{late_told, passed_more}
 use Rattle.archive_verify.proofs.verified.late_among.Goals.{then-is_late, else-is_late}

@@ -1,7 +1,7 @@
 use Rattle.std.proofs.Common.{◌∙◌, length, List, ap, subst}
 use Rattle.std.specs.Prelude.{IfNone, IfSome, filter}
 use Rattle.std.specs.List.{AllByRecursion}
-use Rattle.arch_types.specs.declared.interval.Interval.{Interval}
+use Rattle.intervals.specs.declared.interval.Interval.{Interval}
 use Rattle.history_items.specs.Late.{is_late_in}
 use Rattle.archive_store.specs.declared.head.Head.{Head}
 use Rattle.archive_store.specs.StoreView.{filled_of}

@@ -1,6 +1,6 @@
 use Rattle.std.proofs.Common.{◌∙◌, ◌≤◌, ℕ, List, length, ap, arith, subst, sym}
-use Rattle.arch_types.specs.declared.refusal.Which.TheVariants.{SheetOctets}
-use Rattle.arch_types.specs.Limits.{limit_of}
+use Rattle.refusals.specs.declared.refusal.Which.TheVariants.{SheetOctets}
+use Rattle.refusals.specs.Limits.{limit_of}
 use Rattle.outer_traits.specs.Whole.{IsInputFault}
 use Rattle.input_plans.specs.Inputs.{WasRead}
 use Rattle.input_plans.proofs.Whole.{not_read, was_read, without_memory}

@@ -1,17 +1,18 @@
-use Rattle.std.proofs.Common.{◌≡◌, ◌+◌, ◌++◌, ◌<◌, length}
+use Rattle.std.proofs.Common.{◌≡◌, ◌+◌, ◌++◌, length}
 use Rattle.outer_traits.specs.Outside.{Stays}
 use Rattle.history_items.specs.Items.{rows_in}
 use Rattle.dump_lines.specs.Output.{IsBuffered}
 use Rattle.replay_merge.specs.Cursor.{steps_at_most, rest_of}
 use Rattle.retrieval.specs.ReplayText.{packet_lines}
 use Rattle.retrieval.proofs.replay.print_rest.Given as goal
+use Rattle.dump_lines.specs.LineRoom.{HasLineRoom}
 
 abbrev pub invariant-steps : goal.invariant-steps
 invariant-steps g l = record {
   buffered : IsBuffered (g.K.Sink.state l.fn.sink).written (g.K.Sink.state l.sink).written
       (l.initial.line_buffer ++ packet_lines l.initial.store.head.mdb l.table (rest_of l.fn.cursor (rows_in l.initial.store.history)))
       (l.line_buffer ++ packet_lines l.initial.store.head.mdb l.table (rest_of l.cursor (rows_in l.initial.store.history)));
-  room : length l.line_buffer < 65536;
+  room : HasLineRoom l.line_buffer;
   counted : l.count + length (rest_of l.cursor (rows_in l.initial.store.history)) ≡ length (rest_of l.fn.cursor (rows_in l.initial.store.history));
   no_fault : Stays (g.K.Sink.state l.fn.sink).faults (g.K.Sink.state l.sink).faults;
   same : l.store ≡ l.initial.store;

@@ -1,4 +1,4 @@
-use Rattle.std.proofs.Common.{◌≡◌, ◌++◌, [], ◌∷◌, List, length, refl, sym, ◌∙◌, ap, subst, arith, append_assoc}
+use Rattle.std.proofs.Common.{◌≡◌, ℕ, ◌++◌, [], ◌∷◌, List, length, refl, sym, ◌∙◌, ap, subst, arith, append_assoc}
 use Rattle.arch_types.specs.declared.row.Row.{Row}
 use Rattle.arch_types.specs.History.{ingested, with_row}
 use Rattle.history_items.specs.Items.{Item}
@@ -20,6 +20,7 @@ loop-row-init c =
       items = sym (append-nil c.args.self.now.items);
       fresh = sym (append-nil c.args.self.now.items);
       tables = refl;
+      exponent = refl;
       room = omega (arith, ap length gives, c.requires.room);
     }
 
@@ -38,19 +39,23 @@ pub add-requires-clause-within : goal.add-requires-clause-within
 add-requires-clause-within c =
     let step : c.loop-row.row-iterator.rest.items ≡ c.in-Some.row ∷ c.next.new.self.rest.items = let s = c.in-Some.ensures.steps in cc in
     let left = ap (λ (l : List Row). c.loop-row.yielded ++ l) (sym step) ∙ c.loop-row.invariant.left in
-    subst (λ (l : List Item). IsWithin 22 (l ++ c.in-Some.row ∷ [])) (sym c.loop-row.invariant.items)
-    (first_within c.args.self.now.items c.loop-row.yielded c.next.new.self.rest.items c.args.rows c.in-Some.row left c.requires.within)
+    subst (λ (e : ℕ). IsWithin e (c.loop-row.self.items ++ c.in-Some.row ∷ [])) (sym c.loop-row.invariant.exponent)
+    (subst (λ (l : List Item). IsWithin c.args.self.now.exponent (l ++ c.in-Some.row ∷ [])) (sym c.loop-row.invariant.items)
+    (first_within c.args.self.now.exponent c.args.self.now.items c.loop-row.yielded c.next.new.self.rest.items c.args.rows c.in-Some.row left c.requires.within))
 
-pub returns-then-not-add-clause-some : goal.returns-then-not-add-clause-some
-returns-then-not-add-clause-some c is =
+pub returns-then-not-add-clause-all : goal.returns-then-not-add-clause-all
+returns-then-not-add-clause-all c =
     let step : c.loop-row.row-iterator.rest.items ≡ c.in-Some.row ∷ c.next.new.self.rest.items = let s = c.in-Some.ensures.steps in cc in
     let left = ap (λ (l : List Row). c.loop-row.yielded ++ l) (sym step) ∙ c.loop-row.invariant.left in
     let known : with_row (c.args.self.now.items ++ c.loop-row.yielded) c.in-Some.row ≡ c.args.self.now.items ++ c.loop-row.yielded =
     subst (λ (l : List Item). with_row l c.in-Some.row ≡ l) c.loop-row.invariant.items (sym c.add.ensures.items ∙ c.if-not-add.ensures.known refl) in
-    not_all c.args.self.now.items c.loop-row.yielded c.next.new.self.rest.items c.args.rows c.in-Some.row left known
+    (λ is. absurd cc, λ all. absurd (not_all c.args.self.now.items c.loop-row.yielded c.next.new.self.rest.items c.args.rows c.in-Some.row left known all))
 
 pub returns-then-not-add-clause-tables : goal.returns-then-not-add-clause-tables
 returns-then-not-add-clause-tables c = c.add.ensures.tables ∙ c.loop-row.invariant.tables
+
+pub returns-then-not-add-clause-exponent : goal.returns-then-not-add-clause-exponent
+returns-then-not-add-clause-exponent c = c.add.ensures.exponent ∙ c.loop-row.invariant.exponent
 
 pub loop-row-preserved : goal.loop-row-preserved
 loop-row-preserved c =
@@ -65,14 +70,24 @@ loop-row-preserved c =
       items = grown ∙ ap (λ (l : List Item). l ++ row ∷ []) inv.items ∙ append_assoc c.args.self.now.items c.loop-row.yielded (row ∷ []);
       fresh = fresh_next c.args.self.now.items c.loop-row.yielded row inv.fresh new;
       tables = c.add.ensures.tables ∙ inv.tables;
+      exponent = c.add.ensures.exponent ∙ inv.exponent;
       room = omega (arith, inv.room, ap length step, c.add.ensures.room);
     }
 
 pub returns-clause-all : goal.returns-clause-all
-returns-clause-all c is =
+returns-clause-all c =
     let none : c.loop-row.row-iterator.rest.items ≡ [] = no_items c.loop-row.row-iterator.rest.items (omega (arith, c.in-None.ensures.steps.0, c.loop-row.row-iterator.rest.ok.0)) in
     let all : c.loop-row.yielded ≡ c.args.rows = ended c.loop-row.yielded c.loop-row.row-iterator.rest.items c.args.rows c.loop-row.invariant.left none in
-    (subst (λ (l : List Row). ingested c.args.self.now.items l ≡ c.args.self.now.items ++ l) all c.loop-row.invariant.fresh, c.loop-row.invariant.items ∙ ap (λ (l : List Row). c.args.self.now.items ++ l) all)
+    (λ is. subst (λ (l : List Row). ingested c.args.self.now.items l ≡ c.args.self.now.items ++ l) all c.loop-row.invariant.fresh, λ new. refl)
+
+pub returns-clause-items : goal.returns-clause-items
+returns-clause-items c is =
+    let none : c.loop-row.row-iterator.rest.items ≡ [] = no_items c.loop-row.row-iterator.rest.items (omega (arith, c.in-None.ensures.steps.0, c.loop-row.row-iterator.rest.ok.0)) in
+    let all : c.loop-row.yielded ≡ c.args.rows = ended c.loop-row.yielded c.loop-row.row-iterator.rest.items c.args.rows c.loop-row.invariant.left none in
+    c.loop-row.invariant.items ∙ ap (λ (l : List Row). c.args.self.now.items ++ l) all
 
 pub returns-clause-tables : goal.returns-clause-tables
 returns-clause-tables c = c.loop-row.invariant.tables
+
+pub returns-clause-exponent : goal.returns-clause-exponent
+returns-clause-exponent c = c.loop-row.invariant.exponent

@@ -8,5 +8,6 @@ invariant-loop-row l = record {
   items : l.self.items ≡ l.fn.self.items ++ l.yielded;
   fresh : ingested l.fn.self.items l.yielded ≡ l.fn.self.items ++ l.yielded;
   tables : l.self.tables ≡ l.fn.self.tables;
+  exponent : l.self.exponent ≡ l.fn.self.exponent;
   room : length l.row-iterator.rest.items ≤ l.self.room;
 }

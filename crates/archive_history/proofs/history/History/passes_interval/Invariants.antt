@@ -4,4 +4,4 @@ use Rattle.archive_history.proofs.Intervals.{IsCounted}
 use Rattle.archive_history.proofs.history.History.passes_interval.Given as goal
 
 abbrev pub invariant-loop-row : goal.invariant-loop-row
-invariant-loop-row l = AllByRecursion (IsCounted l.self.items l.rows) (take l.row-index l.rows)
+invariant-loop-row l = AllByRecursion (IsCounted l.self.exponent l.self.items l.rows) (take l.row-index l.rows)

@@ -1,5 +1,5 @@
 use Rattle.std.proofs.Common.{◌+◌, ℕ, List, ◌∙◌, ap, arith}
-use Rattle.arch_types.specs.declared.interval.Interval.{Interval}
+use Rattle.intervals.specs.declared.interval.Interval.{Interval}
 use Rattle.archive_history.specs.LimitCounts.{LimitCountsView, interval_row_count, one_at}
 use Rattle.archive_history.proofs.Counting.{at_most, counted}
 use Rattle.archive_history.proofs.limit_counts.LimitCounts.add_row.Goals as goal

@@ -27,11 +27,6 @@ use Rattle.archive_store.proofs.KeptFills.{filled_now}
 use Rattle.archive_store.proofs.PlainLog.{either_filled}
 use Rattle.archive_store.proofs.store.Store.append.Goals as goal
 
--- all were added, since each is new
-all_added : (b : Bool) (P : Type 0) → (b ≡ true → P) → (b ≡ false → ⊥) → P
-all_added true P all none = all refl
-all_added false P all none = absurd (none refl)
-
 pub invariant_of-self-in-Ok-append : goal.invariant_of-self-in-Ok-append
 invariant_of-self-in-Ok-append g c =
     let device = g.D.Disk.device in
@@ -54,13 +49,16 @@ invariant_of-self-in-Ok-append g c =
     let prepared = c.prepare-prepared.ensures.history in
     let new : ingested c.prepare-prepared.new.history.items fresh ≡ c.prepare-prepared.new.history.items ++ fresh =
     subst (λ (l : List Item). ingested l fresh ≡ l ++ fresh) (sym prepared.0) ok.fresh in
-    let grown = all_added c.add_all.result (c.add_all.new.self.items ≡ c.prepare-prepared.new.history.items ++ fresh) (λ is. (c.add_all.ensures.all is).1) (λ is. c.add_all.ensures.some is new) in
+    let grown = c.add_all.ensures.items (c.add_all.ensures.all.1 new) in
     let items : c.add_all.new.self.items ≡ s.history.items ++ fresh = grown ∙ ap (λ (l : List Item). l ++ fresh) prepared.0 in
-    let marks = c.touch.ensures.marks s.history.items (omega (arith, c.len-first.ensures.len, ap length prepared.0)) (c.prepare-prepared.ensures.marks s.history.items c.self.invariant.3) in
+    let format = c.exponent.ensures ∙ prepared.2 ∙ c.self.invariant.1.1 in
+    let tracker = c.prepare-prepared.new.tracker in
+    let before = subst (λ (e : ℕ). AreMarksOf e s.history.items tracker.fills tracker.marks) (sym format) (c.prepare-prepared.ensures.marks 22 s.history.items c.self.invariant.3) in
+    let marks = subst (λ (e : ℕ). AreMarksOf e (s.history.items ++ c.as_slice-in-Ok-append.result.now) c.touch.new.self.fills c.touch.new.self.marks) format (c.touch.ensures.marks s.history.items (omega (arith, c.len-first.ensures.len, ap length prepared.0)) before) in
     let touched = subst (λ (l : List Item). AreMarksOf 22 (s.history.items ++ l) c.touch.new.self.fills c.touch.new.self.marks) c.as_slice-in-Ok-append.ensures marks in (
       subst (λ (r : List Item). StoreInvariant device c.append.new.disk s.opened.value c.append.new.self s.head r c.touch.new.self.fills s.sets.filled s.pending_fault) (sym items)
           (subst (λ (f : List Fill). StoreInvariant device c.append.new.disk s.opened.value c.append.new.self s.head (s.history.items ++ fresh) f s.sets.filled s.pending_fault) (sym (c.touch.ensures.fills ∙ c.prepare-prepared.ensures.fills)) done),
-      c.add_all.ensures.tables ∙ prepared.1 ∙ c.self.invariant.1,
+      (c.add_all.ensures.tables ∙ prepared.1 ∙ c.self.invariant.1.0, c.add_all.ensures.exponent ∙ prepared.2 ∙ c.self.invariant.1.1),
       c.self.invariant.2,
       subst (λ (r : List Item). AreMarksOf 22 r c.touch.new.self.fills c.touch.new.self.marks) (sym items) touched,
       subst (λ (f : List Fill). HoldsFills s.head f s.sets.filled) (sym (c.touch.ensures.fills ∙ c.prepare-prepared.ensures.fills)) c.self.invariant.4,
@@ -108,10 +106,10 @@ invariant_of-self-in-Err g c =
     let done = kept_err device s.disk c.append.new.disk s.opened.value mid c.append.new.self s.head s.history.items fresh s.tracker.fills s.sets.filled s.pending_fault c.faults-count.result k_mid ok no_failed_write c.append.ensures.file failed.pending_fault c.faults-count.ensures keeps moments elsewhere failed.rose failed.wrote in
     let fills : c.note_fault.new.self.fills ≡ s.tracker.fills ++ fault c.faults-count.result fresh ∷ [] =
     c.note_fault.ensures.fills ∙ ap (λ (l : List Fill). l ++ fault c.faults-count.result fresh ∷ []) c.prepare-prepared.ensures.fills in
-    let marks = c.note_fault.ensures.marks s.history.items (c.prepare-prepared.ensures.marks s.history.items c.self.invariant.3) in (
+    let marks = c.note_fault.ensures.marks 22 s.history.items (c.prepare-prepared.ensures.marks 22 s.history.items c.self.invariant.3) in (
       subst (λ (r : List Item). StoreInvariant device c.append.new.disk s.opened.value c.append.new.self s.head r c.note_fault.new.self.fills s.sets.filled (Some c.faults-count.result)) (sym c.prepare-prepared.ensures.history.0)
           (subst (λ (f : List Fill). StoreInvariant device c.append.new.disk s.opened.value c.append.new.self s.head s.history.items f s.sets.filled (Some c.faults-count.result)) (sym fills) done),
-      c.prepare-prepared.ensures.history.1 ∙ c.self.invariant.1,
+      (c.prepare-prepared.ensures.history.1 ∙ c.self.invariant.1.0, c.prepare-prepared.ensures.history.2 ∙ c.self.invariant.1.1),
       c.self.invariant.2,
       subst (λ (r : List Item). AreMarksOf 22 r c.note_fault.new.self.fills c.note_fault.new.self.marks) (sym c.prepare-prepared.ensures.history.0) marks,
       holds_same s.head s.tracker.fills c.note_fault.new.self.fills s.sets.filled c.self.invariant.4 (λ i. ap (base_in i) fills ∙ base_after_item i s.tracker.fills (fault c.faults-count.result fresh)),
@@ -126,9 +124,9 @@ invariant_of-self g c =
     let done = kept_same device s.disk s.opened.value s.journal journal s.head s.history.items s.tracker.fills s.sets.filled s.pending_fault c.self.invariant.0 prepared.journal in (
       subst (λ (r : List Item). StoreInvariant device s.disk s.opened.value journal s.head r c.prepare-prepared.new.tracker.fills s.sets.filled s.pending_fault) (sym prepared.history.0)
           (subst (λ (f : List Fill). StoreInvariant device s.disk s.opened.value journal s.head s.history.items f s.sets.filled s.pending_fault) (sym prepared.fills) done),
-      prepared.history.1 ∙ c.self.invariant.1,
+      (prepared.history.1 ∙ c.self.invariant.1.0, prepared.history.2 ∙ c.self.invariant.1.1),
       c.self.invariant.2,
-      subst (λ (r : List Item). AreMarksOf 22 r c.prepare-prepared.new.tracker.fills c.prepare-prepared.new.tracker.marks) (sym prepared.history.0) (prepared.marks s.history.items c.self.invariant.3),
+      subst (λ (r : List Item). AreMarksOf 22 r c.prepare-prepared.new.tracker.fills c.prepare-prepared.new.tracker.marks) (sym prepared.history.0) (prepared.marks 22 s.history.items c.self.invariant.3),
       subst (λ (f : List Fill). HoldsFills s.head f s.sets.filled) (sym prepared.fills) c.self.invariant.4,
     )
 
@@ -163,7 +161,7 @@ pub add_all-requires-clause-tables : goal.add_all-requires-clause-tables
 add_all-requires-clause-tables g c =
     let s = c.self.inside in
     let ok : AreAdmitted (archive s.head s.history.items) c.args.fresh = subst (λ (x : StoreView g.row.D.Denot). AreAdmitted (archive x.head x.history) c.args.fresh) (sym c.self.view_is) c.requires.admitted in
-    placed_tables s.head c.args.fresh c.prepare-prepared.new.history.tables (c.prepare-prepared.ensures.history.1 ∙ c.self.invariant.1) ok.placed
+    placed_tables s.head c.args.fresh c.prepare-prepared.new.history.tables (c.prepare-prepared.ensures.history.1 ∙ c.self.invariant.1.0) ok.placed
 
 pub touch-requires-clause-small : goal.touch-requires-clause-small
 touch-requires-clause-small g c =

@@ -2,7 +2,7 @@ use Rattle.std.proofs.Common.{◌≡◌, ◌⊎◌, ℕ, ◌<◌, ◌++◌, ◌-
 use Rattle.std.specs.Prelude.{IsTrue}
 use Rattle.std.specs.Arc.{arc_value}
 use Rattle.arch_disk.specs.Disk.{LeavesOnly}
-use Rattle.arch_types.specs.declared.interval.Interval.{Interval}
+use Rattle.intervals.specs.declared.interval.Interval.{Interval}
 use Rattle.disk_journal.specs.Format.{IsBeforeOrAfter}
 use Rattle.disk_journal.specs.State.{HasOnDisk as JournalHasOnDisk}
 use Rattle.disk_journal.specs.State.{unhealed_fault, faults_of, file_of, count_of}
@@ -44,7 +44,7 @@ finish-requires-clause-rows g c =
     let base : ℕ = c.args.done.base in
     let right : IsRightFill 22 s.head.mdb s.history.items i base c.args.done.set = subst (λ (x : StoreView g.row.D.Denot). IsRightFill 22 x.head.mdb x.history i base c.args.done.set) (sym c.self.view_is) c.requires.right in
     let based = subst (λ (j : Interval). IsStoredBase 22 j base s.history.items) (sym c.interval-interval.ensures) (stored_base 22 i base s.history.items right.may) in
-    let some = stored_has s.history.items c.interval-interval.result base c.last-row.result (c.last-row.ensures.last s.history.items c.self.invariant.3) based in
+    let some = stored_has s.history.items c.interval-interval.result base c.last-row.result (c.last-row.ensures.last 22 s.history.items c.self.invariant.3) based in
     subst (λ (m : Marks). has_rows m c.interval-interval.result ≡ true) (sym c.prepare_fill-prepared.ensures.tracker.1) (sym c.last-row.ensures.rows ∙ some)
 
 pub invariant_of-self-in-Ok-append : goal.invariant_of-self-in-Ok-append
@@ -83,7 +83,7 @@ invariant_of-self-in-Ok-append g c =
       subst (λ (l : List Fill). StoreInvariant device c.append.new.disk s.opened.value c.append.new.self s.head s.history.items l c.put.new.self.filled s.pending_fault) (sym fills) noted,
       c.self.invariant.1,
       c.self.invariant.2,
-      c.finish.ensures.marks s.history.items before,
+      c.finish.ensures.marks 22 s.history.items before,
       holds_done s.head s.tracker.fills c.finish.new.self.fills s.sets.filled c.put.new.self.filled i base set c.self.invariant.4 fills put right.fits,
     )
 
@@ -122,7 +122,7 @@ invariant_of-self-in-Err-append g c =
           (subst (λ (l : List Fill). StoreInvariant device c.append.new.disk s.opened.value c.append.new.self s.head s.history.items l s.sets.filled (Some count)) (sym fills) noted),
       c.self.invariant.1,
       c.self.invariant.2,
-      c.note_fault.ensures.marks s.history.items before,
+      c.note_fault.ensures.marks 22 s.history.items before,
       subst (λ (f : FilledIntervals). HoldsFills s.head c.note_fault.new.self.fills f) (sym prepared.sets) same,
     )
 

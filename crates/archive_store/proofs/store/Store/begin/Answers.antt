@@ -1,6 +1,6 @@
 use Rattle.std.proofs.Common.{◌≡◌, List, [], ◌∷◌, ◌++◌, true, Some, None, refl, sym, ◌∙◌, ap, subst}
 use Rattle.std.specs.Prelude.{IfSome}
-use Rattle.arch_types.specs.declared.interval.Interval.{Interval}
+use Rattle.intervals.specs.declared.interval.Interval.{Interval}
 use Rattle.history_items.specs.declared.fills.Fill.{Fill}
 use Rattle.history_items.specs.declared.fills.Fill.TheVariants.{Begun}
 use Rattle.history_items.specs.Fills.{base_in}
@@ -23,7 +23,7 @@ pub prepare_task-prepared-requires-clause-interval : goal.prepare_task-prepared-
 prepare_task-prepared-requires-clause-interval g c =
     let s = c.self.inside in
     let i = c.in-Some.interval in
-    let next : IsNextToFill 22 (state_of s.history.items s.tracker.fills) (Some i) = subst (IsNextToFill 22 (state_of s.history.items s.tracker.fills)) c.in-Some.is (c.next.ensures.next s.history.items c.self.invariant.3) in
+    let next : IsNextToFill 22 (state_of s.history.items s.tracker.fills) (Some i) = subst (IsNextToFill 22 (state_of s.history.items s.tracker.fills)) c.in-Some.is (c.next.ensures.next 22 s.history.items c.self.invariant.3) in
     stands_in_clock s.head s.history.items i next.0.late.position c.self.invariant.0.rows next.0.late.stands
 
 pub invariant_of-self-2 : goal.invariant_of-self-2
@@ -40,7 +40,7 @@ invariant_of-self-2 g c =
       subst (λ (l : List Fill). StoreInvariant device s.disk s.opened.value s.journal s.head s.history.items l s.sets.filled s.pending_fault) (sym fills) done,
       k.1,
       k.2,
-      c.begin.ensures.marks s.history.items mid,
+      c.begin.ensures.marks 22 s.history.items mid,
       holds_same s.head s.tracker.fills c.begin.new.self.fills s.sets.filled k.4 (λ j. ap (base_in j) fills ∙ base_after_item j s.tracker.fills (Begun i base)),
     )
 
@@ -71,7 +71,7 @@ returns-clause-begun g c =
     let e = c.in-Ok.ensures in
     let same = c.prepare_task-prepared.ensures.same in
     let fills : c.begin.new.self.fills ≡ s.tracker.fills ++ Begun i task.base ∷ [] = c.begin.ensures.fills ∙ ap (λ (l : List Fill). l ++ Begun i task.base ∷ []) same.0 in
-    let next : IsNextToFill 22 (state_of s.history.items s.tracker.fills) (Some i) = subst (IsNextToFill 22 (state_of s.history.items s.tracker.fills)) c.in-Some.is (c.next.ensures.next s.history.items c.self.invariant.3) in
+    let next : IsNextToFill 22 (state_of s.history.items s.tracker.fills) (Some i) = subst (IsNextToFill 22 (state_of s.history.items s.tracker.fills)) c.in-Some.is (c.next.ensures.next 22 s.history.items c.self.invariant.3) in
     subst (λ (x : StoreView g.row.D.Denot). BeginsTask x (view_of s.disk s.opened.value s.journal s.head s.history.items c.begin.new.self.fills s.sets.filled) task) c.self.view_is (record {
       step = record {
         next = subst (λ (j : Interval). IsNextToFill 22 (state_of s.history.items s.tracker.fills) (Some j)) (sym e.at.0) next;
@@ -87,7 +87,7 @@ returns-clause-begun g c =
 pub returns-in_default-clause-begun : goal.returns-in_default-clause-begun
 returns-in_default-clause-begun g c =
     let s = c.self.inside in
-    let none = subst (IsNextToFill 22 (state_of s.history.items s.tracker.fills)) c.in_default.is (c.next.ensures.next s.history.items c.self.invariant.3) in
+    let none = subst (IsNextToFill 22 (state_of s.history.items s.tracker.fills)) c.in_default.is (c.next.ensures.next 22 s.history.items c.self.invariant.3) in
     subst (λ (x : StoreView g.row.D.Denot). IsFillBegun x x None) c.self.view_is (none, refl)
 
 pub returns-clause-grows : goal.returns-clause-grows

@@ -1,4 +1,4 @@
-use Rattle.std.proofs.Common.{◌≡◌, ◌⊎◌, ◌∷◌, [], List, length, ℕ, None, inl, refl, sym, subst}
+use Rattle.std.proofs.Common.{◌≡◌, ◌⊎◌, ◌∷◌, [], List, ℕ, None, inl, refl, sym, subst}
 use Rattle.std.specs.Prelude.{IsTrue}
 use Rattle.std.specs.Arc.{arc_value}
 use Rattle.arch_disk.proofs.Moments.{weakens, started}
@@ -8,7 +8,7 @@ use Rattle.disk_journal.specs.Format.{HasRecords, HoldsNone}
 use Rattle.disk_journal.specs.State.{HasOnDisk as JournalHasOnDisk}
 use Rattle.fill_tracker.specs.FillTracker.{AreMarksOf}
 use Rattle.archive_store.specs.declared.head.Head.{Head}
-use Rattle.archive_store.specs.Inside.{StoreInvariant}
+use Rattle.archive_store.specs.Inside.{IsHistoryOf, StoreInvariant}
 use Rattle.archive_store.specs.Calls.{IsStoreCreateRefusal}
 use Rattle.archive_store.specs.Stands.{IsSoundImage}
 use Rattle.store_fills.proofs.Bases.{none_filled}
@@ -28,11 +28,11 @@ invariant_of-result g c =
     let done = kept_made device disk j c.args.head c.new-sets.result.filled (none_filled c.new-sets.result.filled c.new-sets.ensures) c.requires.head c.in-Ok-create.ensures.created.no_pending_fault c.in-Ok-create.ensures.created.in_file keeps in (
       subst (λ o. StoreInvariant device disk o j f.head f.history.items c.new-tracker.result.fills c.new-sets.result.filled None) (sym c.of-opened.ensures)
           (subst (λ (l : List Fill). StoreInvariant device disk disk j f.head f.history.items l c.new-sets.result.filled None) (sym c.new-tracker.ensures.fills)
-          (subst (λ (l : List Item). StoreInvariant device disk disk j f.head l [] c.new-sets.result.filled None) (sym e.3)
+          (subst (λ (l : List Item). StoreInvariant device disk disk j f.head l [] c.new-sets.result.filled None) (sym e.4)
           (subst (λ (h : Head). StoreInvariant device disk disk j h [] [] c.new-sets.result.filled None) (sym e.1) done))),
-      subst (λ (h : Head). f.history.tables ≡ length h.tables) (sym e.1) e.4,
+      subst (λ (h : Head). IsHistoryOf h f.history) (sym e.1) e.3,
       subst (λ (h : Head). arc_value f.mdb ≡ h.mdb) (sym e.1) e.2,
-      subst (λ (l : List Item). AreMarksOf 22 l c.new-tracker.result.fills c.new-tracker.result.marks) (sym e.3) c.new-tracker.ensures.marks,
+      subst (λ (l : List Item). AreMarksOf 22 l c.new-tracker.result.fills c.new-tracker.result.marks) (sym e.4) (c.new-tracker.ensures.marks 22),
       holds_none f.head c.new-tracker.result.fills c.new-sets.result.filled c.new-tracker.ensures.fills (none_filled c.new-sets.result.filled c.new-sets.ensures),
     )
 
@@ -69,7 +69,7 @@ returns-in-Ok-create-clause-created g c =
     let created = c.in-Ok-create.ensures.created in
     record {
       none = created.none;
-      history = e.3;
+      history = e.4;
       fills = c.new-tracker.ensures.fills;
       filled = none_filled c.new-sets.result.filled c.new-sets.ensures;
       sound = λ transparent. subst (λ (d : g.row.D.Denot). IsSoundImage (device.reads d)) (sym c.of-opened.ensures)

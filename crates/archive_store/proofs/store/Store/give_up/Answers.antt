@@ -18,7 +18,7 @@ invariant_of-self g c =
       subst (λ (l : List Fill). StoreInvariant device s.disk s.opened.value s.journal s.head s.history.items l s.sets.filled s.pending_fault) (sym c.free.ensures.fills) done,
       k.1,
       k.2,
-      c.free.ensures.marks s.history.items k.3,
+      c.free.ensures.marks 22 s.history.items k.3,
       subst (λ (l : List Fill). HoldsFills s.head l s.sets.filled) (sym c.free.ensures.fills) (holds_same s.head s.tracker.fills (freed i s.tracker.fills) s.sets.filled k.4 (λ j. freed_bases i j s.tracker.fills)),
     )
 

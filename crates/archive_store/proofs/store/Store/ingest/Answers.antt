@@ -1,4 +1,4 @@
-use Rattle.std.proofs.Common.{◌≡◌, ◌≢◌, ◌⊎◌, ◌≤◌, ◌++◌, List, [], length, None, refl, sym, ◌∙◌, ap, subst, arith}
+use Rattle.std.proofs.Common.{ℕ, ◌≡◌, ◌≢◌, ◌⊎◌, ◌≤◌, ◌++◌, List, [], length, None, refl, sym, ◌∙◌, ap, subst, arith}
 use Rattle.arch_disk.specs.Disk.{LeavesOnly}
 use Rattle.arch_types.specs.declared.row.Row.{Row}
 use Rattle.std.specs.List.{AllByRecursion}
@@ -10,7 +10,8 @@ use Rattle.archive_store.specs.Batches.{batch_rows, IsBatch}
 use Rattle.archive_store.specs.Calls.{AreIngested, IsIngestRefusal, archive_with}
 use Rattle.store_fills.specs.FilledSets.{fillings_in}
 use Rattle.archive_store.specs.Entries.{archive, filled_archive, AreAdmitted}
-use Rattle.archive_history.specs.Limits.{IsWithin, IsLimit}
+use Rattle.archive_history.specs.Limits.{IsWithin}
+use Rattle.archive_store.specs.Limits.{IsLimit}
 use Rattle.archive_store.specs.StoreView.{StoreView, filled_of}
 use Rattle.archive_store.specs.Inside.{view_of}
 use Rattle.archive_store.specs.Stands.{StandsFilled}
@@ -22,7 +23,7 @@ use Rattle.archive_store.proofs.store.Store.ingest.Goals as goal
 
 pub classify-requires : goal.classify-requires
 classify-requires g c =
-    sortable c.self.inside.head c.args.batch.now c.self.inside.history.tables c.self.invariant.1
+    sortable c.self.inside.head c.args.batch.now c.self.inside.history.tables c.self.invariant.1.0
     (subst (λ (x : StoreView g.row.D.Denot). IsBatch x.head c.args.batch.now) (sym c.self.view_is) c.requires)
 
 pub append-requires-clause-admitted : goal.append-requires-clause-admitted
@@ -89,7 +90,7 @@ returns-then-len-eq0-clause-ingested g c =
     subst (λ (x : StoreView g.row.D.Denot). AreIngested device x x rows classified.outcomes) c.self.view_is
     (record {
       healed = sym c.self.invariant.0.pending_fault_is ∙ c.in-None.is;
-      below = below_none _ items rows classified.fresh c.in-Ok.ensures.fresh zero c.len-known.ensures.within;
+      below = below_none _ items rows classified.fresh c.in-Ok.ensures.fresh zero (subst (λ (e : ℕ). IsWithin e items) c.self.invariant.1.1 c.len-known.ensures.within);
       outcomes_are = c.in-Ok.ensures.outcomes;
       history = nothing_added items rows classified.fresh c.in-Ok.ensures.fresh zero;
       fills = refl;

@@ -1,6 +1,6 @@
 use Rattle.std.proofs.Common.{◌≡◌, ◌⊎◌, ◌≤◌, Some, None, refl, sym, ◌∙◌, ap, subst}
 use Rattle.arch_disk.specs.Disk.{LeavesOnly}
-use Rattle.arch_types.specs.declared.interval.Interval.{Interval}
+use Rattle.intervals.specs.declared.interval.Interval.{Interval}
 use Rattle.history_items.specs.Fills.{pending_fault_of}
 use Rattle.history_items.specs.Late.{last_in}
 use Rattle.interval_fills.specs.Intervals.{NoRowSince}

@@ -4,7 +4,7 @@ use Rattle.std.specs.List.{AllByRecursion}
 use Rattle.std.specs.List.Sorted.{IsStrictlySortedBy}
 use Rattle.archive_history.proofs.Steps.{if_ok}
 use Rattle.arch_types.specs.declared.row.Row.{Row}
-use Rattle.arch_types.specs.Interval.{interval_of}
+use Rattle.intervals.specs.Interval.{interval_of}
 use Rattle.arch_types.specs.Order.{key_cmp}
 use Rattle.history_items.specs.Late.{last_in}
 use Rattle.interval_fills.specs.Intervals.{rows_of_interval}

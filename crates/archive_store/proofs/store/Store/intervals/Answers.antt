@@ -1,9 +1,9 @@
-use Rattle.std.proofs.Common.{◌≡◌, ℕ, List, pos, true, subst}
+use Rattle.std.proofs.Common.{◌≡◌, ◌∙◌, ℕ, List, pos, true, subst}
 use Rattle.std.specs.Global.{Vec}
 use Rattle.std.specs.Prelude.{IfOk, IsSome}
 use Rattle.std.specs.List.{list_any, AllByRecursion}
 use Rattle.archive_history.proofs.Steps.{if_ok}
-use Rattle.arch_types.specs.declared.interval.Interval.{Interval}
+use Rattle.intervals.specs.declared.interval.Interval.{Interval}
 use Rattle.history_items.specs.Fills.{is_same}
 use Rattle.history_items.specs.Items.{Item}
 use Rattle.history_items.specs.Late.{StandsIn, last_in}
@@ -27,18 +27,22 @@ pub returns-clause-cover : goal.returns-clause-cover
 returns-clause-cover g c =
     let s = c.self.inside in
     let r = c.intervals_meeting.result in
+    let format = c.exponent.ensures ∙ c.self.invariant.1.1 in
+    let cover = subst (λ (e : ℕ). IfOk r (λ is. (history : List Item) → AreMarksOf e history s.tracker.fills s.tracker.marks → CoverRange e is.items (pos 0) (pos 9223372036854775807) history)) format c.intervals_meeting.ensures.cover in
     subst (λ (x : StoreView g.row.D.Denot). IfOk r (λ intervals. (i : Interval) (p : ℕ) → StandsIn 22 i p x.history → list_any (is_same i) intervals.items ≡ true)) c.self.view_is
     (if_ok r (λ (is : Vec Interval). (history : List Item) → AreMarksOf 22 history s.tracker.fills s.tracker.marks → CoverRange 22 is.items (pos 0) (pos 9223372036854775807) history)
     (λ (is : Vec Interval). (i : Interval) (p : ℕ) → StandsIn 22 i p s.history.items → list_any (is_same i) is.items ≡ true)
-    (λ is covers i p stands. covers s.history.items c.self.invariant.3 i p stands (meets_all s.head s.history.items i p c.self.invariant.0.rows stands)) c.intervals_meeting.ensures.cover)
+    (λ is covers i p stands. covers s.history.items c.self.invariant.3 i p stands (meets_all s.head s.history.items i p c.self.invariant.0.rows stands)) cover)
 
 pub returns-clause-filled : goal.returns-clause-filled
 returns-clause-filled g c =
     let s = c.self.inside in
     let r = c.intervals_meeting.result in
+    let format = c.exponent.ensures ∙ c.self.invariant.1.1 in
+    let cover = subst (λ (e : ℕ). IfOk r (λ is. (history : List Item) → AreMarksOf e history s.tracker.fills s.tracker.marks → CoverRange e is.items (pos 0) (pos 9223372036854775807) history)) format c.intervals_meeting.ensures.cover in
     subst (λ (x : StoreView g.row.D.Denot). IfOk r (λ intervals. (i : Interval) → IsSome (fillings_in x.filled i) → list_any (is_same i) intervals.items ≡ true)) c.self.view_is
     (if_ok r (λ (is : Vec Interval). (history : List Item) → AreMarksOf 22 history s.tracker.fills s.tracker.marks → CoverRange 22 is.items (pos 0) (pos 9223372036854775807) history)
     (λ (is : Vec Interval). (i : Interval) → IsSome (fillings_in s.sets.filled i) → list_any (is_same i) is.items ≡ true)
     (λ is covers i some.
     let stands = filled_stands s.head s.history.items s.tracker.fills s.tracker.marks s.sets.filled i c.self.invariant.3 c.self.invariant.4 some in
-    covers s.history.items c.self.invariant.3 i stands.0 stands.1 (meets_all s.head s.history.items i stands.0 c.self.invariant.0.rows stands.1)) c.intervals_meeting.ensures.cover)
+    covers s.history.items c.self.invariant.3 i stands.0 stands.1 (meets_all s.head s.history.items i stands.0 c.self.invariant.0.rows stands.1)) cover)

@@ -1,7 +1,7 @@
 use Rattle.std.proofs.Common.{◌≡◌, ◌∙◌, List, sym, subst}
 use Rattle.std.specs.Prelude.{IsSome}
 use Rattle.std.specs.List.{AllByRecursion}
-use Rattle.arch_types.specs.declared.interval.Interval.{Interval}
+use Rattle.intervals.specs.declared.interval.Interval.{Interval}
 use Rattle.history_items.specs.Late.{last_in}
 use Rattle.interval_walks.specs.Turns.{CoverRange, IntervalsRise}
 use Rattle.archive_store.specs.Plans.{IsRangeInterval, plan_intervals}
@@ -24,7 +24,7 @@ returns g c =
     let same : plan_intervals parts ≡ c.in_ok-intervals.intervals.items = c.in_ok-parts.ensures.intervals ∙ c.as_slice.ensures.value in
     record {
       front = c.front.ensures.front;
-      mdb = c.in_ok-mdb.ensures;
+      mdb = c.requires;
       each = c.in_ok-parts.ensures.each;
       rising = subst IntervalsRise (sym same) asked.rising;
       meets = subst (AllByRecursion (IsRangeInterval store.history request.from request.to)) (sym same) asked.meets;

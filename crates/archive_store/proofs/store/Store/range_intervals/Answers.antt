@@ -1,10 +1,10 @@
-use Rattle.std.proofs.Common.{rules, ◌≡◌, ◌<ℤ◌, List, true, sym, subst, arith, w64, FitsSigned}
+use Rattle.std.proofs.Common.{rules, ◌≡◌, ◌∙◌, ◌<ℤ◌, ℕ, List, true, sym, subst, arith, w64, FitsSigned}
 use Rattle.std.specs.Prelude.{IfOk}
 use Rattle.std.specs.Global.{Vec}
 use Rattle.std.specs.List.{AllByRecursion}
 use Rattle.std.proofs.lemmas.Int.{ints, to_z-of_z}
 use Rattle.archive_history.proofs.Steps.{if_ok, if_ok_both}
-use Rattle.arch_types.specs.declared.interval.Interval.{Interval}
+use Rattle.intervals.specs.declared.interval.Interval.{Interval}
 use Rattle.fill_tracker.specs.FillTracker.{AreMarksOf}
 use Rattle.history_items.specs.Items.{Item}
 use Rattle.interval_walks.specs.Turns.{CoverRange, IntervalsRise, MeetsRange}
@@ -29,7 +29,9 @@ returns-clause-meets g c =
     let to = request.to in
     let low : FitsSigned w64 from = search rules in
     let high : FitsSigned w64 to = search rules in
-    let meets = rw (to_z-of_z w64 from low, to_z-of_z w64 to high) at c.intervals_meeting.ensures.meets in
+    let format = c.exponent.ensures ∙ c.self.invariant.1.1 in
+    let told = rw (to_z-of_z w64 from low, to_z-of_z w64 to high) at c.intervals_meeting.ensures.meets in
+    let meets = subst (λ (e : ℕ). IfOk c.intervals_meeting.result (λ v. AllByRecursion (MeetsRange e from to) v.items)) format told in
     subst (λ (x : StoreView g.row.D.Denot). IfOk c.intervals_meeting.result (λ intervals. AllByRecursion (IsRangeInterval x.history from to) intervals.items)) c.self.view_is
     (if_ok_both c.intervals_meeting.result (λ (v : Vec Interval). AllByRecursion (MeetsRange 22 from to) v.items) (λ (v : Vec Interval). AllByRecursion (λ i. has_rows s.tracker.marks i ≡ true) v.items)
     (λ (v : Vec Interval). AllByRecursion (IsRangeInterval s.history.items from to) v.items)
@@ -43,7 +45,9 @@ returns-clause-cover g c =
     let to = request.to in
     let low : FitsSigned w64 from = search rules in
     let high : FitsSigned w64 to = search rules in
-    let cover = rw (to_z-of_z w64 from low, to_z-of_z w64 to high) at c.intervals_meeting.ensures.cover in
+    let format = c.exponent.ensures ∙ c.self.invariant.1.1 in
+    let told = rw (to_z-of_z w64 from low, to_z-of_z w64 to high) at c.intervals_meeting.ensures.cover in
+    let cover = subst (λ (e : ℕ). IfOk c.intervals_meeting.result (λ v. (history : List Item) → AreMarksOf e history s.tracker.fills s.tracker.marks → CoverRange e v.items from to history)) format told in
     subst (λ (x : StoreView g.row.D.Denot). IfOk c.intervals_meeting.result (λ intervals. from <ℤ to → CoverRange 22 intervals.items from to x.history)) c.self.view_is
     (if_ok c.intervals_meeting.result (λ (v : Vec Interval). (history : List Item) → AreMarksOf 22 history s.tracker.fills s.tracker.marks → CoverRange 22 v.items from to history)
     (λ (v : Vec Interval). from <ℤ to → CoverRange 22 v.items from to s.history.items) (λ v covers less. covers s.history.items c.self.invariant.3) cover)

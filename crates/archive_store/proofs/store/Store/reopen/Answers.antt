@@ -35,7 +35,7 @@ invariant_of-self g c =
     let moments = heal_moments device s.disk c.heal.new.disk s.opened.value s.journal s.head s.history.items s.tracker.fills s.sets.filled s.pending_fault k run c.heal.ensures.others.crash c.in-Ok.ensures.healed.no_call in
     let done = kept_healed device s.disk c.heal.new.disk s.opened.value s.journal c.heal.new.self s.head s.history.items s.tracker.fills s.sets.filled s.pending_fault k moments keeps c.heal.ensures.others.crash c.heal.ensures.file (ap unhealed_fault c.in-Ok.ensures.healed.journal) c.heal.ensures.counts.faults c.heal.ensures.counts.writes in
     let fills = c.clear_failed_writes.ensures.fills in
-    let marks = c.clear_failed_writes.ensures.marks s.history.items c.self.invariant.3 in (
+    let marks = c.clear_failed_writes.ensures.marks 22 s.history.items c.self.invariant.3 in (
       subst (λ (f : List Fill). StoreInvariant device c.heal.new.disk s.opened.value c.heal.new.self s.head s.history.items f s.sets.filled None) (sym fills) done,
       c.self.invariant.1,
       c.self.invariant.2,

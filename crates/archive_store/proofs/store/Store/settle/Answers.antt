@@ -17,7 +17,7 @@ invariant_of-self g c =
       subst (λ (f : List Fill). StoreInvariant device s.disk s.opened.value s.journal s.head s.history.items f s.sets.filled s.pending_fault) (sym c.settle.ensures.fills) done,
       k.1,
       k.2,
-      c.settle.ensures.marks s.history.items k.3,
+      c.settle.ensures.marks 22 s.history.items k.3,
       subst (λ (l : List Fill). HoldsFills s.head l s.sets.filled) (sym c.settle.ensures.fills) (holds_same s.head s.tracker.fills (all_freed s.tracker.fills) s.sets.filled k.4 (λ j. all_freed_bases j s.tracker.fills)),
     )
 

@@ -1,0 +1,27 @@
+-- The rows of a history by table, in the order of the history.
+use Rattle.std.specs.Prelude.{◌≡◌, ℕ, ◌+◌, ◌<◌, ◌≤◌, List, [], length, map, slice_index_or, vec_len, vec_capacity}
+use Rattle.std.specs.Global.{Vec}
+use Rattle.std.specs.declared.snapshot.Snapshot.{Snapshot}
+use Rattle.arch_types.specs.declared.row.Row.{Row}
+use Rattle.history_items.specs.Items.{Item, row_item, rows_in}
+use Rattle.yarch_table.specs.Stored.{TableView}
+use Rattle.yarch_table.specs.Placed.{placed}
+
+-- a table without rows or room
+abbrev pub no_table : TableView
+no_table = record { stored = []; room = 0 }
+
+-- the rows of a table
+abbrev pub table_in : List TableView → ℕ → TableView
+table_in tables table = slice_index_or tables table no_table
+
+-- the items of the rows that were noted, in the order of the history
+abbrev pub items_in : List (Snapshot Row) → List Item
+items_in order = map (λ noted. row_item noted.value) order
+
+-- each table has its rows of the history, each with its position, and has room; so has the list of the history's rows
+pub record AreTables (tables : List TableView) (order : Vec (Snapshot Row)) (room : ℕ) : Type 0 where
+  pub placed_in : (table : ℕ) → table < length tables →
+      (table_in tables table).stored ≡ placed table (rows_in (items_in order.items))
+  pub has_room : (table : ℕ) → table < length tables → room ≤ (table_in tables table).room
+  pub order_has_room : vec_len order + room ≤ vec_capacity order

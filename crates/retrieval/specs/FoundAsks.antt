@@ -1,0 +1,27 @@
+-- Asks whose names were looked up.
+use Rattle.std.specs.Prelude.{List, map}
+use Rattle.std.specs.List.{AllByRecursion}
+use Rattle.asks.specs.declared.ask.Ask.{Ask}
+use Rattle.asks.specs.declared.ask.Ask.TheVariants as asked
+use Rattle.archive_store.specs.declared.head.Head.{Head}
+use Rattle.archive_store.specs.Finding.{IsReplayFound, IsRequestFound}
+use Rattle.retrieval.specs.declared.found_asks.FoundAsk.{FoundAsk}
+use Rattle.retrieval.specs.declared.found_asks.FoundAsk.TheVariants.{Values, Replay}
+
+-- the ask that was found
+abbrev pub ask_found : FoundAsk → Ask
+ask_found (Values found) = asked.Values found.request
+ask_found (Replay found) = asked.Replay found.request
+
+-- the asks that were found
+abbrev pub asks_found : List FoundAsk → List Ask
+asks_found found = map ask_found found
+
+-- an ask was found in a head: a request in its database, a request for rows among its tables
+abbrev pub IsAskFound : Head → FoundAsk → Type 0
+IsAskFound head (Values found) = IsRequestFound head.mdb found
+IsAskFound head (Replay found) = IsReplayFound head.tables found
+
+-- each ask was
+abbrev pub AreFound : Head → List FoundAsk → Type 0
+AreFound head found = AllByRecursion (IsAskFound head) found
