@@ -7,12 +7,12 @@
 use arch_disk::Disk;
 use archive_cli::run::run;
 use archive_cli::{Ended, Report};
-use dump_lines::text::FaultText;
 use outer_traits::clock::FixedClock;
 use outer_traits::inputs::Inputs;
 use outer_traits::mem_inputs::{FailingCall, File, MemInputs};
 use outer_traits::mem_sink::MemSink;
 use outer_traits::sink::Sink;
+use refusals::FaultText;
 use std::alloc::{AllocError, Global};
 use std::fmt::Display;
 use std::test::Fail;

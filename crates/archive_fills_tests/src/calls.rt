@@ -7,10 +7,10 @@ use crate::plans::{Over, shows};
 use arch_disk::Disk;
 use arch_types::cell::Cell;
 use arch_types::inserted::{Inserted, Installed};
-use arch_types::interval::Interval;
-use arch_types::refusal::Refusal;
 use arch_types::row::Row;
 use archive_store::{FillTask, Filled, Ingested, Store};
+use intervals::Interval;
+use refusals::Refusal;
 use std::alloc::Global;
 
 /// The interval, the base and the packets of a fill that begins.

@@ -5,8 +5,8 @@ use crate::plans::{Over, request};
 use crate::steps::{Step, other_step};
 use arch_disk::{Disk, MemDisk};
 use arch_types::inserted::Inserted;
-use arch_types::refusal::Refusal;
 use archive_store::Store;
+use refusals::Refusal;
 use std::alloc::Global;
 use std::test::Fail;
 
@@ -88,9 +88,13 @@ fn plan_answer<D: Disk>(
     let Some(request) = request(alloc, parameter, from, to) else {
         return "no request";
     };
-    match store.plan(alloc, &request) {
+    let found = match store.find(request) {
+        Ok(found) => found,
+        Err(refusal) => return words_of(&refusal),
+    };
+    match store.plan(alloc, &found) {
         Ok(_plan) => "a plan",
-        Err(refusal) => words_of(&refusal),
+        Err(_) => "no memory",
     }
 }
 

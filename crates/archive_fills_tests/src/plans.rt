@@ -3,10 +3,11 @@ ghost use Rattle.std.specs.Prelude.{◌≡◌};
 
 use crate::calls::are_packets;
 use arch_disk::Disk;
-use arch_types::ask::Request;
+use arch_types::direction::Direction;
 use arch_types::name::Name;
 use arch_types::octets::Octets;
 use archive_store::Store;
+use asks::Request;
 use param_segments::{Part, Plan};
 use std::alloc::Global;
 
@@ -27,7 +28,7 @@ pub(crate) fn request(alloc: Global, parameter: &[u8], from: i64, to: i64) -> Op
         parameter,
         from,
         to,
-        descending: false,
+        direction: Direction::Ascending,
         limit: None,
     })
 }
@@ -37,10 +38,10 @@ fn planned<D: Disk>(alloc: Global, store: &mut Store<D>, from: i64, to: i64) -> 
     ensures { store.new ≡ store.old }
 {
     let request = request(alloc, b"v", from, to)?;
-    match store.plan(alloc, &request) {
-        Ok(plan) => Some(plan),
-        Err(_) => None,
-    }
+    let Ok(found) = store.find(request) else {
+        return None;
+    };
+    store.plan(alloc, &found).ok()
 }
 
 /// Whether a part is this one.

@@ -5,8 +5,8 @@ use crate::parts::{head_octets, none_other};
 use crate::plans::Over;
 use crate::steps::{Step, other_of_opened};
 use arch_disk::{Disk, MemDisk};
-use arch_types::refusal::Refusal;
 use archive_store::Store;
+use refusals::Refusal;
 use std::alloc::{AllocError, Global};
 use std::test::Fail;
 

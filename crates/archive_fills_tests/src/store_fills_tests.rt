@@ -1,6 +1,6 @@
 // Fills of intervals without a store, one in place of another, among fills of other intervals.
 use crate::parts::none_other;
-use arch_types::interval::Interval;
+use intervals::Interval;
 use param_segments::SetBuilder;
 use std::alloc::{AllocError, Global};
 use std::sync::Arc;

@@ -6,9 +6,9 @@ use crate::verify_journals::{Record, journal_of};
 use arch_disk::{Disk, MemDisk};
 use arch_types::key::Key;
 use arch_types::name::Name;
-use arch_types::refusal::Refusal;
 use archive_store::Store;
 use archive_verify::{Sound, verify};
+use refusals::Refusal;
 use std::alloc::Global;
 use std::test::Fail;
 

@@ -2,8 +2,8 @@
 use crate::journals::{holding, holding_journal, put_record, put_row};
 use crate::parts::{failing_at, head_octets, none_other, opened, timed};
 use arch_disk::{Disk, MemDisk};
-use arch_types::refusal::Refusal;
 use archive_store::Store;
+use refusals::Refusal;
 use std::alloc::{AllocError, Global};
 use std::test::Fail;
 

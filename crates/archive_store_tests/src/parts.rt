@@ -10,10 +10,10 @@ ghost use Rattle.archive_store.specs.Batches.{IsArrival, IsBatch};
 use arch_disk::{Crash, Disk, MemDisk};
 use arch_types::name::Name;
 use arch_types::octets::Octets;
-use arch_types::refusal::{Refusal, Which};
 use arch_types::tables::TableList;
-use archive_store::{Arrival, Arrivals, Batch, Head, Store};
+use archive_store::{Arrival, Arrivals, Batch, Head, Store, received_row};
 use field_codec::{Entry, read_entry};
+use refusals::{Refusal, Which};
 use space_packet::dump::first_packet;
 use space_packet::header::is_idle_packet;
 use std::alloc::Global;
@@ -142,35 +142,37 @@ fn tables_of(alloc: Global, head: &Head, tables: &[u8]) -> Option<TableList>
     Some(list)
 }
 
-/// A packet of link 1 that comes into tables.
-fn arrival(alloc: Global, head: &Head, number: u64, tables: &[u8]) -> Option<Arrival>
-    ensures { IfSome result (IsArrival head.now) }
+/// A packet of link 1 that is received at a time and comes into tables.
+fn arrival(alloc: Global, head: &Head, rectime: i64, number: u64, tables: &[u8]) -> Option<Arrival>
+    ensures { IfSome result (IsArrival head.now rectime) }
 {
     if head.mdb.containers() == 0 {
         return None;
     }
     let packet = packet(alloc, number)?;
     let tables = tables_of(alloc, head, tables)?;
-    Some(Arrival {
-        link: 1,
-        pname: 0,
-        packet,
-        tables,
-    })
+    let row = received_row(packet, rectime, 1, 0);
+    Some(Arrival { row, tables })
 }
 
 /// When packets were received, in milliseconds, which packets, and the tables that they go into.
 pub type Incoming = (u32, &'static [u64], &'static [u8]);
 
-/// The arrivals of packets that come into tables.
-fn arrivals(alloc: Global, head: &Head, numbers: &[u64], tables: &[u8]) -> Option<Arrivals>
+/// The arrivals of packets that are received at a time and come into tables.
+fn arrivals(
+    alloc: Global,
+    head: &Head,
+    rectime: i64,
+    numbers: &[u64],
+    tables: &[u8],
+) -> Option<Arrivals>
     requires { length numbers.now ≤ 64 }
     ensures few { IfSome result (λ arrivals. length arrivals ≤ 64) }
-    ensures each { IfSome result (λ arrivals. AllByRecursion (IsArrival head.now) arrivals) }
+    ensures each { IfSome result (λ arrivals. AllByRecursion (IsArrival head.now rectime) arrivals) }
 {
     let mut arrivals = Arrivals::new(alloc);
     for number in numbers {
-        let arrival = arrival(alloc, head, *number, tables)?;
+        let arrival = arrival(alloc, head, rectime, *number, tables)?;
         let Ok(()) = arrivals.push(arrival) else {
             return None;
         };
@@ -186,9 +188,10 @@ pub(crate) fn batch(alloc: Global, head: &Head, incoming: &Incoming) -> Option<B
     if numbers.len() > 64 {
         return None;
     }
+    let rectime = rectime as i64;
     Some(Batch {
-        rectime: rectime as i64,
-        arrivals: arrivals(alloc, head, numbers, tables)?,
+        rectime,
+        arrivals: arrivals(alloc, head, rectime, numbers, tables)?,
     })
 }
 

@@ -2,10 +2,10 @@
 use crate::parts::{Incoming, name, text_of};
 use crate::steps::{Step, are_first, becomes};
 use arch_disk::Disk;
-use arch_types::ask::ReplayRequest;
 use arch_types::inserted::Inserted;
 use arch_types::name::Names;
-use archive_store::Store;
+use archive_store::{Store, refusal_of_ask};
+use asks::ReplayRequest;
 use partitions::bounds::Bounds;
 use replay_merge::cursor::Cursor;
 use std::alloc::Global;
@@ -54,9 +54,13 @@ fn opened_replay<D: Disk>(
     let Some(request) = replay_request(alloc, asked) else {
         return Err("no request");
     };
-    match store.replay_open(alloc, &request) {
+    let found = match store.find_replay(request) {
+        Ok(found) => found,
+        Err(refusal) => return Err(text_of(&refusal_of_ask(refusal))),
+    };
+    match store.replay_open(alloc, &found) {
         Ok(cursor) => Ok(cursor),
-        Err(refusal) => Err(text_of(&refusal)),
+        Err(_) => Err("no memory"),
     }
 }
 

@@ -3,11 +3,11 @@ use crate::parts::{Incoming, batch, created, is_packet, mdb_octets, opened, text
 use crate::replays::{Asked, all_of, gives, gives_across, has_parts, replay_answer};
 use arch_disk::Disk;
 use arch_types::inserted::Inserted;
-use arch_types::interval::Interval;
 use arch_types::name::Names;
-use arch_types::refusal::Refusal;
 use arch_types::row::Row;
 use archive_store::{Head, Ingested, Store};
+use intervals::Interval;
+use refusals::Refusal;
 use std::alloc::Global;
 
 /// A call of a store, and what it answers.

@@ -2,12 +2,12 @@
 
 use crate::ends::{none_other, other};
 use arch_types::inserted::{Inserted, Outcomes};
-use arch_types::interval::Interval;
 use arch_types::key::Key;
 use arch_types::name::{Name, Names};
 use arch_types::octets::Octets;
-use arch_types::refusal::{BadKind, Refusal, Sheet, Which};
 use arch_types::row::{Row, Rows};
+use intervals::{Exponent, Interval};
+use refusals::{BadKind, Refusal, SheetName, Which};
 use std::alloc::{AllocError, Global};
 use std::test::Fail;
 use text_forms::{is_clock_time, is_name};
@@ -22,7 +22,7 @@ fn statuses_of_words_and_files() -> bool {
         kind: BadKind::Version,
     };
     let sheet = Refusal::BadSheet {
-        sheet: Sheet::Asks,
+        sheet: SheetName::Asks,
         row: 2,
         rule: 30,
     };
@@ -126,7 +126,8 @@ fn is_answered(alloc: Global, answer: &Answer) -> bool {
     match answer {
         Answer::Limit(which, limit) => which.limit() == *limit,
         Answer::Clock(time, is) => is_clock_time(*time) == *is,
-        Answer::IntervalOf(time, interval) => Interval::of(*time).0 == *interval,
+        Answer::IntervalOf(time, interval) => Interval::at(*time, Exponent::of_format_1()).0
+            == *interval,
         Answer::IsName(text, is) => is_named(alloc, text, *is),
     }
 }

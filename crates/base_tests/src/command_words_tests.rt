@@ -1,10 +1,10 @@
 //! Words that may be repeated, which no command has yet, and one of two options; which words the commands take is tried by `run`.
 
 use crate::ends::none_other;
-use arch_types::refusal::Refusal;
 use clap::ArgMatches;
 use command_words::job::{Job, job_of};
 use command_words::words::{Argument, given_word, read_arguments, repeated_words};
+use refusals::Refusal;
 use std::alloc::{AllocError, Global};
 use std::test::Fail;
 

@@ -1,12 +1,11 @@
 //! The text of each refusal.
 
 use crate::parts::none_other;
-use arch_types::interval::Interval;
 use arch_types::key::Key;
 use arch_types::name::Name;
 use arch_types::octets::Octets;
-use arch_types::refusal::{BadKind, Refusal, Sheet, Which};
-use dump_lines::text::FaultText;
+use intervals::Interval;
+use refusals::{BadKind, FaultText, Refusal, SheetName, Which};
 use std::alloc::Global;
 use std::test::Fail;
 
@@ -32,7 +31,7 @@ fn numbered_refusal(place: usize) -> Refusal {
             kind: BadKind::Version,
         },
         9 => Refusal::BadSheet {
-            sheet: Sheet::Asks,
+            sheet: SheetName::Asks,
             row: 2,
             rule: 34,
         },

@@ -1,9 +1,9 @@
 //! Each call once where memory is ample; an interval to which a row comes while it is in flight.
 
 use crate::parts::{Told, are_told, none_other, touch};
-use arch_types::interval::Interval;
 use fill_tracker::FillTracker;
 use history_items::fills::Addition;
+use intervals::Interval;
 use std::alloc::{AllocError, Global};
 use std::test::Fail;
 

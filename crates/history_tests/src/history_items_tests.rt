@@ -1,10 +1,10 @@
 //! A reopen over each kind of item, and a fault in a fill list.
 
 use crate::parts::{are_told, none_other};
-use arch_types::interval::Interval;
 use arch_types::row::Rows;
 use history_items::FillList;
 use history_items::fills::{Addition, Fill, clear_failed_writes};
+use intervals::Interval;
 use std::alloc::{AllocError, Global};
 use std::test::Fail;
 

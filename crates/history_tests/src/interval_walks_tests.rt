@@ -2,9 +2,9 @@
 //! without rows.
 
 use crate::parts::{none_other, touch};
-use arch_types::interval::Interval;
 use fill_tracker::FillTracker;
 use interval_walks::intervals_meeting;
+use intervals::{Exponent, Interval};
 use std::alloc::{AllocError, Global};
 use std::test::Fail;
 
@@ -47,7 +47,7 @@ fn meets(
     if from >= to {
         return Ok(false);
     }
-    let intervals = intervals_meeting(alloc, tracker, from, to)?;
+    let intervals = intervals_meeting(alloc, tracker, from, to, Exponent::of_format_1())?;
     Ok(intervals.as_slice() == want)
 }
 

@@ -1,7 +1,7 @@
 //! What no clause says: that calls succeed where memory is ample, and a worked course of rows and fills.
 
 use crate::parts::none_other;
-use arch_types::interval::Interval;
+use intervals::Interval;
 use late_marks::marks::LateMarks;
 use std::test::Fail;
 

@@ -5,6 +5,7 @@ use arch_types::octets::Octets;
 use arch_types::row::{Row, Rows};
 use fill_tracker::FillTracker;
 use history_items::fills::{Addition, Fill};
+use intervals::Exponent;
 use std::alloc::{AllocError, Global};
 use std::test::Fail;
 
@@ -56,7 +57,11 @@ pub(crate) fn touch(
 ) -> Result<(), AllocError> {
     let rows = rows_of(alloc, rows)?;
     tracker.reserve_rows(rows.len() as u64)?;
-    tracker.touch(rows.as_slice(), u64::from(position));
+    tracker.touch(
+        rows.as_slice(),
+        u64::from(position),
+        Exponent::of_format_1(),
+    );
     Ok(())
 }
 

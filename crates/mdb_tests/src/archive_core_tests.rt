@@ -2,13 +2,14 @@
 
 use crate::archive_core_texts::reply_text;
 use crate::given::none_other;
-use arch_types::ask::{ReplayRequest, Request};
-use arch_types::interval::Interval;
+use arch_types::direction::Direction;
 use arch_types::key::Key;
 use arch_types::name::{Name, Names};
 use arch_types::octets::Octets;
 use arch_types::row::{Row, Rows};
 use archive_core::{Core, Event, Reply};
+use asks::{ReplayRequest, Request};
+use intervals::Interval;
 use mdb_model::Mdb;
 use std::alloc::{AllocError, Global};
 use std::test::*;
@@ -27,8 +28,8 @@ enum Deed {
     Begin,
     Install(i64, u64),
     Abandon(i64),
-    /// The values of a parameter with `from <= time < to`, the last first or not, and at most so many.
-    Values(&'static [u8], i64, i64, bool, Option<u64>),
+    /// The values of a parameter with `from <= time < to`, in a direction, and at most so many.
+    Values(&'static [u8], i64, i64, Direction, Option<u64>),
     /// The rows of a table with `from <= time < to`, of a packet name or of all, and at most so many.
     Replay(&'static [u8], i64, i64, Option<&'static [u8]>, Option<u64>),
 }
@@ -39,7 +40,10 @@ type Turn = (Deed, &'static str);
 /// One run. An interval has 4,194,304 milliseconds. The rows were all received much later than their times.
 const RUN: &[Turn] = &[
     (Deed::Begin, "no task"),
-    (Deed::Values(b"v", 0, 2000, false, None), "values 0:"),
+    (
+        Deed::Values(b"v", 0, 2000, Direction::Ascending, None),
+        "values 0:",
+    ),
     (Deed::Ingest(&[(0, 1500, 10, 42, 0)]), "ingested +0"),
     // a key that is there, the same key in another table, and a key that comes twice in one batch
     (
@@ -52,9 +56,18 @@ const RUN: &[Turn] = &[
         "ingested 0 +1 +2 2",
     ),
     (Deed::Ingest(&[]), "ingested"),
-    (Deed::Values(b"v", 0, 2000, false, None), "values 3: 42 7"),
-    (Deed::Values(b"v", 0, 2000, true, Some(1)), "values 3: 7"),
-    (Deed::Values(b"v", 0, 1500, false, None), "values 3:"),
+    (
+        Deed::Values(b"v", 0, 2000, Direction::Ascending, None),
+        "values 3: 42 7",
+    ),
+    (
+        Deed::Values(b"v", 0, 2000, Direction::Descending, Some(1)),
+        "values 3: 7",
+    ),
+    (
+        Deed::Values(b"v", 0, 1500, Direction::Ascending, None),
+        "values 3:",
+    ),
     (Deed::Begin, "task 0 3: 1500/10 1500/11"),
     (Deed::Begin, "no task"),
     // a row comes to the interval in flight, and one to another
@@ -76,7 +89,7 @@ const RUN: &[Turn] = &[
     (Deed::Begin, "no task"),
     (Deed::Abandon(7), "abandoned"),
     (
-        Deed::Values(b"v", 0, 9_000_000, true, None),
+        Deed::Values(b"v", 0, 9_000_000, Direction::Descending, None),
         "values 5: 9 7 42 5",
     ),
     (
@@ -91,8 +104,14 @@ const RUN: &[Turn] = &[
     (Deed::Replay(b"hk", 0, 2000, None, None), "rows 5: 1500/10"),
     (Deed::Replay(b"zz", 5, 4, None, None), "unknown table"),
     (Deed::Replay(b"hk", 5, 4, None, None), "bad range 5 4"),
-    (Deed::Values(b"zz", 5, 4, false, None), "unknown parameter"),
-    (Deed::Values(b"v", 5, 4, false, None), "bad range 5 4"),
+    (
+        Deed::Values(b"zz", 5, 4, Direction::Ascending, None),
+        "unknown parameter",
+    ),
+    (
+        Deed::Values(b"v", 5, 4, Direction::Ascending, None),
+        "bad range 5 4",
+    ),
     // the first row behind the base of an interval's last fill
     (Deed::Ingest(&[(0, 1300, 13, 6, 0)]), "ingested +5"),
     (Deed::Begin, "task 0 6: 1300/13 1400/12 1500/10 1500/11"),
@@ -146,16 +165,16 @@ fn ingest(alloc: Global, caller: u32, fields: &[RowFields]) -> Option<Event> {
 }
 
 /// A question for the values of a parameter, but for the parameter.
-type Bounds = (i64, i64, bool, Option<u64>);
+type Bounds = (i64, i64, Direction, Option<u64>);
 
 fn retrieve(alloc: Global, caller: u32, parameter: &[u8], bounds: Bounds) -> Option<Event> {
     let parameter = name(alloc, parameter)?;
-    let (from, to, descending, limit) = bounds;
+    let (from, to, direction, limit) = bounds;
     let request = Request {
         parameter,
         from,
         to,
-        descending,
+        direction,
         limit,
     };
     Some(Event::Retrieve { caller, request })
@@ -207,8 +226,8 @@ fn event(alloc: Global, caller: u32, deed: &Deed) -> Option<Event> {
             caller,
             interval: Interval(interval),
         }),
-        Deed::Values(parameter, from, to, descending, limit) => {
-            retrieve(alloc, caller, parameter, (from, to, descending, limit))
+        Deed::Values(parameter, from, to, direction, limit) => {
+            retrieve(alloc, caller, parameter, (from, to, direction, limit))
         }
         Deed::Replay(table, from, to, pname, limit) => {
             replay(alloc, caller, table, (from, to), pname, limit)

@@ -1,12 +1,11 @@
 //! Replies as text.
 
-use arch_types::ask::Answer;
 use arch_types::cell::Cell;
 use arch_types::inserted::{Inserted, Installed};
-use arch_types::interval::Interval;
-use arch_types::refusal::Refusal;
 use arch_types::row::Row;
 use archive_core::Reply;
+use asks::{Answer, AskRefusal};
+use intervals::Interval;
 use std::alloc::{AllocError, Global};
 
 /// What became of rows: the position of each, with a `+` before it where the row is new.
@@ -42,12 +41,11 @@ fn cells_text(alloc: Global, front: u64, cells: &[Cell]) -> Result<String, Alloc
     Ok(text)
 }
 
-fn refusal_text(alloc: Global, refusal: &Refusal) -> Result<String, AllocError> {
+fn refusal_text(alloc: Global, refusal: &AskRefusal) -> Result<String, AllocError> {
     match refusal {
-        Refusal::UnknownParameter => String::from_str(alloc, "unknown parameter"),
-        Refusal::UnknownTable { .. } => String::from_str(alloc, "unknown table"),
-        Refusal::BadRange { from, to } => format!(in alloc; "bad range {from} {to}"),
-        _ => String::from_str(alloc, "another refusal"),
+        AskRefusal::UnknownParameter => String::from_str(alloc, "unknown parameter"),
+        AskRefusal::UnknownTable { .. } => String::from_str(alloc, "unknown table"),
+        AskRefusal::BadRange { from, to } => format!(in alloc; "bad range {from} {to}"),
     }
 }
 

@@ -3,12 +3,13 @@
 //! What reads is generic in the inputs: over those in memory the clauses of a reading cost much more to prove.
 
 use crate::given::none_other;
-use arch_types::ask::{Ask, Asks, ReplayRequest, Request};
-use arch_types::refusal::{Refusal, Sheet as Named, Which};
+use arch_types::direction::Direction;
+use asks::{Ask, Asks, ReplayRequest, Request};
 use mdb_model::{RawMdb, Sheet, SheetRecord};
 use mdb_sheets::{read_asks, read_mdb};
 use outer_traits::inputs::Inputs;
 use outer_traits::mem_inputs::{FailingCall, File, MemInputs};
+use refusals::{Refusal, SheetName, Which};
 use std::alloc::{AllocError, Global};
 use std::test::*;
 
@@ -242,7 +243,7 @@ fn counted(answer: &Result<Asks, Refusal>) -> (u64, u8) {
         Ok(asks) => (asks.as_slice().len() as u64, 0),
         Err(
             Refusal::BadSheet {
-                sheet: Named::Asks,
+                sheet: SheetName::Asks,
                 row,
                 rule,
             },
@@ -360,17 +361,17 @@ fn asks_have_a_header(rt: HostRuntime) -> Result<(), Fail> {
 }
 
 /// The bounds, the order and the limit of an ask for values.
-type Bounds = (i64, i64, bool, Option<u64>);
+type Bounds = (i64, i64, Direction, Option<u64>);
 
 fn has_bounds(request: &Request, bounds: Bounds) -> bool {
     let Request {
         from,
         to,
-        descending,
+        direction,
         limit,
         ..
     } = request;
-    (*from, *to, *descending, *limit) == bounds
+    (*from, *to, *direction, *limit) == bounds
 }
 
 /// The asks that were read; none, where they are refused.
@@ -399,12 +400,15 @@ fn is_asked(alloc: Global, row: &str, bounds: Bounds) -> bool {
 type Read = (&'static str, Bounds);
 
 const ASKS: &[Read] = &[
-    ("values,v,-5,0002000,desc,07,\n", (-5, 2000, true, Some(7))),
+    (
+        "values,v,-5,0002000,desc,07,\n",
+        (-5, 2000, Direction::Descending, Some(7)),
+    ),
     (
         "values,v,1970-01-01T00:00:01.5Z,1970-01-02T00:00:00,asc,,\n",
-        (1500, 86_400_000, false, None),
+        (1500, 86_400_000, Direction::Ascending, None),
     ),
-    ("values,v,5,4,,0,\n", (5, 4, false, Some(0))),
+    ("values,v,5,4,,0,\n", (5, 4, Direction::Ascending, Some(0))),
 ];
 
 fn rows_read() -> &'static [Read] {

@@ -1,19 +1,18 @@
 //! Answers over an archive with fills: one interval whose set stands for it, and one that is late.
-ghost use Rattle.std.specs.Prelude.{◌≡◌, ◌<◌, None, true};
-ghost use Rattle.retrieval.specs.AnswerText.{request_refusal};
-ghost use Rattle.retrieval.specs.Parameter.{number_named};
+ghost use Rattle.std.specs.Prelude.{◌≡◌, ◌<◌};
 
 use crate::parts::{
     AskedValues, Other, Packet, are_raws, flight, none_other, packet_of, request, rows_of, set_of,
 };
 use arch_disk::{Disk, MemDisk};
-use arch_types::ask::Request;
-use arch_types::interval::Interval;
+use arch_types::direction::Direction;
 use arch_types::steps::Steps;
-use archive_store::{Head, Store};
+use archive_store::Store;
+use asks::Request;
+use intervals::Interval;
 use mdb_model::Mdb;
 use param_segments::SegSet;
-use retrieval::answer::{answer_request, number_of};
+use retrieval::answer::answer_request;
 use std::alloc::{AllocError, Global};
 use std::marker::Brand;
 use std::sync::ledger::{Blank, Ledger};
@@ -40,21 +39,45 @@ const FILLED: &[Body] = &[
 
 /// What is asked of it. Ranges cut the set, the rows, and both; limits end in each of them, from either end.
 const ASKS: &[AskedValues] = &[
-    ((b"v", 0, 10_000_000, false, None), &[43, 7, 9, 8]),
-    ((b"v", 0, 10_000_000, true, None), &[8, 9, 7, 43]),
-    ((b"apid", 0, 10_000_000, false, None), &[100, 101, 100, 101]),
-    ((b"w", 0, 10_000_000, false, None), &[]),
-    ((b"v", 0, 4_194_304, false, None), &[43, 7]),
-    ((b"v", 4_194_304, 8_388_608, false, None), &[9, 8]),
-    ((b"v", 1_501, 8_388_607, false, None), &[7, 9]),
-    ((b"v", 3_000, 4_194_304, true, None), &[7]),
-    ((b"v", 3_001, 4_194_304, false, None), &[]),
-    ((b"v", 1_500, 1_500, false, None), &[]),
-    ((b"v", 8_388_608, 10_000_000, true, None), &[]),
-    ((b"v", 0, 10_000_000, false, Some(1)), &[43]),
-    ((b"v", 0, 10_000_000, false, Some(3)), &[43, 7, 9]),
-    ((b"v", 0, 10_000_000, true, Some(1)), &[8]),
-    ((b"v", 0, 8_388_607, true, Some(2)), &[9, 7]),
+    (
+        (b"v", 0, 10_000_000, Direction::Ascending, None),
+        &[43, 7, 9, 8],
+    ),
+    (
+        (b"v", 0, 10_000_000, Direction::Descending, None),
+        &[8, 9, 7, 43],
+    ),
+    (
+        (b"apid", 0, 10_000_000, Direction::Ascending, None),
+        &[100, 101, 100, 101],
+    ),
+    ((b"w", 0, 10_000_000, Direction::Ascending, None), &[]),
+    ((b"v", 0, 4_194_304, Direction::Ascending, None), &[43, 7]),
+    (
+        (b"v", 4_194_304, 8_388_608, Direction::Ascending, None),
+        &[9, 8],
+    ),
+    (
+        (b"v", 1_501, 8_388_607, Direction::Ascending, None),
+        &[7, 9],
+    ),
+    ((b"v", 3_000, 4_194_304, Direction::Descending, None), &[7]),
+    ((b"v", 3_001, 4_194_304, Direction::Ascending, None), &[]),
+    ((b"v", 1_500, 1_500, Direction::Ascending, None), &[]),
+    (
+        (b"v", 8_388_608, 10_000_000, Direction::Descending, None),
+        &[],
+    ),
+    ((b"v", 0, 10_000_000, Direction::Ascending, Some(1)), &[43]),
+    (
+        (b"v", 0, 10_000_000, Direction::Ascending, Some(3)),
+        &[43, 7, 9],
+    ),
+    ((b"v", 0, 10_000_000, Direction::Descending, Some(1)), &[8]),
+    (
+        (b"v", 0, 8_388_607, Direction::Descending, Some(2)),
+        &[9, 7],
+    ),
 ];
 
 /// They are functions, so that they stand in no goal of their callers.
@@ -180,27 +203,19 @@ fn write_journal<D: Disk>(alloc: Global, disk: &mut D) -> bool {
     put_journal(alloc, &mut journal).is_ok() && disk.write_at(0, 0, &journal).is_ok()
 }
 
-/// Whether the database has the parameter, and the range doesn't end before it begins.
-fn is_answerable(head: &Head, request: &Request) -> bool
-    ensures { result ≡ true →
-        request_refusal (number_named head.now.mdb request.now.parameter) request.now ≡ None }
-{
-    number_of(&head.mdb, &request.parameter).is_some() && request.from <= request.to
-}
-
 /// Whether a store answers a request at front 4 by these raw values.
 fn is_answered<D: Disk, L: Ledger>(
     alloc: Global,
     store: &mut Store<D>,
-    request: &Request,
+    request: Request,
     raws: &[i64],
     steps: &mut Steps<L>,
 ) -> bool {
-    if !is_answerable(store.head(), request) {
+    let Ok(found) = store.find(request) else {
         return false;
-    }
-    match answer_request(alloc, store, request, steps) {
-        Ok(found) => found.answer.front == 4 && are_raws(found.answer.cells.as_slice(), raws),
+    };
+    match answer_request(alloc, store, &found, steps) {
+        Ok(answer) => answer.front == 4 && are_raws(answer.cells.as_slice(), raws),
         Err(_) => false,
     }
 }
@@ -213,7 +228,7 @@ fn gives<D: Disk, L: Ledger>(
     steps: &mut Steps<L>,
 ) -> bool {
     match request(alloc, &asked.0) {
-        Some(request) => is_answered(alloc, store, &request, asked.1, steps),
+        Some(request) => is_answered(alloc, store, request, asked.1, steps),
         None => false,
     }
 }

@@ -7,8 +7,9 @@ use crate::parts::{
     Asked, AskedValues, Other, Packet, answer_over, are_raws, flight, none_other, part, rows_of,
 };
 use crate::texts::is_worked;
-use arch_types::ask::Answer;
-use arch_types::interval::Interval;
+use arch_types::direction::Direction;
+use asks::Answer;
+use intervals::Interval;
 use mdb_model::Mdb;
 use param_segments::{Part, Parts};
 use std::alloc::{AllocError, Global};
@@ -36,45 +37,90 @@ fn no_packets() -> &'static [IntervalPackets] {
 
 /// All, from either end.
 const ALL: &[AskedValues] = &[
-    ((b"v", 0, 10_000_000, false, None), &[42, 7, 9, 8, 5, 6]),
-    ((b"v", 0, 10_000_000, true, None), &[6, 5, 8, 9, 7, 42]),
     (
-        (b"apid", 0, 10_000_000, false, None),
+        (b"v", 0, 10_000_000, Direction::Ascending, None),
+        &[42, 7, 9, 8, 5, 6],
+    ),
+    (
+        (b"v", 0, 10_000_000, Direction::Descending, None),
+        &[6, 5, 8, 9, 7, 42],
+    ),
+    (
+        (b"apid", 0, 10_000_000, Direction::Ascending, None),
         &[100, 102, 101, 100, 101, 100, 100],
     ),
-    ((b"apid", 0, 10_000_000, true, Some(3)), &[100, 100, 101]),
-    ((b"w", 0, 10_000_000, false, None), &[]),
+    (
+        (b"apid", 0, 10_000_000, Direction::Descending, Some(3)),
+        &[100, 100, 101],
+    ),
+    ((b"w", 0, 10_000_000, Direction::Ascending, None), &[]),
 ];
 
 /// Limits at and around the borders of parts.
 const LIMITED: &[AskedValues] = &[
-    ((b"v", 0, 10_000_000, false, Some(0)), &[]),
-    ((b"v", 0, 10_000_000, false, Some(1)), &[42]),
-    ((b"v", 0, 10_000_000, false, Some(2)), &[42, 7]),
-    ((b"v", 0, 10_000_000, false, Some(3)), &[42, 7, 9]),
-    ((b"v", 0, 10_000_000, false, Some(6)), &[42, 7, 9, 8, 5, 6]),
-    ((b"v", 0, 10_000_000, false, Some(7)), &[42, 7, 9, 8, 5, 6]),
-    ((b"v", 0, 10_000_000, true, Some(0)), &[]),
-    ((b"v", 0, 10_000_000, true, Some(1)), &[6]),
-    ((b"v", 0, 10_000_000, true, Some(2)), &[6, 5]),
-    ((b"v", 0, 10_000_000, true, Some(3)), &[6, 5, 8]),
+    ((b"v", 0, 10_000_000, Direction::Ascending, Some(0)), &[]),
+    ((b"v", 0, 10_000_000, Direction::Ascending, Some(1)), &[42]),
+    (
+        (b"v", 0, 10_000_000, Direction::Ascending, Some(2)),
+        &[42, 7],
+    ),
+    (
+        (b"v", 0, 10_000_000, Direction::Ascending, Some(3)),
+        &[42, 7, 9],
+    ),
+    (
+        (b"v", 0, 10_000_000, Direction::Ascending, Some(6)),
+        &[42, 7, 9, 8, 5, 6],
+    ),
+    (
+        (b"v", 0, 10_000_000, Direction::Ascending, Some(7)),
+        &[42, 7, 9, 8, 5, 6],
+    ),
+    ((b"v", 0, 10_000_000, Direction::Descending, Some(0)), &[]),
+    ((b"v", 0, 10_000_000, Direction::Descending, Some(1)), &[6]),
+    (
+        (b"v", 0, 10_000_000, Direction::Descending, Some(2)),
+        &[6, 5],
+    ),
+    (
+        (b"v", 0, 10_000_000, Direction::Descending, Some(3)),
+        &[6, 5, 8],
+    ),
 ];
 
 /// Ranges that cut parts, and ranges with limits.
 const CUT: &[AskedValues] = &[
-    ((b"v", 1_500, 1_500, false, None), &[]),
-    ((b"v", 1_500, 1_501, false, None), &[42]),
-    ((b"v", 1_501, 4_194_304, false, None), &[7]),
-    ((b"v", 3_000, 4_194_305, false, None), &[7, 9]),
-    ((b"v", 4_194_304, 8_388_607, true, None), &[9]),
-    ((b"v", 8_388_607, 8_388_608, true, None), &[8]),
-    ((b"v", 9_000_001, 10_000_000, true, None), &[]),
-    ((b"v", 3_000, 8_388_608, false, Some(2)), &[7, 9]),
-    ((b"v", 3_000, 8_388_608, true, Some(2)), &[8, 9]),
+    ((b"v", 1_500, 1_500, Direction::Ascending, None), &[]),
+    ((b"v", 1_500, 1_501, Direction::Ascending, None), &[42]),
+    ((b"v", 1_501, 4_194_304, Direction::Ascending, None), &[7]),
+    (
+        (b"v", 3_000, 4_194_305, Direction::Ascending, None),
+        &[7, 9],
+    ),
+    (
+        (b"v", 4_194_304, 8_388_607, Direction::Descending, None),
+        &[9],
+    ),
+    (
+        (b"v", 8_388_607, 8_388_608, Direction::Descending, None),
+        &[8],
+    ),
+    (
+        (b"v", 9_000_001, 10_000_000, Direction::Descending, None),
+        &[],
+    ),
+    (
+        (b"v", 3_000, 8_388_608, Direction::Ascending, Some(2)),
+        &[7, 9],
+    ),
+    (
+        (b"v", 3_000, 8_388_608, Direction::Descending, Some(2)),
+        &[8, 9],
+    ),
 ];
 
 /// Over no part.
-const NONE: &[AskedValues] = &[((b"v", 0, 10, true, None), &[])];
+const NONE: &[AskedValues] = &[((b"v", 0, 10, Direction::Descending, None), &[])];
 
 fn all() -> &'static [AskedValues] {
     ALL

@@ -3,12 +3,12 @@
 ghost use Rattle.std.specs.Prelude.{◌≡◌, map, true, IfOk, IfSome};
 ghost use Rattle.std.specs.List.{AllByRecursion};
 ghost use Rattle.std.specs.List.Sorted.{IsStrictlySortedBy};
-ghost use Rattle.arch_types.specs.Interval.{interval_of};
+ghost use Rattle.intervals.specs.Interval.{interval_of};
 ghost use Rattle.arch_types.specs.Order.{key_cmp};
 ghost use Rattle.param_segments.specs.Cells.{AreValuesOf};
 
-use arch_types::interval::Interval;
 use arch_types::row::{Row, Rows};
+use intervals::{Exponent, Interval};
 use mdb_model::Mdb;
 use param_segments::SegSet;
 use std::alloc::{AllocError, Global};
@@ -29,8 +29,7 @@ fn are_rising(rows: &[Row]) -> bool
 fn are_inside(interval: Interval, rows: &[Row]) -> bool
     ensures { result ≡ true → AllByRecursion (λ row. interval_of 22 row.key.time ≡ interval.0) rows.now }
 {
-    rows.iter()
-        .all(|row| Interval::of(row.key.time) == interval)
+    rows.iter().all(|row| Interval::at(row.key.time, Exponent::of_format_1()) == interval)
 }
 
 /// The set of rows of an interval in the order of their keys, and nothing where they aren't.
@@ -45,6 +44,6 @@ pub fn built(
     if !are_rising(rows.as_slice()) || !are_inside(interval, rows.as_slice()) {
         return Ok(None);
     }
-    let set = SegSet::build(alloc, interval, rows, mdb)?;
+    let set = SegSet::build(alloc, interval, Exponent::of_format_1(), rows, mdb)?;
     Ok(Some(set))
 }

@@ -1,21 +1,24 @@
 //! What the tests are made of: a database, rows, parts, requests and answers.
 ghost use Rattle.std.specs.Prelude.{◌≡◌, ◌<◌, IfSome, true};
+ghost use Rattle.std.specs.Arc.{arc_value};
 ghost use Rattle.std.specs.List.{AllByRecursion};
 ghost use Rattle.param_segments.specs.Cells.{AreValuesOf};
 ghost use Rattle.param_segments.specs.Plans.{HasValuesOf};
 
 use crate::ordered::built;
-use arch_types::ask::{Answer, Request};
 use arch_types::cell::Cell;
-use arch_types::interval::Interval;
+use arch_types::direction::Direction;
 use arch_types::key::Key;
 use arch_types::name::Name;
 use arch_types::octets::Octets;
 use arch_types::row::{Row, Rows};
 use arch_types::steps::Steps;
+use archive_store::FoundRequest;
+use asks::{Answer, Request};
+use intervals::Interval;
 use mdb_model::Mdb;
 use param_segments::{Part, Parts, Plan, SegSet};
-use retrieval::answer::{answer, number_of};
+use retrieval::answer::answer;
 use std::alloc::{AllocError, Global};
 use std::marker::Brand;
 use std::sync::Arc;
@@ -139,9 +142,8 @@ pub(crate) fn part(
     }
 }
 
-/// What is asked of a plan: the values of a parameter with `from <= time < to`, whether the latest first, and how many
-/// at most.
-pub(crate) type Asked = (&'static [u8], i64, i64, bool, Option<u64>);
+/// What is asked of a plan: the values of a parameter with `from <= time < to`, in which direction, and how many at most.
+pub(crate) type Asked = (&'static [u8], i64, i64, Direction, Option<u64>);
 
 /// What is asked, and the raw values of the answer.
 pub(crate) type AskedValues = (Asked, &'static [i64]);
@@ -155,13 +157,13 @@ fn name_of(alloc: Global, name: &[u8]) -> Option<Name> {
 
 /// The request for it.
 pub(crate) fn request(alloc: Global, asked: &Asked) -> Option<Request> {
-    let (name, from, to, descending, limit) = *asked;
+    let (name, from, to, direction, limit) = *asked;
     match name_of(alloc, name) {
         Some(parameter) => Some(Request {
             parameter,
             from,
             to,
-            descending,
+            direction,
             limit,
         }),
         None => None,
@@ -170,7 +172,8 @@ pub(crate) fn request(alloc: Global, asked: &Asked) -> Option<Request> {
 
 /// The plan of parts, at front 7.
 fn plan_of(alloc: Global, parts: Parts, mdb: &Mdb) -> Option<Plan>
-    ensures { IfSome result (λ plan. plan.parts ≡ parts) }
+    ensures parts { IfSome result (λ plan. plan.parts ≡ parts) }
+    ensures mdb { IfSome result (λ plan. arc_value plan.mdb ≡ mdb.now) }
 {
     match mdb.copy() {
         Ok(mdb) => match Arc::new(alloc, mdb) {
@@ -185,33 +188,36 @@ fn plan_of(alloc: Global, parts: Parts, mdb: &Mdb) -> Option<Plan>
     }
 }
 
+/// A request, with the number of its parameter in the database of a plan.
+fn found(plan: &Plan, request: Request) -> Option<FoundRequest> {
+    let number = plan.mdb.parameter_number(request.parameter.as_str())?;
+    let mdb = Arc::try_clone(&plan.mdb).ok()?;
+    Some(FoundRequest {
+        request,
+        mdb,
+        number,
+    })
+}
+
 /// The answer to a request over a plan, where the database has the parameter.
-fn answered<L: Ledger>(
-    alloc: Global,
-    blank: Blank,
-    plan: Plan,
-    mdb: &Mdb,
-    request: &Request,
-) -> Option<Answer>
+fn answered<L: Ledger>(alloc: Global, blank: Blank, plan: Plan, request: Request) -> Option<Answer>
     requires name { blank.name ≡ L.name }
     requires count { blank.parts ≡ L.parts }
     requires some { 0 < blank.parts }
-    requires values { AllByRecursion (HasValuesOf mdb.now) plan.parts }
+    requires values { AllByRecursion (HasValuesOf (arc_value plan.mdb)) plan.parts }
 {
     let (book, share) = blank.open::<L>();
     let mut steps = Steps::new(book, share);
-    if number_of(mdb, &request.parameter).is_none() {
-        return None;
-    }
-    answer(alloc, plan, mdb, request, &mut steps).ok()
+    let found = found(&plan, request)?;
+    answer(alloc, plan, &found, &mut steps).ok()
 }
 
 /// The answer to an ask over a plan.
-fn answer_by(alloc: Global, plan: Plan, mdb: &Mdb, asked: &Asked) -> Option<Answer>
-    requires values { AllByRecursion (HasValuesOf mdb.now) plan.parts }
+fn answer_by(alloc: Global, plan: Plan, asked: &Asked) -> Option<Answer>
+    requires values { AllByRecursion (HasValuesOf (arc_value plan.mdb)) plan.parts }
 {
     match request(alloc, asked) {
-        Some(request) => answered::<Brand>(alloc, Blank::new(1), plan, mdb, &request),
+        Some(request) => answered::<Brand>(alloc, Blank::new(1), plan, request),
         None => None,
     }
 }
@@ -221,7 +227,7 @@ pub(crate) fn answer_over(alloc: Global, parts: Parts, mdb: &Mdb, asked: &Asked)
     requires values { AllByRecursion (HasValuesOf mdb.now) parts }
 {
     match plan_of(alloc, parts, mdb) {
-        Some(plan) => answer_by(alloc, plan, mdb, asked),
+        Some(plan) => answer_by(alloc, plan, asked),
         None => None,
     }
 }

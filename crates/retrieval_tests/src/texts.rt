@@ -5,11 +5,12 @@ ghost use Rattle.param_segments.specs.Plans.{HasValuesOf};
 
 use crate::mixes::put_part;
 use crate::parts::{Other, answer_over, none_other, part, put_row};
-use arch_types::ask::Answer;
 use arch_types::cell::{Cell, Cells, Eng};
-use arch_types::interval::Interval;
+use arch_types::direction::Direction;
 use arch_types::key::Key;
 use arch_types::row::Rows;
+use asks::Answer;
+use intervals::Interval;
 use mdb_model::Mdb;
 use param_segments::{Part, Parts};
 use retrieval::answer_text::answer_text;
@@ -101,7 +102,12 @@ fn worked_parts(alloc: Global, mdb: &Mdb, as_set: bool) -> Result<Parts, AllocEr
 /// The worked answer, over a set or over rows.
 fn worked_answer(alloc: Global, mdb: &Mdb, as_set: bool) -> Option<Answer> {
     match worked_parts(alloc, mdb, as_set) {
-        Ok(parts) => answer_over(alloc, parts, mdb, &(b"v", 0, 2_000, false, None)),
+        Ok(parts) => answer_over(
+            alloc,
+            parts,
+            mdb,
+            &(b"v", 0, 2_000, Direction::Ascending, None),
+        ),
         Err(_) => None,
     }
 }

@@ -3,9 +3,9 @@
 use crate::ordered::built;
 use crate::segment_codec_tests::joined;
 use crate::set_tests::{Packet, is_spelled, put_counted, rows_of, worked};
-use arch_types::interval::Interval;
 use arch_types::octets::Octets;
 use arch_types::row::Rows;
+use intervals::{Exponent, Interval};
 use mdb_model::Mdb;
 use param_segments::{NotASegment, SegSet};
 use std::alloc::Global;
@@ -22,7 +22,13 @@ enum Reading {
 
 /// What octets are read as in an interval.
 fn reading_in(alloc: Global, interval: i64, octets: &[u8], mdb: &Mdb) -> Reading {
-    match SegSet::from_bytes(alloc, Interval(interval), octets, mdb) {
+    match SegSet::from_bytes(
+        alloc,
+        Interval(interval),
+        Exponent::of_format_1(),
+        octets,
+        mdb,
+    ) {
         Ok(set) => {
             if is_spelled(&set, octets) {
                 Reading::Set(set.segments())
@@ -52,7 +58,7 @@ fn is_exact(alloc: Global, octets: &[u8], mdb: &Mdb) -> bool {
 
 /// Whether a set that shares its octets has so many segments, and is spelled by them.
 fn is_shared(alloc: Global, octets: Octets, mdb: &Mdb, segments: u32) -> bool {
-    match SegSet::from_octets(alloc, Interval(0), octets, mdb) {
+    match SegSet::from_octets(alloc, Interval(0), Exponent::of_format_1(), octets, mdb) {
         Ok(set) => set.segments() == segments && is_spelled(&set, worked()),
         Err(_) => false,
     }

@@ -8,10 +8,10 @@ use crate::set_reading_tests::{
     are_keys_apart, are_ordered, are_segments, other_of_one_group_read,
 };
 use arch_types::cell::Cell;
-use arch_types::interval::Interval;
 use arch_types::key::Key;
 use arch_types::octets::Octets;
 use arch_types::row::{Row, Rows};
+use intervals::Interval;
 use mdb_model::Mdb;
 use param_segments::SegSet;
 use std::alloc::{AllocError, Global};

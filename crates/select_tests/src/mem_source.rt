@@ -6,14 +6,15 @@ ghost use Rattle.std.specs.List.{list_any};
 ghost use Rattle.arch_types.specs.Packet.{IsPacket};
 ghost use Rattle.arch_types.specs.History.{is_duplicate_of};
 ghost use Rattle.partitions.specs.Rows.{partition_at};
-ghost use Rattle.replay_merge.specs.Source.{IsKeyedRow, IsRowSourceHistory, AreRowsOf, IsRowSourceRefusal, UsedRowSource};
+ghost use Rattle.replay_merge.specs.Source.{IsKeyedRow, IsRowSourceHistory, AreRowsOf, IsRowFault, UsedRowSource};
 ghost use Rattle.text_forms.specs.ClockTime.{is_clock_time};
 ghost use Rattle.select_tests.specs.MemSource.{known_history, is_in_table_and_partition};
 
 use arch_types::octets::Octets;
-use arch_types::refusal::Refusal;
 use arch_types::row::{Row, Rows};
+use arch_types::row_fault::RowFault;
 use partitions::partition::{Partition, partition_of};
+use refusals::Refusal;
 use replay_merge::source::RowSource;
 use space_packet::dump::first_packet;
 use space_packet::key::key_of;
@@ -90,19 +91,19 @@ impl MemSource {
 
     /// Refuses the call that is to fail.
     #[tactic(auto, using(crate::proofs::Found::known_sound))]
-    fn fail_in_turn(&mut self) -> Result<(), Refusal>
+    fn fail_in_turn(&mut self) -> Result<(), RowFault>
         ensures history { IfSome self.old.history IsRowSourceHistory }
-        ensures refused { IfErr result (IsRowSourceRefusal self.old self.new) }
+        ensures refused { IfErr result (IsRowFault self.old self.new) }
         ensures source { UsedRowSource self.old self.new }
     {
         match self.calls {
             Some(0) => {
                 self.calls = None;
                 if !self.is_known {
-                    return Err(Refusal::Damaged { file: 0, at: 0 });
+                    return Err(RowFault::Damaged { file: 0, at: 0 });
                 }
                 self.faults = self.faults.saturating_add(1);
-                Err(Refusal::DiskFault)
+                Err(RowFault::DiskFault)
             }
             Some(calls) => {
                 self.calls = Some(calls - 1);
@@ -122,7 +123,7 @@ impl RowSource for MemSource {
         table: u8,
         part: &Partition,
         front: u64,
-    ) -> Result<Rows, Refusal> {
+    ) -> Result<Rows, RowFault> {
         self.fail_in_turn()?;
         let count = self.history.len().min(front as usize);
         let rows = part_rows(alloc, &self.history.as_slice()[..count], table, part)?;

@@ -3,11 +3,11 @@
 use crate::ends::none_other;
 use crate::mem_source::MemSource;
 use crate::packets::{Packet, source_of};
-use arch_types::ask::ReplayRequest;
 use arch_types::name::Name;
 use arch_types::octets::Octets;
-use arch_types::refusal::Refusal;
 use arch_types::row::{Row, Rows};
+use arch_types::row_fault::RowFault;
+use asks::ReplayRequest;
 use partitions::lists::{PartList, PnameList};
 use partitions::partition::Partition;
 use replay_merge::cursor::Cursor;
@@ -113,7 +113,7 @@ fn step(
     cursor: &mut Cursor,
     source: &mut MemSource,
     limit: u64,
-) -> Result<Rows, Refusal> {
+) -> Result<Rows, RowFault> {
     cursor.next(alloc, source, limit)
 }
 
@@ -132,7 +132,7 @@ fn add_step(
     cursor: &mut Cursor,
     source: &mut MemSource,
     limit: u64,
-) -> Result<bool, Refusal> {
+) -> Result<bool, RowFault> {
     let rows = step(alloc, cursor, source, limit)?;
     add_counts(counts, rows.as_slice())?;
     Ok(rows.len() > 0)
@@ -270,8 +270,8 @@ fn gives_rows(
 /// Whether a step is refused as a source is that tells its rows, or as one that doesn't.
 fn is_refused(alloc: Global, cursor: &mut Cursor, source: &mut MemSource, is_known: bool) -> bool {
     match step(alloc, cursor, source, 100) {
-        Err(Refusal::DiskFault) => is_known,
-        Err(Refusal::Damaged { file: 0, at: 0 }) => !is_known,
+        Err(RowFault::DiskFault) => is_known,
+        Err(RowFault::Damaged { file: 0, at: 0 }) => !is_known,
         _ => false,
     }
 }

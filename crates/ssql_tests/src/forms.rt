@@ -6,24 +6,66 @@ ghost use Rattle.arch_types.specs.Packet.{IsPacket};
 use arch_types::key::Key;
 use arch_types::name::{Name, Names};
 use arch_types::octets::Octets;
-use arch_types::refusal::Refusal;
 use arch_types::row::Row;
+use refusals::Refusal;
 use space_packet::dump::first_packet;
-use ssql_parse::parse;
+use ssql_parse::{NotAScript, parse};
+use ssql_types::not_typed::NotTyped;
 use ssql_types::place::ScriptPlace;
 use ssql_types::query::TypedSelect;
 use ssql_types::script::{TypedScript, typed};
 use ssql_types::statement::TypedStatement;
 use std::alloc::{AllocError, Global};
 
-/// Whether a script is refused at this octet, against this rule.
-pub(crate) fn is_fault(refusal: &Refusal, at: u64, rule: u8) -> bool {
-    match refusal {
-        Refusal::BadSql {
+/// Why a text stands for nothing in a place.
+#[derive(Debug, Drop)]
+pub(crate) enum Fault {
+    /// It is no script.
+    Script(NotAScript),
+    /// Something is wrong with a token.
+    Token(NotTyped),
+}
+
+impl From<NotAScript> for Fault {
+    fn from(fault: NotAScript) -> Fault {
+        Fault::Script(fault)
+    }
+}
+
+impl From<NotTyped> for Fault {
+    fn from(fault: NotTyped) -> Fault {
+        Fault::Token(fault)
+    }
+}
+
+impl From<AllocError> for Fault {
+    fn from(error: AllocError) -> Fault {
+        Fault::Script(NotAScript::from(error))
+    }
+}
+
+/// Whether a text is no script from this octet on, by this rule.
+pub(crate) fn is_no_script(fault: &NotAScript, at: u64, rule: u8) -> bool {
+    match fault {
+        NotAScript::BadSql {
             at: found,
             rule: broken,
         } => *found == at && *broken == rule,
         _ => false,
+    }
+}
+
+/// Whether a script is wrong at this octet, against this rule.
+pub(crate) fn is_fault(fault: &Fault, at: u64, rule: u8) -> bool {
+    match fault {
+        Fault::Script(fault) => is_no_script(fault, at, rule),
+        Fault::Token(
+            NotTyped::BadSql {
+                at: found,
+                rule: broken,
+            },
+        ) => *found == at && *broken == rule,
+        Fault::Token(_) => false,
     }
 }
 
@@ -57,12 +99,12 @@ fn typed_beside(
     text: &[u8],
     tables: &Names,
     names: &Names,
-) -> Result<TypedScript, Refusal>
+) -> Result<TypedScript, Fault>
     requires tables { length tables.now ≤ 16 }
     requires names { length names.now ≤ 2 }
 {
     let script = parse(alloc, text)?;
-    typed(alloc, &script, place, tables, names)
+    Ok(typed(alloc, &script, place, tables, names)?)
 }
 
 /// A script beside these tables and the packet names A and B.
@@ -71,7 +113,7 @@ fn typed_of(
     place: ScriptPlace,
     text: &[u8],
     tables: &Names,
-) -> Result<TypedScript, Refusal>
+) -> Result<TypedScript, Fault>
     requires { length tables.now ≤ 16 }
 {
     let names = names_of(alloc, &[b"A", b"B"])?;
@@ -83,7 +125,7 @@ pub(crate) fn typed_text(
     alloc: Global,
     place: ScriptPlace,
     text: &[u8],
-) -> Result<TypedScript, Refusal> {
+) -> Result<TypedScript, Fault> {
     let tables = tables_of(alloc, place)?;
     typed_of(alloc, place, text, &tables)
 }

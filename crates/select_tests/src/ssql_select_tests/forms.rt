@@ -6,11 +6,11 @@ use crate::mem_source::MemSource;
 use crate::packets::{Packet, source_of};
 use arch_types::name::{Name, Names};
 use arch_types::octets::Octets;
-use arch_types::refusal::Refusal;
+use arch_types::row_fault::RowFault;
 use arch_types::steps::Steps;
 use dump_lines::line_buffer::LineBuffer;
-use dump_lines::print_fault::PrintFault;
 use outer_traits::mem_sink::MemSink;
+use outer_traits::print_fault::PrintFault;
 use partitions::lists::PartList;
 use partitions::partition::Partition;
 use ssql_parse::parse;
@@ -75,30 +75,25 @@ pub(crate) fn all_parts(alloc: Global) -> Result<PartList, AllocError> {
 }
 
 /// A script over these tables, beside the packet names.
-fn typed_over(alloc: Global, text: &[u8], tables: &Names) -> Result<TypedScript, Refusal>
+fn typed_over(alloc: Global, text: &[u8], tables: &Names) -> Option<TypedScript>
     requires { length tables.now ≤ 2 }
 {
-    let names = packet_names(alloc)?;
+    let names = packet_names(alloc).ok()?;
     typed_beside(alloc, text, tables, &names)
 }
 
 /// A script over these tables, beside these packet names.
-fn typed_beside(
-    alloc: Global,
-    text: &[u8],
-    tables: &Names,
-    names: &Names,
-) -> Result<TypedScript, Refusal>
+fn typed_beside(alloc: Global, text: &[u8], tables: &Names, names: &Names) -> Option<TypedScript>
     requires tables { length tables.now ≤ 2 }
     requires names { length names.now ≤ 2 }
 {
-    let script = parse(alloc, text)?;
-    typed(alloc, &script, ScriptPlace::Sql, tables, names)
+    let script = parse(alloc, text).ok()?;
+    typed(alloc, &script, ScriptPlace::Sql, tables, names).ok()
 }
 
 /// A script over the tables `tm` and `copy`.
-fn typed_script(alloc: Global, text: &[u8]) -> Result<TypedScript, Refusal> {
-    let tables = names_of(alloc, &[b"tm", b"copy"])?;
+fn typed_script(alloc: Global, text: &[u8]) -> Option<TypedScript> {
+    let tables = names_of(alloc, &[b"tm", b"copy"]).ok()?;
     typed_over(alloc, text, &tables)
 }
 
@@ -118,7 +113,7 @@ fn print_selection(alloc: Global, text: &SelectionText<'_>, sink: &mut MemSink) 
         return Ending::Unasked;
     };
     match text.print(alloc, &mut line_buffer, sink) {
-        Ok(()) if line_buffer.finish(sink).is_none() => Ending::Whole,
+        Ok(()) if line_buffer.finish(sink).is_ok() => Ending::Whole,
         Ok(()) | Err(PrintFault::Write) => Ending::Cut,
         Err(PrintFault::OutOfMemory) => Ending::Unasked,
     }
@@ -136,7 +131,7 @@ fn answer_beside<L: Ledger>(
 ) -> Ending {
     match select(alloc, query, names, source, parts, 6, steps) {
         Ok(text) => print_selection(alloc, &text, sink),
-        Err(Refusal::OutOfMemory) => Ending::Unasked,
+        Err(RowFault::OutOfMemory) => Ending::Unasked,
         Err(_) => Ending::Refused,
     }
 }
@@ -193,7 +188,7 @@ pub(crate) fn answer(
     source: &mut MemSource,
     sink: &mut MemSink,
 ) -> Ending {
-    let Ok(script) = typed_script(alloc, script.as_bytes()) else {
+    let Some(script) = typed_script(alloc, script.as_bytes()) else {
         return Ending::Unasked;
     };
     match script.as_slice() {

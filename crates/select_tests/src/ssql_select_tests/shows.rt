@@ -4,7 +4,7 @@ use super::forms::{all_parts, packet_names, source_of_packets};
 use crate::ends::none_other;
 use crate::mem_source::MemSource;
 use arch_types::name::Names;
-use arch_types::refusal::Refusal;
+use arch_types::row_fault::RowFault;
 use arch_types::spans::Span;
 use dump_lines::line_buffer::LineBuffer;
 use outer_traits::mem_sink::MemSink;
@@ -18,7 +18,7 @@ fn print_lines(alloc: Global, names: &Names, lines: &[ShowLine], sink: &mut MemS
         return false;
     };
     print_show(alloc, names, lines, &mut line_buffer, sink).is_ok()
-        && line_buffer.finish(sink).is_none()
+        && line_buffer.finish(sink).is_ok()
 }
 
 /// Whether this is printed of lines.
@@ -38,7 +38,7 @@ fn lines_of_table(
     source: &mut MemSource,
     table: u8,
     front: u64,
-) -> Result<Vec<ShowLine>, Refusal> {
+) -> Result<Vec<ShowLine>, RowFault> {
     let parts = all_parts(alloc)?;
     partition_lines(alloc, source, table, parts.as_slice(), front)
 }

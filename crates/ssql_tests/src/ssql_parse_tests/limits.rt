@@ -1,9 +1,8 @@
 //! Scripts at their limits and beyond, and scripts of any octets.
 
 use crate::ends::none_other;
-use crate::forms::is_fault;
-use arch_types::refusal::{Refusal, Which};
-use ssql_parse::parse;
+use crate::forms::is_no_script;
+use ssql_parse::{NotAScript, ScriptQuantity, parse};
 use std::alloc::{AllocError, Global};
 use std::test::Fail;
 
@@ -11,7 +10,7 @@ use std::test::Fail;
 enum Answer {
     Read,
     Wrong(u64, u8),
-    Limit(Which),
+    Limit(ScriptQuantity),
 }
 
 /// What stands in front, what stands behind it and how many times, what ends the script, and the answer.
@@ -30,7 +29,7 @@ const SCRIPTS: &[Repeated] = &[
         b"NOT ",
         33,
         b"apid = 1",
-        Answer::Limit(Which::SqlDepth),
+        Answer::Limit(ScriptQuantity::Depth),
     ),
     (
         b"SELECT * FROM tm WHERE ",
@@ -56,15 +55,27 @@ const SCRIPTS: &[Repeated] = &[
     ),
     (b"", b"(", 65_536, b"", Answer::Wrong(0, 2)),
     (b"", b" ", 65_536, b"", Answer::Read),
-    (b"", b" ", 65_537, b"", Answer::Limit(Which::ScriptOctets)),
-    (b"", b"#", 65_537, b"", Answer::Limit(Which::ScriptOctets)),
+    (
+        b"",
+        b" ",
+        65_537,
+        b"",
+        Answer::Limit(ScriptQuantity::Octets),
+    ),
+    (
+        b"",
+        b"#",
+        65_537,
+        b"",
+        Answer::Limit(ScriptQuantity::Octets),
+    ),
     (b"", b"SHOW HISTOGRAM tm;", 256, b"", Answer::Read),
     (
         b"",
         b"SHOW HISTOGRAM tm;",
         257,
         b"",
-        Answer::Limit(Which::Statements),
+        Answer::Limit(ScriptQuantity::Statements),
     ),
     // A string that never closes ends at its last doubled quote, and no token begins at the quote behind it.
     (b"'", b"a''", 20_000, b"", Answer::Wrong(60_000, 1)),
@@ -91,10 +102,10 @@ fn add_repeated(
     text.extend_from_slice(back)
 }
 
-fn is_refused(refusal: &Refusal, want: &Answer) -> bool {
-    match (refusal, want) {
-        (refusal, Answer::Wrong(at, rule)) => is_fault(refusal, *at, *rule),
-        (Refusal::Limit { which, .. }, Answer::Limit(want)) => which == want,
+fn is_refused(fault: &NotAScript, want: &Answer) -> bool {
+    match (fault, want) {
+        (fault, Answer::Wrong(at, rule)) => is_no_script(fault, *at, *rule),
+        (NotAScript::Limit(quantity), Answer::Limit(want)) => quantity == want,
         _ => false,
     }
 }
@@ -102,7 +113,7 @@ fn is_refused(refusal: &Refusal, want: &Answer) -> bool {
 fn is_answer(alloc: Global, text: &[u8], want: &Answer) -> bool {
     match parse(alloc, text) {
         Ok(_) => matches!(want, Answer::Read),
-        Err(refusal) => is_refused(&refusal, want),
+        Err(fault) => is_refused(&fault, want),
     }
 }
 

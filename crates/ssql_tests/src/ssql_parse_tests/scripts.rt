@@ -1,7 +1,7 @@
 //! Scripts as tables. The places were found by a reader of the grammar that was written apart from the program.
 
 use crate::ends::none_other;
-use crate::forms::is_fault;
+use crate::forms::is_no_script;
 use ssql_parse::{Script, parse, print};
 use std::alloc::Global;
 use std::test::Fail;
@@ -136,7 +136,7 @@ fn wrong_conditions() -> &'static [Wrong] {
 fn is_wrong(alloc: Global, text: &[u8], at: u64, rule: u8) -> bool {
     match parse(alloc, text) {
         Ok(_) => false,
-        Err(refusal) => is_fault(&refusal, at, rule),
+        Err(fault) => is_no_script(&fault, at, rule),
     }
 }
 

@@ -1,9 +1,10 @@
 //! What is read of a script with each form of the grammar, and where its tokens begin.
 
+use arch_types::direction::Direction;
 use arch_types::name::Name;
 use ssql_parse::{
-    Column, Columns, ComparisonOperator, Direction, Literal, Piece, Predicate, Query, QuerySource,
-    Statement, Test, parse,
+    Column, Columns, ComparisonOperator, Literal, Piece, Predicate, Query, QuerySource, Statement,
+    Test, parse,
 };
 use std::alloc::Global;
 

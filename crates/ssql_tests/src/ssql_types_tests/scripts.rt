@@ -2,9 +2,9 @@
 
 use crate::ends::none_other;
 use crate::forms::typed_text;
+use arch_types::direction::Direction;
 use ssql_conditions::bounds::bounds;
 use ssql_conditions::condition::Condition;
-use ssql_parse::Direction;
 use ssql_tokens::Column;
 use ssql_types::place::ScriptPlace;
 use ssql_types::query::TypedSelect;

@@ -1,8 +1,8 @@
 //! Wrong scripts as tables. The places were found by a reader of the rules that was written apart from the program.
 
 use crate::ends::none_other;
-use crate::forms::{is_fault, typed_text};
-use arch_types::refusal::Refusal;
+use crate::forms::{Fault, is_fault, typed_text};
+use ssql_types::not_typed::NotTyped;
 use ssql_types::place::ScriptPlace;
 use std::alloc::Global;
 use std::test::Fail;
@@ -272,7 +272,7 @@ fn unknown_in_routes() -> &'static [UnknownTable] {
 fn is_wrong(alloc: Global, place: ScriptPlace, text: &[u8], at: u64, rule: u8) -> bool {
     match typed_text(alloc, place, text) {
         Ok(_) => false,
-        Err(refusal) => is_fault(&refusal, at, rule),
+        Err(fault) => is_fault(&fault, at, rule),
     }
 }
 
@@ -313,10 +313,10 @@ fn broken_rules_of_types(rt: HostRuntime) -> Result<(), Fail> {
     none_other(other_fault(rt.alloc(), ScriptPlace::Sql, wrong_types()))
 }
 
-/// Whether a refusal is that of a table of this name.
-fn is_of_table(refusal: &Refusal, table: &[u8]) -> bool {
-    match refusal {
-        Refusal::UnknownTable { name } => name.as_slice() == table,
+/// Whether a fault is that of a table of this name.
+fn is_of_table(fault: &Fault, table: &[u8]) -> bool {
+    match fault {
+        Fault::Token(NotTyped::UnknownTable { name }) => name.as_slice() == table,
         _ => false,
     }
 }
@@ -325,7 +325,7 @@ fn is_of_table(refusal: &Refusal, table: &[u8]) -> bool {
 fn is_unknown(alloc: Global, place: ScriptPlace, text: &[u8], table: &[u8]) -> bool {
     match typed_text(alloc, place, text) {
         Ok(_) => false,
-        Err(refusal) => is_of_table(&refusal, table),
+        Err(fault) => is_of_table(&fault, table),
     }
 }
 
