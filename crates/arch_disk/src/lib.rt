@@ -1,6 +1,6 @@
 // A disk of numbered files that may fail and may lose power, and one in memory.
 //
-// `Disk` is what the journal and the run files are written against. Its one ghost member, a `Device`, holds what the
+// `Disk` is what the journal is written against. Its one ghost member, a `Device`, holds what the
 // values of a disk's type mean: what the files read as, which images a crash may leave now or at a moment since an
 // earlier one, a clock of calls, the counts of faults and of failed writes. Between two syncs of a file each range that
 // was written, or that a failed write named, and all past the shorter end may hold any octets, the length may be any

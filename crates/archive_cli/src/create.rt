@@ -124,6 +124,7 @@ fn read_named_script<I: Inputs>(
 {
     match script {
         Some(name) => read_limited(alloc, inputs, name, Which::ScriptOctets),
+        // no script is the empty script (D-258)
         None => Ok(Vec::new(alloc)),
     }
 }

@@ -55,7 +55,7 @@ fn fill_each<D: Disk>(alloc: Global, store: &mut Store<D>) -> Result<u64, Refusa
 
 /// Fills each late interval, and tells how many there were. Refuses by `Limit` Records, `OutOfMemory` or `DiskFault` at
 /// the first that can't be filled; those before it stay filled. Where the disk failed, the write is taken back, in one
-/// attempt, so that a program that opens the archive after it reads no gate that the medium may lack.
+/// attempt, so that a program that opens the archive after it reads no gate that the medium may lack (D-57, D-265).
 pub fn fill_late<D: Disk>(alloc: Global, store: &mut Store<D>) -> Result<u64, Refusal>
     requires idle { (i : AnInterval) → in_flight i store.old.fills ≡ None }
     requires no_fault { faults_in store.old.fills ≡ [] }

@@ -8,7 +8,7 @@
 //! The way of a script, for `create` and `load`: src/read.rt reads its octets, and src/scripts.rt says what they stand for, or why they are refused.
 //!
 //! The way of a dump: for `scan` and `values` `read_scan_input` takes it in, and dump_lines keeps its rows; for `load` load_session hands its packets to
-//! the archive's store. The way of an ask, for `query` and `load`: mdb_sheets reads it; retrieval says whether it can be answered (src/asks.rt),
+//! the archive's store. The way of an ask, for `query` and `load`: mdb_sheets reads it; retrieval finds what it names (src/ask_answers.rt),
 //! and extracts the cells of the store's plan or goes on with its replay, and prints them. The way of a script: ssql_parse reads it
 //! once the archive is open, ssql_types types it over the archive's names, and ssql_select answers its statements out of the rows in
 //! memory (src/statements.rt).

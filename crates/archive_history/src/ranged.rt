@@ -12,7 +12,7 @@ use std::alloc::{AllocError, Global};
 use yarch_table::rows::TableRows;
 
 /// The rows of a range that stand in some partitions, in its order, unless it has more rows than there are steps: a row that is
-/// looked at takes one. The one error is want of memory.
+/// looked at takes one (D-155). The one error is want of memory.
 pub(crate) fn rows_in_steps(
     alloc: Global,
     mut range: TableRows<'_>,
@@ -36,7 +36,7 @@ pub(crate) fn rows_in_steps(
     Ok(Some(rows))
 }
 
-/// The rows of a range, in its order, unless one of them stands in none of some partitions. The one error is want of memory.
+/// The rows of a range, in its order, unless one of them stands in none of some partitions (D-267). The one error is want of memory.
 pub(crate) fn rows_all_of_parts(
     alloc: Global,
     mut range: TableRows<'_>,

@@ -15,7 +15,7 @@ use std::marker::Model;
 /// A packet that was received, and the tables that it goes into.
 #[derive(Debug, Drop)]
 pub struct Arrival {
-    /// Its row in table `tm`, from which that in any of its tables differs by the table alone.
+    /// Its row, from which that in any of its tables differs by the table alone.
     pub row: Row,
     pub tables: TableList,
 }

@@ -45,7 +45,7 @@ pub(crate) struct ClassifiedBatch {
     pub last: Option<TableKey>,
 }
 
-/// Whether a key is above the last one, if there is one.
+/// Whether a key is above the last one, if there is one: then it is new in the batch (D-84).
 fn is_above(at: TableKey, last: Option<TableKey>) -> bool
     ensures { result ≡ is_above at last }
 {

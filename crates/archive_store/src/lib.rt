@@ -7,7 +7,7 @@
 // it is none, and `laws` that no image is two things. Contracts see a store as `StoreView` (specs/StoreView.antt): history,
 // fill list, fills, head, the disk, and the disk of the opening. What each call answers, and what each answer leaves,
 // stands in specs/Calls.antt.
-// Callers: the commands that create, load, ask and recover an archive, and the store that many callers take in turns.
+// Callers: load_session, retrieval, archive_verify, and the commands that create, load, ask and recover an archive.
 //
 // The one idea of the proof is in the store's type: it keeps which archives a crash at any moment since the opening may have left, whatever archives and
 // entries are (`ArchiveInvariant` in specs/Images.antt; file 0 is its log, specs/PlainLog.antt), and how the faults stand to the disk's counts
@@ -20,6 +20,30 @@
 // (src/finding.rt), and plans and replays take what was found. A plan of param_segments shares
 // the sets that stand for intervals, and has copies of the rows of those that are late. A replay goes over them by a cursor of replay_merge; a step of it borrows them.
 // To be changed together: `Applies` in specs/Entries.antt, src/reading.rt and `IsBatch`; the limits, in archive_history.
+//
+// A caller takes a failed write back before it gives the batch again, and gives up a task that it can't build:
+//
+//     /// Ingests a batch, and then fills each late interval.
+//     fn ingest_and_fill<D: Disk>(alloc: Global, store: &mut Store<D>, batch: &Batch) -> Result<(), Refusal> {
+//         if let Err(refusal) = store.ingest(alloc, batch) {
+//             store.reopen()?;
+//             return Err(refusal);
+//         }
+//         'fills: loop {
+//             let Some(task) = store.begin(alloc)? else {
+//                 return Ok(());
+//             };
+//             match Filled::of(alloc, task, &store.head().mdb) {
+//                 Ok(filled) => {
+//                     let _ = store.install(filled)?;
+//                 }
+//                 Err((task, _)) => {
+//                     store.abandon(task);
+//                     return Err(Refusal::OutOfMemory);
+//                 }
+//             }
+//         }
+//     }
 #![tactic(auto)]
 
 mod batch;

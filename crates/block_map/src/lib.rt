@@ -3,7 +3,7 @@
 // Contracts see an `Index` or a `GrowingIndex` as its entries in strictly rising key order, and its room (`Listing`,
 // specs/Index.antt); a look-up, an insert and a removal are the list functions that std's `BTreeMap` has for its entries.
 // Callers of `GrowingIndex`, from which nothing is taken out: the tables (key to place of a row), their partitions, the rows
-// of each interval. Callers of `Index`: the late intervals and the histogram.
+// of each interval. Callers of `Index`: the late intervals, the histogram, and the places of fills.
 //
 // An index takes no memory before its first `reserve`; then it has a body.
 // The entries stand in blocks of at most `CAPACITY` entries. A full block is split, and its upper part goes into a spare
@@ -16,6 +16,18 @@
 // is below those after it (proofs/Rising.antt). They begin at the end, since keys mostly come in order.
 // To be changed together: the sizes in src/blocks.rt and src/growing_body.rt, `IsBlocks` in specs/Blocks.antt, `IsIndex` in
 // specs/Index.antt, `IsGrowing` in specs/Growing.antt.
+//
+// A caller takes all memory before it changes anything:
+//
+//     /// Notes the first place of each key. For want of memory it notes none.
+//     fn note_places(index: &mut GrowingIndex<u32, u64>, keys: &[u32]) -> Result<(), AllocError> {
+//         index.reserve(keys.len())?;
+//         for i in 0..keys.len() {
+//             // A key that is there keeps its value, which is the answer.
+//             let _ = index.insert(keys[i], i as u64);
+//         }
+//         Ok(())
+//     }
 #![tactic(auto)]
 
 pub mod blocks;

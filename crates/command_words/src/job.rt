@@ -55,7 +55,7 @@ pub enum Job<'a> {
     Query { asks: &'a str },
     /// The answers to a script.
     Sql { script: &'a str },
-    /// How many rows the archive has.
+    /// Late intervals filled, and how many rows the archive has.
     Recover,
     /// Whether what is stored of intervals is what their rows give.
     Verify,

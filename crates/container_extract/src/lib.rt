@@ -10,6 +10,22 @@
 // The values so far are those of the path's entries in their order, so that a condition finds each value at the place that the database keeps
 // beside the comparison (proofs/Placed.antt).
 // A container's children all stand after it in the sheet, so the walk ends: that and what else is used of a database is mdb_model's law (`IsStructured`).
+//
+// A caller has one extractor for all packets, and calibrates the values that it asks for:
+//
+//     /// What a packet says of a parameter, where it has it.
+//     fn value_in<L: Ledger>(
+//         extractor: &mut Extractor,
+//         mdb: &Mdb,
+//         packet: &[u8],
+//         parameter: u16,
+//         steps: &mut Steps<L>,
+//     ) -> Option<Eng> {
+//         match extractor.extract(mdb, packet, steps).value(parameter) {
+//             Some(value) => Some(eng_of(mdb, *value)),
+//             None => None,
+//         }
+//     }
 #![tactic(auto)]
 
 pub mod chain;

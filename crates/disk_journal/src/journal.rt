@@ -97,7 +97,7 @@ impl Journal {
     ghost use Rattle.disk_journal.specs.Calls.{CountsNeverFall, CrashLeavesFirst, IsDecidedByFile, IsJournalCreated, IsJournalCreateRefusal, IsJournalOpened, IsJournalOpenRefusal, IsRecordRefusal, records_of};
 
     /// Makes a journal with one record in a file that holds none. It begins with a sync. Where the record can't be
-    /// written it closes the gate again, as far as the disk lets it.
+    /// written it closes the gate again, as far as the disk lets it (D-57).
     pub fn create<D: Disk>(
         alloc: Global,
         disk: &mut D,

@@ -5,13 +5,26 @@
 // its own and syncs: so a crash at any moment leaves the records from before, or these and the new one. docs/FORMATS.md
 // draws the octets and walks through a crash after each call.
 //
-// Called by the archive's store and by the writers of sealed files. `Frame` is a record ready to be written, `Journal` the
+// Called by the archive's store. `Frame` is a record ready to be written, `Journal` the
 // records that a file has, `Opening` a reading record by record for a caller whose own rules a body may break.
 //
 // The one idea of the proof: `HasOnDisk` (specs/State.antt) ties a journal in memory to every image that a crash may leave, by
 // the failures since the last heal: gate closed, or written and the record whole behind it. To touch together: the format
 // (specs/Format.antt), `StateIs`, and the order of the calls in src/append.rt. That a file's octets mean one list of records
 // is `laws::records_are_one`.
+//
+// A caller makes room for a record first, and takes a failed one back:
+//
+//     /// A journal of two records in file 0.
+//     fn two_records<D: Disk>(alloc: Global, disk: &mut D) -> Result<Journal, JournalFault> {
+//         let mut journal = Journal::create(alloc, disk, 0, &Frame::of(alloc, b"first")?)?;
+//         journal.reserve()?;
+//         if let Err(fault) = journal.append(disk, &Frame::of(alloc, b"second")?) {
+//             journal.heal(disk)?;
+//             return Err(fault);
+//         }
+//         Ok(journal)
+//     }
 #![tactic(auto)]
 
 mod append;

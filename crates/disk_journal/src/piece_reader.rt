@@ -10,7 +10,7 @@ use arch_disk::Disk;
 use arch_types::octets::Octets;
 use std::alloc::{AllocError, Global};
 
-// The most octets that a piece has.
+// The most octets that a piece has (D-115).
 const PIECE_LEN: u64 = 256 * 1024;
 
 /// A reading of a file in pieces. Who asks for rising places reads each octet once, but for up to three of a number that

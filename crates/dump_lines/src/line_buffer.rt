@@ -18,7 +18,7 @@ use std::marker::Model;
 /// The octets from which on a piece is written.
 const FULL: usize = 65_536;
 
-/// The octets that the longest line may take.
+/// The octets that the longest line may take (D-145).
 const LINE: usize = 512;
 
 /// Text that wasn't written yet. All memory that it takes is taken when it is made.

@@ -27,7 +27,7 @@ pub struct DumpTable {
     pub why: Why,
 }
 
-/// Rows that a table makes room for at a time.
+/// Rows that a table makes room for at a time (D-91).
 const STEP: u64 = 1024;
 
 /// The rows of a dump that was received at a moment. The one error is want of memory.

@@ -3,7 +3,7 @@
 //! A state is a history and a fill list (`MachineState`). Which base an interval's last fill has, and which intervals
 //! are in flight, is what the fill list tells (history_items). What an event does to a state is a relation between two
 //! states (specs/Steps.antt): rows that come in, a fill that begins, one that is installed or given up. archive_core
-//! puts the steps in a row; the store is to say of its calls which they are. That a fill's base is one that it may have
+//! puts the steps in a row; the store says of its calls which they are (`IsFillBegun`, `IsStoreInstalled`). That a fill's base is one that it may have
 //! (`IsFillBase`) is asked beside `InstallsFill`, by who installs.
 //!
 //! The one law under all (`RowsAreThoseBelow`): where no row of an interval stands at or after a front, the interval's

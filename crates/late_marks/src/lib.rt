@@ -7,7 +7,7 @@
 // (`StandAt`).
 // Each change of a mark changes the number of late intervals by that one interval alone (`Marked`), so a loop that fills late intervals
 // ends.
-// Callers: the store, which touches the interval of each row, notes fills, and asks for the next interval to fill.
+// Caller: fill_tracker, which touches the interval of each row, notes fills, and asks for the next interval to fill.
 //
 // The marks stand in one ordered index, and the intervals that are late and free in a second one, so that the least of them is
 // its first entry. The one idea of the proof: a mark that isn't late and free has a place kept for it in the second index

@@ -52,7 +52,7 @@ pub fn run_session<D: Disk>(
 }
 
 /// Takes a failed write back where the disk failed, so that a program that opens the archive after it reads no gate that the
-/// medium may lack. It is tried once, and the refusal stays, whether it succeeds or not.
+/// medium may lack (D-57). It is tried once, and the refusal stays, whether it succeeds or not.
 pub fn heal<D: Disk>(store: &mut Store<D>, refusal: &Refusal)
     ensures same { refusal.now ≢ Refusal.DiskFault → store.new ≡ store.old }
     ensures reopened { refusal.now ≡ Refusal.DiskFault → IsReopened D.device store.old store.new }

@@ -17,7 +17,7 @@ pub enum Operator {
 /// One comparison of a condition.
 #[derive(Drop, Clone, Copy)]
 pub struct Comparison {
-    /// The number of the parameter that is compared.
+    /// The number of the parameter that is compared; a sheet may have more than the limit here (D-119).
     pub parameter: usize,
     pub operator: Operator,
     pub number: i128,

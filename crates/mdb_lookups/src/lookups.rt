@@ -17,13 +17,13 @@ use std::alloc::{AllocError, Global};
 /// What finds the items of three lists, beside them.
 #[derive(Drop)]
 pub struct Lookups {
-    /// The numbers of the parameters in the order of their names.
+    /// The numbers of the parameters in the order of their names (D-67).
     pub parameter_order: Vec<u16>,
     /// The numbers of the containers in the order of their names.
     pub container_order: Vec<u16>,
     /// For each container the numbers of those directly below it.
     pub children: Vec<Items<u16>>,
-    /// For each container its condition, each comparison with its place on the path of the parent.
+    /// For each container its condition, each comparison with its place on the path of the parent (D-72).
     pub placed_conditions: Vec<Items<(Comparison, usize)>>,
     /// For each calibration the raw numbers of its labels with their rows, sorted.
     pub label_orders: Vec<Items<(i128, usize)>>,

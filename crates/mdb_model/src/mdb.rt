@@ -455,7 +455,7 @@ impl Mdb {
     }
 
     /// The database that all of the octets spell: exactly what `to_bytes` gives is accepted. What was decoded is
-    /// spelled anew, since lists that break no rule may spell a database whose own octets are others.
+    /// spelled anew, since lists that break no rule may spell a database whose own octets are others (D-62).
     pub fn from_bytes(alloc: Global, octets: &[u8]) -> Result<Mdb, NotMdb>
         ensures spelled { ReadsOnly IsDatabase database_octets (λ m. m) octets.now result }
         ensures each { ReadsEach IsDatabase database_octets (λ m. m) (λ e. e ≡ OutOfMemory) octets.now result }

@@ -312,6 +312,7 @@ impl Calibrations {
             name: MdbName::from_slice(alloc, name)?,
             table: empty_table(alloc, row_values),
         })?;
+        // to empty them would cost as much as the longest enumeration so far (D-68)
         self.numbers = Numbers::new(alloc);
         Ok(())
     }

@@ -9,7 +9,7 @@ use indexmap::IndexSet;
 use std::alloc::{AllocError, Global};
 use std::marker::Model;
 
-/// Distinct names, numbered in the order in which they were first seen.
+/// Distinct names, numbered in the order in which they were first seen, by a hash that doesn't outlive the sheets (D-67).
 #[derive(Drop)]
 pub struct Names {
     set: IndexSet<Vec<u8>>,

@@ -5,7 +5,7 @@
 //! (`specs/Reading.antt`). A reader is exact (`IsExact` of `specs/Exact.antt`) where it reads the
 //! spelling of each value that fits, whatever follows, and nothing else: so a value has one spelling,
 //! and no spelling begins another. Called by every codec: the mission database, the journal's
-//! entries, segments, runs.
+//! entries, segments.
 //!
 //! The one idea: a format is a composition of readers, and each way of composing keeps exactness
 //! (`proofs/Exact.antt`), so a format's proof is one term. The code mirrors the composition by `?`

@@ -23,7 +23,7 @@ enum Entry {
 }
 
 /// A folder and its files. The call that first looks at a file locks it, so that no other program works on it; the system takes the lock away
-/// when the file is closed, or the process ends. A lock that another program has is an error.
+/// when the file is closed, or the process ends (D-59). A lock that another program has is an error.
 #[derive(Drop)]
 pub(crate) struct Folder<'a, R> {
     rt: &'a R,
@@ -95,7 +95,7 @@ impl<'a, R: Files<File = File>> Folder<'a, R> {
         Ok(())
     }
 
-    /// The place of a file's handle, and none where there's no such file.
+    /// The place of a file's handle, and none where there's no such file: a look makes nothing (D-54).
     fn find(&mut self, number: u32) -> io::Result<Option<usize>>
         ensures { IfOk result (λ found. IfSome found (λ place. place < vec_len self.new.handles.files)) }
     {
@@ -153,7 +153,7 @@ impl<'a, R: Files<File = File>> Folder<'a, R> {
         self.handles.add(number, file)
     }
 
-    /// Opens a file and locks it. Where it may be read and not written, a lock that readers share is enough, and a write of it fails later.
+    /// Opens a file and locks it. Where it may be read and not written, a lock that readers share is enough, and a write of it fails later (D-53).
     fn open(&self, number: u32) -> io::Result<File> {
         match self.open_by(&to_update(), number) {
             Ok(file) => {
@@ -211,7 +211,7 @@ fn make_folders<R: Files<File = File>>(rt: &R, path: &str) -> io::Result<()> {
 }
 
 /// Makes a folder where there is none, and takes its entry to the device, or else takes it away again. The entry of one that is there may
-/// have been left off the device by a program that was killed, so it is taken there too.
+/// have been left off the device by a program that was killed, so it is taken there too (D-55).
 fn make_folder<R: Files<File = File>>(rt: &R, path: &str) -> io::Result<()> {
     if path.is_empty() {
         return Ok(());

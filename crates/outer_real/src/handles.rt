@@ -6,7 +6,7 @@ use std::alloc::Global;
 use std::fs::File;
 use std::io::{self, ErrorKind};
 
-/// Files that are open at a time, at most: fewer than a process may have.
+/// Files that are open at a time, at most: fewer than a process may have (D-52).
 const MOST: usize = 32;
 
 /// An open file of the folder.
@@ -93,7 +93,7 @@ impl Handles {
         &handle.file
     }
 
-    /// Takes a file to the device.
+    /// Takes a file to the device, by `fsync` (D-56).
     pub(crate) fn sync(&mut self, place: usize) -> io::Result<()>
         requires { place < vec_len self.old.files }
         ensures { vec_len self.new.files ≡ vec_len self.old.files }

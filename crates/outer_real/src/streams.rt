@@ -5,7 +5,7 @@ use std::{fs, io};
 
 /// The descriptors 0 to 2, as long as it lives. The system gives a file that is opened the first descriptor that is free. So where a program
 /// starts with one of these closed, a file of the archive would take its place, and what is printed would be written into that file. Three
-/// folders that are opened to be read take the place first: then a write to a closed stream fails, and touches no file.
+/// folders that are opened to be read take the place first: then a write to a closed stream fails, and touches no file (D-60).
 #[derive(Drop)]
 pub struct StandardStreams<F> {
     _folders: [F; 3],

@@ -45,7 +45,7 @@ fn is_raw_value(mdb: &Mdb, value: RawValue) -> bool
     is_in_width(mdb.parameter(parameter), value.raw)
 }
 
-/// Each raw number of a column is one of its parameter.
+/// Each raw number of a column is one of its parameter (D-272).
 fn is_column_of(mdb: &Mdb, parameter: u16, column: &[i128]) -> bool
     ensures { IsTrue result ↔ IsColumnOf mdb.now parameter column.now }
 {

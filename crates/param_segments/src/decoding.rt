@@ -25,7 +25,7 @@ const COUNT_OCTETS: usize = 4;
 const LEAST_SEGMENT: usize = 35;
 
 /// The segment that stands in octets from a place on, and the place where it ends. Its parameters are asked before room
-/// is made for its columns: a few octets spell a column of thousands of values, and a database has few parameters.
+/// is made for its columns: a few octets spell a column of thousands of values, and a database has few parameters (D-166).
 fn known_segment_at(
     alloc: Global,
     octets: &[u8],

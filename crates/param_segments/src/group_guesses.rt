@@ -8,7 +8,7 @@ use container_extract::values::RawValue;
 const MARKS: usize = 16;
 
 /// For each mark of a row the group that had the last row of this mark: where rows of some groups alternate, each finds
-/// its own. A guess is no more than that: whoever takes one asks whether the parameters are the group's.
+/// its own (D-212). A guess is no more than that: whoever takes one asks whether the parameters are the group's.
 #[derive(Drop)]
 pub struct GroupGuesses {
     numbers: [usize; MARKS],

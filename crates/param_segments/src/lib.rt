@@ -14,6 +14,22 @@
 //! specs/GroupContents.antt), and a row more is one step of it (proofs/Steps.antt).
 //!
 //! A rule more of the spelling wants, together, its line in `set_of`, its step in `with_values`, and the laws anew.
+//!
+//! A caller keeps the octets of a set, and answers from these:
+//!
+//!     /// The cells of a parameter that the stored octets of an interval's rows give.
+//!     fn stored_cells(
+//!         alloc: Global,
+//!         interval: Interval,
+//!         exponent: Exponent,
+//!         rows: &Rows,
+//!         mdb: &Mdb,
+//!         parameter: u16,
+//!     ) -> Result<Cells, NotASegment> {
+//!         let octets = SegSet::build(alloc, interval, exponent, rows, mdb)?.to_bytes()?;
+//!         let set = SegSet::from_octets(alloc, interval, exponent, octets, mdb)?;
+//!         Ok(set.cells(alloc, mdb, parameter)?)
+//!     }
 #![tactic(auto)]
 
 mod asking;

@@ -60,7 +60,7 @@ fn rows_built(
     Ok(builder)
 }
 
-/// The set of the rows of segments, where they're rows of a set of the interval and the database.
+/// The set of the rows of segments, where they're rows of a set of the interval and the database (D-164).
 fn built_again(
     alloc: Global,
     interval: Interval,

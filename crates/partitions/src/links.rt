@@ -9,7 +9,7 @@ use std::snapshot::Snapshot;
 /// Stands where there is no place.
 const NO_PLACE: u32 = u32::MAX;
 
-/// What is kept of a row noted.
+/// What is kept of a row noted (D-131).
 #[derive(Drop)]
 pub(crate) struct Link {
     /// The place of the row before it of its partition, or `NO_PLACE`.

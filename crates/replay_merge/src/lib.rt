@@ -11,6 +11,20 @@
 // source tells the same at each call: a step keeps what was asked, and what is left is of the rows below the front alone
 // (`laws::rest_at_front`), so that the pieces join also where the source has grown.
 // To be changed together: the order of partitions (`partition_cmp`) and that of keys, which both begin with the time.
+//
+// A caller goes on until a piece is empty:
+//
+//     /// How many rows a replay has still to give, in pieces of at most 64.
+//     fn count_rows<R: RowSource>(alloc: Global, cursor: &mut Cursor, source: &mut R) -> Result<usize, RowFault> {
+//         let mut count = 0;
+//         'pieces: loop {
+//             let rows = cursor.next(alloc, source, 64)?;
+//             if rows.len() == 0 {
+//                 return Ok(count);
+//             }
+//             count += rows.len();
+//         }
+//     }
 #![tactic(auto)]
 
 mod ahead;

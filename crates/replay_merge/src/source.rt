@@ -36,7 +36,7 @@ pub trait RowSource {
     /// The rows of some partitions of a table, which rise, with `from <= time < to` and a position below the front, in the order of
     /// their keys. Refused as `rows`, and the same call may be made again.
     ///
-    /// What stands here reads each partition whole, and puts the rows in order once: a source that finds a range by itself says how.
+    /// What stands here reads each partition whole, and puts the rows in order once: a source that finds a range by itself says how (D-156).
     fn rows_between(
         &mut self,
         alloc: Global,

@@ -10,6 +10,20 @@
 //! ascending cells, turned, begin with (`proofs/Limited.antt`); over which rows the parts are matters nowhere but in
 //! one lemma (`proofs/OverRows.antt`). What was printed of a replay, and the lines of what its cursor has still to
 //! give, are the lines of all of it.
+//!
+//! A caller finds what is asked first, so that a refusal comes before anything is printed:
+//!
+//!     /// The lines of the cells that a request asks of an archive.
+//!     fn asked_text<D: Disk, L: Ledger>(
+//!         alloc: Global,
+//!         store: &mut Store<D>,
+//!         request: Request,
+//!         steps: &mut Steps<L>,
+//!     ) -> Result<Octets, Refusal> {
+//!         let found = store.find(request)?;
+//!         let answer = answer_request(alloc, store, &found, steps)?;
+//!         Ok(answer_text(alloc, &answer, &found.mdb, found.number)?)
+//!     }
 #![tactic(auto)]
 
 pub mod answer;

@@ -220,7 +220,7 @@ fn are_true(pieces: &[TypedPiece], row: &Row) -> bool
     group.value()
 }
 
-/// The same of pieces among which no parenthesis stands: no array is made for what stands around one.
+/// The same of pieces among which no parenthesis stands: no array is made for what stands around one (D-271).
 fn are_true_flat(pieces: &[TypedPiece], row: &Row) -> bool
     requires packet { IsPacket row.now.packet }
     requires flat { list_any is_paren pieces.now ≡ false }

@@ -36,7 +36,7 @@ pub struct Predicate {
 }
 
 /// A piece of a condition. Conditions are held as they are written, piece by piece: a tree would be as deep as the script nests, and
-/// its drop would recurse before the limit on depth is asked.
+/// its drop would recurse before the limit on depth is asked (D-178).
 #[derive(Debug, Drop)]
 pub enum Piece {
     Not,

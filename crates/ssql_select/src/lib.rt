@@ -12,6 +12,28 @@
 //!
 //! A selection is its rows, which contracts see as their text: it is written line after line, and never stands in one block.
 //! What SHOW prints (`specs/ShowText.antt`) is written so too, of lines that are counted before.
+//!
+//! A caller hands in the partitions that the condition's bounds leave, and prints what is selected:
+//!
+//!     /// Prints a query's selection of the rows that a source has below a front.
+//!     fn print_selected<R: RowSource, K: Sink, L: Ledger>(
+//!         alloc: Global,
+//!         query: &TypedSelect,
+//!         names: &Names,
+//!         source: &mut R,
+//!         parts: &PartList,
+//!         front: u64,
+//!         sink: &mut K,
+//!         steps: &mut Steps<L>,
+//!     ) -> Result<(), Refusal> {
+//!         let selection = select(alloc, query, names, source, parts, front, steps)?;
+//!         let mut line_buffer = LineBuffer::new(alloc)?;
+//!         selection.print(alloc, &mut line_buffer, sink)?;
+//!         match line_buffer.finish(sink) {
+//!             Ok(()) => Ok(()),
+//!             Err(_) => Err(Refusal::WriteFault),
+//!         }
+//!     }
 #![tactic(auto)]
 
 mod days;

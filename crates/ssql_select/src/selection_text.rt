@@ -18,7 +18,7 @@ use ssql_tokens::Column;
 use std::alloc::Global;
 use std::marker::Model;
 
-/// What a query selects, and how it is written. It's held as rows, which share their packets with the archive.
+/// What a query selects, and how it is written. It's held as rows, which share their packets with the archive (D-190).
 #[derive(Drop)]
 pub struct SelectionText<'a> {
     columns: &'a [Column],

@@ -41,7 +41,7 @@ impl Model for Filled {
     ghost invariant = { λ f. IsBuilt f.interval f.base (arc_value f.set) f.frame };
 }
 
-/// The record of a fill. One that is longer than a record may be is refused like want of memory.
+/// The record of a fill. One that is longer than a record may be is refused like want of memory (D-247).
 fn fill_frame(alloc: Global, interval: Interval, base: u64, set: &[u8]) -> Result<Frame, AllocError>
     ensures spelled { IfOk result (λ frame. frame ≡ entry_octets (entries.Fill interval base set.now)) }
     ensures fits { OnOk result (IsArchiveEntry (entries.Fill interval base set.now)) }
