@@ -8,3 +8,4 @@ pub mod Counted
 pub mod Neighbours
 pub mod Removals
 pub mod Pairs
+pub mod Payments

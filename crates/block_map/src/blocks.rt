@@ -17,10 +17,6 @@ pub const HALF: usize = CAPACITY / 2;
 /// The entries that each block but the first of an `Index` has at least.
 pub const MIN_FILL: usize = CAPACITY / 4;
 
-/// The entries that a full block of an `Index` keeps where it is split for a key above them. Keys that come in order leave
-/// blocks behind them that are so full.
-pub const SPLIT_AT: usize = CAPACITY - MIN_FILL;
-
 pub(crate) type Block<K, V> = Vec<(K, V)>;
 
 /// Moves the entries of a full block from a place on into an empty one.

@@ -1,24 +1,25 @@
 //! The blocks of an index that has room or had some.
 
-ghost use Rattle.std.specs.Prelude.{◌≡◌, ◌+◌, ◌<◌, ◌≤◌, [], length, max, IfSome, IfNone, IfOk, OnSome, OnOk, OnErr, slice_get, vec_len, vec_capacity};
+ghost use Rattle.std.specs.Prelude.{◌≡◌, ◌+◌, ◌-◌, ◌<◌, ◌≤◌, ◌^◌, [], length, max, IfSome, IfNone, IfOk, OnSome, OnOk, OnErr, vec_len, vec_capacity};
 ghost use Rattle.std.specs.Map.{lookup, remove_entry};
 ghost use Rattle.std.specs.BTreeMap.{is_at, insert_entry};
 ghost use Rattle.std.specs.BTreeMap.Range.{entries_from};
 ghost use Rattle.block_map.specs.Rising.{IsRising};
 ghost use Rattle.block_map.specs.Blocks.{AreReady};
-ghost use Rattle.block_map.specs.Index.{IsAdded};
+ghost use Rattle.block_map.specs.Index.{IsAdded, tally_of};
 
-use crate::blocks::{Block, CAPACITY, MIN_FILL, SPLIT_AT, open_block, put};
+use crate::blocks::{Block, CAPACITY, MIN_FILL, open_block, put, set_value};
 use crate::entries::Entries;
+use crate::policy::{Removable, SplitPolicy};
 use crate::removal::{rebalance, take_out};
 use crate::search::{block_for, place_in};
 use crate::values::{entries_from_key, replace_value, value_of};
 use std::alloc::{AllocError, Global};
-use std::marker::Model;
+use std::marker::{Model, PhantomData};
 
 /// Blocks of values by key, in the order of the keys. Each key stands once.
 #[derive(Drop)]
-pub(crate) struct Body<K: Ord + Copy, V: Copy> {
+pub(crate) struct Body<K: Ord + Copy, V: Copy, P: SplitPolicy> {
     alloc: Global,
     /// The entries, one block after the other. There is always a first block.
     blocks: Vec<Block<K, V>>,
@@ -26,11 +27,14 @@ pub(crate) struct Body<K: Ord + Copy, V: Copy> {
     spare: Vec<Block<K, V>>,
     /// How many entries stand in the blocks.
     len: usize,
+    /// What the entries in the blocks have paid for splits that are still to come.
+    paid: usize,
     /// How many more entries go in without memory.
     room: usize,
+    policy: PhantomData<P>,
 }
 
-impl<K: Ord + Copy, V: Copy> Model for Body<K, V> {
+impl<K: Ord + Copy, V: Copy, P: SplitPolicy> Model for Body<K, V, P> {
     ghost use Rattle.block_map.specs.Blocks.{entries_of};
     ghost use Rattle.block_map.specs.Index.{Listing, IsIndex};
 
@@ -38,7 +42,7 @@ impl<K: Ord + Copy, V: Copy> Model for Body<K, V> {
 
     ghost view = { λ i. record { entries = entries_of i.blocks.items; room = i.room } };
 
-    ghost invariant = { λ i. IsIndex K.cmp i.blocks i.spare i.len i.room };
+    ghost invariant = { λ i. IsIndex K.cmp P.KEEP P.pays_each i.blocks i.spare i.len i.paid i.room };
 }
 
 /// Adds empty blocks until there are as many as wanted, used and spare together.
@@ -70,7 +74,7 @@ pub(crate) fn add_spare<K: Copy, V: Copy>(
     Ok(())
 }
 
-impl<K: Ord + Copy, V: Copy> Body<K, V> {
+impl<K: Ord + Copy, V: Copy, P: SplitPolicy> Body<K, V, P> {
     /// A first block without an entry, and no room. The one error is want of memory.
     pub(crate) fn new(alloc: Global) -> Result<Self, AllocError>
         ensures { IfOk result (λ i. i ≡ record { entries = []; room = 0 }) }
@@ -82,7 +86,9 @@ impl<K: Ord + Copy, V: Copy> Body<K, V> {
             blocks,
             spare: Vec::with_capacity(alloc, 1)?,
             len: 0,
+            paid: 0,
             room: 0,
+            policy: PhantomData,
         })
     }
 
@@ -114,15 +120,14 @@ impl<K: Ord + Copy, V: Copy> Body<K, V> {
         if additional <= self.room {
             return Ok(());
         }
-        let Some(total) = self.len.checked_add(additional) else {
+        if self.len.checked_add(additional).is_none() {
+            return Err(AllocError);
+        }
+        let splits = (self.paid + additional) / (CAPACITY - P::KEEP);
+        let Some(wanted) = splits.checked_add(self.blocks.len()) else {
             return Err(AllocError);
         };
-        add_spare(
-            self.alloc,
-            &mut self.blocks,
-            &mut self.spare,
-            total / MIN_FILL + 1,
-        )?;
+        add_spare(self.alloc, &mut self.blocks, &mut self.spare, wanted)?;
         self.room = additional;
         Ok(())
     }
@@ -137,11 +142,14 @@ impl<K: Ord + Copy, V: Copy> Body<K, V> {
         ensures left { self.old.room ≤ self.new.room + 1 }
         ensures rising { IsRising K.cmp self.new.entries }
     {
-        let b = open_block(&mut self.blocks, &mut self.spare, key, SPLIT_AT);
+        let spares = self.spare.len();
+        let b = open_block(&mut self.blocks, &mut self.spare, key, P::KEEP);
+        self.paid -= (spares - self.spare.len()) * (CAPACITY - P::KEEP);
         let block = self.blocks[b].as_slice();
         match place_in(block, key) {
             Ok(at) => Some(block[at].1),
             Err(at) => {
+                self.paid += P::payment(block.len());
                 put(&mut self.blocks, b, at, key, value);
                 self.len += 1;
                 self.room -= 1;
@@ -170,6 +178,24 @@ impl<K: Ord + Copy, V: Copy> Body<K, V> {
         replace_value(&mut self.blocks, key, value)
     }
 
+    /// All entries, in the order of their keys.
+    pub(crate) fn iter(&self) -> Entries<'_, K, V>
+        ensures entries { result ≡ self.now.entries }
+        ensures rising { IsRising K.cmp result }
+    {
+        Entries::new(&[], self.blocks.as_slice())
+    }
+
+    /// The entries whose keys are not below this one, in the order of their keys.
+    pub(crate) fn from_key(&self, key: K) -> Entries<'_, K, V>
+        ensures entries { result ≡ entries_from (K.cmp key) self.now.entries }
+        ensures rising { IsRising K.cmp result }
+    {
+        entries_from_key(self.blocks.as_slice(), key)
+    }
+}
+
+impl<K: Ord + Copy, V: Copy> Body<K, V, Removable> {
     /// Takes out a key that is there, and answers its value. Its place can be used again without memory.
     pub(crate) fn remove(&mut self, key: K) -> Option<V>
         ensures found { result ≡ lookup (is_at (K.cmp key)) self.old.entries }
@@ -189,26 +215,42 @@ impl<K: Ord + Copy, V: Copy> Body<K, V> {
                 take_out(&mut self.blocks, b, at, key);
                 rebalance(&mut self.blocks, &mut self.spare, b);
                 self.len -= 1;
+                self.paid = self.len - (self.blocks.len() - 1) * MIN_FILL;
                 self.room += 1;
                 Some(old)
             }
             Err(_) => None,
         }
     }
+}
 
-    /// All entries, in the order of their keys.
-    pub(crate) fn iter(&self) -> Entries<'_, K, V>
-        ensures entries { result ≡ self.now.entries }
-        ensures rising { IsRising K.cmp result }
+impl<K: Ord + Copy, P: SplitPolicy> Body<K, u64, P> {
+    /// Counts one more of a key, of which none was counted where it isn't there, and answers the count. Takes no memory.
+    pub(crate) fn add_one(&mut self, key: K) -> u64
+        requires room { 0 < self.old.room }
+        requires small { tally_of K.cmp self.old.entries key + 1 < 2 ^ 64 }
+        ensures count { result ≡ tally_of K.cmp self.old.entries key + 1 }
+        ensures entries { self.new.entries ≡ insert_entry K.cmp self.old.entries key result }
+        ensures left { self.old.room ≤ self.new.room + 1 }
+        ensures rising { IsRising K.cmp self.new.entries }
     {
-        Entries::new(&[], self.blocks.as_slice())
-    }
-
-    /// The entries whose keys are not below this one, in the order of their keys.
-    pub(crate) fn from_key(&self, key: K) -> Entries<'_, K, V>
-        ensures entries { result ≡ entries_from (K.cmp key) self.now.entries }
-        ensures rising { IsRising K.cmp result }
-    {
-        entries_from_key(self.blocks.as_slice(), key)
+        let spares = self.spare.len();
+        let b = open_block(&mut self.blocks, &mut self.spare, key, P::KEEP);
+        self.paid -= (spares - self.spare.len()) * (CAPACITY - P::KEEP);
+        let entries = self.blocks[b].as_slice();
+        match place_in(entries, key) {
+            Ok(at) => {
+                let count = entries[at].1 + 1;
+                set_value(&mut self.blocks, b, at, key, count);
+                count
+            }
+            Err(at) => {
+                self.paid += P::payment(entries.len());
+                put(&mut self.blocks, b, at, key, 1);
+                self.len += 1;
+                self.room -= 1;
+                1
+            }
+        }
     }
 }

@@ -1,26 +1,30 @@
-//! The index.
+//! The indexes.
 
-ghost use Rattle.std.specs.Prelude.{◌≡◌, ◌+◌, ◌<◌, ◌≤◌, [], length, max, IfSome, IfNone, OnSome, OnOk, OnErr, slice_get};
+ghost use Rattle.std.specs.Prelude.{◌≡◌, ◌+◌, ◌<◌, ◌≤◌, ◌^◌, [], length, max, IfSome, IfNone, OnSome, OnOk, OnErr, slice_get};
 ghost use Rattle.std.specs.Map.{lookup, remove_entry};
 ghost use Rattle.std.specs.BTreeMap.{is_at, insert_entry};
 ghost use Rattle.std.specs.BTreeMap.Range.{entries_from};
 ghost use Rattle.block_map.specs.Rising.{IsRising};
-ghost use Rattle.block_map.specs.Index.{IsAdded};
+ghost use Rattle.block_map.specs.Index.{IsAdded, tally_of};
 
 use crate::body::Body;
 use crate::entries::Entries;
+use crate::policy::{Removable, SplitPolicy};
 use std::alloc::{AllocError, Global};
 use std::marker::Model;
 
 /// Values by key, in the order of the keys. Each key stands once.
 #[derive(Drop)]
-pub struct Index<K: Ord + Copy, V: Copy> {
+pub struct BlockIndex<K: Ord + Copy, V: Copy, P: SplitPolicy> {
     alloc: Global,
     /// There once room was made.
-    body: Option<Body<K, V>>,
+    body: Option<Body<K, V, P>>,
 }
 
-impl<K: Ord + Copy, V: Copy> Model for Index<K, V> {
+/// An index of which entries may be taken out again.
+pub type Index<K, V> = BlockIndex<K, V, Removable>;
+
+impl<K: Ord + Copy, V: Copy, P: SplitPolicy> Model for BlockIndex<K, V, P> {
     ghost use Rattle.block_map.specs.Index.{Listing, listing_of};
 
     ghost Value = { Listing K V };
@@ -28,12 +32,12 @@ impl<K: Ord + Copy, V: Copy> Model for Index<K, V> {
     ghost view = { λ i. listing_of i.body };
 }
 
-impl<K: Ord + Copy, V: Copy> Index<K, V> {
+impl<K: Ord + Copy, V: Copy, P: SplitPolicy> BlockIndex<K, V, P> {
     /// An index with no entry and no room. Takes no memory.
     pub fn new(alloc: Global) -> Self
         ensures { result ≡ record { entries = []; room = 0 } }
     {
-        Index { alloc, body: None }
+        BlockIndex { alloc, body: None }
     }
 
     /// How many entries there are.
@@ -121,23 +125,6 @@ impl<K: Ord + Copy, V: Copy> Index<K, V> {
         }
     }
 
-    /// Takes out a key that is there, and answers its value. Its place can be used again without memory.
-    pub fn remove(&mut self, key: K) -> Option<V>
-        ensures found { result ≡ lookup (is_at (K.cmp key)) self.old.entries }
-        ensures removed { OnSome result (self.new ≡ record {
-          entries = remove_entry (is_at (K.cmp key))
-              self.old.entries;
-          room = self.old.room + 1;
-        }) }
-        ensures absent { IfNone result (self.new ≡ self.old) }
-        ensures rising { IsRising K.cmp self.new.entries }
-    {
-        match &mut self.body {
-            Some(body) => body.remove(key),
-            None => None,
-        }
-    }
-
     /// All entries, in the order of their keys.
     pub fn iter(&self) -> Entries<'_, K, V>
         ensures entries { result ≡ self.now.entries }
@@ -165,6 +152,42 @@ impl<K: Ord + Copy, V: Copy> Index<K, V> {
         match &self.body {
             Some(body) => body.from_key(key),
             None => Entries::new(&[], &[]),
+        }
+    }
+}
+
+impl<K: Ord + Copy, V: Copy> BlockIndex<K, V, Removable> {
+    /// Takes out a key that is there, and answers its value. Its place can be used again without memory.
+    pub fn remove(&mut self, key: K) -> Option<V>
+        ensures found { result ≡ lookup (is_at (K.cmp key)) self.old.entries }
+        ensures removed { OnSome result (self.new ≡ record {
+          entries = remove_entry (is_at (K.cmp key))
+              self.old.entries;
+          room = self.old.room + 1;
+        }) }
+        ensures absent { IfNone result (self.new ≡ self.old) }
+        ensures rising { IsRising K.cmp self.new.entries }
+    {
+        match &mut self.body {
+            Some(body) => body.remove(key),
+            None => None,
+        }
+    }
+}
+
+impl<K: Ord + Copy, P: SplitPolicy> BlockIndex<K, u64, P> {
+    /// Counts one more of a key, of which none was counted where it isn't there, and answers the count. Takes no memory.
+    pub fn add_one(&mut self, key: K) -> u64
+        requires room { 0 < self.old.room }
+        requires small { tally_of K.cmp self.old.entries key + 1 < 2 ^ 64 }
+        ensures count { result ≡ tally_of K.cmp self.old.entries key + 1 }
+        ensures entries { self.new.entries ≡ insert_entry K.cmp self.old.entries key result }
+        ensures left { self.old.room ≤ self.new.room + 1 }
+        ensures rising { IsRising K.cmp self.new.entries }
+    {
+        match &mut self.body {
+            Some(body) => body.add_one(key),
+            None => 0,
         }
     }
 }

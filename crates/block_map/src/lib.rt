@@ -7,15 +7,15 @@
 //
 // An index takes no memory before its first `reserve`; then it has a body.
 // The entries stand in blocks of at most `CAPACITY` entries. A full block is split, and its upper part goes into a spare
-// block. The one idea of the proof: a block pays for its split by the entries that it has beyond `keep` (`excess_of`), since
-// each part has at most so many; so `excess + room < (spare + 1) * (CAPACITY - keep)` promises every insert the spare block
-// that it may need, and no split has ever to be counted. A growing index keeps its excess in a field. An `Index` gives the
-// place of an entry that is taken out back to the room, so it counts all: each block but the first has `MIN_FILL`, and
-// `len + room < (blocks + spare) * MIN_FILL` (`excess_counts` in proofs/Counted.antt brings it to the first).
+// block. The one idea of the proof: a block pays for its split by the entries that it has beyond `KEEP` (`excess_of`), since
+// each part has at most so many; so `paid + room < (spare + 1) * (CAPACITY - KEEP)` promises every insert the spare block
+// that it may need, and no split has ever to be counted. What was paid stands in a field. The two indexes are one, and differ
+// in who pays (src/policy.rt): in a growing index the entries beyond `KEEP` alone. An `Index` gives the place of an
+// entry that is taken out back to the room, so each of its entries pays, and each block but the first has `MIN_FILL`.
 // The searches need two facts alone: a key that is not below an entry is above those before it, and a key below an entry
 // is below those after it (proofs/Rising.antt). They begin at the end, since keys mostly come in order.
-// To be changed together: the sizes in src/blocks.rt and src/growing_body.rt, `IsBlocks` in specs/Blocks.antt, `IsIndex` in
-// specs/Index.antt, `IsGrowing` in specs/Growing.antt.
+// To be changed together: the sizes in src/blocks.rt and src/policy.rt, `IsBlocks` in specs/Blocks.antt, `IsIndex` in
+// specs/Index.antt.
 //
 // A caller takes all memory before it changes anything:
 //
@@ -33,9 +33,9 @@
 pub mod blocks;
 mod body;
 pub mod entries;
-pub mod growing_body;
 pub mod growing_index;
 pub mod index;
+pub mod policy;
 pub mod removal;
 pub mod search;
 mod values;

@@ -1,15 +1,23 @@
-use Rattle.std.proofs.Common.{◌≡◌, length, get_or, arith, ap, refl}
-use Rattle.block_map.specs.declared.blocks.TheConstants.{MIN_FILL, SPLIT_AT}
-use Rattle.block_map.proofs.Counted.{excess_counts}
+use Rattle.std.proofs.Common.{◌≡◌, ◌+◌, ◌-◌, ◌*◌, ◌≤◌, false, get_or, vec_len, arith, refl}
+use Rattle.block_map.specs.declared.blocks.TheConstants.{CAPACITY}
+use Rattle.block_map.specs.Blocks.{excess_of}
 use Rattle.block_map.proofs.Lookups.{rising_block, lookup_there, lookup_missing}
+use Rattle.block_map.proofs.Payments.{beyond_paid, beyond_alone_paid, split_paid, opened, added}
 use Rattle.block_map.proofs.body.Body.insert.Goals as goal
 
-pub open_block-b-requires-clause-spares : goal.open_block-b-requires-clause-spares
-open_block-b-requires-clause-spares g c =
-    let some = rw (← c.self.view_is) at c.requires in
-    let beyond = excess_counts SPLIT_AT MIN_FILL (omega arith) c.self.inside.blocks.items c.self.invariant.blocks_in_order.filled in
-    let len = c.self.inside.blocks.ok.0 in
-    omega (arith, some, beyond, len, c.self.invariant.counted, c.self.invariant.spared)
+pub overflow_sub-self-3 : goal.overflow_sub-self-3
+overflow_sub-self-3 g c =
+    let keep = g.P.SplitPolicy.KEEP in
+    let splits = rw c.KEEP.ensures at c.open_block-b.ensures in
+    rw (c.len-spares.ensures, c.len.ensures, c.KEEP-2.ensures)
+    (split_paid (vec_len c.self.inside.spare) (vec_len c.open_block-b.new.spare) (CAPACITY - keep) (excess_of keep c.self.inside.blocks.items) (excess_of keep c.open_block-b.new.blocks.items) c.self.inside.paid splits.fewer splits.excess c.self.invariant.beyond)
+
+pub overflow_mul-self : goal.overflow_mul-self
+overflow_mul-self g c =
+    let keep = g.P.SplitPolicy.KEEP in
+    let splits = rw c.KEEP.ensures at c.open_block-b.ensures in
+    let paid = split_paid (vec_len c.self.inside.spare) (vec_len c.open_block-b.new.spare) (CAPACITY - keep) (excess_of keep c.self.inside.blocks.items) (excess_of keep c.open_block-b.new.blocks.items) c.self.inside.paid splits.fewer splits.excess c.self.invariant.beyond in
+    rw (c.len-spares.ensures, c.len.ensures, c.KEEP-2.ensures) (omega (arith, paid, c.self.invariant.at_most, c.self.invariant.small))
 
 pub place_in-requires : goal.place_in-requires
 place_in-requires g c =
@@ -18,24 +26,26 @@ place_in-requires g c =
     let up = rising_block g.K.Ord.cmp blocks c.open_block-b.result d c.open_block-b.ensures.place.within c.open_block-b.ensures.blocks.rising in
     rw (c.as_slice-block.ensures.value, c.index.ensures) up
 
+pub invariant_of-self : goal.invariant_of-self
+invariant_of-self g c =
+    let splits = rw c.KEEP.ensures at c.open_block-b.ensures in
+    rw (c.len-spares.ensures, c.len.ensures, c.KEEP-2.ensures)
+    (opened g.P.SplitPolicy.KEEP g.P.SplitPolicy.pays_each c.self.inside.blocks c.self.inside.spare c.open_block-b.new.blocks c.open_block-b.new.spare c.self.inside.len c.self.inside.paid c.self.inside.room g.met.P.SplitPolicy.keeps_less c.self.invariant splits)
+
 pub invariant_of-self-in-Err : goal.invariant_of-self-in-Err
 invariant_of-self-in-Err g c =
+    let keep = g.P.SplitPolicy.KEEP in
     let some = rw (← c.self.view_is) at c.requires in
-    let same = ap length c.open_block-b.ensures.same in
-    record {
-      blocks_in_order = record {
-        some = c.put.ensures.blocks.some;
-        rising = c.put.ensures.blocks.rising;
-        filled = c.put.ensures.filled MIN_FILL (c.open_block-b.ensures.filled MIN_FILL (omega arith) c.self.invariant.blocks_in_order.filled);
-        sized = c.put.ensures.blocks.sized;
-      };
-      ready = c.open_block-b.ensures.ready;
-      fits = omega (arith, c.put.ensures.len, c.put.ensures.capacity, c.open_block-b.ensures.fits);
-      fits_spare = omega (arith, c.put.ensures.len, c.open_block-b.ensures.moved, c.open_block-b.ensures.spare_capacity, c.self.invariant.fits_spare);
-      counted = omega (arith, c.put.ensures.counted, same, c.self.invariant.counted);
-      spared = omega (arith, some, c.put.ensures.len, c.open_block-b.ensures.moved, c.self.invariant.spared);
-      small = omega (arith, some, c.self.invariant.small);
-    }
+    let splits = rw c.KEEP.ensures at c.open_block-b.ensures in
+    let index = opened keep g.P.SplitPolicy.pays_each c.self.inside.blocks c.self.inside.spare c.open_block-b.new.blocks c.open_block-b.new.spare c.self.inside.len c.self.inside.paid c.self.inside.room g.met.P.SplitPolicy.keeps_less c.self.invariant splits in
+    let len = rw (← c.index.ensures) at (c.put.ensures.excess keep c.index.result.now) in
+    let grown : excess_of keep c.put.new.blocks.items ≤ excess_of keep c.open_block-b.new.blocks.items + c.payment.result = omega (arith, len, beyond_paid c.payment.ensures.beyond, c.as_slice-block.ensures.len) in
+    let grown_alone : g.P.SplitPolicy.pays_each ≡ false → excess_of keep c.put.new.blocks.items ≡ excess_of keep c.open_block-b.new.blocks.items + c.payment.result =
+    λ e. omega (arith, len, beyond_alone_paid c.payment.ensures.beyond (c.payment.ensures.beyond_alone e), c.as_slice-block.ensures.len) in
+    let put = c.put.ensures in
+    rw (c.len-spares.ensures, c.len.ensures, c.KEEP-2.ensures)
+    (added keep g.P.SplitPolicy.pays_each c.open_block-b.new.blocks c.open_block-b.new.spare c.put.new.blocks c.self.inside.len
+    (c.self.inside.paid - (vec_len c.self.inside.spare - vec_len c.open_block-b.new.spare) * (CAPACITY - keep)) c.self.inside.room c.payment.result index some put.blocks put.filled grown grown_alone put.counted put.len put.capacity c.payment.ensures.most c.payment.ensures.each)
 
 pub returns-in-Ok-clause-found : goal.returns-in-Ok-clause-found
 returns-in-Ok-clause-found g c =
