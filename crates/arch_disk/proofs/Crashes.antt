@@ -9,10 +9,10 @@ use Rattle.arch_disk.specs.declared.crash.Unsynced.TheVariants.{Before, Written,
 use Rattle.arch_disk.specs.declared.crash.Length.{Length}
 use Rattle.arch_disk.specs.declared.crash.Length.TheVariants.{Old, New}
 use Rattle.arch_disk.specs.declared.crash.Crash.{Crash}
-use Rattle.arch_disk.specs.declared.history.Call.{Call}
-use Rattle.arch_disk.specs.declared.history.Call.TheVariants.{Wrote, FailedWrite, Cut, FailedCut, Synced}
+use Rattle.arch_disk.specs.declared.call_log.Call.{Call}
+use Rattle.arch_disk.specs.declared.call_log.Call.TheVariants.{Wrote, FailedWrite, Cut, FailedCut, Synced}
 use Rattle.arch_disk.specs.Image.{Image, Torn, Shortened, InFile, overwritten}
-use Rattle.arch_disk.specs.History.{reads_of, images_of, since_of, first_calls}
+use Rattle.arch_disk.specs.CallLog.{reads_of, images_of, since_of, first_calls}
 use Rattle.arch_disk.specs.Crash.{filling, at_length, written_as, cut_as, crash_of}
 use Rattle.arch_disk.specs.Laws.{reads_as_image}
 use Rattle.arch_disk.specs.Steps.{at_itself, in_file, torn_done, cut_done, length-overwritten}

@@ -1,11 +1,11 @@
 -- What a crash leaves after a call that was kept, or that memory was wanting for.
 use Rattle.std.proofs.Common.{◌≡◌, ◌⊎◌, inl, inr, ℕ, List, ◌∷◌, length, sym, subst}
 use Rattle.std.specs.Prelude.{Result, Ok, Err, OnOk, OnErr}
-use Rattle.arch_disk.specs.declared.history.Call.{Call}
-use Rattle.arch_disk.specs.declared.history.Call.TheVariants.{Wrote, FailedWrite, Cut, FailedCut}
-use Rattle.arch_disk.specs.declared.history.Write.{Write}
+use Rattle.arch_disk.specs.declared.call_log.Call.{Call}
+use Rattle.arch_disk.specs.declared.call_log.Call.TheVariants.{Wrote, FailedWrite, Cut, FailedCut}
+use Rattle.arch_disk.specs.declared.call_log.Write.{Write}
 use Rattle.arch_disk.specs.Image.{Image, Torn, Shortened, InFile}
-use Rattle.arch_disk.specs.History.{images_of}
+use Rattle.arch_disk.specs.CallLog.{images_of}
 use Rattle.arch_disk.specs.Steps.{torn_still, cut_still}
 
 -- each image of the later calls is one of the earlier ones after the step

@@ -1,14 +1,14 @@
--- A history that holds an image and nothing else.
+-- A log of calls that holds an image and nothing else.
 use Rattle.std.proofs.Common.{◌≡◌, ◌≢◌, ◌⊎◌, inl, inr, ⊎_elim, ℕ, zero, suc, ◌+◌, ◌-◌, ◌<◌, ◌≤◌, List, [], ◌∷◌, ◌++◌, length, take, drop, reverse, refl, sym, ◌∙◌, ap, subst, arith, get_or, length-drop, take-append-drop}
 use Rattle.std.proofs.lemmas.List.{append-nil, drop_at, drop_all, reverse-append, length-reverse}
 use Rattle.std.proofs.lemmas.Bool.{cases_eq}
-use Rattle.arch_disk.specs.declared.history.Call.{Call}
-use Rattle.arch_disk.specs.declared.history.Call.TheVariants.{Wrote, Synced}
-use Rattle.arch_disk.specs.declared.history.Write.{Write}
+use Rattle.arch_disk.specs.declared.call_log.Call.{Call}
+use Rattle.arch_disk.specs.declared.call_log.Call.TheVariants.{Wrote, Synced}
+use Rattle.arch_disk.specs.declared.call_log.Write.{Write}
 use Rattle.arch_disk.specs.declared.files.File.{File}
 use Rattle.arch_disk.specs.Image.{Image, overwritten}
 use Rattle.arch_disk.specs.Files.{content_of, AreOthers}
-use Rattle.arch_disk.specs.History.{reads_of, images_of, first_calls, HoldsOnly}
+use Rattle.arch_disk.specs.CallLog.{reads_of, images_of, first_calls, HoldsOnly}
 use Rattle.arch_disk.specs.Steps.{at_itself, elsewhere}
 
 -- the first calls, the oldest first, turned round

@@ -5,10 +5,10 @@ use Rattle.arch_disk.specs.declared.crash.Unsynced.TheVariants.{Before, Written,
 use Rattle.arch_disk.specs.declared.crash.Length.{Length}
 use Rattle.arch_disk.specs.declared.crash.Length.TheVariants.{Old, New}
 use Rattle.arch_disk.specs.declared.crash.Crash.{Crash}
-use Rattle.arch_disk.specs.declared.history.Call.{Call}
-use Rattle.arch_disk.specs.declared.history.Call.TheVariants.{Wrote, FailedWrite, Cut, FailedCut, Synced}
+use Rattle.arch_disk.specs.declared.call_log.Call.{Call}
+use Rattle.arch_disk.specs.declared.call_log.Call.TheVariants.{Wrote, FailedWrite, Cut, FailedCut, Synced}
 use Rattle.arch_disk.specs.Image.{Image, overwritten}
-use Rattle.arch_disk.specs.History.{reads_of}
+use Rattle.arch_disk.specs.CallLog.{reads_of}
 
 -- what stands where these octets were written: where octets stood before, `here` begins with them
 abbrev pub filling : Unsynced → List ℕ → List ℕ → List ℕ

@@ -1,11 +1,11 @@
--- Laws of the history of a disk in memory.
+-- Laws of the log of calls of a disk in memory.
 use Rattle.std.proofs.Common.{inl, inr, ℕ, ◌^◌, ◌<◌, ◌≤◌, List, [], ◌∷◌, length, take, refl, arith}
 use Rattle.std.specs.Prelude.{IsTrue, Bool, true, false, if◌then◌else◌, ◌==◌}
 use Rattle.std.proofs.lemmas.List.{length-take}
-use Rattle.arch_disk.specs.declared.history.Call.{Call}
-use Rattle.arch_disk.specs.declared.history.Call.TheVariants.{Wrote, FailedWrite, Cut, FailedCut, Synced}
+use Rattle.arch_disk.specs.declared.call_log.Call.{Call}
+use Rattle.arch_disk.specs.declared.call_log.Call.TheVariants.{Wrote, FailedWrite, Cut, FailedCut, Synced}
 use Rattle.arch_disk.specs.Image.{Image, Torn, Shortened, overwritten}
-use Rattle.arch_disk.specs.History.{reads_of, images_of, since_of}
+use Rattle.arch_disk.specs.CallLog.{reads_of, images_of, since_of}
 use Rattle.arch_disk.specs.Steps.{torn_done, cut_done, torn_still, cut_still, in_file}
 
 pub now_counts : (calls : List Call) (t : ℕ) (c : Image) → images_of calls c → since_of calls t c

@@ -1,7 +1,7 @@
 pub mod Crash
 pub mod Disk
 pub mod Files
-pub mod History
+pub mod CallLog
 pub mod Image
 pub mod Laws
 pub mod Memory

@@ -1,27 +1,27 @@
 -- What the values of a disk in memory mean, which of its calls fail, and what is kept of each.
 use Rattle.std.specs.Prelude.{◌≡◌, ℕ, ◌+◌, ◌-◌, ◌^◌, min, Bool, true, List, ◌∷◌, length, ◌==◌}
 use Rattle.std.specs.List.{list_any}
-use Rattle.arch_disk.specs.declared.history.Call.{Call}
-use Rattle.arch_disk.specs.declared.history.Write.{Write}
+use Rattle.arch_disk.specs.declared.call_log.Call.{Call}
+use Rattle.arch_disk.specs.declared.call_log.Write.{Write}
 use Rattle.arch_disk.specs.declared.memory.MemDisk.{MemDisk}
 use Rattle.arch_disk.specs.Disk.{Device}
-use Rattle.arch_disk.specs.History.{reads_of, images_of, since_of}
+use Rattle.arch_disk.specs.CallLog.{reads_of, images_of, since_of}
 use Rattle.arch_disk.specs.Laws.{now_counts, only_now, reads_as_image, lengths_fit}
 
 -- it tells what it holds, by the calls that are kept
 abbrev pub memory_device : Device MemDisk
 memory_device = record {
   is_transparent = true;
-  reads = λ m. reads_of m.history;
-  images = λ m. images_of m.history;
-  moment = λ m. length m.history;
-  images_since = λ m. since_of m.history;
+  reads = λ m. reads_of m.call_log;
+  images = λ m. images_of m.call_log;
+  moment = λ m. length m.call_log;
+  images_since = λ m. since_of m.call_log;
   fault_count = λ m. m.counts.faults;
   failed_writes = λ m. m.counts.failed_writes;
-  now_counts = λ m t c le now. now_counts m.history t c now;
-  only_now = λ m c left. only_now m.history c left;
-  reads_as_image = λ m transparent. reads_as_image m.history;
-  lengths_fit = λ m f transparent. lengths_fit m.history f;
+  now_counts = λ m t c le now. now_counts m.call_log t c now;
+  only_now = λ m c left. only_now m.call_log c left;
+  reads_as_image = λ m transparent. reads_as_image m.call_log;
+  lengths_fit = λ m f transparent. lengths_fit m.call_log f;
 }
 
 -- no call was made yet, and none has failed

@@ -1,13 +1,13 @@
 // The kinds of crash that tests try: what is left of the octets that no sync has made durable.
 ghost use Rattle.std.specs.Prelude.{◌≡◌, ◌∷◌, ℕ, List, reverse, drop, IfOk, OnOk};
 ghost use Rattle.arch_disk.specs.Files.{image_in};
-ghost use Rattle.arch_disk.specs.declared.history.Call.{Call as ACall};
-ghost use Rattle.arch_disk.specs.History.{reads_of};
+ghost use Rattle.arch_disk.specs.declared.call_log.Call.{Call as ACall};
+ghost use Rattle.arch_disk.specs.CallLog.{reads_of};
 ghost use Rattle.arch_disk.specs.Image.{InFile, Becomes};
 ghost use Rattle.arch_disk.specs.Crash.{filling, written_as, cut_as, crash_of};
 
+use crate::call_log::{Call, Write};
 use crate::files::Files;
-use crate::history::{Call, Write};
 use std::alloc::{AllocError, Global};
 
 /// What octets hold that were written and not synced.

@@ -10,21 +10,21 @@
 // defined by recursion over that list, so one call more is one equation. `OpaqueDisk` is an opaque disk.
 //
 // To touch together: the clauses of `Disk` (src/disk.rt), `Device` (specs/Disk.antt) and the meaning of a list of calls
-// (specs/History.antt). A crash of a kind (specs/Crash.antt) is one of the images of its moment, by proof.
+// (specs/CallLog.antt). A crash of a kind (specs/Crash.antt) is one of the images of its moment, by proof.
 #![tactic(auto)]
 
+mod call_log;
 mod crash;
 mod disk;
 mod faults;
 mod files;
-mod history;
 mod memory;
 mod opaque_disk;
 
+pub use call_log::{Call, Write};
 pub use crash::{Crash, Length, Unsynced};
 pub use disk::{Disk, Failed};
 pub use faults::FaultCounts;
 pub use files::Files;
-pub use history::{Call, Write};
 pub use memory::MemDisk;
 pub use opaque_disk::OpaqueDisk;

@@ -1,22 +1,22 @@
 // A disk in memory. It keeps every call that changed something, so that each image since a moment can be asked for.
 ghost use Rattle.std.specs.Prelude.{◌≡◌, ◌⊎◌, [], ◌∷◌, ◌+◌, ◌-◌, ◌^◌, ◌≤◌, ◌==◌, length, take, drop, min, is_err, IsTrue, IsErr, IfOk, OnOk, OnErr};
-ghost use Rattle.arch_disk.specs.declared.history.Call.TheVariants.{Wrote, FailedWrite, Cut, FailedCut, Synced};
+ghost use Rattle.arch_disk.specs.declared.call_log.Call.TheVariants.{Wrote, FailedWrite, Cut, FailedCut, Synced};
 ghost use Rattle.arch_disk.specs.Image.{Torn, Shortened, InFile, Becomes, overwritten};
 ghost use Rattle.arch_disk.specs.Disk.{Follows, AddsNoImage, IsDurable, Elapses, HasCause, CountsFailure, NoWriteFailed};
 ghost use Rattle.arch_disk.specs.Files.{image_in};
 ghost use Rattle.arch_disk.specs.Crash.{crash_of};
-ghost use Rattle.arch_disk.specs.History.{reads_of, images_of, since_of, first_calls, HoldsOnly};
+ghost use Rattle.arch_disk.specs.CallLog.{reads_of, images_of, since_of, first_calls, HoldsOnly};
 ghost use Rattle.arch_disk.specs.Memory.{memory_device, IsFresh, is_listed, next_number, next_fails, HasCounted, KeepsWrite};
 
+use crate::call_log::{Call, CallLog, Write};
 use crate::crash::{Crash, image_after};
 use crate::files::Files;
-use crate::history::{Call, History, Write};
 use crate::{Disk, Failed, FaultCounts};
 use std::alloc::{AllocError, Global};
 
 #[derive(Drop)]
 pub struct MemDisk {
-    history: History,
+    call_log: CallLog,
     /// The numbers of the calls that are to fail, counted from 1.
     failing: Vec<u64>,
     alloc: Global,
@@ -27,7 +27,7 @@ pub struct MemDisk {
 impl MemDisk {
     /// Empty files, and no call that fails while memory lasts.
     pub fn new(alloc: Global) -> MemDisk
-        ensures empty { result.history ≡ [] }
+        ensures empty { result.call_log ≡ [] }
         ensures unlisted { result.failing.items ≡ [] }
         ensures fresh { IsFresh result }
     {
@@ -36,12 +36,12 @@ impl MemDisk {
 
     /// Empty files. The calls of these numbers fail, counted from 1 over all calls but `faults`.
     pub fn failing(alloc: Global, calls: Vec<u64>) -> MemDisk
-        ensures empty { result.history ≡ [] }
+        ensures empty { result.call_log ≡ [] }
         ensures listed { result.failing ≡ calls }
         ensures fresh { IsFresh result }
     {
         MemDisk {
-            history: History::new(alloc),
+            call_log: CallLog::new(alloc),
             failing: calls,
             alloc,
             made: 0,
@@ -51,9 +51,9 @@ impl MemDisk {
 
     /// What a file reads as. It is no call of the disk.
     pub fn content(&self, file: u32) -> &[u8]
-        ensures { result.now ≡ reads_of self.now.history file }
+        ensures { result.now ≡ reads_of self.now.call_log file }
     {
-        self.history.content(file)
+        self.call_log.content(file)
     }
 
     /// How many calls were made, `faults` not counted.
@@ -65,35 +65,35 @@ impl MemDisk {
 
     /// How many calls were kept: the moments of this disk are those after the first 0, 1 and so on of them.
     pub fn moments(&self) -> usize
-        ensures { result ≡ length self.now.history }
+        ensures { result ≡ length self.now.call_log }
     {
-        self.history.len()
+        self.call_log.len()
     }
 
     /// The disk that is found after a crash of this kind at a moment of this one.
     pub fn crashed(&self, moment: usize, crash: Crash) -> Result<MemDisk, AllocError>
-        requires { moment ≤ length self.now.history }
-        ensures image { IfOk result (λ disk. images_of (first_calls moment self.now.history) (reads_of disk.history)) }
-        ensures since { IfOk result (λ disk. since_of self.now.history moment (reads_of disk.history)) }
+        requires { moment ≤ length self.now.call_log }
+        ensures image { IfOk result (λ disk. images_of (first_calls moment self.now.call_log) (reads_of disk.call_log)) }
+        ensures since { IfOk result (λ disk. since_of self.now.call_log moment (reads_of disk.call_log)) }
         ensures kind { IfOk result (λ disk.
-            HoldsOnly disk.history (crash_of crash (first_calls moment self.now.history))) }
+            HoldsOnly disk.call_log (crash_of crash (first_calls moment self.now.call_log))) }
         ensures unlisted { IfOk result (λ disk. disk.failing.items ≡ []) }
         ensures fresh { IfOk result IsFresh }
     {
-        let files = image_after(self.alloc, self.history.first(moment), crash)?;
+        let files = image_after(self.alloc, self.call_log.first(moment), crash)?;
         let disk = MemDisk::holding(self.alloc, &files)?;
         Ok(disk)
     }
 
     /// Files that hold this, and all of it is synced.
     pub fn holding(alloc: Global, files: &Files) -> Result<MemDisk, AllocError>
-        ensures image { IfOk result (λ disk. HoldsOnly disk.history (image_in files.now)) }
+        ensures image { IfOk result (λ disk. HoldsOnly disk.call_log (image_in files.now)) }
         ensures unlisted { IfOk result (λ disk. disk.failing.items ≡ []) }
         ensures fresh { IfOk result IsFresh }
     {
-        let history = History::holding(alloc, files)?;
+        let call_log = CallLog::holding(alloc, files)?;
         Ok(MemDisk {
-            history,
+            call_log,
             failing: Vec::new(alloc),
             alloc,
             made: 0,
@@ -125,12 +125,12 @@ impl Disk for MemDisk {
 
         ensures counted { HasCounted self.old self.new }
         ensures fails { is_err result ≡ next_fails self.old }
-        ensures unchanged { self.new.history ≡ self.old.history }
+        ensures unchanged { self.new.call_log ≡ self.old.call_log }
     {
         if next_is_listed(&mut self.made, &self.failing) {
             return Err(self.counts.look_failed());
         }
-        Ok(self.history.content(file).len() as u64)
+        Ok(self.call_log.content(file).len() as u64)
     }
 
     fn read_at(&mut self, file: u32, at: u64, into: &mut [u8]) -> Result<(), Failed>
@@ -147,13 +147,13 @@ impl Disk for MemDisk {
 
         ensures counted { HasCounted self.old self.new }
         ensures fails { is_err result ≡ next_fails self.old }
-        ensures unchanged { self.new.history ≡ self.old.history }
+        ensures unchanged { self.new.call_log ≡ self.old.call_log }
     {
         if next_is_listed(&mut self.made, &self.failing) {
             return Err(self.counts.look_failed());
         }
         let start = at as usize;
-        into.copy_from_slice(&self.history.content(file)[start..start + into.len()]);
+        into.copy_from_slice(&self.call_log.content(file)[start..start + into.len()]);
         Ok(())
     }
 
@@ -172,16 +172,16 @@ impl Disk for MemDisk {
 
         ensures counted { HasCounted self.old self.new }
         ensures fails { IsTrue (next_fails self.old) → IsErr result }
-        ensures kept { OnOk result (KeepsWrite Wrote file at from.now self.old.history self.new.history) }
+        ensures kept { OnOk result (KeepsWrite Wrote file at from.now self.old.call_log self.new.call_log) }
         ensures failed { OnErr result ((IsTrue (next_fails self.old) ×
-            KeepsWrite FailedWrite file at from.now self.old.history self.new.history)
-            ⊎ (self.new.history ≡ self.old.history)) }
+            KeepsWrite FailedWrite file at from.now self.old.call_log self.new.call_log)
+            ⊎ (self.new.call_log ≡ self.old.call_log)) }
     {
         let listed = next_is_listed(&mut self.made, &self.failing);
         if let Ok(write) = Write::copy(self.alloc, file, at, from) {
             if listed {
-                let _ = self.history.note(Call::FailedWrite(write));
-            } else if self.history.write(write).is_ok() {
+                let _ = self.call_log.note(Call::FailedWrite(write));
+            } else if self.call_log.write(write).is_ok() {
                 return Ok(());
             }
         }
@@ -201,14 +201,14 @@ impl Disk for MemDisk {
 
         ensures counted { HasCounted self.old self.new }
         ensures fails { IsTrue (next_fails self.old) → IsErr result }
-        ensures kept { OnOk result (self.new.history ≡ Cut file len ∷ self.old.history) }
+        ensures kept { OnOk result (self.new.call_log ≡ Cut file len ∷ self.old.call_log) }
         ensures failed { OnErr result ((IsTrue (next_fails self.old) ×
-            (self.new.history ≡ FailedCut file len ∷ self.old.history))
-            ⊎ (self.new.history ≡ self.old.history)) }
+            (self.new.call_log ≡ FailedCut file len ∷ self.old.call_log))
+            ⊎ (self.new.call_log ≡ self.old.call_log)) }
     {
         if next_is_listed(&mut self.made, &self.failing) {
-            let _ = self.history.note(Call::FailedCut { file, len });
-        } else if self.history.cut(file, len).is_ok() {
+            let _ = self.call_log.note(Call::FailedCut { file, len });
+        } else if self.call_log.cut(file, len).is_ok() {
             return Ok(());
         }
         Err(self.counts.write_failed())
@@ -224,11 +224,11 @@ impl Disk for MemDisk {
 
         ensures counted { HasCounted self.old self.new }
         ensures fails { IsTrue (next_fails self.old) → IsErr result }
-        ensures kept { OnOk result (self.new.history ≡ Synced file ∷ self.old.history) }
-        ensures failed { OnErr result (self.new.history ≡ self.old.history) }
+        ensures kept { OnOk result (self.new.call_log ≡ Synced file ∷ self.old.call_log) }
+        ensures failed { OnErr result (self.new.call_log ≡ self.old.call_log) }
     {
         if !next_is_listed(&mut self.made, &self.failing)
-            && self.history.note(Call::Synced { file }).is_ok()
+            && self.call_log.note(Call::Synced { file }).is_ok()
         {
             return Ok(());
         }

@@ -2,6 +2,6 @@ pub mod Dumps
 pub mod Histories
 pub mod InOrder
 pub mod Ordered
-pub mod Parts
+pub mod Slices
 pub mod Ranks
 pub mod Texts

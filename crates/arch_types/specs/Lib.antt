@@ -5,4 +5,5 @@ pub mod Order
 pub mod History
 pub mod Arrivals
 pub mod Table
+pub mod Directions
 pub mod Laws

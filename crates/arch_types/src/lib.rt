@@ -1,7 +1,8 @@
 // The types that the crates of the archive share, and the definitions that their contracts cite.
 //
 // In specs/: the space packet of CCSDS 133.0-B and its key (Packet, GenerationTime), a dump (Dump), the order of keys (Order), the history
-// and what an ingest adds to it (History), the rows of packets (Arrivals), a table at a front (Table), and names.
+// and what an ingest adds to it (History), the rows of packets (Arrivals), a table at a front (Table), the
+// order of an answer (Directions), and names.
 // Laws.antt says of the definitions that are folds what a reader expects of them, and `laws` carries the proofs.
 //
 // Lists of one type are structs with a model: a contract sees `Rows` as the list of its rows and `Octets` as a list of numbers. `Octets`

@@ -10,8 +10,8 @@ use Rattle.mdb_items.specs.declared.calibration.Calibration.{Calibration}
 use Rattle.mdb_items.specs.declared.calibration.EnumRow.{EnumRow}
 use Rattle.mdb_items.specs.declared.calibration.PointsRow.{PointsRow}
 use Rattle.mdb_items.specs.declared.calibration.PolyRow.{PolyRow}
-use Rattle.mdb_items.specs.declared.calibration.Table.{Table}
-use Rattle.mdb_items.specs.declared.calibration.Table.TheVariants.{Poly, Points, Enum}
+use Rattle.mdb_items.specs.declared.calibration.Calibrator.{Calibrator}
+use Rattle.mdb_items.specs.declared.calibration.Calibrator.TheVariants.{Poly, Points, Enum}
 use Rattle.mdb_items.specs.declared.parameter.Coding.{Coding}
 use Rattle.mdb_items.specs.declared.parameter.Coding.TheVariants.{Uint, Int, UintLe, IntLe}
 use Rattle.mdb_items.specs.ParameterRows.{admits, degree, reach}
@@ -44,10 +44,10 @@ raw_within UintLe bits raw is = unsigned_within bits raw is
 raw_within IntLe bits raw is = signed_within bits raw is
 
 -- a polynomial that is admitted carries the raw number no further than 2^63 millionths
-pub carried : (c : Calibration) (raw : ℤ) (rows : List PolyRow) → IsAdmitted (Some c) raw → c.table ≡ Poly rows → AreCarried raw rows
+pub carried : (c : Calibration) (raw : ℤ) (rows : List PolyRow) → IsAdmitted (Some c) raw → c.calibrator ≡ Poly rows → AreCarried raw rows
 carried c raw rows is e =
     let bits = is.parameter.bits in
-    let both : (nat_le (bits * degree rows) 60 && nat_lt (sum_by (reach bits) rows) 9223372036854775808) ≡ true = ap (λ (t : Table). admits bits (Some t)) (sym e) ∙ is.admitted in
+    let both : (nat_le (bits * degree rows) 60 && nat_lt (sum_by (reach bits) rows) 9223372036854775808) ≡ true = ap (λ (t : Calibrator). admits bits (Some t)) (sym e) ∙ is.admitted in
     record {
       bits = bits;
       within = raw_within is.parameter.coding bits raw is.in_width;
@@ -56,12 +56,12 @@ carried c raw rows is e =
     }
 
 -- the points of a calibration that is admitted
-pub points_of : (c : Calibration) (raw : ℤ) (points : List PointsRow) → IsAdmitted (Some c) raw → c.table ≡ Points points → AllByRecursion IsPoint points × ArePointsRising points
-points_of c raw points is e = subst (λ (t : Table). KeepsRules (Some t)) e is.rules
+pub points_of : (c : Calibration) (raw : ℤ) (points : List PointsRow) → IsAdmitted (Some c) raw → c.calibrator ≡ Points points → AllByRecursion IsPoint points × ArePointsRising points
+points_of c raw points is e = subst (λ (t : Calibrator). KeepsRules (Some t)) e is.rules
 
 -- the rows of an enumeration that is admitted
-pub few_rows : (c : Calibration) (raw : ℤ) (rows : List EnumRow) → IsAdmitted (Some c) raw → c.table ≡ Enum rows → length rows ≤ 65536
-few_rows c raw rows is e = subst (λ (t : Table). KeepsRules (Some t)) e is.rules
+pub few_rows : (c : Calibration) (raw : ℤ) (rows : List EnumRow) → IsAdmitted (Some c) raw → c.calibrator ≡ Enum rows → length rows ≤ 65536
+few_rows c raw rows is e = subst (λ (t : Calibrator). KeepsRules (Some t)) e is.rules
 
 -- what `position` gives is a place of the list
 pub place_within : {X : Type 0} (p : X → Bool) (xs : List X) (i : ℕ) → position p xs ≡ Some i → i < length xs

@@ -2,12 +2,12 @@
 use Rattle.std.specs.Prelude.{◌≡◌, ℕ, ◌-◌, ◌≤◌, ◌^◌, length, true, Option, Some, None, ℤ, pos, neg_ℤ, ◌≤ℤ◌, ◌<ℤ◌}
 use Rattle.std.specs.List.{AllByRecursion}
 use Rattle.mdb_items.specs.declared.calibration.Calibration.{Calibration}
-use Rattle.mdb_items.specs.declared.calibration.Table.{Table}
-use Rattle.mdb_items.specs.declared.calibration.Table.TheVariants.{Poly, Points, Enum}
+use Rattle.mdb_items.specs.declared.calibration.Calibrator.{Calibrator}
+use Rattle.mdb_items.specs.declared.calibration.Calibrator.TheVariants.{Poly, Points, Enum}
 use Rattle.mdb_items.specs.declared.parameter.Coding.{Coding}
 use Rattle.mdb_items.specs.declared.parameter.Coding.TheVariants.{Uint, Int, UintLe, IntLe}
 use Rattle.mdb_items.specs.declared.parameter.Parameter.{Parameter}
-use Rattle.mdb_items.specs.ParameterRows.{admits, table_of_calibration}
+use Rattle.mdb_items.specs.ParameterRows.{admits, calibrator_of_calibration}
 use Rattle.mdb_items.specs.Structure.{IsPoint, ArePointsRising}
 
 -- below 2^bits
@@ -25,8 +25,8 @@ IsInWidth Int bits raw = IsSigned bits raw
 IsInWidth UintLe bits raw = IsUnsigned bits raw
 IsInWidth IntLe bits raw = IsSigned bits raw
 
--- the rules of a table's own rows: points rise, and a sheet has at most 65,536 rows
-abbrev pub KeepsRules : Option Table → Type 0
+-- the rules of a calibrator's own rows: points rise, and a sheet has at most 65,536 rows
+abbrev pub KeepsRules : Option Calibrator → Type 0
 KeepsRules None = Unit {0}
 KeepsRules (Some (Poly rows)) = Unit {0}
 KeepsRules (Some (Points points)) = AllByRecursion IsPoint points × ArePointsRising points
@@ -36,5 +36,5 @@ KeepsRules (Some (Enum rows)) = length rows ≤ 65536
 pub record IsAdmitted (calibration : Option Calibration) (raw : ℤ) : Type 0 where
   pub parameter : Parameter
   pub in_width : IsInWidth parameter.coding parameter.bits raw
-  pub rules : KeepsRules (table_of_calibration calibration)
-  pub admitted : admits parameter.bits (table_of_calibration calibration) ≡ true
+  pub rules : KeepsRules (calibrator_of_calibration calibration)
+  pub admitted : admits parameter.bits (calibrator_of_calibration calibration) ≡ true

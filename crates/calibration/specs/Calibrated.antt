@@ -8,8 +8,8 @@ use Rattle.arch_types.specs.declared.cell.Eng.TheVariants.{Whole, Fixed, Label, 
 use Rattle.mdb_items.specs.declared.calibration.Calibration.{Calibration}
 use Rattle.mdb_items.specs.declared.calibration.PointsRow.{PointsRow}
 use Rattle.mdb_items.specs.declared.calibration.PolyRow.{PolyRow}
-use Rattle.mdb_items.specs.declared.calibration.Table.{Table}
-use Rattle.mdb_items.specs.declared.calibration.Table.TheVariants.{Poly, Points, Enum}
+use Rattle.mdb_items.specs.declared.calibration.Calibrator.{Calibrator}
+use Rattle.mdb_items.specs.declared.calibration.Calibrator.TheVariants.{Poly, Points, Enum}
 use Rattle.mdb_items.specs.Lists.{last_of}
 
 -- a coefficient times its power of the raw number, in millionths
@@ -44,8 +44,8 @@ abbrev pub label_at : Option ℕ → Eng
 label_at None = Undef
 label_at (Some row) = Label row
 
--- the value that a table gives a raw number
-abbrev pub value_by : Table → ℤ → Eng
+-- the value that a calibrator gives a raw number
+abbrev pub value_by : Calibrator → ℤ → Eng
 value_by (Poly rows) raw = Fixed (polynomial rows raw)
 value_by (Points points) raw = Fixed (on_points points raw)
 value_by (Enum rows) raw = label_at (position (λ row. int_eq row.x raw) rows)
@@ -53,10 +53,10 @@ value_by (Enum rows) raw = label_at (position (λ row. int_eq row.x raw) rows)
 -- the engineering value of a raw number: without a calibration it is the raw number itself
 abbrev pub calibrated : Option Calibration → ℤ → Eng
 calibrated None raw = Whole
-calibrated (Some calibration) raw = value_by calibration.table raw
+calibrated (Some calibration) raw = value_by calibration.calibrator raw
 
--- the table is an enumeration
-abbrev pub is_enum : Table → Bool
+-- the calibrator is an enumeration
+abbrev pub is_enum : Calibrator → Bool
 is_enum (Poly rows) = false
 is_enum (Points points) = false
 is_enum (Enum rows) = true
@@ -64,4 +64,4 @@ is_enum (Enum rows) = true
 -- the calibration is an enumeration
 abbrev pub is_enumeration : Option Calibration → Bool
 is_enumeration None = false
-is_enumeration (Some calibration) = is_enum calibration.table
+is_enumeration (Some calibration) = is_enum calibration.calibrator

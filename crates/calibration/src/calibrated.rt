@@ -10,7 +10,7 @@ ghost use Rattle.mdb_lookups.specs.Lookups.{calibration_of};
 use crate::points::on_points;
 use crate::polynomial::polynomial;
 use arch_types::cell::Eng;
-use mdb_model::{Calibration, EnumRow, Mdb, Table};
+use mdb_model::{Calibration, Calibrator, EnumRow, Mdb};
 
 /// The row of a raw number, counted from 0.
 fn row_of(rows: &[EnumRow], raw: i128) -> Option<usize>
@@ -39,10 +39,10 @@ pub fn calibrate(calibration: Option<&Calibration>, raw: i128) -> Eng
     let Some(calibration) = calibration else {
         return Eng::Whole;
     };
-    match &calibration.table {
-        Table::Poly(rows) => Eng::Fixed(polynomial(rows.as_slice(), raw)),
-        Table::Points(points) => Eng::Fixed(on_points(points.as_slice(), raw)),
-        Table::Enum(rows) => label(row_of(rows.as_slice(), raw)),
+    match &calibration.calibrator {
+        Calibrator::Poly(rows) => Eng::Fixed(polynomial(rows.as_slice(), raw)),
+        Calibrator::Points(points) => Eng::Fixed(on_points(points.as_slice(), raw)),
+        Calibrator::Enum(rows) => label(row_of(rows.as_slice(), raw)),
     }
 }
 
@@ -52,7 +52,7 @@ fn is_enumeration(calibration: Option<&Calibration>) -> bool
 {
     match calibration {
         None => false,
-        Some(calibration) => matches!(&calibration.table, Table::Enum(_)),
+        Some(calibration) => matches!(&calibration.calibrator, Calibrator::Enum(_)),
     }
 }
 

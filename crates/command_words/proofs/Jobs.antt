@@ -8,11 +8,11 @@ use Rattle.text_forms.specs.Digits.{digits_at_most}
 use Rattle.command_words.specs.declared.job.CommandName.{CommandName}
 use Rattle.command_words.specs.declared.job.CommandName.TheVariants as name
 use Rattle.command_words.specs.Job.{Job, Scan, Values, Create, Load, Recover, Verify, values_words, create_words, load_words, query_words, link_of, from_one, command_named, app_of_command, job_in, command_job, job_of, HasLink, IsNoJob}
-use Rattle.command_words.specs.Words.{rows_of_words, IsNotFound}
+use Rattle.command_words.specs.Words.{rows_of_words, AreNoRows}
 use Rattle.command_words.specs.Given.{one_of_two}
 
 -- where nothing was found there is no job
-pub no_rows : (of : List Row → Option Job) (found : Option (List Row)) (refusal : Refusal) → IsNotFound found refusal → IsNoJob (option_and_then of found) refusal
+pub no_rows : (of : List Row → Option Job) (found : Option (List Row)) (refusal : Refusal) → AreNoRows found refusal → IsNoJob (option_and_then of found) refusal
 no_rows of found Usage h = rw h refl
 no_rows of found OutOfMemory h = tt
 no_rows of found other h = absurd h

@@ -53,7 +53,7 @@ unfoldable pub rows_of_words : App → List Text → Option (List Row)
 rows_of_words app words = rows_where (are_plain words) (fault_of app words) (matches_of app words)
 
 -- why nothing was found: there is a fault, or want of memory
-abbrev pub IsNotFound : Option (List Row) → Refusal → Type 0
-IsNotFound rows Usage = rows ≡ None
-IsNotFound rows OutOfMemory = Unit {0}
-IsNotFound rows other = ⊥
+abbrev pub AreNoRows : Option (List Row) → Refusal → Type 0
+AreNoRows rows Usage = rows ≡ None
+AreNoRows rows OutOfMemory = Unit {0}
+AreNoRows rows other = ⊥

@@ -4,7 +4,7 @@ ghost use Rattle.std.specs.Prelude.{◌≡◌, map, string_bytes, Some, IfOk, If
 ghost use Rattle.clap.specs.Words.{rows_of, found_of};
 ghost use Rattle.command_words.specs.Job.{job_of, command_named, command_job, app_of_command, job_in, link_of, IsNoJob};
 ghost use Rattle.command_words.specs.JobView.{job_view};
-ghost use Rattle.command_words.specs.Words.{rows_of_words, IsNotFound};
+ghost use Rattle.command_words.specs.Words.{rows_of_words, AreNoRows};
 
 use crate::words::{Argument, OneOfTwo, given_word, one_of_two, read_arguments};
 use clap::ArgMatches;
@@ -141,7 +141,7 @@ fn found_words<'a>(
     ensures found { IfOk result (λ found. rows_of_words (app_of_command command)
         (map (λ w. string_bytes w) words.entry.now) ≡ Some (rows_of (found_of found))) }
     ensures none { IfErr result
-        (IsNotFound (rows_of_words (app_of_command command) (map (λ w. string_bytes w) words.entry.now))) }
+        (AreNoRows (rows_of_words (app_of_command command) (map (λ w. string_bytes w) words.entry.now))) }
 {
     match command {
         CommandName::Scan => read_arguments(alloc, "scan", &[Argument::Word("dump")], words),

@@ -6,7 +6,7 @@ ghost use Rattle.std.specs.Str.{bytes_eq};
 ghost use Rattle.clap.specs.Words.{app_of, is_simple, rows_of, found_of};
 ghost use Rattle.clap.specs.Faults.{is_simple_and_free};
 ghost use Rattle.clap.specs.Walk.{rule_of, is_empty, first_of};
-ghost use Rattle.command_words.specs.Words.{are_plain, are_filled, are_whole, is_whole_word, rows_of_words, IsNotFound, plain_app, is_last};
+ghost use Rattle.command_words.specs.Words.{are_plain, are_filled, are_whole, is_whole_word, rows_of_words, AreNoRows, plain_app, is_last};
 ghost use Rattle.command_words.specs.Arguments.{argument_rule, command_app};
 ghost use Rattle.command_words.specs.Given.{one_of_two, one_view, repeated_words};
 
@@ -39,7 +39,7 @@ pub fn read_arguments<'a>(
     requires free { is_simple_and_free (command_app name.now (map argument_rule arguments.now)) ≡ true }
     ensures found { IfOk result (λ found. rows_of_words (command_app name.entry.now (map argument_rule arguments.now))
         (map (λ w. string_bytes w) words.entry.now) ≡ Some (rows_of (found_of found))) }
-    ensures none { IfErr result (IsNotFound (rows_of_words (command_app name.entry.now
+    ensures none { IfErr result (AreNoRows (rows_of_words (command_app name.entry.now
         (map argument_rule arguments.now)) (map (λ w. string_bytes w) words.entry.now))) }
 {
     match command_of(alloc, name, arguments) {
@@ -144,7 +144,7 @@ fn read_words<'a>(command: Command<'a>, words: &'a [String]) -> Result<ArgMatche
         rows_of_words (app_of command.entry) (map (λ w. string_bytes w) words.entry.now) ≡ Some
         (rows_of (found_of found))) }
     ensures none { IfErr result
-        (IsNotFound (rows_of_words (app_of command.entry) (map (λ w. string_bytes w) words.entry.now))) }
+        (AreNoRows (rows_of_words (app_of command.entry) (map (λ w. string_bytes w) words.entry.now))) }
 {
     if !are_plain(words) {
         return Err(Refusal::Usage);

@@ -6,7 +6,7 @@ use Rattle.std.proofs.lemmas.Bool.{eqb-true, ltb-true}
 use Rattle.std.proofs.lemmas.List.Sums.{passes_at_first}
 use Rattle.std.proofs.lemmas.Option.{same_Some}
 use Rattle.mdb_items.specs.declared.container.Container.{Container}
-use Rattle.mdb_items.specs.declared.container.Entry.{Entry}
+use Rattle.mdb_items.specs.declared.container.ParameterEntry.{ParameterEntry}
 use Rattle.mdb_items.specs.Database.{Database, IsDatabase}
 use Rattle.mdb_items.specs.Structure.{IsBelowParent}
 use Rattle.mdb_model.proofs.Structure.{structured}
@@ -47,7 +47,7 @@ is_the_parent n None e = cc
 is_the_parent n (Some m) e = ap (λ (k : ℕ). Some k) (eqb-true m n e)
 
 -- what comes after a container is a child of it
-pub child_of : (db : Database) (packet : List ℕ) (entries : List Entry) (n m : ℕ) → next_of db packet entries n ≡ Some m → (c : Container) × (slice_get db.containers m ≡ Some c) × (m < length db.containers) × (c.parent ≡ Some n)
+pub child_of : (db : Database) (packet : List ℕ) (entries : List ParameterEntry) (n m : ℕ) → next_of db packet entries n ≡ Some m → (c : Container) × (slice_get db.containers m ≡ Some c) × (m < length db.containers) × (c.parent ≡ Some n)
 child_of db packet entries n m e =
     let values = map (raw_value_of db packet) entries in
     let both = if_some_is (list_all (fits db packet) (entries_at db n)) (first_child db.containers n values) m e in
@@ -55,13 +55,13 @@ child_of db packet entries n m e =
     (child.0, child.1, child.2, is_the_parent n child.0.parent (left_of_and (is_number n child.0.parent) (holds values child.0.condition) child.3))
 
 -- and stands after it
-pub next_below : (db : Database) (packet : List ℕ) (entries : List Entry) (n m : ℕ) → IsDatabase db → next_of db packet entries n ≡ Some m → (n < m) × (m < length db.containers)
+pub next_below : (db : Database) (packet : List ℕ) (entries : List ParameterEntry) (n m : ℕ) → IsDatabase db → next_of db packet entries n ≡ Some m → (n < m) × (m < length db.containers)
 next_below db packet entries n m is e =
     let child = child_of db packet entries n m e in
     (subst (IsBelowParent m) child.3 ((structured db is).containers m child.0 child.1).parent, child.2)
 
 -- a container, what comes after it, and so on
-after : (db : Database) (packet : List ℕ) (most : ℕ) (above : List Entry) (n : ℕ) (o : Option ℕ) → IsDatabase db → n < length db.containers → length db.containers ≤ n + suc most
+after : (db : Database) (packet : List ℕ) (most : ℕ) (above : List ParameterEntry) (n : ℕ) (o : Option ℕ) → IsDatabase db → n < length db.containers → length db.containers ≤ n + suc most
     → next_of db packet (above ++ entries_at db n) n ≡ o → IsChainFrom db packet above (n ∷ if_some (chain_from db packet most (above ++ entries_at db n)) o)
 after db packet most above n None is known enough e = e
 after db packet zero above n (Some m) is known enough e =
@@ -76,7 +76,7 @@ chain_from_root db packet zero is e = let root = (structured db is).root in absu
 chain_from_root db packet (suc most) is e = (refl, after db packet most [] 0 (next_of db packet (entries_at db 0) 0) is (structured db is).root (omega arith) refl)
 
 -- below the same entries the same containers follow
-one_below : (db : Database) (packet : List ℕ) (above : List Entry) (n : ℕ) (xs ys : List ℕ) → IsChainFrom db packet above (n ∷ xs) → IsChainFrom db packet above (n ∷ ys) → xs ≡ ys
+one_below : (db : Database) (packet : List ℕ) (above : List ParameterEntry) (n : ℕ) (xs ys : List ℕ) → IsChainFrom db packet above (n ∷ xs) → IsChainFrom db packet above (n ∷ ys) → xs ≡ ys
 one_below db packet above n [] [] a b = refl
 one_below db packet above n [] (k ∷ ys) a b = let e = b.0 in cc
 one_below db packet above n (m ∷ xs) [] a b = let e = a.0 in cc

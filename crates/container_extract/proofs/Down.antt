@@ -2,7 +2,7 @@
 use Rattle.std.proofs.Common.{◌≡◌, ◌∙◌, ◌+◌, ◌-◌, ◌<◌, ◌≤◌, ℕ, List, [], ◌∷◌, ◌++◌, length, map, Some, None, ap, sym, arith, subst, length-append}
 use Rattle.std.specs.Prelude.{flat_map}
 use Rattle.std.proofs.lemmas.List.{length-map, map-append}
-use Rattle.mdb_items.specs.declared.container.Entry.{Entry}
+use Rattle.mdb_items.specs.declared.container.ParameterEntry.{ParameterEntry}
 use Rattle.mdb_items.specs.Database.{Database, IsDatabase}
 use Rattle.mdb_items.specs.Structure.{IsPath}
 use Rattle.mdb_items.proofs.Ends.{item_at}
@@ -26,9 +26,9 @@ begins db packet chain values is none empty =
 pub values_above : (db : Database) (packet chain : List ℕ) (values : List RawValue) (n : ℕ) → IsWalk db packet chain values n → AreAbove db n values
 values_above db packet chain values n w =
     let above = flat_map (entries_at db) chain in
-    let so_far : parameters_of_values values ≡ map (λ (e : Entry). e.parameter) above = ap parameters_of_values w.taken ∙ parameters_of_raw db packet above in
-    ap (λ (ps : List ℕ). ps ++ map (λ (e : Entry). e.parameter) (entries_at db n)) so_far
-    ∙ sym (map-append (λ (e : Entry). e.parameter) above (entries_at db n)) ∙ ap path_parameters (sym w.path)
+    let so_far : parameters_of_values values ≡ map (λ (e : ParameterEntry). e.parameter) above = ap parameters_of_values w.taken ∙ parameters_of_raw db packet above in
+    ap (λ (ps : List ℕ). ps ++ map (λ (e : ParameterEntry). e.parameter) (entries_at db n)) so_far
+    ∙ sym (map-append (λ (e : ParameterEntry). e.parameter) above (entries_at db n)) ∙ ap path_parameters (sym w.path)
 
 -- the path of a container on the walk keeps the rules
 path_kept : (db : Database) (packet chain : List ℕ) (values : List RawValue) (n : ℕ) → IsDatabase db → IsWalk db packet chain values n → IsPath (a_path (length chain + 1) (flat_map (entries_at db) chain ++ entries_at db n))

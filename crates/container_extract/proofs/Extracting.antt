@@ -6,7 +6,7 @@ use Rattle.std.proofs.lemmas.Bool.{cases_Bool}
 use Rattle.std.proofs.lemmas.List.{length-map}
 use Rattle.std.proofs.lemmas.Option.{same_Some}
 use Rattle.std.proofs.lemmas.Nat.{mod_below, pow_pos}
-use Rattle.mdb_items.specs.declared.container.Entry.{Entry}
+use Rattle.mdb_items.specs.declared.container.ParameterEntry.{ParameterEntry}
 use Rattle.mdb_items.specs.declared.parameter.Parameter.{Parameter}
 use Rattle.mdb_items.specs.Database.{Database, IsDatabase}
 use Rattle.mdb_items.specs.Paths.{bits_of_parameter}
@@ -25,17 +25,17 @@ use Rattle.container_extract.proofs.Widths.{in_width}
 
 -- ---- one value
 
-raw_in_width : (db : Database) (packet : List ℕ) (e : Entry) (p : Parameter) → IsDatabase db → slice_get db.parameters e.parameter ≡ Some p → IsInWidth p.coding p.bits (raw_of db packet e)
+raw_in_width : (db : Database) (packet : List ℕ) (e : ParameterEntry) (p : Parameter) → IsDatabase db → slice_get db.parameters e.parameter ≡ Some p → IsInWidth p.coding p.bits (raw_of db packet e)
 raw_in_width db packet e p is at =
     let width = ((structured db is).parameters e.parameter p at).width in
     let below : field_at packet e.at p.bits < 2 ^ p.bits = mod_below _ (2 ^ p.bits) (pow_pos p.bits) in
     let raw : raw_of db packet e ≡ raw_bits_at packet e.at p.bits p.coding = ap (λ (o : Option Parameter). raw_bits_at packet e.at (bits_of_parameter o) (coding_of o)) at in
     subst (IsInWidth p.coding p.bits) (sym raw) (in_width p.coding p.bits (field_at packet e.at p.bits) width below)
 
-entry_is_sound : (db : Database) (packet : List ℕ) (e : Entry) → IsDatabase db → IsEntry db e → IsRawValue db (raw_value_of db packet e)
+entry_is_sound : (db : Database) (packet : List ℕ) (e : ParameterEntry) → IsDatabase db → IsEntry db e → IsRawValue db (raw_value_of db packet e)
 entry_is_sound db packet e is entry = record { known = entry.parameter; in_width = λ p at. raw_in_width db packet e p is at }
 
-value_is_sound : (db : Database) (packet : List ℕ) (e : Entry) → IsDatabase db → IsEntry db e → IsValue db (value_of db packet e)
+value_is_sound : (db : Database) (packet : List ℕ) (e : ParameterEntry) → IsDatabase db → IsEntry db e → IsValue db (value_of db packet e)
 value_is_sound db packet e is entry = record {
   known = entry.parameter;
   in_width = λ p at. raw_in_width db packet e p is at;
@@ -44,17 +44,17 @@ value_is_sound db packet e is entry = record {
 
 -- ---- the values of the first entries
 
-values_are_sound : (db : Database) (packet : List ℕ) (k : ℕ) (es : List Entry) → IsDatabase db → AllByRecursion (IsEntry db) es → AllByRecursion (IsValue db) (map (value_of db packet) (take k es))
+values_are_sound : (db : Database) (packet : List ℕ) (k : ℕ) (es : List ParameterEntry) → IsDatabase db → AllByRecursion (IsEntry db) es → AllByRecursion (IsValue db) (map (value_of db packet) (take k es))
 values_are_sound db packet zero es is all = tt
 values_are_sound db packet (suc k) [] is all = tt
 values_are_sound db packet (suc k) (e ∷ es) is all = (value_is_sound db packet e is all.0, values_are_sound db packet k es is all.1)
 
-others : (db : Database) (packet : List ℕ) (n k : ℕ) (es : List Entry) → AllByRecursion (λ m. nat_eq n m ≡ false) (map (λ e. e.parameter) es) → AllByRecursion (λ m. nat_eq n m ≡ false) (map (λ v. v.parameter) (map (value_of db packet) (take k es)))
+others : (db : Database) (packet : List ℕ) (n k : ℕ) (es : List ParameterEntry) → AllByRecursion (λ m. nat_eq n m ≡ false) (map (λ e. e.parameter) es) → AllByRecursion (λ m. nat_eq n m ≡ false) (map (λ v. v.parameter) (map (value_of db packet) (take k es)))
 others db packet n zero es all = tt
 others db packet n (suc k) [] all = tt
 others db packet n (suc k) (e ∷ es) all = (all.0, others db packet n k es all.1)
 
-values_differ : (db : Database) (packet : List ℕ) (k : ℕ) (es : List Entry) → AreDistinctEntries es → IsDistinct nat_eq (map (λ v. v.parameter) (map (value_of db packet) (take k es)))
+values_differ : (db : Database) (packet : List ℕ) (k : ℕ) (es : List ParameterEntry) → AreDistinctEntries es → IsDistinct nat_eq (map (λ v. v.parameter) (map (value_of db packet) (take k es)))
 unfolding IsDistinct
 values_differ db packet zero es all = tt
 values_differ db packet (suc k) [] all = tt
@@ -73,13 +73,13 @@ extraction_keeps_rules = λ db packet is.
 
 -- ---- raw values
 
-raw_values_are_sound : (db : Database) (packet : List ℕ) (k : ℕ) (es : List Entry) → IsDatabase db → AllByRecursion (IsEntry db) es → AllByRecursion (IsRawValue db) (map (raw_value_of db packet) (take k es))
+raw_values_are_sound : (db : Database) (packet : List ℕ) (k : ℕ) (es : List ParameterEntry) → IsDatabase db → AllByRecursion (IsEntry db) es → AllByRecursion (IsRawValue db) (map (raw_value_of db packet) (take k es))
 raw_values_are_sound db packet zero es is all = tt
 raw_values_are_sound db packet (suc k) [] is all = tt
 raw_values_are_sound db packet (suc k) (e ∷ es) is all = (entry_is_sound db packet e is all.0, raw_values_are_sound db packet k es is all.1)
 
 -- their parameters are those of the values
-same_parameters : (db : Database) (packet : List ℕ) (es : List Entry) → map (λ (v : ParameterValue). v.parameter) (map (value_of db packet) es) ≡ map (λ (v : RawValue). v.parameter) (map (raw_value_of db packet) es)
+same_parameters : (db : Database) (packet : List ℕ) (es : List ParameterEntry) → map (λ (v : ParameterValue). v.parameter) (map (value_of db packet) es) ≡ map (λ (v : RawValue). v.parameter) (map (raw_value_of db packet) es)
 same_parameters db packet [] = refl
 same_parameters db packet (e ∷ es) = ap (λ (ns : List ℕ). e.parameter ∷ ns) (same_parameters db packet es)
 
@@ -94,7 +94,7 @@ raw_extraction_keeps_rules = λ db packet is.
       few = omega (arith, path.few_entries, length-map (take k es) (raw_value_of db packet), length-take k es);
     }
 
-calibrated_each : (db : Database) (packet : List ℕ) (es : List Entry) → map (value_of db packet) es ≡ map (calibrated_value db) (map (raw_value_of db packet) es)
+calibrated_each : (db : Database) (packet : List ℕ) (es : List ParameterEntry) → map (value_of db packet) es ≡ map (calibrated_value db) (map (raw_value_of db packet) es)
 calibrated_each db packet [] = refl
 calibrated_each db packet (e ∷ es) = ap (λ (vs : List ParameterValue). value_of db packet e ∷ vs) (calibrated_each db packet es)
 

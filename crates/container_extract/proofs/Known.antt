@@ -4,7 +4,7 @@ use Rattle.std.specs.Prelude.{filter, slice_get, unwrap_or}
 use Rattle.std.specs.List.{AllByRecursion}
 use Rattle.std.proofs.lemmas.List.Elements.{All-from_recursion}
 use Rattle.mdb_items.specs.declared.container.Container.{Container}
-use Rattle.mdb_items.specs.declared.container.Entry.{Entry}
+use Rattle.mdb_items.specs.declared.container.ParameterEntry.{ParameterEntry}
 use Rattle.mdb_items.specs.Database.{Database, IsDatabase}
 use Rattle.mdb_model.proofs.Structure.{structured}
 use Rattle.container_extract.specs.Chain.{IsChain, IsChainFrom, chain_of, entries_at, has_archive}
@@ -14,7 +14,7 @@ use Rattle.container_extract.proofs.Chains.{chain_is_one, child_of}
 -- ---- chains
 
 -- what comes after a container of the database is one too
-known_from : (db : Database) (packet : List ℕ) (above : List Entry) (n : ℕ) (chain : List ℕ) → n < length db.containers → IsChainFrom db packet above (n ∷ chain) → AllByRecursion (λ k. k < length db.containers) (n ∷ chain)
+known_from : (db : Database) (packet : List ℕ) (above : List ParameterEntry) (n : ℕ) (chain : List ℕ) → n < length db.containers → IsChainFrom db packet above (n ∷ chain) → AllByRecursion (λ k. k < length db.containers) (n ∷ chain)
 known_from db packet above n [] known goes = (known, tt)
 known_from db packet above n (m ∷ chain) known goes =
     let below = above ++ entries_at db n in

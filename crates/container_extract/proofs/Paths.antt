@@ -3,7 +3,7 @@ use Rattle.std.proofs.Common.{◌≡◌, ◌∙◌, ◌+◌, ◌<◌, ◌≤◌,
 use Rattle.std.specs.Prelude.{flat_map, slice_get}
 use Rattle.std.specs.List.{AllByRecursion}
 use Rattle.mdb_items.specs.declared.container.Container.{Container}
-use Rattle.mdb_items.specs.declared.container.Entry.{Entry}
+use Rattle.mdb_items.specs.declared.container.ParameterEntry.{ParameterEntry}
 use Rattle.mdb_items.specs.Database.{Database, IsDatabase}
 use Rattle.mdb_items.specs.Paths.{ContainerPath, path_at, path_below, paths_of}
 use Rattle.mdb_items.specs.Structure.{IsBelowParent, IsEntry, IsPath}
@@ -18,25 +18,25 @@ abbrev pub path_to : Database → ℕ → ContainerPath
 path_to db n = path_at (paths_of db.containers) (Some n)
 
 -- so many containers have these entries on their path
-abbrev pub a_path : ℕ → List Entry → ContainerPath
+abbrev pub a_path : ℕ → List ParameterEntry → ContainerPath
 a_path containers entries = record { containers = containers; entries = entries }
 
 -- the last of a chain, whose path has as many containers and the chain's entries
-record IsAlong (db : Database) (containers : ℕ) (entries : List Entry) : Type 0 where
+record IsAlong (db : Database) (containers : ℕ) (entries : List ParameterEntry) : Type 0 where
   last : ℕ
   known : last < length db.containers
   path : path_to db last ≡ a_path containers entries
 
 -- the path of a child
-pub child_path : (db : Database) (n m : ℕ) (c : Container) (k : ℕ) (entries : List Entry) → IsDatabase db → slice_get db.containers m ≡ Some c → c.parent ≡ Some n → path_to db n ≡ a_path k entries
+pub child_path : (db : Database) (n m : ℕ) (c : Container) (k : ℕ) (entries : List ParameterEntry) → IsDatabase db → slice_get db.containers m ≡ Some c → c.parent ≡ Some n → path_to db n ≡ a_path k entries
     → path_to db m ≡ a_path (suc k) (entries ++ entries_at db m)
 child_path db n m c k entries is at parent up =
     let below : path_to db m ≡ path_below (path_at (paths_of db.containers) c.parent) c = ((structured db is).containers m c at).below in
     let over : path_at (paths_of db.containers) c.parent ≡ a_path k entries = ap (path_at (paths_of db.containers)) parent ∙ up in
     let own : c.entries ≡ entries_at db m = ap container_entries (sym at) in
-    below ∙ ap (λ (p : ContainerPath). path_below p c) over ∙ ap (λ (es : List Entry). a_path (suc k) (entries ++ es)) own
+    below ∙ ap (λ (p : ContainerPath). path_below p c) over ∙ ap (λ (es : List ParameterEntry). a_path (suc k) (entries ++ es)) own
 
-along : (db : Database) (packet : List ℕ) (above : List Entry) (k n : ℕ) (chain : List ℕ) → IsDatabase db → n < length db.containers → IsChainFrom db packet above (n ∷ chain) → path_to db n ≡ a_path (suc k) (above ++ entries_at db n)
+along : (db : Database) (packet : List ℕ) (above : List ParameterEntry) (k n : ℕ) (chain : List ℕ) → IsDatabase db → n < length db.containers → IsChainFrom db packet above (n ∷ chain) → path_to db n ≡ a_path (suc k) (above ++ entries_at db n)
     → IsAlong db (k + length (n ∷ chain)) (above ++ flat_map (entries_at db) (n ∷ chain))
 along db packet above k n [] is within goes here =
     let count : suc k ≡ k + 1 = omega arith in
@@ -44,7 +44,7 @@ along db packet above k n [] is within goes here =
     record {
       last = n;
       known = within;
-      path = here ∙ ap (λ (j : ℕ). a_path j (above ++ entries_at db n)) count ∙ ap (λ (es : List Entry). a_path (k + 1) (above ++ es)) own;
+      path = here ∙ ap (λ (j : ℕ). a_path j (above ++ entries_at db n)) count ∙ ap (λ (es : List ParameterEntry). a_path (k + 1) (above ++ es)) own;
     }
 along db packet above k n (m ∷ chain) is within goes here =
     let below = above ++ entries_at db n in

@@ -7,7 +7,7 @@ use Rattle.std.proofs.lemmas.List.Folds.{find_at}
 use Rattle.std.proofs.lemmas.Option.{slice_get_within}
 use Rattle.mdb_items.specs.declared.container.Comparison.{Comparison}
 use Rattle.mdb_items.specs.declared.container.Container.{Container}
-use Rattle.mdb_items.specs.declared.container.Entry.{Entry}
+use Rattle.mdb_items.specs.declared.container.ParameterEntry.{ParameterEntry}
 use Rattle.mdb_items.specs.Database.{Database}
 use Rattle.mdb_items.specs.Paths.{path_at, paths_of}
 use Rattle.mdb_lookups.specs.PlacedConditions.{path_parameters, placed_condition, placed_of, with_place}
@@ -41,15 +41,15 @@ holds_of_child db n m c values at parent same =
     if_true (nat_lt m (length cs)) (holds_by_places values (placed_condition cs m)) false (lt-ltb m (length cs) (slice_get_within cs m c at)) ∙ ap (holds_by_places values) there ∙ holds_placed values ps c.condition same
 
 -- the parameters of the raw values of entries
-pub parameters_of_raw : (db : Database) (packet : List ℕ) (es : List Entry) → parameters_of_values (map (raw_value_of db packet) es) ≡ map (λ (e : Entry). e.parameter) es
+pub parameters_of_raw : (db : Database) (packet : List ℕ) (es : List ParameterEntry) → parameters_of_values (map (raw_value_of db packet) es) ≡ map (λ (e : ParameterEntry). e.parameter) es
 parameters_of_raw db packet [] = refl
 parameters_of_raw db packet (e ∷ es) = ap (λ (ps : List ℕ). e.parameter ∷ ps) (parameters_of_raw db packet es)
 
 -- once all entries of a container are taken the values are those of its path
-pub of_path : (db : Database) (packet : List ℕ) (n : ℕ) (values more given : List RawValue) (es : List Entry) → es ≡ entries_at db n → more ≡ values ++ map (raw_value_of db packet) (take_while (fits db packet) es)
+pub of_path : (db : Database) (packet : List ℕ) (n : ℕ) (values more given : List RawValue) (es : List ParameterEntry) → es ≡ entries_at db n → more ≡ values ++ map (raw_value_of db packet) (take_while (fits db packet) es)
     → list_all (fits db packet) es ≡ true → AreAbove db n values → given ≡ more → AreOfPath db n given
 of_path db packet n values more given es same taken all above is =
     let own = entries_at db n in
-    let whole : more ≡ values ++ map (raw_value_of db packet) own = taken ∙ ap (λ (xs : List Entry). values ++ map (raw_value_of db packet) xs) (take_while_all (fits db packet) es all ∙ same) in
+    let whole : more ≡ values ++ map (raw_value_of db packet) own = taken ∙ ap (λ (xs : List ParameterEntry). values ++ map (raw_value_of db packet) xs) (take_while_all (fits db packet) es all ∙ same) in
     ap parameters_of_values (is ∙ whole) ∙ map-append (λ (v : RawValue). v.parameter) values (map (raw_value_of db packet) own)
     ∙ ap (λ (ps : List ℕ). parameters_of_values values ++ ps) (parameters_of_raw db packet own) ∙ above

@@ -7,7 +7,7 @@ use Rattle.std.proofs.lemmas.List.Elements.{All-from_recursion}
 use Rattle.std.proofs.lemmas.List.Sums.{take_while-cons}
 use Rattle.std.proofs.lemmas.Option.{slice_get_read}
 use Rattle.mdb_items.specs.declared.container.Container.{Container}
-use Rattle.mdb_items.specs.declared.container.Entry.{Entry}
+use Rattle.mdb_items.specs.declared.container.ParameterEntry.{ParameterEntry}
 use Rattle.mdb_items.specs.declared.parameter.Parameter.{Parameter}
 use Rattle.mdb_items.specs.Database.{Database, IsDatabase}
 use Rattle.mdb_items.specs.Paths.{bits_of_parameter}
@@ -27,14 +27,14 @@ pub item_is : {X : Type 0} (list xs : List X) (n : ℕ) (x : X) → list ≡ xs 
 item_is list xs n x same lt is = slice_get_read xs (length xs) n x refl lt (is ∙ ap (λ zs. get_or zs n x) same)
 
 -- an entry that fits ends inside the packet
-pub ends_inside : (db : Database) (packet : List ℕ) (e : Entry) (p : Parameter) → slice_get db.parameters e.parameter ≡ Some p → fits db packet e ≡ true → e.at + p.bits ≤ 8 * length packet
+pub ends_inside : (db : Database) (packet : List ℕ) (e : ParameterEntry) (p : Parameter) → slice_get db.parameters e.parameter ≡ Some p → fits db packet e ≡ true → e.at + p.bits ≤ 8 * length packet
 ends_inside db packet e p at is =
     let le = leb-true (e.at + bits_of_parameter (slice_get db.parameters e.parameter)) (8 * length packet) is in
     let same : bits_of_parameter (slice_get db.parameters e.parameter) ≡ p.bits = ap bits_of_parameter at in
     omega arith
 
 -- its raw value is that of the definition
-pub raw_value_is : (db : Database) (packet : List ℕ) (e : Entry) (p : Parameter) (z raw : ℤ) → slice_get db.parameters e.parameter ≡ Some p → z ≡ raw → raw ≡ raw_bits_at packet e.at p.bits p.coding
+pub raw_value_is : (db : Database) (packet : List ℕ) (e : ParameterEntry) (p : Parameter) (z raw : ℤ) → slice_get db.parameters e.parameter ≡ Some p → z ≡ raw → raw ≡ raw_bits_at packet e.at p.bits p.coding
     → (let v : RawValue = record { parameter = e.parameter; raw = z } in v) ≡ raw_value_of db packet e
 raw_value_is db packet e p z raw at plain raw_is =
     let r : raw_of db packet e ≡ raw_bits_at packet e.at p.bits p.coding = ap (λ (q : Option Parameter). raw_bits_at packet e.at (bits_of_parameter q) (coding_of q)) at in
@@ -60,26 +60,26 @@ cut_here p (x ∷ xs) (suc i) d lt all isnt =
     take_while-cons p x xs ∙ ap (λ b. cond b (x ∷ take_while p xs) []) here ∙ ap (λ zs. x ∷ zs) rest
 
 -- the entries of a container are of parameters of the database
-pub entries_known : (db : Database) (n : ℕ) (c : Container) (es : List Entry) → IsDatabase db → slice_get db.containers n ≡ Some c → es ≡ c.entries → All (λ (e : Entry). e.parameter < length db.parameters) es
+pub entries_known : (db : Database) (n : ℕ) (c : Container) (es : List ParameterEntry) → IsDatabase db → slice_get db.containers n ≡ Some c → es ≡ c.entries → All (λ (e : ParameterEntry). e.parameter < length db.parameters) es
 entries_known db n c es is at same =
     let each = All-from_recursion (IsEntry db) c.entries ((structured db is).containers n c at).entries in
-    subst (All (λ (e : Entry). e.parameter < length db.parameters)) (sym same) (λ i d lt. (each i d lt).parameter)
+    subst (All (λ (e : ParameterEntry). e.parameter < length db.parameters)) (sym same) (λ i d lt. (each i d lt).parameter)
 
-pub entries_are : (db : Database) (n : ℕ) (c : Container) (es : List Entry) → slice_get db.containers n ≡ Some c → es ≡ c.entries → es ≡ entries_at db n
+pub entries_are : (db : Database) (n : ℕ) (c : Container) (es : List ParameterEntry) → slice_get db.containers n ≡ Some c → es ≡ c.entries → es ≡ entries_at db n
 entries_are db n c es at same = same ∙ ap container_entries (sym at)
 
 -- a step where an entry passes the packet's end
-pub step_ends : (db : Database) (packet : List ℕ) (values more : List RawValue) (n : ℕ) (es : List Entry) → es ≡ entries_at db n
+pub step_ends : (db : Database) (packet : List ℕ) (values more : List RawValue) (n : ℕ) (es : List ParameterEntry) → es ≡ entries_at db n
     → more ≡ values ++ map (raw_value_of db packet) (take_while (fits db packet) es) → list_all (fits db packet) es ≡ false → IsStep db packet values n more None
 step_ends db packet values more n es same taken isnt = record {
-  values_are = taken ∙ ap (λ (xs : List Entry). values ++ map (raw_value_of db packet) (take_while (fits db packet) xs)) same;
+  values_are = taken ∙ ap (λ (xs : List ParameterEntry). values ++ map (raw_value_of db packet) (take_while (fits db packet) xs)) same;
   next_is = sym (if_false (list_all (fits db packet) (entries_at db n)) (first_child db.containers n more) None (ap (list_all (fits db packet)) (sym same) ∙ isnt));
 }
 
 -- a step where all are taken
-pub step_goes_on : (db : Database) (packet : List ℕ) (values more : List RawValue) (n : ℕ) (es : List Entry) (next : Option ℕ) → es ≡ entries_at db n
+pub step_goes_on : (db : Database) (packet : List ℕ) (values more : List RawValue) (n : ℕ) (es : List ParameterEntry) (next : Option ℕ) → es ≡ entries_at db n
     → more ≡ values ++ map (raw_value_of db packet) (take_while (fits db packet) es) → list_all (fits db packet) es ≡ true → next ≡ first_child db.containers n more → IsStep db packet values n more next
 step_goes_on db packet values more n es next same taken is next_is = record {
-  values_are = taken ∙ ap (λ (xs : List Entry). values ++ map (raw_value_of db packet) (take_while (fits db packet) xs)) same;
+  values_are = taken ∙ ap (λ (xs : List ParameterEntry). values ++ map (raw_value_of db packet) (take_while (fits db packet) xs)) same;
   next_is = next_is ∙ sym (if_true (list_all (fits db packet) (entries_at db n)) (first_child db.containers n more) None (ap (list_all (fits db packet)) (sym same) ∙ is));
 }

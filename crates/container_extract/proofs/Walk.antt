@@ -7,7 +7,7 @@ use Rattle.std.proofs.lemmas.Grind.{flat_map-append}
 use Rattle.std.proofs.lemmas.List.{append-nil, map-append}
 use Rattle.std.proofs.lemmas.List.Folds.{list_all-append}
 use Rattle.std.proofs.lemmas.List.Sums.{take_while-cons}
-use Rattle.mdb_items.specs.declared.container.Entry.{Entry}
+use Rattle.mdb_items.specs.declared.container.ParameterEntry.{ParameterEntry}
 use Rattle.mdb_items.specs.Database.{Database, IsDatabase}
 use Rattle.mdb_model.proofs.Structure.{structured}
 use Rattle.container_extract.specs.declared.values.RawValue.{RawValue}
@@ -32,7 +32,7 @@ take_while_all p xs all = ap (take_while p) (sym (append-nil xs)) ∙ take_while
 
 -- the entries of a chain with one more container
 entries_more : (db : Database) (chain : List ℕ) (n : ℕ) → flat_map (entries_at db) (chain ++ n ∷ []) ≡ flat_map (entries_at db) chain ++ entries_at db n
-entries_more db chain n = flat_map-append (entries_at db) chain (n ∷ []) ∙ ap (λ (es : List Entry). flat_map (entries_at db) chain ++ es) (append-nil (entries_at db n))
+entries_more db chain n = flat_map-append (entries_at db) chain (n ∷ []) ∙ ap (λ (es : List ParameterEntry). flat_map (entries_at db) chain ++ es) (append-nil (entries_at db n))
 
 -- whatever goes on from a container makes a chain with the ones above it, whose entries are all taken, and stand on its path before
 -- its own
@@ -50,7 +50,7 @@ walk_begins db packet is = record { goes = λ rest h. (refl, h); fit = refl; tak
 values_more : (db : Database) (packet : List ℕ) (chain : List ℕ) (values more : List RawValue) (n : ℕ) (next : Option ℕ) → IsWalk db packet chain values n → IsStep db packet values n more next
     → list_all (fits db packet) (entries_at db n) ≡ true → more ≡ map (raw_value_of db packet) (flat_map (entries_at db) chain ++ entries_at db n)
 values_more db packet chain values more n next w s all =
-    s.values_are ∙ ap (λ (es : List Entry). values ++ map (raw_value_of db packet) es) (take_while_all (fits db packet) (entries_at db n) all)
+    s.values_are ∙ ap (λ (es : List ParameterEntry). values ++ map (raw_value_of db packet) es) (take_while_all (fits db packet) (entries_at db n) all)
     ∙ ap (λ (vs : List RawValue). vs ++ map (raw_value_of db packet) (entries_at db n)) w.taken
     ∙ sym (map-append (raw_value_of db packet) (flat_map (entries_at db) chain) (entries_at db n))
 
@@ -91,13 +91,13 @@ walk_goes_on db packet chain values more n m is w s =
     let under = child_path db n m child.0 (length chain + 1) (above ++ entries_at db n) is child.1 child.3 w.path in
     let longer : suc (length chain + 1) ≡ length (chain ++ n ∷ []) + 1 = omega (arith, length-append chain (n ∷ [])) in
     let goes : (rest : List ℕ) → IsChainFrom db packet (flat_map (entries_at db) (chain ++ n ∷ [])) (m ∷ rest) → IsChain db packet ((chain ++ n ∷ []) ++ m ∷ rest) =
-    λ rest h. subst (IsChain db packet) (sym (append_assoc chain (n ∷ []) (m ∷ rest))) (w.goes (m ∷ rest) (next, subst (λ (xs : List Entry). IsChainFrom db packet xs (m ∷ rest)) es h)) in (
+    λ rest h. subst (IsChain db packet) (sym (append_assoc chain (n ∷ []) (m ∷ rest))) (w.goes (m ∷ rest) (next, subst (λ (xs : List ParameterEntry). IsChainFrom db packet xs (m ∷ rest)) es h)) in (
       record {
         goes = goes;
         fit = ap (list_all (fits db packet)) es ∙ list_all-append (fits db packet) above (entries_at db n) ∙ ap (λ b. b && list_all (fits db packet) (entries_at db n)) w.fit ∙ all;
         taken = values_more db packet chain values more n (Some m) w s all ∙ ap (map (raw_value_of db packet)) (sym es);
         known = below.1;
-        path = under ∙ ap (λ (k : ℕ). a_path k ((above ++ entries_at db n) ++ entries_at db m)) longer ∙ ap (λ (xs : List Entry). a_path (length (chain ++ n ∷ []) + 1) (xs ++ entries_at db m)) (sym es);
+        path = under ∙ ap (λ (k : ℕ). a_path k ((above ++ entries_at db n) ++ entries_at db m)) longer ∙ ap (λ (xs : List ParameterEntry). a_path (length (chain ++ n ∷ []) + 1) (xs ++ entries_at db m)) (sym es);
       },
       below.0,
     )

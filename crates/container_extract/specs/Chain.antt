@@ -2,19 +2,19 @@
 use Rattle.std.specs.Prelude.{◌≡◌, ℕ, zero, suc, ◌==◌, ◌&&◌, Bool, false, List, [], ◌∷◌, ◌++◌, length, map, slice_get, Option, Some, None, unwrap_or, if◌then◌else◌}
 use Rattle.std.specs.List.{list_all, filter, position}
 use Rattle.mdb_items.specs.declared.container.Container.{Container}
-use Rattle.mdb_items.specs.declared.container.Entry.{Entry}
+use Rattle.mdb_items.specs.declared.container.ParameterEntry.{ParameterEntry}
 use Rattle.mdb_items.specs.Database.{Database}
 use Rattle.mdb_items.specs.Lists.{last_of}
 use Rattle.container_extract.specs.declared.values.RawValue.{RawValue}
 use Rattle.container_extract.specs.Values.{fits, holds, raw_value_of}
 
 -- the entries of a container, or none
-abbrev pub container_entries : Option Container → List Entry
+abbrev pub container_entries : Option Container → List ParameterEntry
 container_entries None = []
 container_entries (Some c) = c.entries
 
 -- the entries of the container with a number
-abbrev pub entries_at : Database → ℕ → List Entry
+abbrev pub entries_at : Database → ℕ → List ParameterEntry
 entries_at db n = container_entries (slice_get db.containers n)
 
 -- the number is there, and is this one
@@ -32,11 +32,11 @@ first_child containers n values = position (is_taken n values) containers
 
 -- what comes after a container: nothing where one of its entries passes the packet's end, else its first child whose condition holds of
 -- the raw values of the entries so far
-abbrev pub next_of : Database → List ℕ → List Entry → ℕ → Option ℕ
+abbrev pub next_of : Database → List ℕ → List ParameterEntry → ℕ → Option ℕ
 next_of db packet entries n = if list_all (fits db packet) (entries_at db n) then first_child db.containers n (map (raw_value_of db packet) entries) else None
 
 -- containers each of which comes after the one before it, below entries further up, and after the last of which nothing comes
-abbrev pub IsChainFrom : Database → List ℕ → List Entry → List ℕ → Type 0
+abbrev pub IsChainFrom : Database → List ℕ → List ParameterEntry → List ℕ → Type 0
 IsChainFrom db packet above [] = ⊥
 IsChainFrom db packet above (n ∷ []) = next_of db packet (above ++ entries_at db n) n ≡ None
 IsChainFrom db packet above (n ∷ m ∷ chain) = (next_of db packet (above ++ entries_at db n) n ≡ Some m) × IsChainFrom db packet (above ++ entries_at db n) (m ∷ chain)
@@ -52,7 +52,7 @@ if_some f None = []
 if_some f (Some n) = f n
 
 -- a container and what comes after it, at most so many containers
-abbrev pub chain_from : Database → List ℕ → ℕ → List Entry → ℕ → List ℕ
+abbrev pub chain_from : Database → List ℕ → ℕ → List ParameterEntry → ℕ → List ℕ
 chain_from db packet zero above n = []
 chain_from db packet (suc most) above n =
     n ∷ if_some (chain_from db packet most (above ++ entries_at db n)) (next_of db packet (above ++ entries_at db n) n)

@@ -4,7 +4,7 @@ use Rattle.std.specs.List.{find, list_all}
 use Rattle.std.specs.Ordering.{int_eq}
 use Rattle.arch_types.specs.declared.cell.Eng.{Eng}
 use Rattle.mdb_items.specs.declared.container.Comparison.{Comparison}
-use Rattle.mdb_items.specs.declared.container.Entry.{Entry}
+use Rattle.mdb_items.specs.declared.container.ParameterEntry.{ParameterEntry}
 use Rattle.mdb_items.specs.declared.container.Operator.{Operator}
 use Rattle.mdb_items.specs.declared.container.Operator.TheVariants.{Equal, NotEqual, Less, LessOrEqual, Greater, GreaterOrEqual}
 use Rattle.mdb_items.specs.declared.parameter.Coding.{Coding}
@@ -20,7 +20,7 @@ use Rattle.container_extract.specs.declared.values.RawValue.{RawValue}
 use Rattle.container_extract.specs.Bits.{raw_bits_at}
 
 -- an entry lies inside the packet: it doesn't pass the packet's end
-abbrev pub fits : Database → List ℕ → Entry → Bool
+abbrev pub fits : Database → List ℕ → ParameterEntry → Bool
 fits db packet e = nat_le (e.at + bits_of_parameter (slice_get db.parameters e.parameter)) (8 * length packet)
 
 -- the coding of a parameter
@@ -29,12 +29,12 @@ coding_of None = Uint
 coding_of (Some p) = p.coding
 
 -- the raw number of an entry's field
-abbrev pub raw_of : Database → List ℕ → Entry → ℤ
+abbrev pub raw_of : Database → List ℕ → ParameterEntry → ℤ
 raw_of db packet e =
     let p = slice_get db.parameters e.parameter in raw_bits_at packet e.at (bits_of_parameter p) (coding_of p)
 
 -- the raw value of an entry: its parameter and the raw number
-abbrev pub raw_value_of : Database → List ℕ → Entry → RawValue
+abbrev pub raw_value_of : Database → List ℕ → ParameterEntry → RawValue
 raw_value_of db packet e = record { parameter = e.parameter; raw = raw_of db packet e }
 
 -- the engineering value of a raw one, by its parameter's calibration
@@ -46,7 +46,7 @@ abbrev pub calibrated_value : Database → RawValue → ParameterValue
 calibrated_value db v = record { parameter = v.parameter; raw = v.raw; eng = eng_of db v }
 
 -- the value of an entry: its parameter, the raw number and the engineering value
-abbrev pub value_of : Database → List ℕ → Entry → ParameterValue
+abbrev pub value_of : Database → List ℕ → ParameterEntry → ParameterValue
 value_of db packet e = record {
   parameter = e.parameter;
   raw = raw_of db packet e;

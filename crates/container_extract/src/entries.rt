@@ -6,10 +6,10 @@ ghost use Rattle.container_extract.specs.Values.{fits, raw_value_of};
 
 use crate::fields::bits;
 use crate::values::RawValue;
-use mdb_model::{Entry, Mdb};
+use mdb_model::{Mdb, ParameterEntry};
 
 /// The entry doesn't pass the packet's end.
-fn fits(mdb: &Mdb, packet: &[u8], entry: Entry) -> bool
+fn fits(mdb: &Mdb, packet: &[u8], entry: ParameterEntry) -> bool
     requires { entry.parameter < length mdb.now.parameters }
     ensures { result ≡ fits mdb.now packet.now entry }
 {
@@ -19,7 +19,7 @@ fn fits(mdb: &Mdb, packet: &[u8], entry: Entry) -> bool
 }
 
 /// The raw value of an entry inside the packet.
-fn raw_value_of(mdb: &Mdb, packet: &[u8], entry: Entry) -> RawValue
+fn raw_value_of(mdb: &Mdb, packet: &[u8], entry: ParameterEntry) -> RawValue
     requires known { entry.parameter < length mdb.now.parameters }
     requires inside { fits mdb.now packet.now entry ≡ true }
     ensures { result ≡ raw_value_of mdb.now packet.now entry }
@@ -35,7 +35,7 @@ fn raw_value_of(mdb: &Mdb, packet: &[u8], entry: Entry) -> RawValue
 pub(crate) fn take_entries(
     mdb: &Mdb,
     packet: &[u8],
-    entries: &[Entry],
+    entries: &[ParameterEntry],
     values: &mut Vec<RawValue>,
 ) -> bool
     requires known { All (λ e. e.parameter < length mdb.now.parameters) entries.now }

@@ -109,6 +109,13 @@ module _ {D : Type 0} (device : Device D) where
   pub left_now : (journal : Journal) (disk : D) → IsTrue device.is_transparent → IsOnDisk device journal disk → (c : Image) → device.images disk c → HasRecords (c (file_of journal)) (records_of device journal disk) ⊎ HasRecords (c (file_of journal)) (records_of device journal disk ++ unhealed_records_of device journal disk)
   left_now journal disk transparent k c left = either_state journal.pending_fault journal.file (records_of device journal disk) (next_body_of device journal disk) disk (has_records journal disk transparent k).state c left
 
+  -- the records alone where no gate may have been written
+  pub left_alone : (journal : Journal) (disk : D) {t : PendingFault} → IsTrue device.is_transparent → IsOnDisk device journal disk → journal.pending_fault ≡ t → if_gate_written t (next_body_of device journal disk) ≡ [] → (c : Image) → device.images disk c → HasRecords (c (file_of journal)) (records_of device journal disk)
+  left_alone journal disk transparent k is none c left =
+      let more = ap (λ (t : PendingFault). if_gate_written t (next_body_of device journal disk)) is ∙ none in
+      let alone = ap (λ (l : List (List ℕ)). records_of device journal disk ++ l) more ∙ append-nil (records_of device journal disk) in
+      ⊎_elim (λ has. has) (λ has. subst (HasRecords (c (file_of journal))) alone has) (left_now journal disk transparent k c left)
+
   -- also while the gate is written again
   pub left_staged : (journal : Journal) (disk : D) (faults : ℕ) (content : List ℕ) → journal.pending_fault ≡ GateWritten faults → HasStaged content (records_of device journal disk) (next_body_of device journal disk) → HasRecords content (records_of device journal disk) ⊎ HasRecords content (records_of device journal disk ++ unhealed_records_of device journal disk)
   left_staged journal disk faults content is staged =

@@ -102,7 +102,7 @@ impl Opening {
         Ok(())
     }
 
-    /// The body of the next record, mostly a part of the piece that was read; None at the closed gate that ends them.
+    /// The body of the next record, mostly a slice of the piece that was read; None at the closed gate that ends them.
     pub fn next<D: Disk>(
         &mut self,
         alloc: Global,

@@ -56,7 +56,7 @@ impl PieceReader {
         }
     }
 
-    // This many octets of the piece, as a part of it; None where it doesn't hold them all.
+    // This many octets of the piece, as a slice of it; None where it doesn't hold them all.
     fn part_held(&self, at: u64, size: usize) -> Result<Option<Octets>, AllocError>
         ensures some { IfOk result (λ part. IfSome part (λ octets. (octets ≡ take size (held_from self.now at)) ×
             (size ≤ length (held_from self.now at)))) }
@@ -68,7 +68,7 @@ impl PieceReader {
                 if size > piece.len() - from {
                     return Ok(None);
                 }
-                Ok(Some(piece.part(from, from + size)?))
+                Ok(Some(piece.slice(from, from + size)?))
             }
             _ => Ok(None),
         }
@@ -136,7 +136,7 @@ impl PieceReader {
         Ok(number_of(&self.held(at)[..4]))
     }
 
-    /// A run of octets: a part of the piece that holds it, or what the piece holds of it and the rest straight from the
+    /// A run of octets: a slice of the piece that holds it, or what the piece holds of it and the rest straight from the
     /// disk, which a next piece need not hold.
     pub fn octets<D: Disk>(
         &self,

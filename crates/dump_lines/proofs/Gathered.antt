@@ -7,8 +7,8 @@ use Rattle.arch_types.specs.declared.row.Row.{Row}
 use Rattle.arch_types.specs.Packet.{is_idle}
 use Rattle.arch_types.specs.Arrivals.{row_of, kept}
 use Rattle.arch_types.specs.History.{with_row, firsts, is_duplicate_of, has_key}
-use Rattle.arch_types.proofs.Parts.{part_length}
-use Rattle.space_packet.specs.Cut.{IsPart}
+use Rattle.arch_types.proofs.Slices.{slice_length}
+use Rattle.space_packet.specs.Cut.{IsPacketRange}
 use Rattle.space_packet.proofs.Cuts.{cut_more}
 use Rattle.yarch_table.specs.declared.table.Stored.{Stored}
 use Rattle.yarch_table.specs.Stored.{rows_of}
@@ -114,22 +114,22 @@ gathered_more packets moment p old new counts Idle g a = gathered_idle packets m
 gathered_more packets moment p old new counts New g a = gathered_new packets moment p old new counts g a
 gathered_more packets moment p old new counts Duplicate g a = gathered_duplicate packets moment p old new counts g a
 
-part_rises : (dump : List ℕ) (start end : ℕ) → IsPart dump start end → start < end
-part_rises dump start end part =
-    let header = part.packet.header in
-    let len = part_length dump start end part.rising part.within in
+range_rises : (dump : List ℕ) (start end : ℕ) → IsPacketRange dump start end → start < end
+range_rises dump start end range =
+    let header = range.packet.header in
+    let len = slice_length dump start end range.rising range.within in
     omega (arith, len, header)
 
 -- one packet more
 pub loading_more : (dump : List ℕ) (moment : ℤ) (start end : ℕ) (old new : List Stored) (counts : Counts) (added : PacketOutcome) →
-    IsDumpTableTo dump moment start old counts → IsPart dump start end → IsPacketAdded old new moment (slice_range dump start end) added →
+    IsDumpTableTo dump moment start old counts → IsPacketRange dump start end → IsPacketAdded old new moment (slice_range dump start end) added →
     IsDumpTableTo dump moment end new (counts_with counts added)
-loading_more dump moment start end old new counts added l part a =
+loading_more dump moment start end old new counts added l range a =
     let few = l.few in
-    let up = part_rises dump start end part in
+    let up = range_rises dump start end range in
     record {
       packets = l.packets ++ slice_range dump start end ∷ [];
-      cut = cut_more dump l.packets start end l.cut part;
+      cut = cut_more dump l.packets start end l.cut range;
       few = rw (length-append l.packets (slice_range dump start end ∷ [])) (omega arith);
       gathered = gathered_more l.packets moment (slice_range dump start end) old new counts added l.gathered a;
     }

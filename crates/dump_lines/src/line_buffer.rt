@@ -2,7 +2,7 @@
 
 ghost use Rattle.std.specs.Prelude.{◌≡◌, ◌+◌, ◌<◌, ◌≤◌, [], ◌∷◌, ◌++◌, length, IfOk, OnOk, OnErr, IsErr, codes, decimal};
 ghost use Rattle.outer_traits.specs.Outside.{HasRisen, Stays, WritesSome};
-ghost use Rattle.dump_lines.specs.LineRoom.{HasLineRoom, HasRoomFor, longest_number};
+ghost use Rattle.dump_lines.specs.LineRoom.{HasLineRoom, HasRoomFor, half_line, longest_number};
 ghost use Rattle.dump_lines.specs.Output.{Appends, IsBuffered};
 ghost use Rattle.dump_lines.specs.Text.{row_line, counts_line};
 
@@ -119,7 +119,7 @@ impl LineBuffer {
         requires { HasLineRoom self.old }
         ensures text { self.new ≡ self.old ++ codes "scan packets " ++ decimal packets ++ codes " rows " ++ decimal
             rows }
-        ensures half { HasRoomFor 256 self.new }
+        ensures half { HasRoomFor half_line self.new }
     {
         self.put_number(b"scan packets ", packets);
         self.put_number(b" rows ", rows);
@@ -127,7 +127,7 @@ impl LineBuffer {
 
     /// Adds the second half of the last line.
     fn put_left_out(&mut self, duplicates: u64, idle: u64)
-        requires { HasRoomFor 256 self.old }
+        requires { HasRoomFor half_line self.old }
         ensures { self.new ≡ self.old ++ codes " duplicates " ++ decimal duplicates ++ codes " idle " ++ decimal idle
             ++ codes "\n" }
     {

@@ -3,14 +3,14 @@
 ghost use Rattle.std.specs.Prelude.{◌≡◌, ◌<◌, ◌^◌, length, IfOk, OnOk, slice_range};
 ghost use Rattle.std.specs.List.{AllByRecursion};
 ghost use Rattle.arch_types.specs.Packet.{IsPacket};
-ghost use Rattle.space_packet.specs.Cut.{IsPart};
+ghost use Rattle.space_packet.specs.Cut.{IsPacketRange};
 ghost use Rattle.dump_lines.specs.DumpTable.{scanned_row, IsVisible, IsPacketAdded, IsDumpTable};
 
 use crate::counts::{Counts, PacketOutcome};
 use arch_types::inserted::Inserted;
 use arch_types::octets::Octets;
 use arch_types::row::Row;
-use space_packet::dump::{DumpPackets, Part, Why};
+use space_packet::dump::{DumpPackets, PacketRange, Why};
 use space_packet::header::is_idle_packet;
 use space_packet::key::key_of;
 use std::alloc::{AllocError, Global};
@@ -38,9 +38,9 @@ pub fn table_of_dump(alloc: Global, dump: &Octets, moment: i64) -> Result<DumpTa
     let mut table = Table::new(alloc)?;
     let mut counts = Counts::default();
     let mut places = DumpPackets::new(dump.as_slice());
-    while let Some(part) = places.next_packet() {
+    while let Some(range) = places.next_packet() {
         make_room(&mut table)?;
-        let added = add_packet(&mut table, dump, part, moment, counts.rows)?;
+        let added = add_packet(&mut table, dump, range, moment, counts.rows)?;
         counts.add(added);
     }
     Ok(DumpTable {
@@ -66,18 +66,18 @@ fn make_room(table: &mut Table) -> Result<(), AllocError>
 fn add_packet(
     table: &mut Table,
     dump: &Octets,
-    part: Part,
+    range: PacketRange,
     moment: i64,
     position: u64,
 ) -> Result<PacketOutcome, AllocError>
     requires position { position < 2 ^ 32 }
     requires shown { AllByRecursion IsVisible table.old.stored }
-    requires part { IsPart dump.now part.start part.end }
+    requires range { IsPacketRange dump.now range.start range.end }
     requires room { 0 < table.old.room }
-    ensures added { IfOk result (IsPacketAdded table.old.stored table.new.stored moment (slice_range dump.now part.start
-        part.end)) }
+    ensures added { IfOk result (IsPacketAdded table.old.stored table.new.stored moment (slice_range dump.now range.start
+        range.end)) }
 {
-    let packet = dump.part(part.start, part.end)?;
+    let packet = dump.slice(range.start, range.end)?;
     if is_idle_packet(packet.as_slice()) {
         return Ok(PacketOutcome::Idle);
     }

@@ -8,14 +8,14 @@ use Rattle.mdb_items.specs.declared.calibration.Calibration.{Calibration}
 use Rattle.mdb_items.specs.declared.calibration.EnumRow.{EnumRow}
 use Rattle.mdb_items.specs.declared.calibration.PointsRow.{PointsRow}
 use Rattle.mdb_items.specs.declared.calibration.PolyRow.{PolyRow}
-use Rattle.mdb_items.specs.declared.calibration.Table.{Table}
-use Rattle.mdb_items.specs.declared.calibration.Table.TheVariants.{Poly, Points, Enum}
+use Rattle.mdb_items.specs.declared.calibration.Calibrator.{Calibrator}
+use Rattle.mdb_items.specs.declared.calibration.Calibrator.TheVariants.{Poly, Points, Enum}
 use Rattle.mdb_items.specs.declared.container.Comparison.{Comparison}
 use Rattle.mdb_items.specs.declared.container.Container.{Container}
-use Rattle.mdb_items.specs.declared.container.Entry.{Entry}
+use Rattle.mdb_items.specs.declared.container.ParameterEntry.{ParameterEntry}
 use Rattle.mdb_items.specs.declared.parameter.Parameter.{Parameter}
-use Rattle.mdb_items.specs.Database.{Database, IsDatabase, entry_count, row_count, table_len}
-use Rattle.mdb_octets.specs.Spelling.{FitsCalibration, FitsContainer, FitsDatabase, FitsEnum, FitsParameter, FitsTable, archive_code, calibration_octets, coding_code, comparison_octets, container_octets, database_octets, container_entry_octets, enum_octets, kind_code, link, operator_code, parameter_octets, points_octets, poly_octets, table_rows_octets}
+use Rattle.mdb_items.specs.Database.{Database, IsDatabase, entry_count, row_count, calibrator_len}
+use Rattle.mdb_octets.specs.Spelling.{FitsCalibration, FitsContainer, FitsDatabase, FitsEnum, FitsParameter, FitsCalibrator, archive_code, calibration_octets, coding_code, comparison_octets, container_octets, database_octets, container_entry_octets, enum_octets, kind_code, link, operator_code, parameter_octets, points_octets, poly_octets, calibrator_rows_octets}
 use Rattle.mdb_items.specs.Structure.{IsStructured}
 use Rattle.mdb_model.proofs.DatabaseOctets.{database_fits}
 use Rattle.mdb_model.proofs.Structure.{structured}
@@ -46,16 +46,16 @@ always : {X : Type 0} (xs : List X) → AllByRecursion (λ x. Unit {0}) xs
 always [] = tt
 always (x ∷ xs) = (tt, always xs)
 
-table_size : (t : Table) → FitsTable t → length (table_rows_octets t) ≤ 4 + 272 * table_len t
-table_size (Poly rows) fits = omega (arith, counted_32 poly_octets rows, each_most poly_octets 272 (λ r. Unit {0}) (λ r u. poly_size r) rows (always rows))
-table_size (Points rows) fits = omega (arith, counted_32 points_octets rows, each_most points_octets 272 (λ r. Unit {0}) (λ r u. points_size r) rows (always rows))
-table_size (Enum rows) fits = omega (arith, counted_32 enum_octets rows, each_most enum_octets 272 FitsEnum enum_size rows fits.1)
+calibrator_size : (t : Calibrator) → FitsCalibrator t → length (calibrator_rows_octets t) ≤ 4 + 272 * calibrator_len t
+calibrator_size (Poly rows) fits = omega (arith, counted_32 poly_octets rows, each_most poly_octets 272 (λ r. Unit {0}) (λ r u. poly_size r) rows (always rows))
+calibrator_size (Points rows) fits = omega (arith, counted_32 points_octets rows, each_most points_octets 272 (λ r. Unit {0}) (λ r u. points_size r) rows (always rows))
+calibrator_size (Enum rows) fits = omega (arith, counted_32 enum_octets rows, each_most enum_octets 272 FitsEnum enum_size rows fits.1)
 
 calibration_size : (c : Calibration) → FitsCalibration c → length (calibration_octets c) ≤ 261 + 272 * row_count c
 unfolding calibration_octets name number
 calibration_size c fits =
     let short = fits.name in
-    omega (arith, short, length-append c.name (number w8 (kind_code c.table) ++ table_rows_octets c.table), table_size c.table fits.table)
+    omega (arith, short, length-append c.name (number w8 (kind_code c.calibrator) ++ calibrator_rows_octets c.calibrator), calibrator_size c.calibrator fits.calibrator)
 
 -- ---- containers
 
@@ -63,7 +63,7 @@ comparison_size : (c : Comparison) → length (comparison_octets c) ≤ 19
 unfolding comparison_octets number signed
 comparison_size c = omega arith
 
-entry_size : (e : Entry) → length (container_entry_octets e) ≤ 6
+entry_size : (e : ParameterEntry) → length (container_entry_octets e) ≤ 6
 unfolding container_entry_octets number
 entry_size e = omega arith
 

@@ -8,7 +8,7 @@ use Rattle.mdb_octets.specs.Spelling.{database_octets}
 use Rattle.mdb_model.proofs.DatabaseOctets.{database_fits}
 use Rattle.mdb_octets.proofs.ItemOctets.{database_exact}
 use Rattle.octet_fields.specs.declared.fault.DecodeError.{DecodeError}
-use Rattle.octet_fields.specs.declared.fault.DecodeError.TheVariants as fields
+use Rattle.octet_fields.specs.declared.fault.DecodeError.TheVariants as errors
 use Rattle.octet_fields.specs.Answers.{Fails}
 use Rattle.octet_fields.specs.Exact.{IsOctets, IsExact}
 use Rattle.octet_fields.specs.Reading.{Reader, number_at, whole}
@@ -17,10 +17,7 @@ use Rattle.octet_fields.proofs.Exact.{one_form, some_is, whole_again}
 use Rattle.octet_fields.proofs.Numbers.{exact8}
 use Rattle.field_codec.specs.declared.entry.Entry.{Entry}
 use Rattle.field_codec.specs.declared.entry.Entry.TheVariants.{Head, Rows, Fill}
-use Rattle.field_codec.specs.declared.fault.NotAnEntry.{NotAnEntry}
-use Rattle.field_codec.specs.declared.fault.NotAnEntry.TheVariants.{OutOfMemory}
 use Rattle.field_codec.specs.Entries.{AreStored, AreTables, FillFields, IsArchiveEntry, IsFill}
-use Rattle.field_codec.specs.Faults.{fault_of}
 use Rattle.field_codec.specs.Reading.{IsHead, fill_at, head_of, opening_at}
 use Rattle.field_codec.specs.Spelling.{body_octets, entry_octets, head_octets, fill_fields_octets, kind_of, opening_octets, rows_octets}
 use Rattle.field_codec.proofs.FillSpelling.{fill_exact}
@@ -82,9 +79,9 @@ opening_read octets tables rest a e fits is =
     let p = some_is (tables, rest) (a.0, database_octets a.1) same in
     (ap (λ q. q.0) p, ap (λ q. q.1) p)
 
-pub opening_memory : (octets : List ℕ) (e : DecodeError) (a : List (List ℕ) × Database) → Fails e (opening_at octets) → IsHead a → octets ≡ head_of a → e ≡ fields.Memory
-opening_memory octets fields.Memory a f fits is = refl
-opening_memory octets fields.Malformed a f fits is = absurd (cc (sym f ∙ ap opening_at is ∙ opening_exact.again a.0 (database_octets a.1) tt fits.0))
+pub opening_memory : (octets : List ℕ) (e : DecodeError) (a : List (List ℕ) × Database) → Fails e (opening_at octets) → IsHead a → octets ≡ head_of a → e ≡ errors.OutOfMemory
+opening_memory octets errors.OutOfMemory a f fits is = refl
+opening_memory octets errors.Malformed a f fits is = absurd (cc (sym f ∙ ap opening_at is ∙ opening_exact.again a.0 (database_octets a.1) tt fits.0))
 
 pub head_whole : (octets : List ℕ) (tables : List (List ℕ)) (rest : List ℕ) (mdb : Database) → IsOctets octets → opening_at octets ≡ Some (tables, rest) → IsDatabase mdb × (rest ≡ database_octets mdb) → IsHead (tables, mdb) × (octets ≡ head_octets tables mdb)
 head_whole octets tables rest mdb are e h =
@@ -125,17 +122,17 @@ rows_read rest rows (Head tables mdb) each fits kind is = absurd (omega (arith, 
 rows_read rest rows (Fill i base set) each fits kind is = absurd (omega (arith, kind))
 rows_read rest rows (Rows r) each fits kind is = ap Rows (each r fits is)
 
-pub rows_memory : (rest : List ℕ) (f : DecodeError) (a : Entry) → ((r : List Row) → AreStored r → rest ≡ rows_octets r → f ≡ fields.Memory) → IsArchiveEntry a → 2 ≡ kind_of a → rest ≡ body_octets a → fault_of f ≡ OutOfMemory
+pub rows_memory : (rest : List ℕ) (f : DecodeError) (a : Entry) → ((r : List Row) → AreStored r → rest ≡ rows_octets r → f ≡ errors.OutOfMemory) → IsArchiveEntry a → 2 ≡ kind_of a → rest ≡ body_octets a → f ≡ errors.OutOfMemory
 rows_memory rest f (Head tables mdb) each fits kind is = absurd (omega (arith, kind))
 rows_memory rest f (Fill i base set) each fits kind is = absurd (omega (arith, kind))
-rows_memory rest f (Rows r) each fits kind is = ap fault_of (each r fits is)
+rows_memory rest f (Rows r) each fits kind is = each r fits is
 
 pub head_read : (rest : List ℕ) (tables : List (List ℕ)) (mdb : Database) (a : Entry) → ((h : List (List ℕ) × Database) → IsHead h → rest ≡ head_of h → (tables, mdb) ≡ h) → IsArchiveEntry a → 1 ≡ kind_of a → rest ≡ body_octets a → Head tables mdb ≡ a
 head_read rest tables mdb (Head t d) each fits kind is = ap (λ (h : List (List ℕ) × Database). Head h.0 h.1) (each (t, d) fits is)
 head_read rest tables mdb (Fill i base set) each fits kind is = absurd (omega (arith, kind))
 head_read rest tables mdb (Rows r) each fits kind is = absurd (omega (arith, kind))
 
-pub head_memory : (rest : List ℕ) (f : NotAnEntry) (a : Entry) → ((h : List (List ℕ) × Database) → IsHead h → rest ≡ head_of h → f ≡ OutOfMemory) → IsArchiveEntry a → 1 ≡ kind_of a → rest ≡ body_octets a → f ≡ OutOfMemory
+pub head_memory : (rest : List ℕ) (f : DecodeError) (a : Entry) → ((h : List (List ℕ) × Database) → IsHead h → rest ≡ head_of h → f ≡ errors.OutOfMemory) → IsArchiveEntry a → 1 ≡ kind_of a → rest ≡ body_octets a → f ≡ errors.OutOfMemory
 head_memory rest f (Head t d) each fits kind is = each (t, d) fits is
 head_memory rest f (Fill i base set) each fits kind is = absurd (omega (arith, kind))
 head_memory rest f (Rows r) each fits kind is = absurd (omega (arith, kind))
@@ -149,7 +146,7 @@ fill_read rest f (Head tables mdb) each fits kind is = absurd (omega (arith, kin
 fill_read rest f (Rows r) each fits kind is = absurd (omega (arith, kind))
 fill_read rest f (Fill i base set) each fits kind is = ap entry_of_fields (each (i.0, (base, set)) fits is)
 
-pub fill_memory : (rest : List ℕ) (f : DecodeError) (a : Entry) → ((g : FillFields) → IsFill g → rest ≡ fill_fields_octets g → f ≡ fields.Memory) → IsArchiveEntry a → 3 ≡ kind_of a → rest ≡ body_octets a → fault_of f ≡ OutOfMemory
+pub fill_memory : (rest : List ℕ) (f : DecodeError) (a : Entry) → ((g : FillFields) → IsFill g → rest ≡ fill_fields_octets g → f ≡ errors.OutOfMemory) → IsArchiveEntry a → 3 ≡ kind_of a → rest ≡ body_octets a → f ≡ errors.OutOfMemory
 fill_memory rest f (Head tables mdb) each fits kind is = absurd (omega (arith, kind))
 fill_memory rest f (Rows r) each fits kind is = absurd (omega (arith, kind))
-fill_memory rest f (Fill i base set) each fits kind is = ap fault_of (each (i.0, (base, set)) fits is)
+fill_memory rest f (Fill i base set) each fits kind is = each (i.0, (base, set)) fits is

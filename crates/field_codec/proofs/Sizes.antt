@@ -48,12 +48,12 @@ name_size text = omega arith
 pub name_most : (text : List ℕ) → is_name text ≡ true → length text ≤ 64
 name_most text is = grind arith
 
-table_size : (text : List ℕ) → is_name text ≡ true → length (name text) ≤ 65
-table_size text is = omega (arith, name_size text, name_most text is)
+calibrator_size : (text : List ℕ) → is_name text ≡ true → length (name text) ≤ 65
+calibrator_size text is = omega (arith, name_size text, name_most text is)
 
 opening_short : (tables : List (List ℕ)) → AreTables tables → length (opening_octets tables) ≤ 1043
 unfolding opening_octets number
-opening_short tables are = let few = are.few in omega (arith, few, counted_8 name tables, each_most name 65 (λ t. is_name t ≡ true) table_size tables are.names)
+opening_short tables are = let few = are.few in omega (arith, few, counted_8 name tables, each_most name 65 (λ t. is_name t ≡ true) calibrator_size tables are.names)
 
 -- ---- entries
 

@@ -12,7 +12,7 @@ use Rattle.octet_fields.specs.Reading.{Reader, both_at, counted_at, mapped_at, n
 use Rattle.field_codec.specs.declared.rows.Fields.{Fields as StoredFields}
 use Rattle.mdb_items.specs.Database.{Database, IsDatabase}
 use Rattle.field_codec.specs.Entries.{tm, AreTables, FillFields}
-use Rattle.field_codec.specs.Spelling.{head_octets}
+use Rattle.field_codec.specs.Spelling.{format_1_exponent, head_octets}
 
 -- ---- the opening of a head
 
@@ -44,7 +44,7 @@ this_at n = tested_at (λ m. m == n) (number_at w8)
 
 -- reads the front of a head: the kind, the format, the tables
 unfoldable pub opening_at : Reader (List (List ℕ))
-opening_at = mapped_at (λ p. p.1.1) (both_at (this_at 1) (λ _. both_at (this_at 22) (λ _. tables_at)))
+opening_at = mapped_at (λ p. p.1.1) (both_at (this_at 1) (λ _. both_at (this_at format_1_exponent) (λ _. tables_at)))
 
 -- what stands behind the kind of a head
 abbrev pub IsHead : List (List ℕ) × Database → Type 0

@@ -10,9 +10,13 @@ use Rattle.field_codec.specs.declared.entry.Entry.{Entry}
 use Rattle.field_codec.specs.Entries.{FillFields}
 use Rattle.field_codec.specs.declared.entry.Entry.TheVariants.{Head, Rows, Fill}
 
--- u8 format 1, u8 interval exponent 22, u8 count and names of the tables
+-- the exponent of the intervals of each archive of format 1
+abbrev pub format_1_exponent : ℕ
+format_1_exponent = 22
+
+-- u8 format 1, u8 interval exponent, u8 count and names of the tables
 unfoldable pub opening_octets : List (List ℕ) → List ℕ
-opening_octets tables = number w8 1 ++ (number w8 22 ++ counted w8 name tables)
+opening_octets tables = number w8 1 ++ (number w8 format_1_exponent ++ counted w8 name tables)
 
 -- the opening, and the octets of the database
 abbrev pub head_octets : List (List ℕ) → Database → List ℕ

@@ -2,7 +2,7 @@
 
 ghost use Rattle.std.specs.Prelude.{◌≡◌, ◌+◌, ◌<◌, ◌^◌, ◌++◌, length, IfOk, OnOk};
 ghost use Rattle.std.specs.Int.{w8};
-ghost use Rattle.octet_fields.specs.declared.fault.DecodeError.TheVariants.{Memory};
+ghost use Rattle.octet_fields.specs.declared.fault.DecodeError.TheVariants.{OutOfMemory};
 ghost use Rattle.octet_fields.specs.Answers.{Gives, ReadsEach, ReadsOnly};
 ghost use Rattle.octet_fields.specs.Reading.{whole};
 ghost use Rattle.octet_fields.specs.Spelling.{number};
@@ -19,7 +19,7 @@ use std::alloc::{AllocError, Global};
 /// The octets of a fill before its set, its kind with them.
 const FIELDS_SIZE: usize = 17;
 
-/// The fill that an end of a block is. Its set is a part of the block.
+/// The fill that an end of a block is. Its set is a slice of the block.
 #[tactic(auto, unfolding(crate::specs::Reading::fill_at))]
 fn whole_fill(block: &Octets, octets: &[u8]) -> Result<(Interval, u64, Octets), DecodeError>
     requires { IsEndOf octets.now block.now }
@@ -31,14 +31,14 @@ fn whole_fill(block: &Octets, octets: &[u8]) -> Result<(Interval, u64, Octets), 
     Ok((Interval(interval), base, set))
 }
 
-/// The fill that an end of a block spells. Its set is a part of the block.
+/// The fill that an end of a block spells. Its set is a slice of the block.
 pub(crate) fn read_fill(
     block: &Octets,
     octets: &[u8],
 ) -> Result<(Interval, u64, Octets), DecodeError>
     requires { IsEndOf octets.now block.now }
     ensures spelled { ReadsOnly IsFill fill_fields_octets (λ x. fill_fields x.0 x.1 x.2) octets.now result }
-    ensures each { ReadsEach IsFill fill_fields_octets (λ x. fill_fields x.0 x.1 x.2) (λ e. e ≡ Memory) octets.now result }
+    ensures each { ReadsEach IsFill fill_fields_octets (λ x. fill_fields x.0 x.1 x.2) (λ e. e ≡ OutOfMemory) octets.now result }
 {
     whole_fill(block, octets)
 }

@@ -4,7 +4,7 @@ ghost use Rattle.std.specs.Prelude.{◌≡◌, ◌<◌, ◌^◌, ◌++◌, lengt
 ghost use Rattle.std.specs.Int.{w8};
 ghost use Rattle.octet_fields.specs.Answers.{ReadsEach, ReadsOnly};
 ghost use Rattle.octet_fields.specs.Spelling.{number};
-ghost use Rattle.field_codec.specs.declared.fault.NotAnEntry.TheVariants.{OutOfMemory};
+ghost use Rattle.octet_fields.specs.declared.fault.DecodeError.TheVariants.{OutOfMemory};
 ghost use Rattle.field_codec.specs.Spelling.{head_octets};
 ghost use Rattle.field_codec.specs.Reading.{IsHead, head_of};
 

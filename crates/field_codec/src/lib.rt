@@ -1,6 +1,6 @@
 // The entries of the archive's journal as octets, both ways (docs/FORMATS.md draws them).
 //
-// An entry is a head, which has the archive's tables and its mission database, or rows. `IsArchiveEntry` of specs/Entries.antt says which values the
+// An entry is a head, which has the archive's tables and its mission database, rows, or a fill. `IsArchiveEntry` of specs/Entries.antt says which values the
 // format admits by itself, and `entry_octets` of specs/Spelling.antt what each is spelled as: `write_entry` gives just that, and `read_entry`
 // accepts these spellings and nothing else, so that an entry has one (`laws`). That a row's table and packet name exist, and that its key is
 // new, is asked by the store, which alone calls this crate: it writes one entry a record (`write_head` and `put_rows`; `write_entry` is both in one),
@@ -9,7 +9,7 @@
 // The one idea of the proof: what is read is a composition of exact readers (octet_fields), one for a row and one for the opening of a head;
 // the code mirrors it. Behind the opening stands the database to the end of the octets, read by mdb_model.
 //
-// `read_shared` copies no octet: the packets are parts of the block that the octets are in. A new kind of entry wants, together, a variant, a line
+// `read_shared` copies no octet: the packets are slices of the block that the octets are in. A new kind of entry wants, together, a variant, a line
 // each of `IsArchiveEntry`, `kind_of` and `body_octets`, an arm each of `octets_of` and `entry_of`, and its lemmas in proofs/EntryKinds.antt.
 #![tactic(auto)]
 

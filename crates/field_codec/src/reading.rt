@@ -2,7 +2,7 @@
 
 ghost use Rattle.std.specs.Prelude.{◌≡◌, IfOk};
 ghost use Rattle.octet_fields.specs.Answers.{ReadsEach, ReadsOnly};
-ghost use Rattle.field_codec.specs.declared.fault.NotAnEntry.TheVariants.{OutOfMemory};
+ghost use Rattle.octet_fields.specs.declared.fault.DecodeError.TheVariants.{OutOfMemory};
 ghost use Rattle.field_codec.specs.Entries.{IsArchiveEntry};
 ghost use Rattle.field_codec.specs.Spelling.{entry_octets};
 
@@ -15,7 +15,7 @@ use arch_types::octets::Octets;
 use octet_fields::u8_at;
 use std::alloc::Global;
 
-/// The entry that all of the octets spell. They are copied once, and its packets are parts of the copy.
+/// The entry that all of the octets spell. They are copied once, and its packets are slices of the copy.
 pub fn read_entry(alloc: Global, octets: &[u8]) -> Result<Entry, NotAnEntry>
     ensures spelled { ReadsOnly IsArchiveEntry entry_octets (λ entry. entry) octets.now result }
     ensures each { ReadsEach IsArchiveEntry entry_octets (λ entry. entry) (λ e. e ≡ OutOfMemory) octets.now result }
@@ -24,7 +24,7 @@ pub fn read_entry(alloc: Global, octets: &[u8]) -> Result<Entry, NotAnEntry>
     read_shared(alloc, &block)
 }
 
-/// The entry that all of the octets spell. Its packets are parts of their block.
+/// The entry that all of the octets spell. Its packets are slices of their block.
 pub fn read_shared(alloc: Global, octets: &Octets) -> Result<Entry, NotAnEntry>
     ensures spelled { ReadsOnly IsArchiveEntry entry_octets (λ entry. entry) octets.now result }
     ensures each { ReadsEach IsArchiveEntry entry_octets (λ entry. entry) (λ e. e ≡ OutOfMemory) octets.now result }

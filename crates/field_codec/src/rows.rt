@@ -4,7 +4,7 @@ ghost use Rattle.std.specs.Prelude.{◌≡◌, ◌*◌, ◌<◌, ◌≤◌, ◌^
 ghost use Rattle.std.specs.Int.{w8};
 ghost use Rattle.std.specs.List.{AllByRecursion, flat_map};
 ghost use Rattle.arch_types.specs.Packet.{IsPacket};
-ghost use Rattle.octet_fields.specs.declared.fault.DecodeError.TheVariants.{Memory};
+ghost use Rattle.octet_fields.specs.declared.fault.DecodeError.TheVariants.{OutOfMemory};
 ghost use Rattle.octet_fields.specs.Answers.{Answers, Gives, ReadsEach, ReadsOnly};
 ghost use Rattle.octet_fields.specs.Reading.{times_at, whole};
 ghost use Rattle.octet_fields.specs.Spelling.{number};
@@ -69,16 +69,16 @@ fn fields_at(octets: &[u8]) -> Result<(Fields, &[u8], &[u8]), Short>
     Ok((fields, packet, rest))
 }
 
-/// The octets of a block that stand before these last ones, as a part of it.
+/// The octets of a block that stand before these last ones, as a slice of it.
 pub(crate) fn part_before(block: &Octets, octets: &[u8], rest: &[u8]) -> Result<Octets, AllocError>
     requires { IsEndOf (octets.now ++ rest.now) block.now }
     ensures { IfOk result (λ part. part ≡ octets.now) }
 {
     let end = block.len() - rest.len();
-    block.part(end - octets.len(), end)
+    block.slice(end - octets.len(), end)
 }
 
-/// The row at the front of an end of a block. Its packet is a part of the block.
+/// The row at the front of an end of a block. Its packet is a slice of the block.
 #[tactic(auto, unfolding(crate::specs::Reading::row_at))]
 fn row_at<'a>(block: &Octets, octets: &'a [u8]) -> Result<(Row, &'a [u8]), DecodeError>
     requires { IsEndOf octets.now block.now }
@@ -137,11 +137,11 @@ fn whole_rows(alloc: Global, block: &Octets, octets: &[u8]) -> Result<Rows, Deco
     Ok(rows)
 }
 
-/// The rows that an end of a block spells. Their packets are parts of the block.
+/// The rows that an end of a block spells. Their packets are slices of the block.
 pub(crate) fn read_rows(alloc: Global, block: &Octets, octets: &[u8]) -> Result<Rows, DecodeError>
     requires { IsEndOf octets.now block.now }
     ensures spelled { ReadsOnly AreStored rows_octets (λ rows. rows) octets.now result }
-    ensures each { ReadsEach AreStored rows_octets (λ rows. rows) (λ e. e ≡ Memory) octets.now result }
+    ensures each { ReadsEach AreStored rows_octets (λ rows. rows) (λ e. e ≡ OutOfMemory) octets.now result }
 {
     whole_rows(alloc, block, octets)
 }

@@ -40,19 +40,19 @@ part_past start (end ∷ ends) octets zero le = absurd (omega (arith, le))
 part_past start (end ∷ ends) octets (suc i) le = part_past end ends octets i (omega (arith, le))
 
 -- one more part, with its items behind the others
-pub parts_push : {A : Type 0} (start : ℕ) (ends : List ℕ) (items part : List A) → AreEnds start ends (length items)
-    → parts_from start (ends ++ (length items + length part) ∷ []) (items ++ part) ≡ parts_from start ends items ++ part ∷ []
-parts_push start [] items part h =
-    let at : drop start (items ++ part) ≡ part = ap (λ s. drop s (items ++ part)) h ∙ drop-append_seam items part in
-    let long : length items + length part - start ≡ length part = omega (arith, h) in
-    rw (at, long, take-length part) refl
-parts_push start (end ∷ ends) items part h =
+pub parts_push : {A : Type 0} (start : ℕ) (ends : List ℕ) (items slice : List A) → AreEnds start ends (length items)
+    → parts_from start (ends ++ (length items + length slice) ∷ []) (items ++ slice) ≡ parts_from start ends items ++ slice ∷ []
+parts_push start [] items slice h =
+    let at : drop start (items ++ slice) ≡ slice = ap (λ s. drop s (items ++ slice)) h ∙ drop-append_seam items slice in
+    let long : length items + length slice - start ≡ length slice = omega (arith, h) in
+    rw (at, long, take-length slice) refl
+parts_push start (end ∷ ends) items slice h =
     let up = start_in end ends (length items) h.1 in
     let low = h.0 in
     let at : start ≤ length items = omega arith in
     let size = length-drop start items in
     let fits : end - start ≤ length (drop start items) = omega (arith, size) in
-    rw (drop-append-le start items part at, take-append-le (end - start) (drop start items) part fits, parts_push end ends items part h.1) refl
+    rw (drop-append-le start items slice at, take-append-le (end - start) (drop start items) slice fits, parts_push end ends items slice h.1) refl
 
 -- the end of the items is the last place
 pub ends_push : (start : ℕ) (ends : List ℕ) (size more : ℕ) → AreEnds start ends size → AreEnds start (ends ++ (size + more) ∷ []) (size + more)

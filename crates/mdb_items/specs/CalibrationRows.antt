@@ -4,8 +4,8 @@ use Rattle.std.specs.List.{list_any}
 use Rattle.std.specs.Str.{bytes_eq}
 use Rattle.text_forms.specs.Names.{is_name}
 use Rattle.mdb_items.specs.declared.calibration.PointsRow.{PointsRow}
-use Rattle.mdb_items.specs.declared.calibration.Table.{Table}
-use Rattle.mdb_items.specs.declared.calibration.Table.TheVariants.{Poly, Points, Enum}
+use Rattle.mdb_items.specs.declared.calibration.Calibrator.{Calibrator}
+use Rattle.mdb_items.specs.declared.calibration.Calibrator.TheVariants.{Poly, Points, Enum}
 use Rattle.mdb_items.specs.declared.calibration.Calibration.{Calibration}
 use Rattle.mdb_items.specs.declared.rows.RowValues.{RowValues}
 use Rattle.mdb_items.specs.declared.rows.RowValues.TheVariants.{Unread, Coefficient, Point, Label}
@@ -53,22 +53,22 @@ is_point (Coefficient e y) = false
 is_point (Point x y) = true
 is_point (Label x y) = false
 
--- the table of a calibration that has the name
-abbrev pub table_named : Text → Option Calibration → Option Table
-table_named name None = None
-table_named name (Some c) = if bytes_eq c.name name then Some c.table else None
+-- the calibrator of a calibration that has the name
+abbrev pub calibrator_named : Text → Option Calibration → Option Calibrator
+calibrator_named name None = None
+calibrator_named name (Some c) = if bytes_eq c.name name then Some c.calibrator else None
 
 -- the rows so far of the calibration that a row of this name continues
-abbrev pub continued : List Calibration → Text → Option Table
-continued above name = table_named name (last_of above)
+abbrev pub continued : List Calibration → Text → Option Calibrator
+continued above name = calibrator_named name (last_of above)
 
 -- the values are of another kind than the rows above
-abbrev pub is_other_kind : Option Table → RowValues → Bool
+abbrev pub is_other_kind : Option Calibrator → RowValues → Bool
 is_other_kind None row_values = false
 is_other_kind (Some (Poly rows)) (Coefficient e y) = false
 is_other_kind (Some (Points rows)) (Point x y) = false
 is_other_kind (Some (Enum rows)) (Label x y) = false
-is_other_kind (Some table) row_values = true
+is_other_kind (Some calibrator) row_values = true
 
 -- the number isn't above the last point's
 abbrev pub is_not_above : ℤ → Option PointsRow → Bool
@@ -76,11 +76,11 @@ is_not_above x None = false
 is_not_above x (Some point) = not (int_lt point.x x)
 
 -- x repeats, or doesn't rise in points
-abbrev pub repeats : Option Table → RowValues → Bool
+abbrev pub repeats : Option Calibrator → RowValues → Bool
 repeats (Some (Poly rows)) (Coefficient (Some e) y) = list_any (λ r. r.exponent == e) rows
 repeats (Some (Points rows)) (Point (Some x) y) = is_not_above x (last_of rows)
 repeats (Some (Enum rows)) (Label (Some x) y) = has_number x (map (λ r. r.x) rows)
-repeats table row_values = false
+repeats calibrator row_values = false
 
 -- the next record has the name
 abbrev pub is_named : Text → Option Text → Bool
@@ -110,27 +110,27 @@ calibration_checks above row next =
     ∷ (10, is_point row.row_values && not (is_some (continued above row.name)) && not (is_named row.name next))
     ∷ []
 
--- a table with one more row, where the values are of its kind and whole
-abbrev pub table_with_row : Table → RowValues → Table
-table_with_row (Poly rows) (Coefficient (Some e) (Some m)) = Poly (rows ++ record { exponent = e; millionths = m } ∷ [])
-table_with_row (Points rows) (Point (Some x) (Some m)) = Points (rows ++ record { x = x; millionths = m } ∷ [])
-table_with_row (Enum rows) (Label (Some x) label) = Enum (rows ++ record { x = x; label = label } ∷ [])
-table_with_row table row_values = table
+-- a calibrator with one more row, where the values are of its kind and whole
+abbrev pub calibrator_with_row : Calibrator → RowValues → Calibrator
+calibrator_with_row (Poly rows) (Coefficient (Some e) (Some m)) = Poly (rows ++ record { exponent = e; millionths = m } ∷ [])
+calibrator_with_row (Points rows) (Point (Some x) (Some m)) = Points (rows ++ record { x = x; millionths = m } ∷ [])
+calibrator_with_row (Enum rows) (Label (Some x) label) = Enum (rows ++ record { x = x; label = label } ∷ [])
+calibrator_with_row calibrator row_values = calibrator
 
--- the empty table of the values' kind
-abbrev pub empty_table : RowValues → Table
-empty_table Unread = Poly []
-empty_table (Coefficient e y) = Poly []
-empty_table (Point x y) = Points []
-empty_table (Label x y) = Enum []
+-- the empty calibrator of the values' kind
+abbrev pub empty_calibrator : RowValues → Calibrator
+empty_calibrator Unread = Poly []
+empty_calibrator (Coefficient e y) = Poly []
+empty_calibrator (Point x y) = Points []
+empty_calibrator (Label x y) = Enum []
 
 -- the calibrations with one more, where the row's name isn't the last one's; it has no row yet
 abbrev pub with_name : List Calibration → Text → RowValues → List Calibration
-with_name above name row_values = if is_some (continued above name) then above else above ++ record { name = name; table = empty_table row_values } ∷ []
+with_name above name row_values = if is_some (continued above name) then above else above ++ record { name = name; calibrator = empty_calibrator row_values } ∷ []
 
 -- the calibration with one more row
 abbrev pub with_new_row : RowValues → Calibration → Calibration
-with_new_row row_values c = record { name = c.name; table = table_with_row c.table row_values }
+with_new_row row_values c = record { name = c.name; calibrator = calibrator_with_row c.calibrator row_values }
 
 -- the calibrations with one more row
 abbrev pub with_calibration_row : List Calibration → CalibrationRow → List Calibration
@@ -149,27 +149,27 @@ calibration_fault above (Some row) next = first_broken (calibration_checks above
 unfoldable pub calibration_fault_at : List CalibrationRow → ℕ → Option ℕ
 calibration_fault_at rows i = calibration_fault (calibrations_of (take i rows)) (slice_get rows i) (slice_get rows (i + 1))
 
--- the rows of a table
-abbrev pub row_values_of : Table → List RowValues
+-- the rows of a calibrator
+abbrev pub row_values_of : Calibrator → List RowValues
 row_values_of (Poly rows) = map (λ r. Coefficient (Some r.exponent) (Some r.millionths)) rows
 row_values_of (Points rows) = map (λ r. Point (Some r.x) (Some r.millionths)) rows
 row_values_of (Enum rows) = map (λ r. Label (Some r.x) r.label) rows
 
 -- the rows that spell a calibration, each with its name
 abbrev pub rows_of_calibration : Calibration → List CalibrationRow
-rows_of_calibration c = map (λ row_values. record { fields = 4; name = c.name; row_values = row_values }) (row_values_of c.table)
+rows_of_calibration c = map (λ row_values. record { fields = 4; name = c.name; row_values = row_values }) (row_values_of c.calibrator)
 
 -- the raw numbers of an enum
-abbrev pub enum_numbers : Option Table → List ℤ
+abbrev pub enum_numbers : Option Calibrator → List ℤ
 enum_numbers None = []
 enum_numbers (Some (Poly rows)) = []
 enum_numbers (Some (Points rows)) = []
 enum_numbers (Some (Enum rows)) = map (λ r. r.x) rows
 
--- the table of the last calibration, where there is one
-abbrev pub table_of_last : Option Calibration → Option Table
-table_of_last None = None
-table_of_last (Some c) = Some c.table
+-- the calibrator of the last calibration, where there is one
+abbrev pub calibrator_of_last : Option Calibration → Option Calibrator
+calibrator_of_last None = None
+calibrator_of_last (Some c) = Some c.calibrator
 
 -- the raw number of an enum's row
 abbrev pub label_number : RowValues → List ℤ

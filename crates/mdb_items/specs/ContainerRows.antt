@@ -4,14 +4,14 @@ use Rattle.std.specs.List.{list_any, list_all}
 use Rattle.text_forms.specs.Names.{is_name}
 use Rattle.mdb_items.specs.declared.container.Comparison.{Comparison}
 use Rattle.mdb_items.specs.declared.container.Container.{Container}
-use Rattle.mdb_items.specs.declared.container.Entry.{Entry}
+use Rattle.mdb_items.specs.declared.container.ParameterEntry.{ParameterEntry}
 use Rattle.mdb_items.specs.declared.parameter.Parameter.{Parameter}
 use Rattle.mdb_items.specs.declared.rows.NewContainer.{NewContainer}
 use Rattle.mdb_items.specs.declared.rows.ContainerColumns.{ContainerColumns}
 use Rattle.mdb_items.specs.declared.rows.ContainerColumns.TheVariants.{Begins, Continues}
-use Rattle.mdb_items.specs.declared.rows.Position.{Position}
-use Rattle.mdb_items.specs.declared.rows.Position.TheVariants as place
-use Rattle.mdb_items.specs.declared.rows.Position.TheVariants.{At}
+use Rattle.mdb_items.specs.declared.rows.EntryPosition.{EntryPosition}
+use Rattle.mdb_items.specs.declared.rows.EntryPosition.TheVariants as place
+use Rattle.mdb_items.specs.declared.rows.EntryPosition.TheVariants.{At}
 use Rattle.mdb_items.specs.declared.rows.Reference.{Reference}
 use Rattle.mdb_items.specs.declared.rows.Reference.TheVariants.{Nothing, Unknown, Known}
 use Rattle.mdb_items.specs.Checks.{Checks, first_broken, or_else}
@@ -26,7 +26,7 @@ pub record ContainerRow : Type 0 where
   pub fields : ℕ
   pub columns : ContainerColumns
   pub entry : Reference
-  pub position : Position
+  pub position : EntryPosition
 
 -- the field is empty
 abbrev pub is_nothing : Reference → Bool
@@ -46,7 +46,7 @@ is_condition None = false
 is_condition (Some comparisons) = nat_le (length comparisons) 255 && list_all (λ c. is_in_range c.number) comparisons
 
 -- a parameter is compared that is no entry of an ancestor
-abbrev pub compares_other : List Entry → List Comparison → Bool
+abbrev pub compares_other : List ParameterEntry → List Comparison → Bool
 compares_other entries comparisons = list_any (λ c. not (stands_on entries c.parameter)) comparisons
 
 -- the rules of a row that begins a container, below the containers above it; `up` is its parent's path
@@ -102,13 +102,13 @@ is_known Unknown = false
 is_known (Known n) = true
 
 -- the parameter of the entry stands on the path already
-abbrev pub is_repeated : List Entry → Reference → Bool
+abbrev pub is_repeated : List ParameterEntry → Reference → Bool
 is_repeated entries Nothing = false
 is_repeated entries Unknown = false
 is_repeated entries (Known n) = stands_on entries n
 
 -- an entry has a position, and a row without an entry has none
-abbrev pub is_placed : Reference → Position → Bool
+abbrev pub is_placed : Reference → EntryPosition → Bool
 is_placed Nothing place.Nothing = true
 is_placed Nothing place.Unknown = false
 is_placed Nothing (At at) = false
@@ -118,12 +118,12 @@ is_placed (Known n) place.Unknown = false
 is_placed (Known n) (At at) = true
 
 -- the entry ends after the last bit of the longest packet
-abbrev pub is_too_far : List Parameter → Reference → Position → Bool
+abbrev pub is_too_far : List Parameter → Reference → EntryPosition → Bool
 is_too_far parameters (Known n) (At at) = not (nat_le (at + bits_at parameters n) 524336)
 is_too_far parameters entry position = false
 
 -- the rules of a row's entry, which goes to the end of the path
-abbrev pub entry_checks : List Parameter → ContainerPath → Bool → Reference → Position → Checks
+abbrev pub entry_checks : List Parameter → ContainerPath → Bool → Reference → EntryPosition → Checks
 entry_checks parameters path continuing entry position =
     -- no parameter has the name
     (24, not (is_reference (length parameters) entry))
@@ -151,11 +151,11 @@ with_columns above (Begins b) = above ++ record {
 } ∷ []
 
 -- the container with one more entry at its end
-abbrev pub with_new_entry : Entry → Container → Container
+abbrev pub with_new_entry : ParameterEntry → Container → Container
 with_new_entry e c = record { name = c.name; parent = c.parent; archive = c.archive; condition = c.condition; entries = c.entries ++ e ∷ [] }
 
 -- the containers with one more entry in the last
-abbrev pub with_entry : List Container → Reference → Position → List Container
+abbrev pub with_entry : List Container → Reference → EntryPosition → List Container
 with_entry containers (Known n) (At at) = at_last (with_new_entry (record { parameter = n; at = at })) containers
 with_entry containers entry position = containers
 
@@ -196,7 +196,7 @@ begin_row c = record {
 }
 
 -- the row that adds an entry
-abbrev pub entry_row : Entry → ContainerRow
+abbrev pub entry_row : ParameterEntry → ContainerRow
 entry_row e = record { fields = 6; columns = Continues false; entry = Known e.parameter; position = At e.at }
 
 -- the rows of a container

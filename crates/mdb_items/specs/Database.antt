@@ -1,8 +1,8 @@
 -- The mission database.
 use Rattle.std.specs.Prelude.{◌≡◌, ℕ, ◌+◌, List, [], ◌∷◌, length, map, flat_map, sum_by, Option, Some, None, option_map, if◌then◌else◌, nat_lt}
 use Rattle.mdb_items.specs.declared.calibration.Calibration.{Calibration}
-use Rattle.mdb_items.specs.declared.calibration.Table.{Table}
-use Rattle.mdb_items.specs.declared.calibration.Table.TheVariants.{Poly, Points, Enum}
+use Rattle.mdb_items.specs.declared.calibration.Calibrator.{Calibrator}
+use Rattle.mdb_items.specs.declared.calibration.Calibrator.TheVariants.{Poly, Points, Enum}
 use Rattle.mdb_items.specs.declared.container.Container.{Container}
 use Rattle.mdb_items.specs.declared.fault.MdbLimit.{MdbLimit}
 use Rattle.mdb_items.specs.declared.fault.MdbLimit.TheVariants as limit
@@ -73,15 +73,15 @@ first_fault rows =
     (or_else (parameters_fault (calibrations_of rows.calibrations) rows.parameters)
     (containers_fault (parameters_of rows.parameters) rows.containers))
 
--- how many rows a table has
-abbrev pub table_len : Table → ℕ
-table_len (Poly rows) = length rows
-table_len (Points rows) = length rows
-table_len (Enum rows) = length rows
+-- how many rows a calibrator has
+abbrev pub calibrator_len : Calibrator → ℕ
+calibrator_len (Poly rows) = length rows
+calibrator_len (Points rows) = length rows
+calibrator_len (Enum rows) = length rows
 
 -- how many rows a calibration has
 abbrev pub row_count : Calibration → ℕ
-row_count c = table_len c.table
+row_count c = calibrator_len c.calibrator
 
 -- how many entries a container has
 abbrev pub entry_count : Container → ℕ

@@ -9,5 +9,4 @@ pub mod ParameterRows
 pub mod Paths
 pub mod ContainerRows
 pub mod Database
-pub mod Refusals
 pub mod Structure

@@ -2,8 +2,8 @@
 use Rattle.std.specs.Prelude.{ℕ, ◌*◌, ◌^◌, ◌%◌, ◌==◌, ◌&&◌, ◌||◌, not, Bool, true, false, List, [], ◌∷◌, length, map, take, fold, max, sum_by, slice_get, Option, Some, None, is_some, unwrap_or, nat_le, nat_lt, unsigned_abs}
 use Rattle.text_forms.specs.Names.{is_name}
 use Rattle.mdb_items.specs.declared.calibration.PolyRow.{PolyRow}
-use Rattle.mdb_items.specs.declared.calibration.Table.{Table}
-use Rattle.mdb_items.specs.declared.calibration.Table.TheVariants.{Poly, Points, Enum}
+use Rattle.mdb_items.specs.declared.calibration.Calibrator.{Calibrator}
+use Rattle.mdb_items.specs.declared.calibration.Calibrator.TheVariants.{Poly, Points, Enum}
 use Rattle.mdb_items.specs.declared.calibration.Calibration.{Calibration}
 use Rattle.mdb_items.specs.declared.parameter.Coding.{Coding}
 use Rattle.mdb_items.specs.declared.parameter.Coding.TheVariants.{Uint, Int, UintLe, IntLe}
@@ -42,22 +42,22 @@ abbrev pub reach : ℕ → PolyRow → ℕ
 reach bits r = unsigned_abs r.millionths * 2 ^ (bits * r.exponent)
 
 -- bits times degree is at most 60, and the coefficients reach below 2^63 millionths together
-abbrev pub admits : ℕ → Option Table → Bool
+abbrev pub admits : ℕ → Option Calibrator → Bool
 admits bits None = true
 admits bits (Some (Poly rows)) = nat_le (bits * degree rows) 60 && nat_lt (sum_by (reach bits) rows) 9223372036854775808
 admits bits (Some (Points rows)) = true
 admits bits (Some (Enum rows)) = true
 
--- the table of a calibration, where there is one
-abbrev pub table_of_calibration : Option Calibration → Option Table
-table_of_calibration None = None
-table_of_calibration (Some c) = Some c.table
+-- the calibrator of a calibration, where there is one
+abbrev pub calibrator_of_calibration : Option Calibration → Option Calibrator
+calibrator_of_calibration None = None
+calibrator_of_calibration (Some c) = Some c.calibrator
 
--- the table that a reference names
-abbrev pub referenced_table : List Calibration → Reference → Option Table
-referenced_table calibrations Nothing = None
-referenced_table calibrations Unknown = None
-referenced_table calibrations (Known n) = table_of_calibration (slice_get calibrations n)
+-- the calibrator that a reference names
+abbrev pub referenced_calibrator : List Calibration → Reference → Option Calibrator
+referenced_calibrator calibrations Nothing = None
+referenced_calibrator calibrations Unknown = None
+referenced_calibrator calibrations (Known n) = calibrator_of_calibration (slice_get calibrations n)
 
 -- the rules of a row below the parameters above it
 abbrev pub parameter_checks : List Calibration → List Parameter → ParameterRow → Checks
@@ -75,7 +75,7 @@ parameter_checks calibrations above row =
     -- no calibration has the name
     ∷ (13, not (is_reference (length calibrations) row.calibration))
     -- the polynomial may carry the parameter too far
-    ∷ (14, not (admits (unwrap_or row.bits 0) (referenced_table calibrations row.calibration)))
+    ∷ (14, not (admits (unwrap_or row.bits 0) (referenced_calibrator calibrations row.calibration)))
     ∷ []
 
 -- the number that a reference names

@@ -2,14 +2,14 @@
 use Rattle.std.specs.Prelude.{◌≡◌, ℕ, suc, ◌+◌, ◌<◌, ◌==◌, Bool, List, [], ◌∷◌, ◌++◌, length, fold, slice_get, Option, Some, None, unwrap_or}
 use Rattle.std.specs.List.{list_any}
 use Rattle.mdb_items.specs.declared.container.Container.{Container}
-use Rattle.mdb_items.specs.declared.container.Entry.{Entry}
+use Rattle.mdb_items.specs.declared.container.ParameterEntry.{ParameterEntry}
 use Rattle.mdb_items.specs.declared.parameter.Parameter.{Parameter}
 use Rattle.mdb_items.specs.Lists.{last_of}
 
 -- how many containers stand on a path, and their entries from the root on
 pub record ContainerPath : Type 0 where
   pub containers : ℕ
-  pub entries : List Entry
+  pub entries : List ParameterEntry
 
 -- above the root nothing stands
 abbrev pub no_path : ContainerPath
@@ -47,7 +47,7 @@ last_number [] = None
 last_number (c ∷ containers) = Some (length containers)
 
 -- the parameter is that of an entry
-abbrev pub stands_on : List Entry → ℕ → Bool
+abbrev pub stands_on : List ParameterEntry → ℕ → Bool
 stands_on entries n = list_any (λ e. e.parameter == n) entries
 
 -- the bits of a parameter, or none
@@ -60,7 +60,7 @@ abbrev pub bits_at : List Parameter → ℕ → ℕ
 bits_at parameters n = bits_of_parameter (slice_get parameters n)
 
 -- the bit after an entry; before the first entry positions count from 0
-abbrev pub end_after : List Parameter → Option Entry → ℕ
+abbrev pub end_after : List Parameter → Option ParameterEntry → ℕ
 end_after parameters None = 0
 end_after parameters (Some e) = e.at + bits_at parameters e.parameter
 

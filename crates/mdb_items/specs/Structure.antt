@@ -8,17 +8,17 @@ use Rattle.mdb_items.specs.declared.calibration.Calibration.{Calibration}
 use Rattle.mdb_items.specs.declared.calibration.EnumRow.{EnumRow}
 use Rattle.mdb_items.specs.declared.calibration.PointsRow.{PointsRow}
 use Rattle.mdb_items.specs.declared.calibration.PolyRow.{PolyRow}
-use Rattle.mdb_items.specs.declared.calibration.Table.{Table}
-use Rattle.mdb_items.specs.declared.calibration.Table.TheVariants.{Poly, Points, Enum}
+use Rattle.mdb_items.specs.declared.calibration.Calibrator.{Calibrator}
+use Rattle.mdb_items.specs.declared.calibration.Calibrator.TheVariants.{Poly, Points, Enum}
 use Rattle.mdb_items.specs.declared.container.Comparison.{Comparison}
 use Rattle.mdb_items.specs.declared.container.Container.{Container}
-use Rattle.mdb_items.specs.declared.container.Entry.{Entry}
+use Rattle.mdb_items.specs.declared.container.ParameterEntry.{ParameterEntry}
 use Rattle.mdb_items.specs.declared.parameter.Parameter.{Parameter}
 use Rattle.mdb_items.specs.ContainerRows.{compares_other}
-use Rattle.mdb_items.specs.Database.{Database, IsDatabase, entry_count, row_count, table_len}
+use Rattle.mdb_items.specs.Database.{Database, IsDatabase, entry_count, row_count, calibrator_len}
 use Rattle.mdb_items.specs.Numbers.{is_decimal, is_in_range}
 use Rattle.mdb_items.specs.Paths.{ContainerPath, bits_at, path_at, path_below, paths_of}
-use Rattle.mdb_items.specs.ParameterRows.{admits, fits_coding, is_reference, reference_to, referenced_table}
+use Rattle.mdb_items.specs.ParameterRows.{admits, fits_coding, is_reference, reference_to, referenced_calibrator}
 use Rattle.mdb_items.specs.Texts.{Text, is_label}
 
 -- ---- texts and numbers
@@ -89,16 +89,16 @@ pub record IsEnumeration (rows : List EnumRow) : Type 0 where
   pub distinct : AreDistinctNumbers rows
 
 -- the rows of a calibration are sound by their kind
-abbrev pub IsTable : Table → Type 0
-IsTable (Poly rows) = IsPolynomial rows
-IsTable (Points points) = IsPolyline points
-IsTable (Enum rows) = IsEnumeration rows
+abbrev pub IsCalibrator : Calibrator → Type 0
+IsCalibrator (Poly rows) = IsPolynomial rows
+IsCalibrator (Points points) = IsPolyline points
+IsCalibrator (Enum rows) = IsEnumeration rows
 
 -- a calibration has a name, and sound rows, no more than a database has
 pub record IsCalibration (c : Calibration) : Type 0 where
   pub named : IsName c.name
-  pub rows : IsTable c.table
-  pub few : table_len c.table ≤ 65536
+  pub rows : IsCalibrator c.calibrator
+  pub few : calibrator_len c.calibrator ≤ 65536
 
 -- ---- parameters
 
@@ -107,17 +107,17 @@ pub record IsParameter (d : Database) (p : Parameter) : Type 0 where
   pub named : IsName p.name
   pub width : fits_coding (Some p.coding) (Some p.bits) ≡ true
   pub calibration : is_reference (length d.calibrations) (reference_to p.calibration) ≡ true
-  pub admitted : admits p.bits (referenced_table d.calibrations (reference_to p.calibration)) ≡ true
+  pub admitted : admits p.bits (referenced_calibrator d.calibrations (reference_to p.calibration)) ≡ true
 
 -- ---- containers
 
 -- the entry is of a parameter of the database, and ends inside the longest packet
-pub record IsEntry (d : Database) (e : Entry) : Type 0 where
+pub record IsEntry (d : Database) (e : ParameterEntry) : Type 0 where
   pub parameter : e.parameter < length d.parameters
   pub near : e.at + bits_at d.parameters e.parameter ≤ 524336
 
 -- no parameter stands twice
-abbrev pub AreDistinctEntries : List Entry → Type 0
+abbrev pub AreDistinctEntries : List ParameterEntry → Type 0
 AreDistinctEntries entries = IsDistinct nat_eq (map (λ e. e.parameter) entries)
 
 -- a path has at most 32 containers and 256 entries, and no parameter stands on it twice
@@ -127,7 +127,7 @@ pub record IsPath (path : ContainerPath) : Type 0 where
   pub distinct : AreDistinctEntries path.entries
 
 -- the condition compares at most 255 entries of the path above with whole numbers
-pub record IsCondition (entries : List Entry) (condition : List Comparison) : Type 0 where
+pub record IsCondition (entries : List ParameterEntry) (condition : List Comparison) : Type 0 where
   pub few : length condition ≤ 255
   pub whole : AllByRecursion (λ c. IsWhole c.number) condition
   pub above : compares_other entries condition ≡ false

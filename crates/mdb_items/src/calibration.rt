@@ -31,7 +31,7 @@ pub struct EnumRow {
 
 /// The rows of a calibration by its kind, in the order of the sheet.
 #[derive(Drop)]
-pub enum Table {
+pub enum Calibrator {
     Poly(Items<PolyRow>),
     Points(Items<PointsRow>),
     Enum(Items<EnumRow>),
@@ -41,5 +41,5 @@ pub enum Table {
 #[derive(Drop)]
 pub struct Calibration {
     pub name: MdbName,
-    pub table: Table,
+    pub calibrator: Calibrator,
 }

@@ -25,7 +25,7 @@ pub struct Comparison {
 
 /// A parameter at its place.
 #[derive(Drop, Clone, Copy)]
-pub struct Entry {
+pub struct ParameterEntry {
     /// The number of the parameter.
     pub parameter: usize,
     /// The bit of the packet, from 0, at which its field begins.
@@ -43,5 +43,5 @@ pub struct Container {
     /// The comparisons that all hold where a packet of the parent belongs to this container.
     pub condition: Items<Comparison>,
     /// The container's own entries in their order.
-    pub entries: Items<Entry>,
+    pub entries: Items<ParameterEntry>,
 }

@@ -16,8 +16,8 @@ pub mod rows;
 pub mod sheet;
 pub mod texts;
 
-pub use calibration::{Calibration, EnumRow, PointsRow, PolyRow, Table};
-pub use container::{Comparison, Container, Entry, Operator};
+pub use calibration::{Calibration, Calibrator, EnumRow, PointsRow, PolyRow};
+pub use container::{Comparison, Container, Operator, ParameterEntry};
 pub use fault::{MdbFault, MdbLimit, MdbSheet};
 pub use name::MdbName;
 pub use not_mdb::NotMdb;

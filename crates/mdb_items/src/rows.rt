@@ -61,7 +61,7 @@ pub enum ContainerColumns {
 
 /// Where an entry stands.
 #[derive(Drop, Clone, Copy)]
-pub enum Position {
+pub enum EntryPosition {
     /// There's no text and no entry.
     Nothing,
     /// The text is no position.

@@ -128,8 +128,8 @@ impl Sheet {
         let last = record_ends[place] as usize;
         let end = start_of(0, field_ends, last) as usize;
         SheetRecord::new(
-            part(self.octets.as_slice(), 0, end),
-            part(field_ends, first, last),
+            slice(self.octets.as_slice(), 0, end),
+            slice(field_ends, first, last),
             start_of(0, field_ends, first),
         )
     }
@@ -183,7 +183,7 @@ impl<'a> SheetRecord<'a> {
         if place >= self.ends.len() {
             return b"".as_slice();
         }
-        part(
+        slice(
             self.octets,
             start_of(self.start, self.ends, place) as usize,
             self.ends[place] as usize,
@@ -221,7 +221,7 @@ fn start_of(start: u32, ends: &[u32], place: usize) -> u32
 }
 
 // The items from one place to another.
-fn part<T>(items: &[T], start: usize, end: usize) -> &[T]
+fn slice<T>(items: &[T], start: usize, end: usize) -> &[T]
     requires { (start ≤ end) × (end ≤ length items.now) }
     ensures { result.now ≡ take (end - start) (drop start items.now) }
 {

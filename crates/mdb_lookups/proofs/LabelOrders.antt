@@ -3,12 +3,12 @@ use Rattle.std.proofs.Common.{◌≡◌, ◌∙◌, ◌++◌, ℕ, zero, suc, Li
 use Rattle.std.specs.Prelude.{ℤ, slice_get}
 use Rattle.std.proofs.lemmas.Option.{same_Some}
 use Rattle.mdb_items.specs.declared.calibration.Calibration.{Calibration}
-use Rattle.mdb_lookups.specs.LabelOrder.{AreLabelsSorted, labels_of_table}
+use Rattle.mdb_lookups.specs.LabelOrder.{AreLabelsSorted, labels_of_calibrator}
 
 -- each of the orders is that of the calibration at its place
 abbrev pub AreOwnOrders : List Calibration → List (List (ℤ × ℕ)) → Type 0
 AreOwnOrders calibrations orders = (n : ℕ) (order : List (ℤ × ℕ)) → slice_get orders n ≡ Some order
-    → (c : Calibration) → slice_get calibrations n ≡ Some c → AreLabelsSorted (labels_of_table c.table) order
+    → (c : Calibration) → slice_get calibrations n ≡ Some c → AreLabelsSorted (labels_of_calibrator c.calibrator) order
 
 -- what holds of each item at its place holds with one more
 each_more : {X : Type 0} (P : ℕ → X → Type 0) (xs : List X) (x : X) → ((n : ℕ) (y : X) → slice_get xs n ≡ Some y → P n y) → P (length xs) x
@@ -19,10 +19,10 @@ each_more P (z ∷ xs) x all here zero y is = all 0 y is
 each_more P (z ∷ xs) x all here (suc n) y is = each_more (λ m w. P (suc m) w) xs x (λ m w. all (suc m) w) here n y is
 
 pub one_more_order : (calibrations : List Calibration) (orders : List (List (ℤ × ℕ))) (order : List (ℤ × ℕ)) (c : Calibration) → AreOwnOrders calibrations orders
-    → slice_get calibrations (length orders) ≡ Some c → AreLabelsSorted (labels_of_table c.table) order → AreOwnOrders calibrations (orders ++ order ∷ [])
+    → slice_get calibrations (length orders) ≡ Some c → AreLabelsSorted (labels_of_calibrator c.calibrator) order → AreOwnOrders calibrations (orders ++ order ∷ [])
 one_more_order calibrations orders order c own at sorted =
-    each_more (λ n order. (d : Calibration) → slice_get calibrations n ≡ Some d → AreLabelsSorted (labels_of_table d.table) order) orders order own
-    (λ d here. subst (λ (k : Calibration). AreLabelsSorted (labels_of_table k.table) order) (same_Some c d (sym at ∙ here)) sorted)
+    each_more (λ n order. (d : Calibration) → slice_get calibrations n ≡ Some d → AreLabelsSorted (labels_of_calibrator d.calibrator) order) orders order own
+    (λ d here. subst (λ (k : Calibration). AreLabelsSorted (labels_of_calibrator k.calibrator) order) (same_Some c d (sym at ∙ here)) sorted)
 
 -- without an order there is no calibration
 pub no_calibration : {X Y : Type 0} (xs : List X) (ys : List Y) (n : ℕ) → length xs ≡ length ys → slice_get xs n ≡ None → slice_get ys n ≡ None

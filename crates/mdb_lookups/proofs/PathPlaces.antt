@@ -6,7 +6,7 @@ use Rattle.std.proofs.lemmas.Bool.{cases_Bool, ltb-false}
 use Rattle.std.proofs.lemmas.List.{map-append}
 use Rattle.std.proofs.lemmas.Option.{same_Some}
 use Rattle.mdb_items.specs.declared.container.Container.{Container}
-use Rattle.mdb_items.specs.declared.container.Entry.{Entry}
+use Rattle.mdb_items.specs.declared.container.ParameterEntry.{ParameterEntry}
 use Rattle.mdb_items.specs.Paths.{path_at, path_below, paths_of}
 use Rattle.mdb_items.proofs.ContainerPaths.{paths_of-push}
 use Rattle.mdb_items.proofs.Ends.{take-next}
@@ -43,11 +43,11 @@ paths_begin = refl
 
 -- one container more
 pub paths_more : (cs : List Container) (i : ℕ) (c : Container) (lists : List (List ℕ)) (own : List ℕ) → slice_get cs i ≡ Some c → lists ≡ map path_parameters (paths_of (take i cs))
-    → own ≡ path_parameters (path_at (paths_of (take i cs)) c.parent) ++ map (λ (e : Entry). e.parameter) c.entries → lists ++ own ∷ [] ≡ map path_parameters (paths_of (take (i + 1) cs))
+    → own ≡ path_parameters (path_at (paths_of (take i cs)) c.parent) ++ map (λ (e : ParameterEntry). e.parameter) c.entries → lists ++ own ∷ [] ≡ map path_parameters (paths_of (take (i + 1) cs))
 paths_more cs i c lists own at before is =
     let front = paths_of (take i cs) in
     let up = path_at front c.parent in
-    let below : own ≡ path_parameters (path_below up c) = is ∙ sym (map-append (λ (e : Entry). e.parameter) up.entries c.entries) in
+    let below : own ≡ path_parameters (path_below up c) = is ∙ sym (map-append (λ (e : ParameterEntry). e.parameter) up.entries c.entries) in
     ap (λ (ls : List (List ℕ)). ls ++ own ∷ []) before ∙ ap (λ (ps : List ℕ). map path_parameters front ++ ps ∷ []) below
     ∙ sym (map-append path_parameters front (path_below up c ∷ [])) ∙ ap (map path_parameters) (sym (paths_of-push (take i cs) c)) ∙ ap (λ (xs : List Container). map path_parameters (paths_of xs)) (sym (take-next cs i c at))
 

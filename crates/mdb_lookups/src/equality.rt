@@ -2,8 +2,8 @@
 
 ghost use Rattle.std.specs.Prelude.{◌≡◌, ◌↔◌, IsTrue};
 
-use mdb_items::calibration::{Calibration, EnumRow, PointsRow, PolyRow, Table};
-use mdb_items::container::{Comparison, Container, Entry, Operator};
+use mdb_items::calibration::{Calibration, Calibrator, EnumRow, PointsRow, PolyRow};
+use mdb_items::container::{Comparison, Container, Operator, ParameterEntry};
 use mdb_items::name::MdbName;
 use mdb_items::parameter::{Coding, Parameter};
 
@@ -55,13 +55,22 @@ fn is_same_operator(left: Operator, right: Operator) -> bool
     )
 }
 
-fn is_same_table(left: &Table, right: &Table) -> bool
+fn is_same_calibrator(left: &Calibrator, right: &Calibrator) -> bool
     ensures { IsTrue result ↔ (left.now ≡ right.now) }
 {
     match (left, right) {
-        (Table::Poly(left), Table::Poly(right)) => are_same(left.as_slice(), right.as_slice()),
-        (Table::Points(left), Table::Points(right)) => are_same(left.as_slice(), right.as_slice()),
-        (Table::Enum(left), Table::Enum(right)) => are_same(left.as_slice(), right.as_slice()),
+        (Calibrator::Poly(left), Calibrator::Poly(right)) => are_same(
+            left.as_slice(),
+            right.as_slice(),
+        ),
+        (Calibrator::Points(left), Calibrator::Points(right)) => are_same(
+            left.as_slice(),
+            right.as_slice(),
+        ),
+        (Calibrator::Enum(left), Calibrator::Enum(right)) => are_same(
+            left.as_slice(),
+            right.as_slice(),
+        ),
         _ => false,
     }
 }
@@ -92,7 +101,8 @@ impl Same for EnumRow {
 
 impl Same for Calibration {
     fn is_same(&self, other: &Calibration) -> bool {
-        is_same_name(&self.name, &other.name) && is_same_table(&self.table, &other.table)
+        is_same_name(&self.name, &other.name)
+            && is_same_calibrator(&self.calibrator, &other.calibrator)
     }
 }
 
@@ -113,8 +123,8 @@ impl Same for Comparison {
     }
 }
 
-impl Same for Entry {
-    fn is_same(&self, other: &Entry) -> bool {
+impl Same for ParameterEntry {
+    fn is_same(&self, other: &ParameterEntry) -> bool {
         self.parameter == other.parameter && self.at == other.at
     }
 }

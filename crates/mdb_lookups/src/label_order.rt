@@ -3,19 +3,19 @@
 ghost use Rattle.std.specs.Prelude.{◌≡◌, List, length, IfOk, OnOk};
 ghost use Rattle.mdb_items.specs.declared.calibration.Calibration.{Calibration};
 ghost use Rattle.mdb_items.specs.declared.calibration.EnumRow.{EnumRow};
-ghost use Rattle.mdb_lookups.specs.LabelOrder.{AreLabelOrders, AreLabelsSorted, label_row, label_row_by, labels_of_table};
+ghost use Rattle.mdb_lookups.specs.LabelOrder.{AreLabelOrders, AreLabelsSorted, label_row, label_row_by, labels_of_calibrator};
 ghost use Rattle.mdb_lookups.specs.Lookups.{calibration_numbered};
 
 use item_list::items::Items;
-use mdb_items::calibration::{Calibration, EnumRow, Table};
+use mdb_items::calibration::{Calibration, Calibrator, EnumRow};
 use std::alloc::{AllocError, Global};
 
-/// The labels of a table: a polynomial and points have none.
-fn labels_of(table: &Table) -> &[EnumRow]
-    ensures { result.now ≡ labels_of_table table.now }
+/// The labels of a calibrator: a polynomial and points have none.
+fn labels_of(calibrator: &Calibrator) -> &[EnumRow]
+    ensures { result.now ≡ labels_of_calibrator calibrator.now }
 {
-    match table {
-        Table::Enum(labels) => labels.as_slice(),
+    match calibrator {
+        Calibrator::Enum(labels) => labels.as_slice(),
         _ => &[],
     }
 }
@@ -42,7 +42,7 @@ pub(crate) fn label_orders(
 {
     let mut orders = Vec::with_capacity(alloc, calibrations.len())?;
     for calibration in calibrations {
-        let numbered = sorted_labels(alloc, labels_of(&calibration.table))?;
+        let numbered = sorted_labels(alloc, labels_of(&calibration.calibrator))?;
         orders.push(Items::from_vec(numbered))?;
     }
     Ok(orders)

@@ -6,7 +6,7 @@ ghost use Rattle.mdb_items.specs.Paths.{ContainerPath, path_at, paths_of};
 ghost use Rattle.mdb_lookups.specs.PlacedConditions.{ArePlacedConditions, path_parameters, with_place};
 
 use item_list::items::Items;
-use mdb_items::container::{Comparison, Container, Entry};
+use mdb_items::container::{Comparison, Container, ParameterEntry};
 use std::alloc::{AllocError, Global};
 
 /// The parameters of the path of the container with a number; above the root there are none.
@@ -26,7 +26,7 @@ fn parameters_at(paths: &[Items<usize>], number: Option<usize>) -> &[usize]
 fn parameters_below(
     alloc: Global,
     above: &[usize],
-    entries: &[Entry],
+    entries: &[ParameterEntry],
 ) -> Result<Vec<usize>, AllocError>
     ensures { IfOk result (λ parameters. parameters.items ≡ above.now ++ map (λ e. e.parameter) entries.now) }
 {

@@ -6,15 +6,15 @@ use Rattle.std.proofs.lemmas.List.{append-nil, map-append}
 use Rattle.std.proofs.lemmas.List.Sums.{fold-append}
 use Rattle.mdb_items.specs.declared.container.Comparison.{Comparison}
 use Rattle.mdb_items.specs.declared.container.Container.{Container}
-use Rattle.mdb_items.specs.declared.container.Entry.{Entry}
+use Rattle.mdb_items.specs.declared.container.ParameterEntry.{ParameterEntry}
 use Rattle.mdb_items.specs.declared.fault.MdbSheet.TheVariants as sheet
 use Rattle.mdb_items.specs.declared.parameter.Parameter.{Parameter}
 use Rattle.mdb_items.specs.declared.rows.NewContainer.{NewContainer}
 use Rattle.mdb_items.specs.declared.rows.ContainerColumns.{ContainerColumns}
 use Rattle.mdb_items.specs.declared.rows.ContainerColumns.TheVariants.{Begins, Continues}
-use Rattle.mdb_items.specs.declared.rows.Position.{Position}
-use Rattle.mdb_items.specs.declared.rows.Position.TheVariants as place
-use Rattle.mdb_items.specs.declared.rows.Position.TheVariants.{At}
+use Rattle.mdb_items.specs.declared.rows.EntryPosition.{EntryPosition}
+use Rattle.mdb_items.specs.declared.rows.EntryPosition.TheVariants as place
+use Rattle.mdb_items.specs.declared.rows.EntryPosition.TheVariants.{At}
 use Rattle.mdb_items.specs.declared.rows.Reference.{Reference}
 use Rattle.mdb_items.specs.declared.rows.Reference.TheVariants.{Nothing, Unknown, Known}
 use Rattle.mdb_items.specs.Checks.{Checks, first_at, first_broken}
@@ -54,7 +54,7 @@ abbrev columns_rows : ContainerColumns → List ContainerRow
 columns_rows (Begins b) = begin_only b ∷ []
 columns_rows (Continues says) = []
 
-abbrev entry_rows : Reference → Position → List ContainerRow
+abbrev entry_rows : Reference → EntryPosition → List ContainerRow
 entry_rows (Known n) (At at) = entry_only n at ∷ []
 entry_rows entry position = []
 
@@ -75,11 +75,11 @@ entry_sound : (ps : List Parameter) (containers : List Container) (n at : ℕ) �
 entry_sound ps containers n at begun sound = rw begun sound
 
 -- an entry and its position that break no rule: both are there, or neither is
-data Placed : Bool → Reference → Position → Type 0 where
+data Placed : Bool → Reference → EntryPosition → Type 0 where
   nowhere : Placed false Nothing place.Nothing
   there : {continuing : Bool} {n at : ℕ} → Placed continuing (Known n) (At at)
 
-placed : (ps : List Parameter) (path : ContainerPath) (continuing : Bool) (entry : Reference) (position : Position) → AllPass (entry_checks ps path continuing entry position) → Placed continuing entry position
+placed : (ps : List Parameter) (path : ContainerPath) (continuing : Bool) (entry : Reference) (position : EntryPosition) → AllPass (entry_checks ps path continuing entry position) → Placed continuing entry position
 placed ps path continuing Unknown position p = let bad : true ≡ false = p.0 in cc
 placed ps path true Nothing position p = let bad : true ≡ false = p.1.1.0 in cc
 placed ps path false Nothing place.Nothing p = nowhere
@@ -95,7 +95,7 @@ entry_either ps path true n at sound = sound
 entry_either ps path false n at sound = sound
 
 -- what the parts of a sound row come to
-abbrev PartsAreSound : List Parameter → List Container → ContainerColumns → Reference → Position → Type 0
+abbrev PartsAreSound : List Parameter → List Container → ContainerColumns → Reference → EntryPosition → Type 0
 PartsAreSound ps above columns entry position =
     Faultless ps above (columns_rows columns ++ entry_rows entry position)
     × (fold with_container_row above (columns_rows columns ++ entry_rows entry position) ≡ with_entry (with_columns above columns) entry position)
@@ -103,7 +103,7 @@ PartsAreSound ps above columns entry position =
 head_tail : (ps : List Parameter) (above : List Container) (fields : ℕ) (columns : ContainerColumns) → first_broken ((2, not (fields == 6)) ∷ columns_checks above columns) ≡ None → first_broken (columns_checks above columns) ≡ None
 head_tail ps above fields columns sound = none_broken (columns_checks above columns) ((all_pass ((2, not (fields == 6)) ∷ columns_checks above columns) sound).1)
 
-parts_sound : (ps : List Parameter) (above : List Container) (columns : ContainerColumns) (entry : Reference) (position : Position) → first_broken (columns_checks above columns) ≡ None → first_broken (entry_checks ps (last_path (with_columns above columns)) (is_continuing columns) entry position) ≡ None
+parts_sound : (ps : List Parameter) (above : List Container) (columns : ContainerColumns) (entry : Reference) (position : EntryPosition) → first_broken (columns_checks above columns) ≡ None → first_broken (entry_checks ps (last_path (with_columns above columns)) (is_continuing columns) entry position) ≡ None
     → Placed (is_continuing columns) entry position → PartsAreSound ps above columns entry position
 parts_sound ps above (Begins b) Nothing place.Nothing h e q = ((begin_sound ps above b h, tt), refl)
 parts_sound ps above (Begins b) Nothing place.Unknown h e q = elim q [ ]
@@ -161,7 +161,7 @@ begun_rows above b sound =
 -- one more entry in the last container
 entered_rows : (front : List Container) (c : Container) (n at : ℕ) → flat_map rows_of_container (with_entry (front ++ c ∷ []) (Known n) (At at)) ≡ flat_map rows_of_container (front ++ c ∷ []) ++ entry_only n at ∷ []
 entered_rows front c n at =
-    let e : Entry = record { parameter = n; at = at } in
+    let e : ParameterEntry = record { parameter = n; at = at } in
     let f = rows_of_container in
     let own : f (with_new_entry e c) ≡ f c ++ entry_only n at ∷ [] = ap (λ (rs : List ContainerRow). begin_row c ∷ rs) (map-append entry_row c.entries (e ∷ [])) in
     ap (flat_map f) (at_last-push (with_new_entry e) front c) ∙ flat_map-append f front (with_new_entry e c ∷ []) ∙ ap (λ (rs : List ContainerRow). flat_map f front ++ rs) (append-nil (f (with_new_entry e c)) ∙ own)
@@ -175,7 +175,7 @@ entered (a ∷ containers) n at begun =
     subst P (sym parts.2) (entered_rows parts.0 parts.1 n at)
 
 -- a sound row adds its parts to the rows
-row_added : (ps : List Parameter) (above : List Container) (columns : ContainerColumns) (entry : Reference) (position : Position) → first_broken (columns_checks above columns) ≡ None → Placed (is_continuing columns) entry position
+row_added : (ps : List Parameter) (above : List Container) (columns : ContainerColumns) (entry : Reference) (position : EntryPosition) → first_broken (columns_checks above columns) ≡ None → Placed (is_continuing columns) entry position
     → flat_map rows_of_container (with_entry (with_columns above columns) entry position) ≡ flat_map rows_of_container above ++ (columns_rows columns ++ entry_rows entry position)
 row_added ps above (Begins b) Nothing place.Nothing h q = begun_rows above b h
 row_added ps above (Begins b) Nothing place.Unknown h q = elim q [ ]

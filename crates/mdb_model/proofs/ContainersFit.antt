@@ -7,12 +7,12 @@ use Rattle.std.proofs.lemmas.List.{append-nil}
 use Rattle.text_forms.specs.Names.{is_name}
 use Rattle.mdb_items.specs.declared.container.Comparison.{Comparison}
 use Rattle.mdb_items.specs.declared.container.Container.{Container}
-use Rattle.mdb_items.specs.declared.container.Entry.{Entry}
+use Rattle.mdb_items.specs.declared.container.ParameterEntry.{ParameterEntry}
 use Rattle.mdb_items.specs.declared.parameter.Parameter.{Parameter}
 use Rattle.mdb_items.specs.declared.rows.NewContainer.{NewContainer}
 use Rattle.mdb_items.specs.declared.rows.ContainerColumns.TheVariants.{Begins, Continues}
-use Rattle.mdb_items.specs.declared.rows.Position.TheVariants as place
-use Rattle.mdb_items.specs.declared.rows.Position.TheVariants.{At}
+use Rattle.mdb_items.specs.declared.rows.EntryPosition.TheVariants as place
+use Rattle.mdb_items.specs.declared.rows.EntryPosition.TheVariants.{At}
 use Rattle.mdb_items.specs.declared.rows.Reference.TheVariants.{Nothing, Known}
 use Rattle.mdb_items.specs.Checks.{first_broken}
 use Rattle.mdb_items.specs.ContainerRows.{ContainerRow, begin_row, new_container_checks, compares_other, entry_checks, entry_row, columns_checks, is_condition, is_parent, last_path, path_up, row_fault, rows_of_container, with_container_row, with_columns, with_new_entry}
@@ -35,7 +35,7 @@ both_true true b e = (refl, e)
 both_true false b e = cc
 
 -- the entries of a list name parameters below a number
-abbrev AreBelow : ℕ → List Entry → Type 0
+abbrev AreBelow : ℕ → List ParameterEntry → Type 0
 AreBelow count entries = AllByRecursion (λ e. e.parameter < count) entries
 
 abbrev LineIsBelow : ℕ → ContainerPath → Type 0
@@ -64,12 +64,12 @@ path_is_below : (count : ℕ) (cs : List Container) (o : Option ℕ) → AllByRe
 unfolding paths_of
 path_is_below count cs o h = path_named count (fold with_path [] cs) o (paths_below count cs [] tt h)
 
-first_stands : (count : ℕ) (e : Entry) (entries : List Entry) (n : ℕ) → e.parameter < count → (b : Bool) → (e.parameter == n) ≡ b → stands_on (e ∷ entries) n ≡ true → (stands_on entries n ≡ true → n < count) → n < count
+first_stands : (count : ℕ) (e : ParameterEntry) (entries : List ParameterEntry) (n : ℕ) → e.parameter < count → (b : Bool) → (e.parameter == n) ≡ b → stands_on (e ∷ entries) n ≡ true → (stands_on entries n ≡ true → n < count) → n < count
 first_stands count e entries n lt true same is more = let q = eqb-true e.parameter n same in omega arith
 first_stands count e entries n lt false other is more = more (rw other at is)
 
 -- what stands among such entries is below the number
-stands_below : (count : ℕ) (entries : List Entry) (n : ℕ) → AreBelow count entries → stands_on entries n ≡ true → n < count
+stands_below : (count : ℕ) (entries : List ParameterEntry) (n : ℕ) → AreBelow count entries → stands_on entries n ≡ true → n < count
 stands_below count [] n h is = cc
 stands_below count (e ∷ entries) n h is = first_stands count e entries n h.0 (e.parameter == n) refl is (λ k. stands_below count entries n h.1 k)
 
@@ -77,7 +77,7 @@ either_false : (a b : Bool) → (not a || b) ≡ false → (a ≡ true) × (b �
 either_false true b e = (refl, e)
 either_false false b e = cc
 
-comparisons_fit : (count : ℕ) (entries : List Entry) (cs : List Comparison) → count ≤ 4096 → AreBelow count entries → compares_other entries cs ≡ false → list_all (λ c. is_in_range c.number) cs ≡ true → AllByRecursion FitsComparison cs
+comparisons_fit : (count : ℕ) (entries : List ParameterEntry) (cs : List Comparison) → count ≤ 4096 → AreBelow count entries → compares_other entries cs ≡ false → list_all (λ c. is_in_range c.number) cs ≡ true → AllByRecursion FitsComparison cs
 comparisons_fit count entries [] few h known ranged = tt
 comparisons_fit count entries (c ∷ cs) few h known ranged =
     let k = either_false (stands_on entries c.parameter) (compares_other entries cs) known in
@@ -87,7 +87,7 @@ comparisons_fit count entries (c ∷ cs) few h known ranged =
 
 -- ---- one entry after the other
 
-abbrev pub with_entries : Container → List Entry → Container
+abbrev pub with_entries : Container → List ParameterEntry → Container
 with_entries c entries = record { name = c.name; parent = c.parent; archive = c.archive; condition = c.condition; entries = entries }
 
 last_number-push : (cs : List Container) (c : Container) → last_number (cs ++ c ∷ []) ≡ Some (length cs)
@@ -101,12 +101,12 @@ last_path-push above c =
     let at : slice_get (ls ++ l ∷ []) (length above) ≡ Some l = ap (slice_get (ls ++ l ∷ [])) (sym (length-paths_of above)) ∙ slice_get-end ls l [] in
     ap (path_at (paths_of (above ++ c ∷ []))) (last_number-push above c) ∙ ap (λ (xs : List ContainerPath). path_at xs (Some (length above))) (paths_of-push above c) ∙ ap (λ (o : Option ContainerPath). unwrap_or o no_path) at
 
-record EntryIsSound (parameters : List Parameter) (above : List Container) (e : Entry) : Type 0 where
+record EntryIsSound (parameters : List Parameter) (above : List Container) (e : ParameterEntry) : Type 0 where
   parameter : e.parameter < length parameters
   at : e.at ≤ 524336
   room : length (last_path above).entries < 256
 
-entry_is_sound : (parameters : List Parameter) (above : List Container) (e : Entry) → row_fault parameters above (entry_row e) ≡ None → EntryIsSound parameters above e
+entry_is_sound : (parameters : List Parameter) (above : List Container) (e : ParameterEntry) → row_fault parameters above (entry_row e) ≡ None → EntryIsSound parameters above e
 entry_is_sound parameters above e sound =
     let both = or_else-none (first_broken ((2, false) ∷ columns_checks above (Continues false))) (first_broken (entry_checks parameters (last_path above) true (Known e.parameter) (At e.at))) sound in
     let q = all_pass (entry_checks parameters (last_path above) true (Known e.parameter) (At e.at)) both.1 in
@@ -115,17 +115,17 @@ entry_is_sound parameters above e sound =
     let near = leb-true (e.at + bits_at parameters e.parameter) 524336 (is_true (nat_le (e.at + bits_at parameters e.parameter) 524336) q.1.1.1.1.1.0) in
     record { parameter = known; at = omega arith; room = room }
 
-record EntriesFit (parameters : List Parameter) (above : List Container) (c : Container) (front es : List Entry) (more : List ContainerRow) : Type 0 where
+record EntriesFit (parameters : List Parameter) (above : List Container) (c : Container) (front es : List ParameterEntry) (more : List ContainerRow) : Type 0 where
   below : AreBelow (length parameters) es
   fits : AllByRecursion FitsEntry es
   few : length front + length es ≤ 256
   left : containers_sound parameters (above ++ with_entries c (front ++ es) ∷ []) more ≡ true
 
-entries_fit : (parameters : List Parameter) (above : List Container) (c : Container) (front es : List Entry) (more : List ContainerRow) → length parameters ≤ 4096 → length front ≤ 256
+entries_fit : (parameters : List Parameter) (above : List Container) (c : Container) (front es : List ParameterEntry) (more : List ContainerRow) → length parameters ≤ 4096 → length front ≤ 256
     → containers_sound parameters (above ++ with_entries c front ∷ []) (map entry_row es ++ more) ≡ true → EntriesFit parameters above c front es more
 unfolding are_sound
 entries_fit parameters above c front [] more few le sound =
-    record { below = tt; fits = tt; few = omega arith; left = ap (λ (xs : List Entry). containers_sound parameters (above ++ with_entries c xs ∷ []) more) (append-nil front) ∙ sound }
+    record { below = tt; fits = tt; few = omega arith; left = ap (λ (xs : List ParameterEntry). containers_sound parameters (above ++ with_entries c xs ∷ []) more) (append-nil front) ∙ sound }
 entries_fit parameters above c front (e ∷ es) more few le sound =
     let now = above ++ with_entries c front ∷ [] in
     let next = above ++ with_entries c (front ++ e ∷ []) ∷ [] in
@@ -142,7 +142,7 @@ entries_fit parameters above c front (e ∷ es) more few le sound =
       below = (s.parameter, rest.below);
       fits = (record { parameter = omega arith; at = omega arith }, rest.fits);
       few = omega (arith, rest.few, length-push front e);
-      left = ap (λ (xs : List Entry). containers_sound parameters (above ++ with_entries c xs ∷ []) more) (sym (append_assoc front (e ∷ []) es)) ∙ rest.left;
+      left = ap (λ (xs : List ParameterEntry). containers_sound parameters (above ++ with_entries c xs ∷ []) more) (sym (append_assoc front (e ∷ []) es)) ∙ rest.left;
     }
 
 -- ---- one container after the other

@@ -13,21 +13,21 @@ use Rattle.mdb_items.specs.declared.calibration.Calibration.{Calibration}
 use Rattle.mdb_items.specs.declared.calibration.EnumRow.{EnumRow}
 use Rattle.mdb_items.specs.declared.calibration.PointsRow.{PointsRow}
 use Rattle.mdb_items.specs.declared.calibration.PolyRow.{PolyRow}
-use Rattle.mdb_items.specs.declared.calibration.Table.{Table}
-use Rattle.mdb_items.specs.declared.calibration.Table.TheVariants.{Poly, Points, Enum}
+use Rattle.mdb_items.specs.declared.calibration.Calibrator.{Calibrator}
+use Rattle.mdb_items.specs.declared.calibration.Calibrator.TheVariants.{Poly, Points, Enum}
 use Rattle.mdb_items.specs.declared.parameter.Coding.{Coding}
 use Rattle.mdb_items.specs.declared.parameter.Parameter.{Parameter}
 use Rattle.mdb_items.specs.declared.rows.RowValues.{RowValues}
 use Rattle.mdb_items.specs.declared.rows.RowValues.TheVariants.{Unread, Coefficient, Point, Label}
 use Rattle.mdb_items.specs.declared.rows.ParameterRow.{ParameterRow}
-use Rattle.mdb_items.specs.CalibrationRows.{CalibrationRow, calibration_checks, calibration_fault, calibration_fault_at, calibrations_of, row_values_of, continued, empty_table, has_x, has_y, rows_of_calibration, with_calibration_row, with_new_row, table_with_row}
+use Rattle.mdb_items.specs.CalibrationRows.{CalibrationRow, calibration_checks, calibration_fault, calibration_fault_at, calibrations_of, row_values_of, continued, empty_calibrator, has_x, has_y, rows_of_calibration, with_calibration_row, with_new_row, calibrator_with_row}
 use Rattle.mdb_items.specs.Checks.{first_at, first_broken}
 use Rattle.mdb_items.specs.Lists.{at_last}
 use Rattle.mdb_items.specs.Numbers.{is_in_range}
 use Rattle.mdb_items.specs.ParameterRows.{fits_coding, is_reference, parameter_checks, parameter_fault, parameter_fault_at, parameters_of, reference_to, row_of_parameter}
-use Rattle.mdb_items.specs.Database.{row_count, table_len}
+use Rattle.mdb_items.specs.Database.{row_count, calibrator_len}
 use Rattle.mdb_model.specs.Rechecking.{HasRows}
-use Rattle.mdb_octets.specs.Spelling.{FitsCalibration, FitsEnum, FitsParameter, FitsPoints, FitsPoly, FitsTable, link}
+use Rattle.mdb_octets.specs.Spelling.{FitsCalibration, FitsEnum, FitsParameter, FitsPoints, FitsPoly, FitsCalibrator, link}
 use Rattle.mdb_items.specs.Texts.{Text, is_label}
 use Rattle.mdb_items.proofs.Ends.{at_last-push}
 use Rattle.mdb_rules.proofs.Passing.{all_pass, each_none, is_true}
@@ -135,12 +135,12 @@ enum_fits : (name : Text) (rows : List EnumRow) → AllByRecursion RowFits (map 
 enum_fits name [] h = tt
 enum_fits name (r ∷ rows) h = (record { x = range_fits r.x h.0.x; label = label_short r.label h.0.y }, enum_fits name rows h.1)
 
-table_fits : (name : Text) (t : Table) → table_len t ≤ 65536 → AllByRecursion RowFits (map (row_with name) (row_values_of t)) → FitsTable t
-table_fits name (Poly rows) le h = (omega arith, poly_fits name rows h)
-table_fits name (Points rows) le h = (omega arith, points_fits name rows h)
-table_fits name (Enum rows) le h = (omega arith, enum_fits name rows h)
+calibrator_fits : (name : Text) (t : Calibrator) → calibrator_len t ≤ 65536 → AllByRecursion RowFits (map (row_with name) (row_values_of t)) → FitsCalibrator t
+calibrator_fits name (Poly rows) le h = (omega arith, poly_fits name rows h)
+calibrator_fits name (Points rows) le h = (omega arith, points_fits name rows h)
+calibrator_fits name (Enum rows) le h = (omega arith, enum_fits name rows h)
 
-has_name : (name : Text) (t : Table) → 0 < table_len t → AllByRecursion RowFits (map (row_with name) (row_values_of t)) → is_name name ≡ true
+has_name : (name : Text) (t : Calibrator) → 0 < calibrator_len t → AllByRecursion RowFits (map (row_with name) (row_values_of t)) → is_name name ≡ true
 has_name name (Poly []) lt h = absurd (omega arith)
 has_name name (Poly (r ∷ rows)) lt h = h.0.name
 has_name name (Points []) lt h = absurd (omega arith)
@@ -152,14 +152,14 @@ each_fits : (cs : List Calibration) → AllByRecursion HasRows cs → AllByRecur
 each_fits [] has few h = tt
 each_fits (c ∷ cs) has few h =
     let parts = all_split RowFits (rows_of_calibration c) (flat_map rows_of_calibration cs) h in
-    (record { name = name_short c.name (has_name c.name c.table has.0 parts.0); table = table_fits c.name c.table few.0 parts.0 }, each_fits cs has.1 few.1 parts.1)
+    (record { name = name_short c.name (has_name c.name c.calibrator has.0 parts.0); calibrator = calibrator_fits c.name c.calibrator few.0 parts.0 }, each_fits cs has.1 few.1 parts.1)
 
 pub calibrations_fit : (cs : List Calibration) → AllByRecursion HasRows cs → sum_by row_count cs ≤ 65536 → first_at (calibration_fault_at (flat_map rows_of_calibration cs)) (length (flat_map rows_of_calibration cs)) ≡ None → AllByRecursion FitsCalibration cs
 calibrations_fit cs has few none = each_fits cs has (all_below row_count 65536 cs few) (rows_fit (flat_map rows_of_calibration cs) none)
 
 -- ---- no calibration is without rows
 
-grows : (t : Table) (x : RowValues) → table_len t ≤ table_len (table_with_row t x)
+grows : (t : Calibrator) (x : RowValues) → calibrator_len t ≤ calibrator_len (calibrator_with_row t x)
 grows (Poly rows) Unread = omega arith
 grows (Poly rows) (Coefficient None m) = omega arith
 grows (Poly rows) (Coefficient (Some e) None) = omega arith
@@ -178,7 +178,7 @@ grows (Enum rows) (Point n m) = omega arith
 grows (Enum rows) (Label None l) = omega arith
 grows (Enum rows) (Label (Some n) l) = omega (arith, length-append rows (record { x = n; label = l } ∷ []))
 
-first_row : (x : RowValues) → has_x x ≡ true → has_y x ≡ true → 0 < table_len (table_with_row (empty_table x) x)
+first_row : (x : RowValues) → has_x x ≡ true → has_y x ≡ true → 0 < calibrator_len (calibrator_with_row (empty_calibrator x) x)
 first_row Unread h k = cc
 first_row (Coefficient None m) h k = cc
 first_row (Coefficient (Some e) None) h k = cc
@@ -195,10 +195,10 @@ last_has f (c ∷ []) h has = (h c has.0, tt)
 last_has f (c ∷ d ∷ cs) h has = (has.0, last_has f (d ∷ cs) h has.1)
 
 taken_has : (above : List Calibration) (name : Text) (x : RowValues) (b : Bool) → has_x x ≡ true → has_y x ≡ true → AllByRecursion HasRows above
-    → AllByRecursion HasRows (at_last (with_new_row x) (cond b above (above ++ record { name = name; table = empty_table x } ∷ [])))
-taken_has above name x true h k has = last_has (with_new_row x) above (λ c some. let more = grows c.table x in omega arith) has
+    → AllByRecursion HasRows (at_last (with_new_row x) (cond b above (above ++ record { name = name; calibrator = empty_calibrator x } ∷ [])))
+taken_has above name x true h k has = last_has (with_new_row x) above (λ c some. let more = grows c.calibrator x in omega arith) has
 taken_has above name x false h k has =
-    let c : Calibration = record { name = name; table = empty_table x } in
+    let c : Calibration = record { name = name; calibrator = empty_calibrator x } in
     let some : HasRows (with_new_row x c) = first_row x h k in
     subst (λ (cs : List Calibration). AllByRecursion HasRows cs) (sym (at_last-push (with_new_row x) above c)) (all_join HasRows above (with_new_row x c ∷ []) has (some, tt))
 

@@ -12,5 +12,5 @@ pub mod DatabaseOctets
 pub mod ListsAgain
 pub mod Counts
 pub mod Distinct
-pub mod CalibrationTables
+pub mod Calibrators
 pub mod Structure

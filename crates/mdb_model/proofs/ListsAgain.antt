@@ -12,7 +12,7 @@ use Rattle.mdb_items.specs.declared.parameter.Parameter.{Parameter}
 use Rattle.mdb_items.specs.CalibrationRows.{calibrations_of, rows_of_calibration}
 use Rattle.mdb_items.specs.Checks.{or_else}
 use Rattle.mdb_items.specs.ContainerRows.{containers_of, rows_of_container}
-use Rattle.mdb_items.specs.Database.{Broken, Database, IsDatabase, broken_below, calibrations_fault, containers_fault, database_of, first_fault, limit_passed, parameters_fault, database_rows, table_len}
+use Rattle.mdb_items.specs.Database.{Broken, Database, IsDatabase, broken_below, calibrations_fault, containers_fault, database_of, first_fault, limit_passed, parameters_fault, database_rows, calibrator_len}
 use Rattle.mdb_model.specs.SheetResults.{IsLimitsResult}
 use Rattle.mdb_items.specs.ParameterRows.{parameters_of, row_of_parameter}
 use Rattle.mdb_octets.specs.Reading.{database_at}
@@ -63,16 +63,16 @@ all_spelled d cs ps ks ec ep ek = let e = parameters_back d.parameters in cc
 -- ---- lists that aren't taken in are no database
 
 -- a test of each calibration for a row
-pub each_has_rows : (cs : List Calibration) → list_all (λ c. nat_lt 0 (table_len c.table)) cs ≡ true → AllByRecursion HasRows cs
+pub each_has_rows : (cs : List Calibration) → list_all (λ c. nat_lt 0 (calibrator_len c.calibrator)) cs ≡ true → AllByRecursion HasRows cs
 each_has_rows [] all = tt
-each_has_rows (c ∷ cs) all = let p = both_true (nat_lt 0 (table_len c.table)) (list_all (λ k. nat_lt 0 (table_len k.table)) cs) all in (ltb-true 0 (table_len c.table) p.0, each_has_rows cs p.1)
+each_has_rows (c ∷ cs) all = let p = both_true (nat_lt 0 (calibrator_len c.calibrator)) (list_all (λ k. nat_lt 0 (calibrator_len k.calibrator)) cs) all in (ltb-true 0 (calibrator_len c.calibrator) p.0, each_has_rows cs p.1)
 
-all_have_rows : (cs : List Calibration) → AllByRecursion HasRows cs → list_all (λ c. nat_lt 0 (table_len c.table)) cs ≡ true
+all_have_rows : (cs : List Calibration) → AllByRecursion HasRows cs → list_all (λ c. nat_lt 0 (calibrator_len c.calibrator)) cs ≡ true
 all_have_rows [] has = refl
-all_have_rows (c ∷ cs) has = rw (lt-ltb 0 (table_len c.table) has.0, all_have_rows cs has.1) refl
+all_have_rows (c ∷ cs) has = rw (lt-ltb 0 (calibrator_len c.calibrator) has.0, all_have_rows cs has.1) refl
 
-pub some_rowless : (cs : List Calibration) → list_all (λ c. nat_lt 0 (table_len c.table)) cs ≡ false → AllByRecursion HasRows cs → ⊥
-some_rowless cs none has = true_not_false (list_all (λ c. nat_lt 0 (table_len c.table)) cs) (all_have_rows cs has) none
+pub some_rowless : (cs : List Calibration) → list_all (λ c. nat_lt 0 (calibrator_len c.calibrator)) cs ≡ false → AllByRecursion HasRows cs → ⊥
+some_rowless cs none has = true_not_false (list_all (λ c. nat_lt 0 (calibrator_len c.calibrator)) cs) (all_have_rows cs has) none
 
 pub refuse_rowless : (d : Database) → (AllByRecursion HasRows d.calibrations → ⊥) → IsDatabase d → ⊥
 refuse_rowless d none is = none (has_rows d is)
@@ -126,9 +126,9 @@ refuse_limits d made OutOfMemory same passed = tt
 pub is_given : (octets : List ℕ) (lists a : Database) → whole database_at octets ≡ Some lists → IsDatabase a → octets ≡ database_octets a → lists ≡ a
 is_given octets lists a e is same = is_that database_exact tt octets lists a e (database_fits a is) same
 
-pub lists_memory : (octets : List ℕ) (e : DecodeError) (a : Database) → Fails e (whole database_at octets) → IsDatabase a → octets ≡ database_octets a → e ≡ errors.Memory
+pub lists_memory : (octets : List ℕ) (e : DecodeError) (a : Database) → Fails e (whole database_at octets) → IsDatabase a → octets ≡ database_octets a → e ≡ errors.OutOfMemory
 lists_memory octets e a fails is same = is_memory database_exact tt octets e a fails (database_fits a is) same
 
-pub again_memory : (octets : List ℕ) (lists a : Database) (e : DecodeError) → whole database_at octets ≡ Some lists → Refused e (IsDatabase lists → ⊥) → IsDatabase a → octets ≡ database_octets a → e ≡ errors.Memory
-again_memory octets lists a errors.Memory read refused is same = refl
+pub again_memory : (octets : List ℕ) (lists a : Database) (e : DecodeError) → whole database_at octets ≡ Some lists → Refused e (IsDatabase lists → ⊥) → IsDatabase a → octets ≡ database_octets a → e ≡ errors.OutOfMemory
+again_memory octets lists a errors.OutOfMemory read refused is same = refl
 again_memory octets lists a errors.Malformed read refused is same = absurd (refused (subst IsDatabase (sym (is_given octets lists a read is same)) is))

@@ -8,11 +8,11 @@ use Rattle.std.proofs.lemmas.List.{append-nil, map-append, length-map, take_all,
 use Rattle.std.proofs.lemmas.List.Sums.{fold-append}
 use Rattle.std.proofs.lemmas.Option.{slice_get_within, get_or_from_slice_get}
 use Rattle.mdb_items.specs.declared.calibration.Calibration.{Calibration}
-use Rattle.mdb_items.specs.declared.calibration.Table.{Table}
-use Rattle.mdb_items.specs.declared.calibration.Table.TheVariants.{Poly, Points, Enum}
+use Rattle.mdb_items.specs.declared.calibration.Calibrator.{Calibrator}
+use Rattle.mdb_items.specs.declared.calibration.Calibrator.TheVariants.{Poly, Points, Enum}
 use Rattle.mdb_rules.specs.declared.calibration_rows.Calibrations.{Calibrations}
 use Rattle.mdb_items.specs.declared.container.Container.{Container}
-use Rattle.mdb_items.specs.declared.container.Entry.{Entry}
+use Rattle.mdb_items.specs.declared.container.ParameterEntry.{ParameterEntry}
 use Rattle.mdb_items.specs.declared.parameter.Parameter.{Parameter}
 use Rattle.mdb_items.specs.declared.rows.RowValues.{RowValues}
 use Rattle.mdb_items.specs.declared.rows.ParameterRow.{ParameterRow}
@@ -23,11 +23,11 @@ use Rattle.mdb_items.specs.Checks.{first_at, first_broken, or_else}
 use Rattle.mdb_rules.specs.declared.container_rows.Containers.{Containers}
 use Rattle.mdb_items.specs.declared.rows.NewContainer.{NewContainer}
 use Rattle.mdb_items.specs.declared.rows.ContainerColumns.TheVariants.{Begins, Continues}
-use Rattle.mdb_items.specs.declared.rows.Position.TheVariants as place
-use Rattle.mdb_items.specs.declared.rows.Position.TheVariants.{At}
+use Rattle.mdb_items.specs.declared.rows.EntryPosition.TheVariants as place
+use Rattle.mdb_items.specs.declared.rows.EntryPosition.TheVariants.{At}
 use Rattle.mdb_items.specs.declared.rows.Reference.TheVariants.{Nothing, Known}
 use Rattle.mdb_items.specs.ContainerRows.{ContainerRow, begin_row, containers_of, entry_checks, entry_row, columns_checks, last_path, row_fault, rows_of_container, with_container_row, with_entry, with_columns, with_new_entry}
-use Rattle.mdb_items.specs.Database.{table_len}
+use Rattle.mdb_items.specs.Database.{calibrator_len}
 use Rattle.mdb_items.specs.ParameterRows.{referenced_number, parameter_checks, parameter_of, reference_to, row_of_parameter}
 use Rattle.mdb_model.specs.Rechecking.{CalibrationsRechecked, ContainersRechecked, HasRows, ParametersRechecked, Refused, RowsRechecked, CalibrationRechecked, are_sound, calibration_fault_before, calibrations_sound, container_fault_below, containers_sound, first_name, parameter_fault_below, parameters_sound, row_with, with_parameter_row}
 use Rattle.mdb_rules.specs.Steps.{IsInStep}
@@ -146,46 +146,46 @@ rows_done old items name next all i le so_far = (
 -- ---- what a loop or an exit has to show
 
 pub refused_as : (e : DecodeError) (P Q : Type 0) → (P → Q) → Refused e P → Refused e Q
-refused_as errors.Memory P Q f h = tt
+refused_as errors.OutOfMemory P Q f h = tt
 refused_as errors.Malformed P Q f h = f h
 
-length-row_values : (t : Table) → length (row_values_of t) ≡ table_len t
+length-row_values : (t : Calibrator) → length (row_values_of t) ≡ calibrator_len t
 length-row_values (Poly rows) = length-map rows _
 length-row_values (Points rows) = length-map rows _
 length-row_values (Enum rows) = length-map rows _
 
 -- the name after a row, as a test of its place gives it
 abbrev NamedAfter : Calibration → Text → Option Text → Option Text → ℕ → ℕ → Type 0
-NamedAfter c name after next count i = (name ≡ c.name) × (count ≡ table_len c.table) × (ltb (i + 1) count ≡ true → after ≡ Some name) × (ltb (i + 1) count ≡ false → after ≡ next)
+NamedAfter c name after next count i = (name ≡ c.name) × (count ≡ calibrator_len c.calibrator) × (ltb (i + 1) count ≡ true → after ≡ Some name) × (ltb (i + 1) count ≡ false → after ≡ next)
 
-named_some : (c : Calibration) (name : Text) (after next : Option Text) (count i : ℕ) → NamedAfter c name after next count i → i + 1 < length (row_values_of c.table) → after ≡ Some c.name
-named_some c name after next count i n lt = n.2 (lt-ltb (i + 1) count (omega (arith, n.1, length-row_values c.table))) ∙ ap Some n.0
+named_some : (c : Calibration) (name : Text) (after next : Option Text) (count i : ℕ) → NamedAfter c name after next count i → i + 1 < length (row_values_of c.calibrator) → after ≡ Some c.name
+named_some c name after next count i n lt = n.2 (lt-ltb (i + 1) count (omega (arith, n.1, length-row_values c.calibrator))) ∙ ap Some n.0
 
-named_none : (c : Calibration) (name : Text) (after next : Option Text) (count i : ℕ) → NamedAfter c name after next count i → length (row_values_of c.table) ≤ i + 1 → after ≡ next
-named_none c name after next count i n le = n.3 (le-ltb (i + 1) count (omega (arith, n.1, length-row_values c.table)))
+named_none : (c : Calibration) (name : Text) (after next : Option Text) (count i : ℕ) → NamedAfter c name after next count i → length (row_values_of c.calibrator) ≤ i + 1 → after ≡ next
+named_none c name after next count i n le = n.3 (le-ltb (i + 1) count (omega (arith, n.1, length-row_values c.calibrator)))
 
-pub row_more : (old mid now : Calibrations) (c : Calibration) (name : Text) (next after : Option Text) (count i : ℕ) (x : RowValues) → NamedAfter c name after next count i → slice_get (row_values_of c.table) i ≡ Some x
+pub row_more : (old mid now : Calibrations) (c : Calibration) (name : Text) (next after : Option Text) (count i : ℕ) (x : RowValues) → NamedAfter c name after next count i → slice_get (row_values_of c.calibrator) i ≡ Some x
     → (first_broken (calibration_checks mid.items.items (row_with name x) after) ≡ None) × (now.items.items ≡ with_calibration_row mid.items.items (row_with name x)) × IsInStep now
-    → RowsLeft old.items.items c.name next (row_values_of c.table) mid.items.items i → IsInStep now × RowsLeft old.items.items c.name next (row_values_of c.table) now.items.items (i + 1)
+    → RowsLeft old.items.items c.name next (row_values_of c.calibrator) mid.items.items i → IsInStep now × RowsLeft old.items.items c.name next (row_values_of c.calibrator) now.items.items (i + 1)
 row_more old mid now c name next after count i x n at taken so_far =
     let sound : first_broken (calibration_checks mid.items.items (row_with c.name x) after) ≡ None = subst (λ (m : Text). first_broken (calibration_checks mid.items.items (row_with m x) after) ≡ None) n.0 taken.0 in
     let is : now.items.items ≡ with_calibration_row mid.items.items (row_with c.name x) = subst (λ (m : Text). now.items.items ≡ with_calibration_row mid.items.items (row_with m x)) n.0 taken.1 in
-    (taken.2, rows_go_on old.items.items mid.items.items now.items.items c.name after next (row_values_of c.table) i x at (named_some c name after next count i n) (named_none c name after next count i n) sound is so_far)
+    (taken.2, rows_go_on old.items.items mid.items.items now.items.items c.name after next (row_values_of c.calibrator) i x at (named_some c name after next count i n) (named_none c name after next count i n) sound is so_far)
 
-pub row_refused : (old mid now : Calibrations) (c : Calibration) (name : Text) (next after : Option Text) (count i : ℕ) (x : RowValues) (e : DecodeError) → NamedAfter c name after next count i → slice_get (row_values_of c.table) i ≡ Some x
+pub row_refused : (old mid now : Calibrations) (c : Calibration) (name : Text) (next after : Option Text) (count i : ℕ) (x : RowValues) (e : DecodeError) → NamedAfter c name after next count i → slice_get (row_values_of c.calibrator) i ≡ Some x
     → Refused e (is_none (first_broken (calibration_checks mid.items.items (row_with name x) after)) ≡ false)
-    → RowsLeft old.items.items c.name next (row_values_of c.table) mid.items.items i → CalibrationRechecked old now c next (Err e)
+    → RowsLeft old.items.items c.name next (row_values_of c.calibrator) mid.items.items i → CalibrationRechecked old now c next (Err e)
 row_refused old mid now c name next after count i x e n at refused so_far =
     refused_as e (is_none (first_broken (calibration_checks mid.items.items (row_with name x) after)) ≡ false) ((more : List CalibrationRow) → first_name more ≡ next → calibrations_sound old.items.items (rows_of_calibration c ++ more) ≡ false)
-    (λ broken. rows_fail old.items.items mid.items.items c.name after next (row_values_of c.table) i x at (named_some c name after next count i n) (named_none c name after next count i n)
+    (λ broken. rows_fail old.items.items mid.items.items c.name after next (row_values_of c.calibrator) i x at (named_some c name after next count i n) (named_none c name after next count i n)
     (subst (λ (m : Text). is_none (first_broken (calibration_checks mid.items.items (row_with m x) after)) ≡ false) n.0 broken) so_far) refused
 
 -- ---- calibrations one after the other
 
 first_row : (c : Calibration) (more : List CalibrationRow) → HasRows c → first_name (rows_of_calibration c ++ more) ≡ Some c.name
-first_row c more has = row_values c.table has
+first_row c more has = row_values c.calibrator has
   where
-    row_values : (t : Table) → 0 < table_len t → first_name (map (row_with c.name) (row_values_of t) ++ more) ≡ Some c.name
+    row_values : (t : Calibrator) → 0 < calibrator_len t → first_name (map (row_with c.name) (row_values_of t) ++ more) ≡ Some c.name
     row_values (Poly []) lt = absurd (omega arith)
     row_values (Poly (r ∷ rs)) lt = refl
     row_values (Points []) lt = absurd (omega arith)
@@ -373,7 +373,7 @@ continuing : (old : List Container) → 0 < length old → first_broken ((2, not
 continuing [] some = absurd (omega arith)
 continuing (k ∷ old) some = refl
 
-pub entry_fails : (parameters : List Parameter) (old : List Container) (e : Entry) (rule : Option ℕ) → 0 < length old → rule ≡ first_broken (entry_checks parameters (last_path old) true (Known e.parameter) (At e.at)) → is_some rule ≡ true
+pub entry_fails : (parameters : List Parameter) (old : List Container) (e : ParameterEntry) (rule : Option ℕ) → 0 < length old → rule ≡ first_broken (entry_checks parameters (last_path old) true (Known e.parameter) (At e.at)) → is_some rule ≡ true
     → (more : List ContainerRow) → containers_sound parameters old ((entry_row e ∷ []) ++ more) ≡ false
 entry_fails parameters old e rule begun is some more =
     let fault : row_fault parameters old (entry_row e) ≡ rule = ap (λ (o : Option ℕ). or_else o (first_broken (entry_checks parameters (last_path old) true (Known e.parameter) (At e.at)))) (continuing old begun) ∙ sym is in
@@ -383,7 +383,7 @@ entry_fails parameters old e rule begun is some more =
     some_is_none None e = cc
     some_is_none (Some n) e = refl
 
-pub entry_taken : (parameters : List Parameter) (old now : List Container) (e : Entry) (rule : Option ℕ) → 0 < length old → rule ≡ first_broken (entry_checks parameters (last_path old) true (Known e.parameter) (At e.at)) → is_some rule ≡ false
+pub entry_taken : (parameters : List Parameter) (old now : List Container) (e : ParameterEntry) (rule : Option ℕ) → 0 < length old → rule ≡ first_broken (entry_checks parameters (last_path old) true (Known e.parameter) (At e.at)) → is_some rule ≡ false
     → now ≡ with_entry old (Known e.parameter) (At e.at) → ((more : List ContainerRow) → containers_sound parameters old ((entry_row e ∷ []) ++ more) ≡ containers_sound parameters now more) × (now ≡ fold with_container_row old (entry_row e ∷ []))
 entry_taken parameters old now e rule begun is none same =
     let fault : row_fault parameters old (entry_row e) ≡ None = ap (λ (o : Option ℕ). or_else o (first_broken (entry_checks parameters (last_path old) true (Known e.parameter) (At e.at)))) (continuing old begun) ∙ sym is ∙ is_some_none rule none in
@@ -423,5 +423,5 @@ containers_refused parameters given e refused =
     (λ fails. ap (containers_sound parameters []) (sym (append-nil (flat_map rows_of_container given))) ∙ fails []) refused
 
 -- an entry more leaves the containers as many
-pub entered_length : (e : Entry) (old now : List Container) → now ≡ fold with_container_row old (entry_row e ∷ []) → 0 < length old → 0 < length now
+pub entered_length : (e : ParameterEntry) (old now : List Container) → now ≡ fold with_container_row old (entry_row e ∷ []) → 0 < length old → 0 < length now
 entered_length e old now is some = omega (arith, ap length is, length-at_last (with_new_entry e) old)

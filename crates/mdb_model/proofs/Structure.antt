@@ -11,12 +11,12 @@ use Rattle.text_forms.specs.Names.{is_name}
 use Rattle.mdb_items.specs.declared.calibration.Calibration.{Calibration}
 use Rattle.mdb_items.specs.declared.container.Comparison.{Comparison}
 use Rattle.mdb_items.specs.declared.container.Container.{Container}
-use Rattle.mdb_items.specs.declared.container.Entry.{Entry}
+use Rattle.mdb_items.specs.declared.container.ParameterEntry.{ParameterEntry}
 use Rattle.mdb_items.specs.declared.parameter.Parameter.{Parameter}
 use Rattle.mdb_items.specs.declared.rows.ContainerColumns.TheVariants.{Begins, Continues}
 use Rattle.mdb_items.specs.declared.rows.ParameterRow.{ParameterRow}
-use Rattle.mdb_items.specs.declared.rows.Position.TheVariants as place
-use Rattle.mdb_items.specs.declared.rows.Position.TheVariants.{At}
+use Rattle.mdb_items.specs.declared.rows.EntryPosition.TheVariants as place
+use Rattle.mdb_items.specs.declared.rows.EntryPosition.TheVariants.{At}
 use Rattle.mdb_items.specs.declared.rows.Reference.TheVariants.{Nothing, Known}
 use Rattle.mdb_items.specs.Checks.{first_at, first_broken}
 use Rattle.mdb_items.specs.ContainerRows.{ContainerRow, begin_row, new_container_checks, compares_other, entry_checks, entry_row, columns_checks, is_condition, is_nothing, is_parent, last_path, path_up, row_fault, rows_of_container, with_container_row, with_columns, with_new_entry}
@@ -24,12 +24,12 @@ use Rattle.mdb_items.specs.Database.{Database, IsDatabase, containers_fault}
 use Rattle.mdb_items.specs.Paths.{ContainerPath, bits_at, path_at, path_below, paths_of, no_path, stands_on, with_path}
 use Rattle.mdb_items.specs.Lists.{is_empty}
 use Rattle.mdb_items.specs.Numbers.{is_in_range}
-use Rattle.mdb_items.specs.ParameterRows.{admits, fits_coding, is_reference, parameter_checks, parameter_fault, parameter_fault_at, parameters_of, reference_to, row_of_parameter, referenced_table}
+use Rattle.mdb_items.specs.ParameterRows.{admits, fits_coding, is_reference, parameter_checks, parameter_fault, parameter_fault_at, parameters_of, reference_to, row_of_parameter, referenced_calibrator}
 use Rattle.mdb_model.specs.Rechecking.{are_sound, containers_sound, parameters_sound, with_parameter_row}
 use Rattle.mdb_items.specs.Structure.{AreDistinctEntries, AreDistinctNames, IsBelowParent, IsContainer, IsEntry, IsParameter, IsPath, IsStructured, IsWhole}
 use Rattle.mdb_items.specs.Texts.{Text}
 use Rattle.mdb_items.proofs.ContainerPaths.{length-paths_of, paths_extend, paths_of-push}
-use Rattle.mdb_model.proofs.CalibrationTables.{calibrations_are}
+use Rattle.mdb_model.proofs.Calibrators.{calibrations_are}
 use Rattle.mdb_model.proofs.ContainersFit.{begin_step, new_container_of, both_true, last_path-push, none_is, number_back, with_entries}
 use Rattle.mdb_model.proofs.Counts.{counts}
 use Rattle.mdb_model.proofs.DatabaseFits.{all_join}
@@ -56,7 +56,7 @@ parameter_at d n p none at =
       named = is_true (is_name p.name) q.1.0;
       width = is_true (fits_coding (Some p.coding) (Some p.bits)) q.1.1.1.1.0;
       calibration = is_true (is_reference (length d.calibrations) (reference_to p.calibration)) q.1.1.1.1.1.0;
-      admitted = is_true (admits p.bits (referenced_table d.calibrations (reference_to p.calibration))) q.1.1.1.1.1.1.0;
+      admitted = is_true (admits p.bits (referenced_calibrator d.calibrations (reference_to p.calibration))) q.1.1.1.1.1.1.0;
     }
 
 -- rows that are sound add parameters of other names
@@ -77,16 +77,16 @@ names_differ cs above (p ∷ ps) sound distinct =
 -- ---- entries
 
 -- a path's entries are at most 256, and no parameter stands twice
-abbrev AreShort : List Entry → Type 0
+abbrev AreShort : List ParameterEntry → Type 0
 AreShort entries = (length entries ≤ 256) × AreDistinctEntries entries
 
-record EntryIsSound (parameters : List Parameter) (above : List Container) (e : Entry) : Type 0 where
+record EntryIsSound (parameters : List Parameter) (above : List Container) (e : ParameterEntry) : Type 0 where
   parameter : e.parameter < length parameters
   near : e.at + bits_at parameters e.parameter ≤ 524336
   room : length (last_path above).entries < 256
   other : stands_on (last_path above).entries e.parameter ≡ false
 
-entry_is_sound : (parameters : List Parameter) (above : List Container) (e : Entry) → row_fault parameters above (entry_row e) ≡ None → EntryIsSound parameters above e
+entry_is_sound : (parameters : List Parameter) (above : List Container) (e : ParameterEntry) → row_fault parameters above (entry_row e) ≡ None → EntryIsSound parameters above e
 entry_is_sound parameters above e sound =
     let both = or_else-none (first_broken ((2, false) ∷ columns_checks above (Continues false))) (first_broken (entry_checks parameters (last_path above) true (Known e.parameter) (At e.at))) sound in
     let q = all_pass (entry_checks parameters (last_path above) true (Known e.parameter) (At e.at)) both.1 in
@@ -97,20 +97,20 @@ entry_is_sound parameters above e sound =
       other = q.1.0;
     }
 
-record EntriesPlaced (d : Database) (above : List Container) (c : Container) (front es : List Entry) (more : List ContainerRow) : Type 0 where
+record EntriesPlaced (d : Database) (above : List Container) (c : Container) (front es : List ParameterEntry) (more : List ContainerRow) : Type 0 where
   placed : AllByRecursion (IsEntry d) es
   short : AreShort ((path_at (paths_of above) c.parent).entries ++ (front ++ es))
   left : containers_sound d.parameters (above ++ with_entries c (front ++ es) ∷ []) more ≡ true
 
-entries_placed : (d : Database) (above : List Container) (c : Container) (front es : List Entry) (more : List ContainerRow) → AreShort ((path_at (paths_of above) c.parent).entries ++ front)
+entries_placed : (d : Database) (above : List Container) (c : Container) (front es : List ParameterEntry) (more : List ContainerRow) → AreShort ((path_at (paths_of above) c.parent).entries ++ front)
     → containers_sound d.parameters (above ++ with_entries c front ∷ []) (map entry_row es ++ more) ≡ true → EntriesPlaced d above c front es more
 unfolding are_sound
 entries_placed d above c front [] more short sound =
     let whole : front ++ [] ≡ front = append-nil front in
     record {
       placed = tt;
-      short = subst (λ (xs : List Entry). AreShort ((path_at (paths_of above) c.parent).entries ++ xs)) (sym whole) short;
-      left = ap (λ (xs : List Entry). containers_sound d.parameters (above ++ with_entries c xs ∷ []) more) whole ∙ sound;
+      short = subst (λ (xs : List ParameterEntry). AreShort ((path_at (paths_of above) c.parent).entries ++ xs)) (sym whole) short;
+      left = ap (λ (xs : List ParameterEntry). containers_sound d.parameters (above ++ with_entries c xs ∷ []) more) whole ∙ sound;
     }
 entries_placed d above c front (e ∷ es) more short sound =
     let ps = d.parameters in
@@ -121,16 +121,16 @@ entries_placed d above c front (e ∷ es) more short sound =
     let s = entry_is_sound ps now e (none_is (row_fault ps now (entry_row e)) p.0) in
     let path : (last_path now).entries ≡ up.entries ++ front = ap (λ (l : ContainerPath). l.entries) (last_path-push above (with_entries c front)) in
     let few : length (up.entries ++ (front ++ e ∷ [])) ≤ 256 = omega (arith, s.room, ap length path, length-append up.entries front, length-append up.entries (front ++ e ∷ []), length-push front e) in
-    let other : stands_on (up.entries ++ front) e.parameter ≡ false = ap (λ (xs : List Entry). stands_on xs e.parameter) (sym path) ∙ s.other in
+    let other : stands_on (up.entries ++ front) e.parameter ≡ false = ap (λ (xs : List ParameterEntry). stands_on xs e.parameter) (sym path) ∙ s.other in
     let joined : (up.entries ++ front) ++ e ∷ [] ≡ up.entries ++ (front ++ e ∷ []) = append_assoc up.entries front (e ∷ []) in
-    let distinct = subst AreDistinctEntries joined (with_other nat_eq_equiv (λ (x : Entry). x.parameter) (up.entries ++ front) e short.1 other) in
+    let distinct = subst AreDistinctEntries joined (with_other nat_eq_equiv (λ (x : ParameterEntry). x.parameter) (up.entries ++ front) e short.1 other) in
     let step : with_container_row now (entry_row e) ≡ next = at_last-push (with_new_entry e) above (with_entries c front) in
     let rest = entries_placed d above c (front ++ e ∷ []) es more (few, distinct) (ap (λ (cs : List Container). containers_sound ps cs (map entry_row es ++ more)) (sym step) ∙ p.1) in
     let whole : (front ++ e ∷ []) ++ es ≡ front ++ e ∷ es = append_assoc front (e ∷ []) es in
     record {
       placed = (record { parameter = s.parameter; near = s.near }, rest.placed);
-      short = subst (λ (xs : List Entry). AreShort (up.entries ++ xs)) whole rest.short;
-      left = ap (λ (xs : List Entry). containers_sound ps (above ++ with_entries c xs ∷ []) more) (sym whole) ∙ rest.left;
+      short = subst (λ (xs : List ParameterEntry). AreShort (up.entries ++ xs)) whole rest.short;
+      left = ap (λ (xs : List ParameterEntry). containers_sound ps (above ++ with_entries c xs ∷ []) more) (sym whole) ∙ rest.left;
     }
 
 -- ---- containers

@@ -13,7 +13,7 @@ use Rattle.mdb_items.specs.declared.rows.ParameterRow.{ParameterRow}
 use Rattle.mdb_items.specs.CalibrationRows.{CalibrationRow, calibration_checks, calibrations_of, rows_of_calibration, with_calibration_row}
 use Rattle.mdb_items.specs.Checks.{first_broken}
 use Rattle.mdb_items.specs.ContainerRows.{ContainerRow, containers_of, row_fault, rows_of_container, with_container_row}
-use Rattle.mdb_items.specs.Database.{Database, IsDatabase, table_len}
+use Rattle.mdb_items.specs.Database.{Database, IsDatabase, calibrator_len}
 use Rattle.mdb_items.specs.ParameterRows.{parameter_checks, parameter_of, row_of_parameter}
 use Rattle.mdb_rules.specs.Totals.{HasPaths}
 use Rattle.mdb_rules.specs.Steps.{IsInStep}
@@ -28,14 +28,14 @@ are_sound fault step above (row ∷ rows) = is_none (fault above row rows) && ar
 
 -- a refusal for want of memory says nothing, any other that P
 abbrev pub Refused : DecodeError → Type 0 → Type 0
-Refused errors.Memory P = Unit {0}
+Refused errors.OutOfMemory P = Unit {0}
 Refused errors.Malformed P = P
 
 -- how octets are refused whose lists make no database
 abbrev pub refusal : MdbFault → DecodeError
 refusal (Bad sheet row rule) = errors.Malformed
 refusal (Limit which number) = errors.Malformed
-refusal OutOfMemory = errors.Memory
+refusal OutOfMemory = errors.OutOfMemory
 
 -- ---- calibrations
 
@@ -57,7 +57,7 @@ calibrations_sound above rows = are_sound calibration_fault_before with_calibrat
 
 -- a calibration isn't empty
 abbrev pub HasRows : Calibration → Type 0
-HasRows c = 0 < table_len c.table
+HasRows c = 0 < calibrator_len c.calibrator
 
 -- one row taken in: it breaks no rule and is added, or it breaks one
 abbrev pub CalibrationRowRechecked : Calibrations → Calibrations → CalibrationRow → Option Text → Result (Unit {0}) DecodeError → Type 0

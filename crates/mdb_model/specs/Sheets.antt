@@ -14,9 +14,9 @@ use Rattle.mdb_items.specs.declared.rows.RowValues.TheVariants.{Unread, Coeffici
 use Rattle.mdb_items.specs.declared.rows.ContainerColumns.{ContainerColumns}
 use Rattle.mdb_items.specs.declared.rows.ContainerColumns.TheVariants.{Begins, Continues}
 use Rattle.mdb_items.specs.declared.rows.ParameterRow.{ParameterRow}
-use Rattle.mdb_items.specs.declared.rows.Position.{Position}
-use Rattle.mdb_items.specs.declared.rows.Position.TheVariants as place
-use Rattle.mdb_items.specs.declared.rows.Position.TheVariants.{At}
+use Rattle.mdb_items.specs.declared.rows.EntryPosition.{EntryPosition}
+use Rattle.mdb_items.specs.declared.rows.EntryPosition.TheVariants as place
+use Rattle.mdb_items.specs.declared.rows.EntryPosition.TheVariants.{At}
 use Rattle.mdb_items.specs.declared.rows.Reference.{Reference}
 use Rattle.mdb_items.specs.declared.rows.Reference.TheVariants.{Nothing, Unknown, Known}
 use Rattle.mdb_items.specs.declared.sheet.RawMdb.{RawMdb}
@@ -86,12 +86,12 @@ read_columns parameters above (b ∷ name) parent text archive = Begins (record 
 })
 
 -- a position that was read, or one that has no meaning
-abbrev pub position_from : Option ℕ → Position
+abbrev pub position_from : Option ℕ → EntryPosition
 position_from None = place.Unknown
 position_from (Some at) = At at
 
 -- up to 6 digits, or `+` and digits after the previous entry's end, or empty, which is `+0`
-abbrev pub read_position : ℕ → Reference → Text → Position
+abbrev pub read_position : ℕ → Reference → Text → EntryPosition
 read_position end entry [] = if is_nothing entry then place.Nothing else At end
 read_position end entry (b ∷ text) =
     position_from (if b == 43 then option_map (λ n. end + n) (offset text) else digits_at_most 6 (b ∷ text))

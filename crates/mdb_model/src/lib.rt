@@ -22,7 +22,7 @@ mod sheets;
 pub use item_list::Items;
 pub use mdb::Mdb;
 pub use mdb_items::{
-    Calibration, Coding, Comparison, Container, Entry, EnumRow, MdbFault, MdbLimit, MdbName,
-    MdbSheet, NotMdb, Operator, Parameter, PointsRow, PolyRow, RawMdb, Record, Sheet, SheetRecord,
-    Table,
+    Calibration, Calibrator, Coding, Comparison, Container, EnumRow, MdbFault, MdbLimit, MdbName,
+    MdbSheet, NotMdb, Operator, Parameter, ParameterEntry, PointsRow, PolyRow, RawMdb, Record,
+    Sheet, SheetRecord,
 };

@@ -1,7 +1,7 @@
 //! The checked mission database.
 
 ghost use Rattle.std.specs.Prelude.{◌≡◌, ◌<◌, ◌↔◌, IfOk, IfSome, Some, is_some, length, map, option_copied, slice_get, IsTrue};
-ghost use Rattle.mdb_items.specs.declared.not_mdb.NotMdb.TheVariants.{OutOfMemory};
+ghost use Rattle.octet_fields.specs.declared.fault.DecodeError.TheVariants.{OutOfMemory};
 ghost use Rattle.mdb_lookups.specs.Children.{children_of};
 ghost use Rattle.mdb_items.specs.Database.{IsDatabase, limit_passed};
 ghost use Rattle.mdb_lookups.specs.LabelOrder.{label_row_by};
@@ -398,7 +398,7 @@ fn refusal(fault: MdbFault) -> DecodeError
     match fault {
         MdbFault::Bad { .. } => DecodeError::Malformed,
         MdbFault::Limit { .. } => DecodeError::Malformed,
-        MdbFault::OutOfMemory => DecodeError::Memory,
+        MdbFault::OutOfMemory => DecodeError::OutOfMemory,
     }
 }
 

@@ -4,42 +4,46 @@ ghost use Rattle.std.specs.Prelude.{◌≡◌, ◌<◌, ◌∷◌, ◌++◌, [],
 ghost use Rattle.std.specs.List.{AllByRecursion, list_all};
 ghost use Rattle.mdb_items.specs.CalibrationRows.{row_values_of, rows_of_calibration, with_calibration_row};
 ghost use Rattle.mdb_items.specs.ContainerRows.{begin_row, entry_row, rows_of_container, with_container_row};
-ghost use Rattle.mdb_items.specs.Database.{table_len};
+ghost use Rattle.mdb_items.specs.Database.{calibrator_len};
 ghost use Rattle.mdb_items.specs.ParameterRows.{reference_to, row_of_parameter};
 ghost use Rattle.mdb_model.specs.Rechecking.{CalibrationsRechecked, ContainersRechecked, HasRows, ParameterRechecked, ParametersRechecked, RowsRechecked, CalibrationRowRechecked, CalibrationRechecked, row_with};
 ghost use Rattle.mdb_rules.specs.Totals.{HasPaths};
 ghost use Rattle.mdb_rules.specs.Steps.{IsInStep};
 
 use item_list::items::Items;
-use mdb_items::calibration::{Calibration, Table};
-use mdb_items::container::{Container, Entry};
+use mdb_items::calibration::{Calibration, Calibrator};
+use mdb_items::container::{Container, ParameterEntry};
 use mdb_items::name::MdbName;
 use mdb_items::parameter::Parameter;
 use mdb_items::rows::{
-    ContainerColumns, NewContainer, ParameterRow, Position, Reference, RowValues,
+    ContainerColumns, EntryPosition, NewContainer, ParameterRow, Reference, RowValues,
 };
 use mdb_rules::calibration_rows::Calibrations;
 use mdb_rules::container_rows::Containers;
-use mdb_rules::limits::table_len;
+use mdb_rules::limits::calibrator_len;
 use mdb_rules::parameter_rows::Parameters;
 use octet_fields::DecodeError;
 use std::alloc::{AllocError, Global};
 
-/// What the columns of a table's row say.
-fn row_values_at(alloc: Global, table: &Table, place: usize) -> Result<RowValues, AllocError>
-    requires { place < table_len table.now }
-    ensures { IfOk result (λ row_values. slice_get (row_values_of table.now) place ≡ Some row_values) }
+/// What the columns of a calibrator's row say.
+fn row_values_at(
+    alloc: Global,
+    calibrator: &Calibrator,
+    place: usize,
+) -> Result<RowValues, AllocError>
+    requires { place < calibrator_len calibrator.now }
+    ensures { IfOk result (λ row_values. slice_get (row_values_of calibrator.now) place ≡ Some row_values) }
 {
-    match table {
-        Table::Poly(rows) => {
+    match calibrator {
+        Calibrator::Poly(rows) => {
             let row = rows.as_slice()[place];
             Ok(RowValues::Coefficient(Some(row.exponent), Some(row.millionths)))
         }
-        Table::Points(rows) => {
+        Calibrator::Points(rows) => {
             let row = rows.as_slice()[place];
             Ok(RowValues::Point(Some(row.x), Some(row.millionths)))
         }
-        Table::Enum(rows) => {
+        Calibrator::Enum(rows) => {
             let row = &rows.as_slice()[place];
             let label = MdbName::from_slice(alloc, row.label.as_bytes())?;
             Ok(RowValues::Label(Some(row.x), label))
@@ -85,9 +89,9 @@ fn recheck_rows(
     ensures { CalibrationRechecked calibrations.old calibrations.new given.now (option_copied next.entry) result }
 {
     let name = given.name.as_bytes();
-    let count = table_len(&given.table);
+    let count = calibrator_len(&given.calibrator);
     for place in 0..count {
-        let row_values = row_values_at(alloc, &given.table, place)?;
+        let row_values = row_values_at(alloc, &given.calibrator, place)?;
         let after = name_after(place + 1 < count, name, next);
         recheck_row(alloc, calibrations, name, row_values, after)?;
     }
@@ -96,9 +100,9 @@ fn recheck_rows(
 
 /// Each has a row.
 pub(crate) fn have_rows(given: &[Calibration]) -> bool
-    ensures { result ≡ list_all (λ c. nat_lt 0 (table_len c.table)) given.now }
+    ensures { result ≡ list_all (λ c. nat_lt 0 (calibrator_len c.calibrator)) given.now }
 {
-    given.iter().all(|c| 0 < table_len(&c.table))
+    given.iter().all(|c| 0 < calibrator_len(&c.calibrator))
 }
 
 /// The calibration at a place, if there is one.
@@ -226,13 +230,13 @@ fn recheck_begin(
 fn recheck_entry(
     parameters: &[Parameter],
     containers: &mut Containers,
-    e: &Entry,
+    e: &ParameterEntry,
 ) -> Result<(), DecodeError>
     requires path { HasPaths parameters.now containers.old }
     requires begun { 0 < length containers.old.items.items }
     ensures { RowsRechecked parameters.now containers.old containers.new (entry_row e.now ∷ []) result }
 {
-    let position = Position::At(u64::from(e.at));
+    let position = EntryPosition::At(u64::from(e.at));
     if containers
         .take_entry(parameters, true, Reference::Known(e.parameter), position)?
         .is_some()
@@ -245,7 +249,7 @@ fn recheck_entry(
 fn recheck_entries(
     parameters: &[Parameter],
     containers: &mut Containers,
-    entries: &[Entry],
+    entries: &[ParameterEntry],
 ) -> Result<(), DecodeError>
     requires path { HasPaths parameters.now containers.old }
     requires begun { 0 < length containers.old.items.items }

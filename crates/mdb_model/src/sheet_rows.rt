@@ -10,12 +10,12 @@ ghost use Rattle.text_forms.specs.Digits.{digits_at_most};
 use mdb_items::name::MdbName;
 use mdb_items::parameter::Coding;
 use mdb_items::rows::{
-    ContainerColumns, NewContainer, ParameterRow, Position, Reference, RowValues,
+    ContainerColumns, EntryPosition, NewContainer, ParameterRow, Reference, RowValues,
 };
 use mdb_items::sheet::SheetRecord;
 use mdb_items::texts::{decimal_number, offset, small_number, whole_number};
 use mdb_rules::condition::condition;
-use mdb_rules::names::Names;
+use mdb_rules::name_index::NameIndex;
 use std::alloc::{AllocError, Global};
 use text_forms::digits_at_most;
 
@@ -65,7 +65,7 @@ fn reference_from(number: Option<usize>) -> Reference
 }
 
 /// The item that a text names.
-pub(crate) fn read_reference(names: &Names, text: &[u8]) -> Reference
+pub(crate) fn read_reference(names: &NameIndex, text: &[u8]) -> Reference
     ensures { result ≡ read_reference names.now text.now }
 {
     if text.is_empty() {
@@ -77,7 +77,7 @@ pub(crate) fn read_reference(names: &Names, text: &[u8]) -> Reference
 /// A row of the parameters sheet.
 pub(crate) fn read_parameter(
     alloc: Global,
-    calibrations: &Names,
+    calibrations: &NameIndex,
     fields: &SheetRecord<'_>,
 ) -> Result<ParameterRow, AllocError>
     ensures { IfOk result (λ row. row ≡ read_parameter calibrations.now fields.now) }
@@ -109,8 +109,8 @@ fn read_archive(text: &[u8]) -> Option<bool>
 /// The columns container, parent, condition and archive, below the containers above.
 pub(crate) fn read_columns(
     alloc: Global,
-    parameters: &Names,
-    above: &Names,
+    parameters: &NameIndex,
+    above: &NameIndex,
     fields: &SheetRecord<'_>,
 ) -> Result<ContainerColumns, AllocError>
     ensures { IfOk result (λ columns. columns ≡ read_columns parameters.now above.now (field fields.now 0)
@@ -133,12 +133,12 @@ pub(crate) fn read_columns(
     }))
 }
 
-fn position_from(at: Option<u64>) -> Position
+fn position_from(at: Option<u64>) -> EntryPosition
     ensures { result ≡ position_from at }
 {
     match at {
-        None => Position::Unknown,
-        Some(at) => Position::At(at),
+        None => EntryPosition::Unknown,
+        Some(at) => EntryPosition::At(at),
     }
 }
 
@@ -162,14 +162,14 @@ fn absolute_position(text: &[u8]) -> Option<u64>
 }
 
 /// A position, the previous entry ending before the bit `end`.
-pub(crate) fn read_position(end: u32, entry: Reference, text: &[u8]) -> Position
+pub(crate) fn read_position(end: u32, entry: Reference, text: &[u8]) -> EntryPosition
     ensures { result ≡ read_position end entry text.now }
 {
     match text {
         [] => match entry {
-            Reference::Nothing => Position::Nothing,
-            Reference::Unknown => Position::At(end as u64),
-            Reference::Known(_) => Position::At(end as u64),
+            Reference::Nothing => EntryPosition::Nothing,
+            Reference::Unknown => EntryPosition::At(end as u64),
+            Reference::Known(_) => EntryPosition::At(end as u64),
         },
         [first, digits @ ..] => {
             if *first == b'+' {

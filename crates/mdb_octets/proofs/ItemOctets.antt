@@ -5,14 +5,14 @@ use Rattle.std.specs.Int.{w8, w16, w32}
 use Rattle.mdb_items.specs.declared.calibration.EnumRow.{EnumRow}
 use Rattle.mdb_items.specs.declared.calibration.PointsRow.{PointsRow}
 use Rattle.mdb_items.specs.declared.calibration.PolyRow.{PolyRow}
-use Rattle.mdb_items.specs.declared.calibration.Table.{Table}
-use Rattle.mdb_items.specs.declared.calibration.Table.TheVariants.{Poly, Points, Enum}
+use Rattle.mdb_items.specs.declared.calibration.Calibrator.{Calibrator}
+use Rattle.mdb_items.specs.declared.calibration.Calibrator.TheVariants.{Poly, Points, Enum}
 use Rattle.mdb_items.specs.declared.container.Operator.{Operator}
 use Rattle.mdb_items.specs.declared.container.Operator.TheVariants.{Equal, NotEqual, Less, LessOrEqual, Greater, GreaterOrEqual}
 use Rattle.mdb_items.specs.declared.parameter.Coding.{Coding}
 use Rattle.mdb_items.specs.declared.parameter.Coding.TheVariants.{Uint, Int, UintLe, IntLe}
-use Rattle.mdb_octets.specs.Reading.{archive_at, archive_from, calibration_at, coding_at, coding_from, comparison_at, container_at, container_from, database_at, database_from, entry_at, enum_at, from_link, link_at, operator_at, operator_from, parameter_at, parameter_from, points_at, poly_at, table_rows_at, table_at}
-use Rattle.mdb_octets.specs.Spelling.{FitsCalibration, FitsComparison, FitsContainer, FitsDatabase, FitsEntry, FitsEnum, FitsParameter, FitsPoints, FitsPoly, FitsTable, archive_code, calibration_octets, coding_code, comparison_octets, container_octets, database_octets, container_entry_octets, enum_octets, kind_code, link, operator_code, parameter_octets, points_octets, poly_octets, table_rows_octets}
+use Rattle.mdb_octets.specs.Reading.{archive_at, archive_from, calibration_at, coding_at, coding_from, comparison_at, container_at, container_from, database_at, database_from, entry_at, enum_at, from_link, link_at, operator_at, operator_from, parameter_at, parameter_from, points_at, poly_at, calibrator_rows_at, calibrator_at}
+use Rattle.mdb_octets.specs.Spelling.{FitsCalibration, FitsComparison, FitsContainer, FitsDatabase, FitsEntry, FitsEnum, FitsParameter, FitsPoints, FitsPoly, FitsCalibrator, archive_code, calibration_octets, coding_code, comparison_octets, container_octets, database_octets, container_entry_octets, enum_octets, kind_code, link, operator_code, parameter_octets, points_octets, poly_octets, calibrator_rows_octets}
 use Rattle.octet_fields.specs.Exact.{IsExact}
 use Rattle.octet_fields.specs.Spelling.{counted, number}
 use Rattle.octet_fields.proofs.Exact.{some_is, IsExact-as, IsExact-both, IsExact-decoded, IsExact-mapped, IsExact-nothing}
@@ -109,79 +109,79 @@ unfolding enum_octets enum_at
 enum_exact = IsExact-mapped (IsExact-both exact_i128 (λ _ _. exact_name)) FitsEnum (λ p. record { x = p.0; label = p.1 }) (λ r. (r.x, r.label))
     (λ p fits. (record { x = fits.0; label = fits.1 }, refl)) (λ r fits. ((fits.x, fits.label), refl))
 
--- the rows that a table of a kind has
-abbrev poly_of : Table → List PolyRow
+-- the rows that a calibrator of a kind has
+abbrev poly_of : Calibrator → List PolyRow
 poly_of (Poly rows) = rows
 poly_of (Points rows) = []
 poly_of (Enum rows) = []
 
-abbrev points_of : Table → List PointsRow
+abbrev points_of : Calibrator → List PointsRow
 points_of (Poly rows) = []
 points_of (Points rows) = rows
 points_of (Enum rows) = []
 
-abbrev enum_of : Table → List EnumRow
+abbrev enum_of : Calibrator → List EnumRow
 enum_of (Poly rows) = []
 enum_of (Points rows) = []
 enum_of (Enum rows) = rows
 
-abbrev OfKind : ℕ → Table → Type 0
-OfKind kind t = FitsTable t × (kind_code t ≡ kind)
+abbrev OfKind : ℕ → Calibrator → Type 0
+OfKind kind t = FitsCalibrator t × (kind_code t ≡ kind)
 
-poly_here : (t : Table) → OfKind 0 t → ((length (poly_of t) < 2 ^ 32) × AllByRecursion FitsPoly (poly_of t)) × (Poly (poly_of t) ≡ t)
+poly_here : (t : Calibrator) → OfKind 0 t → ((length (poly_of t) < 2 ^ 32) × AllByRecursion FitsPoly (poly_of t)) × (Poly (poly_of t) ≡ t)
 poly_here (Poly rows) h = (h.0, refl)
 poly_here (Points rows) h = absurd (omega (arith, h.1))
 poly_here (Enum rows) h = absurd (omega (arith, h.1))
 
-poly_spelled : (t : Table) → OfKind 0 t → OfKind 0 t × (counted w32 poly_octets (poly_of t) ≡ table_rows_octets t)
+poly_spelled : (t : Calibrator) → OfKind 0 t → OfKind 0 t × (counted w32 poly_octets (poly_of t) ≡ calibrator_rows_octets t)
 poly_spelled (Poly rows) h = (h, refl)
 poly_spelled (Points rows) h = absurd (omega (arith, h.1))
 poly_spelled (Enum rows) h = absurd (omega (arith, h.1))
 
-points_here : (t : Table) → OfKind 1 t → ((length (points_of t) < 2 ^ 32) × AllByRecursion FitsPoints (points_of t)) × (Points (points_of t) ≡ t)
+points_here : (t : Calibrator) → OfKind 1 t → ((length (points_of t) < 2 ^ 32) × AllByRecursion FitsPoints (points_of t)) × (Points (points_of t) ≡ t)
 points_here (Poly rows) h = absurd (omega (arith, h.1))
 points_here (Points rows) h = (h.0, refl)
 points_here (Enum rows) h = absurd (omega (arith, h.1))
 
-points_spelled : (t : Table) → OfKind 1 t → OfKind 1 t × (counted w32 points_octets (points_of t) ≡ table_rows_octets t)
+points_spelled : (t : Calibrator) → OfKind 1 t → OfKind 1 t × (counted w32 points_octets (points_of t) ≡ calibrator_rows_octets t)
 points_spelled (Poly rows) h = absurd (omega (arith, h.1))
 points_spelled (Points rows) h = (h, refl)
 points_spelled (Enum rows) h = absurd (omega (arith, h.1))
 
-enum_here : (t : Table) → OfKind 2 t → ((length (enum_of t) < 2 ^ 32) × AllByRecursion FitsEnum (enum_of t)) × (Enum (enum_of t) ≡ t)
+enum_here : (t : Calibrator) → OfKind 2 t → ((length (enum_of t) < 2 ^ 32) × AllByRecursion FitsEnum (enum_of t)) × (Enum (enum_of t) ≡ t)
 enum_here (Poly rows) h = absurd (omega (arith, h.1))
 enum_here (Points rows) h = absurd (omega (arith, h.1))
 enum_here (Enum rows) h = (h.0, refl)
 
-enum_spelled : (t : Table) → OfKind 2 t → OfKind 2 t × (counted w32 enum_octets (enum_of t) ≡ table_rows_octets t)
+enum_spelled : (t : Calibrator) → OfKind 2 t → OfKind 2 t × (counted w32 enum_octets (enum_of t) ≡ calibrator_rows_octets t)
 enum_spelled (Poly rows) h = absurd (omega (arith, h.1))
 enum_spelled (Points rows) h = absurd (omega (arith, h.1))
 enum_spelled (Enum rows) h = (h, refl)
 
-none_of_kind : (n : ℕ) (t : Table) → OfKind (suc (suc (suc n))) t → ⊥
+none_of_kind : (n : ℕ) (t : Calibrator) → OfKind (suc (suc (suc n))) t → ⊥
 none_of_kind n (Poly rows) h = omega (arith, h.1)
 none_of_kind n (Points rows) h = omega (arith, h.1)
 none_of_kind n (Enum rows) h = omega (arith, h.1)
 
-rows_exact : (kind : ℕ) → IsExact (OfKind kind) table_rows_octets (table_rows_at kind)
-rows_exact zero = IsExact-as (IsExact-mapped (exact_counted32 poly_exact) (OfKind 0) Poly poly_of (λ rows fits. ((fits, refl), refl)) poly_here) (OfKind 0) table_rows_octets poly_spelled (λ t h. h)
-rows_exact (suc zero) = IsExact-as (IsExact-mapped (exact_counted32 points_exact) (OfKind 1) Points points_of (λ rows fits. ((fits, refl), refl)) points_here) (OfKind 1) table_rows_octets points_spelled (λ t h. h)
-rows_exact (suc (suc zero)) = IsExact-as (IsExact-mapped (exact_counted32 enum_exact) (OfKind 2) Enum enum_of (λ rows fits. ((fits, refl), refl)) enum_here) (OfKind 2) table_rows_octets enum_spelled (λ t h. h)
-rows_exact (suc (suc (suc n))) = IsExact-nothing (OfKind (suc (suc (suc n)))) table_rows_octets (none_of_kind n)
+rows_exact : (kind : ℕ) → IsExact (OfKind kind) calibrator_rows_octets (calibrator_rows_at kind)
+rows_exact zero = IsExact-as (IsExact-mapped (exact_counted32 poly_exact) (OfKind 0) Poly poly_of (λ rows fits. ((fits, refl), refl)) poly_here) (OfKind 0) calibrator_rows_octets poly_spelled (λ t h. h)
+rows_exact (suc zero) = IsExact-as (IsExact-mapped (exact_counted32 points_exact) (OfKind 1) Points points_of (λ rows fits. ((fits, refl), refl)) points_here) (OfKind 1) calibrator_rows_octets points_spelled (λ t h. h)
+rows_exact (suc (suc zero)) = IsExact-as (IsExact-mapped (exact_counted32 enum_exact) (OfKind 2) Enum enum_of (λ rows fits. ((fits, refl), refl)) enum_here) (OfKind 2) calibrator_rows_octets enum_spelled (λ t h. h)
+rows_exact (suc (suc (suc n))) = IsExact-nothing (OfKind (suc (suc (suc n)))) calibrator_rows_octets (none_of_kind n)
 
-kind_small : (t : Table) → FitsTable t → kind_code t < 2 ^ 8
+kind_small : (t : Calibrator) → FitsCalibrator t → kind_code t < 2 ^ 8
 kind_small (Poly rows) fits = omega arith
 kind_small (Points rows) fits = omega arith
 kind_small (Enum rows) fits = omega arith
 
-table_exact : IsExact FitsTable (λ t. number w8 (kind_code t) ++ table_rows_octets t) table_at
-unfolding table_at
-table_exact = IsExact-kind kind_code table_rows_at kind_small rows_exact
+calibrator_exact : IsExact FitsCalibrator (λ t. number w8 (kind_code t) ++ calibrator_rows_octets t) calibrator_at
+unfolding calibrator_at
+calibrator_exact = IsExact-kind kind_code calibrator_rows_at kind_small rows_exact
 
 calibration_exact : IsExact FitsCalibration calibration_octets calibration_at
 unfolding calibration_octets calibration_at
-calibration_exact = IsExact-mapped (IsExact-both exact_name (λ _ _. table_exact)) FitsCalibration (λ p. record { name = p.0; table = p.1 }) (λ c. (c.name, c.table))
-    (λ p fits. (record { name = fits.0; table = fits.1 }, refl)) (λ c fits. ((fits.name, fits.table), refl))
+calibration_exact = IsExact-mapped (IsExact-both exact_name (λ _ _. calibrator_exact)) FitsCalibration (λ p. record { name = p.0; calibrator = p.1 }) (λ c. (c.name, c.calibrator))
+    (λ p fits. (record { name = fits.0; calibrator = fits.1 }, refl)) (λ c fits. ((fits.name, fits.calibrator), refl))
 
 comparison_exact : IsExact FitsComparison comparison_octets comparison_at
 unfolding comparison_octets comparison_at

@@ -5,11 +5,11 @@ use Rattle.mdb_items.specs.declared.calibration.Calibration.{Calibration}
 use Rattle.mdb_items.specs.declared.calibration.EnumRow.{EnumRow}
 use Rattle.mdb_items.specs.declared.calibration.PointsRow.{PointsRow}
 use Rattle.mdb_items.specs.declared.calibration.PolyRow.{PolyRow}
-use Rattle.mdb_items.specs.declared.calibration.Table.{Table}
-use Rattle.mdb_items.specs.declared.calibration.Table.TheVariants.{Poly, Points, Enum}
+use Rattle.mdb_items.specs.declared.calibration.Calibrator.{Calibrator}
+use Rattle.mdb_items.specs.declared.calibration.Calibrator.TheVariants.{Poly, Points, Enum}
 use Rattle.mdb_items.specs.declared.container.Comparison.{Comparison}
 use Rattle.mdb_items.specs.declared.container.Container.{Container}
-use Rattle.mdb_items.specs.declared.container.Entry.{Entry}
+use Rattle.mdb_items.specs.declared.container.ParameterEntry.{ParameterEntry}
 use Rattle.mdb_items.specs.declared.container.Operator.{Operator}
 use Rattle.mdb_items.specs.declared.container.Operator.TheVariants.{Equal, NotEqual, Less, LessOrEqual, Greater, GreaterOrEqual}
 use Rattle.mdb_items.specs.declared.parameter.Coding.{Coding}
@@ -64,19 +64,19 @@ unfoldable pub enum_at : Reader EnumRow
 enum_at = mapped_at (λ p. record { x = p.0; label = p.1 }) (both_at (signed_at w128) (λ _. name_at))
 
 -- the rows of a kind
-abbrev pub table_rows_at : ℕ → Reader Table
-table_rows_at zero = mapped_at Poly (counted_at w32 poly_at)
-table_rows_at (suc zero) = mapped_at Points (counted_at w32 points_at)
-table_rows_at (suc (suc zero)) = mapped_at Enum (counted_at w32 enum_at)
-table_rows_at (suc (suc (suc n))) = nothing_at
+abbrev pub calibrator_rows_at : ℕ → Reader Calibrator
+calibrator_rows_at zero = mapped_at Poly (counted_at w32 poly_at)
+calibrator_rows_at (suc zero) = mapped_at Points (counted_at w32 points_at)
+calibrator_rows_at (suc (suc zero)) = mapped_at Enum (counted_at w32 enum_at)
+calibrator_rows_at (suc (suc (suc n))) = nothing_at
 
--- reads a table: its kind, and then its rows
-unfoldable pub table_at : Reader Table
-table_at = kind_at table_rows_at
+-- reads a calibrator: its kind, and then its rows
+unfoldable pub calibrator_at : Reader Calibrator
+calibrator_at = kind_at calibrator_rows_at
 
--- reads a calibration: name and table
+-- reads a calibration: name and calibrator
 unfoldable pub calibration_at : Reader Calibration
-calibration_at = mapped_at (λ p. record { name = p.0; table = p.1 }) (both_at name_at (λ _. table_at))
+calibration_at = mapped_at (λ p. record { name = p.0; calibrator = p.1 }) (both_at name_at (λ _. calibrator_at))
 
 -- ---- containers
 
@@ -99,7 +99,7 @@ unfoldable pub comparison_at : Reader Comparison
 comparison_at = mapped_at (λ p. record { parameter = p.0; operator = p.1.0; number = p.1.1 }) (both_at (number_at w16) (λ _. both_at operator_at (λ _. signed_at w128)))
 
 -- reads an entry: parameter and position
-unfoldable pub entry_at : Reader Entry
+unfoldable pub entry_at : Reader ParameterEntry
 entry_at = mapped_at (λ p. record { parameter = p.0; at = p.1 }) (both_at (number_at w16) (λ _. number_at w32))
 
 -- the archive flag of an octet, where it is one
@@ -113,7 +113,7 @@ unfoldable pub archive_at : Reader Bool
 archive_at = decoded_at archive_from (number_at w8)
 
 -- a container of the fields that were read, in their order
-abbrev pub container_from : List ℕ × (Option ℕ × (Bool × (List Comparison × List Entry))) → Container
+abbrev pub container_from : List ℕ × (Option ℕ × (Bool × (List Comparison × List ParameterEntry))) → Container
 container_from p = record { name = p.0; parent = p.1.0; archive = p.1.1.0; condition = p.1.1.1.0; entries = p.1.1.1.1 }
 
 -- reads a container: name, parent, archive flag, condition, entries

@@ -7,11 +7,11 @@ use Rattle.mdb_items.specs.declared.calibration.Calibration.{Calibration}
 use Rattle.mdb_items.specs.declared.calibration.EnumRow.{EnumRow}
 use Rattle.mdb_items.specs.declared.calibration.PointsRow.{PointsRow}
 use Rattle.mdb_items.specs.declared.calibration.PolyRow.{PolyRow}
-use Rattle.mdb_items.specs.declared.calibration.Table.{Table}
-use Rattle.mdb_items.specs.declared.calibration.Table.TheVariants.{Poly, Points, Enum}
+use Rattle.mdb_items.specs.declared.calibration.Calibrator.{Calibrator}
+use Rattle.mdb_items.specs.declared.calibration.Calibrator.TheVariants.{Poly, Points, Enum}
 use Rattle.mdb_items.specs.declared.container.Comparison.{Comparison}
 use Rattle.mdb_items.specs.declared.container.Container.{Container}
-use Rattle.mdb_items.specs.declared.container.Entry.{Entry}
+use Rattle.mdb_items.specs.declared.container.ParameterEntry.{ParameterEntry}
 use Rattle.mdb_items.specs.declared.container.Operator.{Operator}
 use Rattle.mdb_items.specs.declared.container.Operator.TheVariants.{Equal, NotEqual, Less, LessOrEqual, Greater, GreaterOrEqual}
 use Rattle.mdb_items.specs.declared.parameter.Coding.{Coding}
@@ -49,15 +49,15 @@ pub record FitsEnum (r : EnumRow) : Type 0 where
   pub label : length r.label < 2 ^ 8
 
 -- a 32-bit count of rows, each of which has room in its octets
-abbrev pub FitsTable : Table → Type 0
-FitsTable (Poly rows) = (length rows < 2 ^ 32) × AllByRecursion FitsPoly rows
-FitsTable (Points rows) = (length rows < 2 ^ 32) × AllByRecursion FitsPoints rows
-FitsTable (Enum rows) = (length rows < 2 ^ 32) × AllByRecursion FitsEnum rows
+abbrev pub FitsCalibrator : Calibrator → Type 0
+FitsCalibrator (Poly rows) = (length rows < 2 ^ 32) × AllByRecursion FitsPoly rows
+FitsCalibrator (Points rows) = (length rows < 2 ^ 32) × AllByRecursion FitsPoints rows
+FitsCalibrator (Enum rows) = (length rows < 2 ^ 32) × AllByRecursion FitsEnum rows
 
--- the name and the table of the calibration have room in their octets
+-- the name and the calibrator of the calibration have room in their octets
 pub record FitsCalibration (c : Calibration) : Type 0 where
   pub name : length c.name < 2 ^ 8
-  pub table : FitsTable c.table
+  pub calibrator : FitsCalibrator c.calibrator
 
 -- each field of the comparison has room in its octets
 pub record FitsComparison (c : Comparison) : Type 0 where
@@ -65,7 +65,7 @@ pub record FitsComparison (c : Comparison) : Type 0 where
   pub number : FitsSigned w128 c.number
 
 -- each field of the entry has room in its octets
-pub record FitsEntry (e : Entry) : Type 0 where
+pub record FitsEntry (e : ParameterEntry) : Type 0 where
   pub parameter : e.parameter < 2 ^ 16
   pub at : e.at < 2 ^ 32
 
@@ -107,21 +107,21 @@ points_octets r = signed w128 r.x ++ signed w64 r.millionths
 unfoldable pub enum_octets : EnumRow → List ℕ
 enum_octets r = signed w128 r.x ++ name r.label
 
--- the octet of a table's kind
-abbrev pub kind_code : Table → ℕ
+-- the octet of a calibrator's kind
+abbrev pub kind_code : Calibrator → ℕ
 kind_code (Poly rows) = 0
 kind_code (Points rows) = 1
 kind_code (Enum rows) = 2
 
 -- u32 count, and the rows by their kind
-abbrev pub table_rows_octets : Table → List ℕ
-table_rows_octets (Poly rows) = counted w32 poly_octets rows
-table_rows_octets (Points rows) = counted w32 points_octets rows
-table_rows_octets (Enum rows) = counted w32 enum_octets rows
+abbrev pub calibrator_rows_octets : Calibrator → List ℕ
+calibrator_rows_octets (Poly rows) = counted w32 poly_octets rows
+calibrator_rows_octets (Points rows) = counted w32 points_octets rows
+calibrator_rows_octets (Enum rows) = counted w32 enum_octets rows
 
 -- name, u8 kind, rows
 unfoldable pub calibration_octets : Calibration → List ℕ
-calibration_octets c = name c.name ++ (number w8 (kind_code c.table) ++ table_rows_octets c.table)
+calibration_octets c = name c.name ++ (number w8 (kind_code c.calibrator) ++ calibrator_rows_octets c.calibrator)
 
 -- the octet of an operator
 abbrev pub operator_code : Operator → ℕ
@@ -137,7 +137,7 @@ unfoldable pub comparison_octets : Comparison → List ℕ
 comparison_octets c = number w16 c.parameter ++ (number w8 (operator_code c.operator) ++ signed w128 c.number)
 
 -- u16 parameter, u32 absolute bit position
-unfoldable pub container_entry_octets : Entry → List ℕ
+unfoldable pub container_entry_octets : ParameterEntry → List ℕ
 container_entry_octets e = number w16 e.parameter ++ number w32 e.at
 
 -- the octet of an archive flag

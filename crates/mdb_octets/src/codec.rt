@@ -12,7 +12,7 @@ pub struct PointsRowCodec;
 /// Value, label.
 pub struct EnumRowCodec;
 
-/// Name, kind of table, rows.
+/// Name, kind of calibrator, rows.
 pub struct CalibrationCodec;
 
 /// Parameter, operator, number.

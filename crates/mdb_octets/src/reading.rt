@@ -4,15 +4,15 @@ ghost use Rattle.std.specs.Prelude.{◌≡◌, length};
 ghost use Rattle.std.specs.Int.{w8, w16, w32};
 ghost use Rattle.octet_fields.specs.Answers.{Answers, Gives};
 ghost use Rattle.octet_fields.specs.Reading.{counted_at, whole};
-ghost use Rattle.mdb_octets.specs.Reading.{archive_at, calibration_at, coding_at, comparison_at, container_at, database_at, entry_at, enum_at, from_link, link_at, operator_at, parameter_at, points_at, poly_at, table_at};
+ghost use Rattle.mdb_octets.specs.Reading.{archive_at, calibration_at, coding_at, comparison_at, container_at, database_at, entry_at, enum_at, from_link, link_at, operator_at, parameter_at, points_at, poly_at, calibrator_at};
 
 use crate::codec::{
     CalibrationCodec, ComparisonCodec, ContainerCodec, EntryCodec, EnumRowCodec, ParameterCodec,
     PointsRowCodec, PolyRowCodec,
 };
 use item_list::items::Items;
-use mdb_items::calibration::{Calibration, EnumRow, PointsRow, PolyRow, Table};
-use mdb_items::container::{Comparison, Container, Entry, Operator};
+use mdb_items::calibration::{Calibration, Calibrator, EnumRow, PointsRow, PolyRow};
+use mdb_items::container::{Comparison, Container, Operator, ParameterEntry};
 use mdb_items::name::MdbName;
 use mdb_items::parameter::{Coding, Parameter};
 use octet_fields::{
@@ -127,9 +127,9 @@ impl Decode for EnumRowCodec {
 }
 
 /// The kind, and the rows.
-#[tactic(auto, unfolding(crate::specs::Reading::table_at, octet_fields::specs::Reading::counted_at))]
-fn table_at(alloc: Global, octets: &[u8]) -> Result<(Table, &[u8]), DecodeError>
-    ensures { Gives (λ x. (x.0, x.1.now)) result (table_at octets.now) }
+#[tactic(auto, unfolding(crate::specs::Reading::calibrator_at, octet_fields::specs::Reading::counted_at))]
+fn calibrator_at(alloc: Global, octets: &[u8]) -> Result<(Calibrator, &[u8]), DecodeError>
+    ensures { Gives (λ x. (x.0, x.1.now)) result (calibrator_at octets.now) }
 {
     let (kind, rest) = u8_at(octets)?;
     if kind > 2 {
@@ -139,15 +139,15 @@ fn table_at(alloc: Global, octets: &[u8]) -> Result<(Table, &[u8]), DecodeError>
     match kind {
         0 => {
             let (rows, rest) = each_at::<PolyRowCodec>(alloc, count as usize, rest)?;
-            Ok((Table::Poly(Items::from_vec(rows)), rest))
+            Ok((Calibrator::Poly(Items::from_vec(rows)), rest))
         }
         1 => {
             let (rows, rest) = each_at::<PointsRowCodec>(alloc, count as usize, rest)?;
-            Ok((Table::Points(Items::from_vec(rows)), rest))
+            Ok((Calibrator::Points(Items::from_vec(rows)), rest))
         }
         _ => {
             let (rows, rest) = each_at::<EnumRowCodec>(alloc, count as usize, rest)?;
-            Ok((Table::Enum(Items::from_vec(rows)), rest))
+            Ok((Calibrator::Enum(Items::from_vec(rows)), rest))
         }
     }
 }
@@ -162,9 +162,9 @@ impl Decode for CalibrationCodec {
     #[tactic(auto, unfolding(crate::specs::Reading::calibration_at))]
     fn at(alloc: Global, octets: &[u8]) -> Result<(Calibration, &[u8]), DecodeError> {
         let (name, rest) = name_at(octets)?;
-        let (table, rest) = table_at(alloc, rest)?;
+        let (calibrator, rest) = calibrator_at(alloc, rest)?;
         let name = MdbName::from_slice(alloc, name)?;
-        Ok((Calibration { name, table }, rest))
+        Ok((Calibration { name, calibrator }, rest))
     }
 }
 
@@ -209,18 +209,18 @@ impl Decode for ComparisonCodec {
 }
 
 impl Decode for EntryCodec {
-    type Value = Entry;
+    type Value = ParameterEntry;
 
     const LEAST_OCTETS: usize = 6;
 
     ghost read = { entry_at };
 
     #[tactic(auto, unfolding(crate::specs::Reading::entry_at))]
-    fn at(_alloc: Global, octets: &[u8]) -> Result<(Entry, &[u8]), DecodeError> {
+    fn at(_alloc: Global, octets: &[u8]) -> Result<(ParameterEntry, &[u8]), DecodeError> {
         let (parameter, rest) = u16_at(octets)?;
         let (at, rest) = u32_at(rest)?;
         let parameter = usize::from(parameter);
-        Ok((Entry { parameter, at }, rest))
+        Ok((ParameterEntry { parameter, at }, rest))
     }
 }
 

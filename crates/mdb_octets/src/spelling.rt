@@ -4,14 +4,14 @@ ghost use Rattle.std.specs.Prelude.{◌≡◌, ◌<◌, ◌^◌, ◌++◌, lengt
 ghost use Rattle.std.specs.Int.{w8, w16, w32};
 ghost use Rattle.std.specs.List.{AllByRecursion};
 ghost use Rattle.octet_fields.specs.Spelling.{counted, number};
-ghost use Rattle.mdb_octets.specs.Spelling.{FitsCalibration, FitsComparison, FitsContainer, FitsDatabase, FitsEntry, FitsEnum, FitsParameter, FitsPoints, FitsPoly, FitsTable, archive_code, calibration_octets, coding_code, comparison_octets, container_octets, database_octets, container_entry_octets, enum_octets, kind_code, link, operator_code, parameter_octets, points_octets, poly_octets, table_rows_octets};
+ghost use Rattle.mdb_octets.specs.Spelling.{FitsCalibration, FitsComparison, FitsContainer, FitsDatabase, FitsEntry, FitsEnum, FitsParameter, FitsPoints, FitsPoly, FitsCalibrator, archive_code, calibration_octets, coding_code, comparison_octets, container_octets, database_octets, container_entry_octets, enum_octets, kind_code, link, operator_code, parameter_octets, points_octets, poly_octets, calibrator_rows_octets};
 
 use crate::codec::{
     CalibrationCodec, ComparisonCodec, ContainerCodec, EntryCodec, EnumRowCodec, ParameterCodec,
     PointsRowCodec, PolyRowCodec,
 };
-use mdb_items::calibration::{Calibration, EnumRow, PointsRow, PolyRow, Table};
-use mdb_items::container::{Comparison, Container, Entry, Operator};
+use mdb_items::calibration::{Calibration, Calibrator, EnumRow, PointsRow, PolyRow};
+use mdb_items::container::{Comparison, Container, Operator, ParameterEntry};
 use mdb_items::parameter::{Coding, Parameter};
 use octet_fields::{Encode, put_each, put_i64, put_i128, put_name, put_u8, put_u16, put_u32};
 use std::alloc::{AllocError, Global};
@@ -117,23 +117,23 @@ impl Encode for EnumRowCodec {
 
 /// The kind, and the rows.
 #[tactic(auto, unfolding(octet_fields::specs::Spelling::counted))]
-fn put_table(out: &mut Vec<u8>, table: &Table) -> Result<(), AllocError>
-    requires { FitsTable table.now }
-    ensures { OnOk result (out.new.items ≡ out.old.items ++ (number w8 (kind_code table.now) ++ table_rows_octets
-        table.now)) }
+fn put_calibrator(out: &mut Vec<u8>, calibrator: &Calibrator) -> Result<(), AllocError>
+    requires { FitsCalibrator calibrator.now }
+    ensures { OnOk result (out.new.items ≡ out.old.items ++ (number w8 (kind_code calibrator.now) ++ calibrator_rows_octets
+        calibrator.now)) }
 {
-    match table {
-        Table::Poly(rows) => {
+    match calibrator {
+        Calibrator::Poly(rows) => {
             put_u8(out, 0)?;
             put_u32(out, rows.len() as u32)?;
             put_each::<PolyRowCodec>(out, rows.as_slice())
         }
-        Table::Points(rows) => {
+        Calibrator::Points(rows) => {
             put_u8(out, 1)?;
             put_u32(out, rows.len() as u32)?;
             put_each::<PointsRowCodec>(out, rows.as_slice())
         }
-        Table::Enum(rows) => {
+        Calibrator::Enum(rows) => {
             put_u8(out, 2)?;
             put_u32(out, rows.len() as u32)?;
             put_each::<EnumRowCodec>(out, rows.as_slice())
@@ -151,7 +151,7 @@ impl Encode for CalibrationCodec {
     #[tactic(auto, unfolding(crate::specs::Spelling::calibration_octets))]
     fn put(out: &mut Vec<u8>, c: &Calibration) -> Result<(), AllocError> {
         put_name(out, c.name.as_bytes())?;
-        put_table(out, &c.table)
+        put_calibrator(out, &c.calibrator)
     }
 }
 
@@ -171,14 +171,14 @@ impl Encode for ComparisonCodec {
 }
 
 impl Encode for EntryCodec {
-    type Value = Entry;
+    type Value = ParameterEntry;
 
     ghost fits = { FitsEntry };
 
     ghost spell = { container_entry_octets };
 
     #[tactic(auto, unfolding(crate::specs::Spelling::container_entry_octets))]
-    fn put(out: &mut Vec<u8>, e: &Entry) -> Result<(), AllocError> {
+    fn put(out: &mut Vec<u8>, e: &ParameterEntry) -> Result<(), AllocError> {
         put_u16(out, e.parameter as u16)?;
         put_u32(out, e.at)
     }
@@ -195,7 +195,7 @@ fn put_condition(out: &mut Vec<u8>, condition: &[Comparison]) -> Result<(), Allo
 }
 
 #[tactic(auto, unfolding(octet_fields::specs::Spelling::counted))]
-fn put_entries(out: &mut Vec<u8>, entries: &[Entry]) -> Result<(), AllocError>
+fn put_entries(out: &mut Vec<u8>, entries: &[ParameterEntry]) -> Result<(), AllocError>
     requires few { length entries.now < 2 ^ 16 }
     requires fit { AllByRecursion FitsEntry entries.now }
     ensures { OnOk result (out.new.items ≡ out.old.items ++ counted w16 container_entry_octets entries.now) }

@@ -6,7 +6,7 @@ use Rattle.std.proofs.lemmas.Bool.{cases_lt}
 use Rattle.std.proofs.lemmas.List.Folds.{list_any-append}
 use Rattle.std.proofs.lemmas.Option.{slice_get_past, slice_get_within}
 use Rattle.mdb_items.specs.declared.container.Container.{Container}
-use Rattle.mdb_items.specs.declared.container.Entry.{Entry}
+use Rattle.mdb_items.specs.declared.container.ParameterEntry.{ParameterEntry}
 use Rattle.mdb_items.specs.Paths.{ContainerPath, path_at, path_below, paths_of, no_path, stands_on, AreEarlier, parent_of}
 use Rattle.mdb_items.proofs.ContainerPaths.{length-paths_of, path_here}
 use Rattle.mdb_items.proofs.Ends.{item_at}
@@ -21,10 +21,10 @@ or_false false = refl
 
 -- the parameter stands in the container itself, or further up
 pub here : (up : ContainerPath) (c : Container) (n : ℕ) → stands_on c.entries n ≡ true → stands_on (path_below up c).entries n ≡ true
-here up c n is = list_any-append (λ (e : Entry). e.parameter == n) up.entries c.entries ∙ ap (λ b. list_any (λ (e : Entry). e.parameter == n) up.entries || b) is ∙ or_true _
+here up c n is = list_any-append (λ (e : ParameterEntry). e.parameter == n) up.entries c.entries ∙ ap (λ b. list_any (λ (e : ParameterEntry). e.parameter == n) up.entries || b) is ∙ or_true _
 
 pub further : (up : ContainerPath) (c : Container) (n : ℕ) → stands_on c.entries n ≡ false → stands_on (path_below up c).entries n ≡ stands_on up.entries n
-further up c n is = list_any-append (λ (e : Entry). e.parameter == n) up.entries c.entries ∙ ap (λ b. list_any (λ (e : Entry). e.parameter == n) up.entries || b) is ∙ or_false _
+further up c n is = list_any-append (λ (e : ParameterEntry). e.parameter == n) up.entries c.entries ∙ ap (λ b. list_any (λ (e : ParameterEntry). e.parameter == n) up.entries || b) is ∙ or_false _
 
 -- how far up a walk may still go
 abbrev pub steps_left : Option ℕ → ℕ

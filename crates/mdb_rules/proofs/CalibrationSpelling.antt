@@ -8,19 +8,19 @@ use Rattle.std.proofs.lemmas.List.Sums.{fold-append}
 use Rattle.std.proofs.lemmas.Option.{same_Some}
 use Rattle.std.proofs.lemmas.Slice.Eq.{bytes_eq-Decides}
 use Rattle.mdb_items.specs.declared.calibration.Calibration.{Calibration}
-use Rattle.mdb_items.specs.declared.calibration.Table.{Table}
-use Rattle.mdb_items.specs.declared.calibration.Table.TheVariants.{Poly, Points, Enum}
+use Rattle.mdb_items.specs.declared.calibration.Calibrator.{Calibrator}
+use Rattle.mdb_items.specs.declared.calibration.Calibrator.TheVariants.{Poly, Points, Enum}
 use Rattle.mdb_items.specs.declared.rows.RowValues.{RowValues}
 use Rattle.mdb_items.specs.declared.rows.RowValues.TheVariants.{Unread, Coefficient, Point, Label}
-use Rattle.mdb_items.specs.CalibrationRows.{CalibrationRow, calibration_checks, calibration_fault, calibration_fault_at, calibrations_of, row_values_of, continued, empty_table, has_x, has_y, is_other_kind, is_unread, rows_of_calibration, table_named, with_calibration_row, with_name, with_new_row, table_with_row}
+use Rattle.mdb_items.specs.CalibrationRows.{CalibrationRow, calibration_checks, calibration_fault, calibration_fault_at, calibrations_of, row_values_of, continued, empty_calibrator, has_x, has_y, is_other_kind, is_unread, rows_of_calibration, calibrator_named, with_calibration_row, with_name, with_new_row, calibrator_with_row}
 use Rattle.mdb_items.specs.Checks.{first_at, first_broken}
 use Rattle.mdb_items.specs.Lists.{at_last}
 use Rattle.mdb_items.specs.Texts.{Text}
 use Rattle.mdb_items.proofs.Ends.{at_last-push, item_at, last_of-push, snoc, take-next}
 use Rattle.mdb_rules.proofs.Passing.{all_pass, each_none, is_same, is_true}
 
--- values of a table's kind become its last row
-row_values_row : (t : Table) (row_values : RowValues) → is_other_kind (Some t) row_values ≡ false → has_x row_values ≡ true → has_y row_values ≡ true → row_values_of (table_with_row t row_values) ≡ row_values_of t ++ row_values ∷ []
+-- values of a calibrator's kind become its last row
+row_values_row : (t : Calibrator) (row_values : RowValues) → is_other_kind (Some t) row_values ≡ false → has_x row_values ≡ true → has_y row_values ≡ true → row_values_of (calibrator_with_row t row_values) ≡ row_values_of t ++ row_values ∷ []
 row_values_row (Poly rows) Unread k x y = cc
 row_values_row (Poly rows) (Coefficient None m) k x y = cc
 row_values_row (Poly rows) (Coefficient (Some e) None) k x y = cc
@@ -39,13 +39,13 @@ row_values_row (Enum rows) (Point n m) k x y = cc
 row_values_row (Enum rows) (Label None l) k x y = cc
 row_values_row (Enum rows) (Label (Some n) l) k x y = map-append _ rows _
 
-pub own_kind : (row_values : RowValues) → is_unread row_values ≡ false → is_other_kind (Some (empty_table row_values)) row_values ≡ false
+pub own_kind : (row_values : RowValues) → is_unread row_values ≡ false → is_other_kind (Some (empty_calibrator row_values)) row_values ≡ false
 own_kind Unread u = cc
 own_kind (Coefficient e m) u = refl
 own_kind (Point n m) u = refl
 own_kind (Label n l) u = refl
 
-no_row_values : (row_values : RowValues) → row_values_of (empty_table row_values) ≡ []
+no_row_values : (row_values : RowValues) → row_values_of (empty_calibrator row_values) ≡ []
 no_row_values Unread = refl
 no_row_values (Coefficient e m) = refl
 no_row_values (Point n m) = refl
@@ -56,25 +56,25 @@ abbrev row_with : Text → RowValues → CalibrationRow
 row_with name row_values = record { fields = 4; name = name; row_values = row_values }
 
 -- a calibration with one more row has that row at its end
-more_rows : (c : Calibration) (row_values : RowValues) → is_other_kind (Some c.table) row_values ≡ false → has_x row_values ≡ true → has_y row_values ≡ true
+more_rows : (c : Calibration) (row_values : RowValues) → is_other_kind (Some c.calibrator) row_values ≡ false → has_x row_values ≡ true → has_y row_values ≡ true
     → rows_of_calibration (with_new_row row_values c) ≡ rows_of_calibration c ++ row_with c.name row_values ∷ []
-more_rows c row_values k x y = ap (map (row_with c.name)) (row_values_row c.table row_values k x y) ∙ map-append (row_with c.name) (row_values_of c.table) (row_values ∷ [])
+more_rows c row_values k x y = ap (map (row_with c.name)) (row_values_row c.calibrator row_values k x y) ∙ map-append (row_with c.name) (row_values_of c.calibrator) (row_values ∷ [])
 
 pub if_some : {X : Type 0} (b : Bool) (x y : X) → (if b then Some x else None) ≡ Some y → (b ≡ true) × (x ≡ y)
 if_some true x y e = (refl, same_Some x y e)
 if_some false x y e = cc
 
 -- the last calibration has the name
-pub last_named : (c : Calibration) (name : Text) (t : Table) → table_named name (Some c) ≡ Some t → (c.name ≡ name) × (c.table ≡ t)
+pub last_named : (c : Calibration) (name : Text) (t : Calibrator) → calibrator_named name (Some c) ≡ Some t → (c.name ≡ name) × (c.calibrator ≡ t)
 last_named c name t e =
-    let p = if_some (bytes_eq c.name name) c.table t e in
+    let p = if_some (bytes_eq c.name name) c.calibrator t e in
     ((bytes_eq-Decides c.name name).0 p.0, p.1)
 
 -- a new calibration has the row alone
 new_row : (above : List Calibration) (row : CalibrationRow) → continued above row.name ≡ None → row.fields ≡ 4 → is_unread row.row_values ≡ false → has_x row.row_values ≡ true → has_y row.row_values ≡ true
     → flat_map rows_of_calibration (with_calibration_row above row) ≡ flat_map rows_of_calibration above ++ row ∷ []
 new_row above row fresh fields u x y =
-    let c : Calibration = record { name = row.name; table = empty_table row.row_values } in
+    let c : Calibration = record { name = row.name; calibrator = empty_calibrator row.row_values } in
     let begun : with_name above row.name row.row_values ≡ above ++ c ∷ [] = rw fresh refl in
     let grown : with_calibration_row above row ≡ above ++ with_new_row row.row_values c ∷ [] = ap (at_last (with_new_row row.row_values)) begun ∙ at_last-push (with_new_row row.row_values) above c in
     let own : rows_of_calibration (with_new_row row.row_values c) ≡ row_with row.name row.row_values ∷ [] =
@@ -84,12 +84,12 @@ new_row above row fresh fields u x y =
     ∙ ap (λ (rs : List CalibrationRow). flat_map rows_of_calibration above ++ (rs ++ [])) (own ∙ ap (λ (r : CalibrationRow). r ∷ []) same)
 
 -- the last calibration has the row at its end
-next_row : (front : List Calibration) (c : Calibration) (row : CalibrationRow) (t : Table) → continued (front ++ c ∷ []) row.name ≡ Some t → row.fields ≡ 4 → is_other_kind (Some t) row.row_values ≡ false → has_x row.row_values ≡ true → has_y row.row_values ≡ true
+next_row : (front : List Calibration) (c : Calibration) (row : CalibrationRow) (t : Calibrator) → continued (front ++ c ∷ []) row.name ≡ Some t → row.fields ≡ 4 → is_other_kind (Some t) row.row_values ≡ false → has_x row.row_values ≡ true → has_y row.row_values ≡ true
     → flat_map rows_of_calibration (with_calibration_row (front ++ c ∷ []) row) ≡ flat_map rows_of_calibration (front ++ c ∷ []) ++ row ∷ []
 next_row front c row t is fields k x y =
-    let last : table_named row.name (Some c) ≡ Some t = ap (table_named row.name) (sym (last_of-push front c)) ∙ is in
+    let last : calibrator_named row.name (Some c) ≡ Some t = ap (calibrator_named row.name) (sym (last_of-push front c)) ∙ is in
     let named = last_named c row.name t last in
-    let kind : is_other_kind (Some c.table) row.row_values ≡ false = ap (λ (u : Table). is_other_kind (Some u) row.row_values) named.1 ∙ k in
+    let kind : is_other_kind (Some c.calibrator) row.row_values ≡ false = ap (λ (u : Calibrator). is_other_kind (Some u) row.row_values) named.1 ∙ k in
     let begun : with_name (front ++ c ∷ []) row.name row.row_values ≡ front ++ c ∷ [] = rw is refl in
     let grown : with_calibration_row (front ++ c ∷ []) row ≡ front ++ with_new_row row.row_values c ∷ [] = ap (at_last (with_new_row row.row_values)) begun ∙ at_last-push (with_new_row row.row_values) front c in
     let same : row_with c.name row.row_values ≡ row = ap (λ (n : Text). row_with n row.row_values) named.0 ∙ ap (λ (n : ℕ). let r : CalibrationRow = record { fields = n; name = row.name; row_values = row.row_values } in r) (sym fields) in
@@ -99,7 +99,7 @@ next_row front c row t is fields k x y =
     ap (flat_map f) grown ∙ flat_map-append f front (with_new_row row.row_values c ∷ []) ∙ ap (λ (rs : List CalibrationRow). flat_map f front ++ rs) (append-nil (f (with_new_row row.row_values c)) ∙ own)
     ∙ sym (append_assoc (flat_map f front) (f c) (row ∷ [])) ∙ ap (λ (rs : List CalibrationRow). rs ++ row ∷ []) (sym (flat_map-append f front (c ∷ []) ∙ ap (λ (rs : List CalibrationRow). flat_map f front ++ rs) (append-nil (f c))))
 
-added : (above : List Calibration) (row : CalibrationRow) (o : Option Table) → continued above row.name ≡ o → row.fields ≡ 4 → is_unread row.row_values ≡ false → is_other_kind o row.row_values ≡ false → has_x row.row_values ≡ true → has_y row.row_values ≡ true
+added : (above : List Calibration) (row : CalibrationRow) (o : Option Calibrator) → continued above row.name ≡ o → row.fields ≡ 4 → is_unread row.row_values ≡ false → is_other_kind o row.row_values ≡ false → has_x row.row_values ≡ true → has_y row.row_values ≡ true
     → flat_map rows_of_calibration (with_calibration_row above row) ≡ flat_map rows_of_calibration above ++ row ∷ []
 added above row None is fields u k x y = new_row above row is fields u x y
 added [] row (Some t) is fields u k x y = cc

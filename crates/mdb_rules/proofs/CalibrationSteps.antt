@@ -3,13 +3,13 @@ use Rattle.std.proofs.Common.{◌≡◌, ◌∙◌, ◌<◌, ℕ, suc, List, [],
 use Rattle.std.specs.Prelude.{slice_get, is_some, not, ◌&&◌, ℤ}
 use Rattle.std.proofs.lemmas.List.{append-nil, map-append}
 use Rattle.mdb_items.specs.declared.calibration.Calibration.{Calibration}
-use Rattle.mdb_items.specs.declared.calibration.Table.{Table}
-use Rattle.mdb_items.specs.declared.calibration.Table.TheVariants.{Poly, Points, Enum}
+use Rattle.mdb_items.specs.declared.calibration.Calibrator.{Calibrator}
+use Rattle.mdb_items.specs.declared.calibration.Calibrator.TheVariants.{Poly, Points, Enum}
 use Rattle.mdb_items.specs.declared.calibration.EnumRow.{EnumRow}
 use Rattle.mdb_rules.specs.declared.calibration_rows.Calibrations.{Calibrations}
 use Rattle.mdb_items.specs.declared.rows.RowValues.{RowValues}
 use Rattle.mdb_items.specs.declared.rows.RowValues.TheVariants.{Unread, Coefficient, Point, Label}
-use Rattle.mdb_items.specs.CalibrationRows.{AreNew, continued, empty_table, enum_numbers, is_other_kind, label_number, repeats, table_named, table_of_last, with_name, with_new_row, table_with_row}
+use Rattle.mdb_items.specs.CalibrationRows.{AreNew, continued, empty_calibrator, enum_numbers, is_other_kind, label_number, repeats, calibrator_named, calibrator_of_last, with_name, with_new_row, calibrator_with_row}
 use Rattle.mdb_items.specs.Lists.{at_last, last_of}
 use Rattle.mdb_items.specs.Numbers.{has_number}
 use Rattle.mdb_rules.specs.Steps.{IsInStep}
@@ -18,7 +18,7 @@ use Rattle.mdb_rules.proofs.CalibrationSpelling.{last_named}
 use Rattle.mdb_items.proofs.Ends.{at_last-push, last_of-push, length-push, map-at_last, set-last, snoc}
 
 -- a row that doesn't repeat is new among the numbers
-pub new_number : (o : Option Table) (row_values : RowValues) → is_other_kind o row_values ≡ false → repeats o row_values ≡ false → AreNew (enum_numbers o) row_values
+pub new_number : (o : Option Calibrator) (row_values : RowValues) → is_other_kind o row_values ≡ false → repeats o row_values ≡ false → AreNew (enum_numbers o) row_values
 new_number o Unread k r = tt
 new_number o (Coefficient e y) k r = tt
 new_number o (Point x y) k r = tt
@@ -28,8 +28,8 @@ new_number (Some (Poly rows)) (Label (Some x) y) k r = cc
 new_number (Some (Points rows)) (Label (Some x) y) k r = cc
 new_number (Some (Enum rows)) (Label (Some x) y) k r = r
 
--- one more row of a table's kind
-more_numbers : (t : Table) (row_values : RowValues) → is_other_kind (Some t) row_values ≡ false → enum_numbers (Some (table_with_row t row_values)) ≡ enum_numbers (Some t) ++ label_number row_values
+-- one more row of a calibrator's kind
+more_numbers : (t : Calibrator) (row_values : RowValues) → is_other_kind (Some t) row_values ≡ false → enum_numbers (Some (calibrator_with_row t row_values)) ≡ enum_numbers (Some t) ++ label_number row_values
 more_numbers (Poly rows) Unread k = cc
 more_numbers (Poly rows) (Coefficient None y) k = refl
 more_numbers (Poly rows) (Coefficient (Some e) None) k = refl
@@ -48,7 +48,7 @@ more_numbers (Enum rows) (Point x y) k = cc
 more_numbers (Enum rows) (Label None y) k = sym (append-nil (map _ rows))
 more_numbers (Enum rows) (Label (Some x) y) k = map-append _ rows _
 
-first_numbers : (row_values : RowValues) → enum_numbers (Some (table_with_row (empty_table row_values) row_values)) ≡ label_number row_values
+first_numbers : (row_values : RowValues) → enum_numbers (Some (calibrator_with_row (empty_calibrator row_values) row_values)) ≡ label_number row_values
 first_numbers Unread = refl
 first_numbers (Coefficient None y) = refl
 first_numbers (Coefficient (Some e) None) = refl
@@ -60,46 +60,46 @@ first_numbers (Label None y) = refl
 first_numbers (Label (Some x) y) = refl
 
 numbers_of_last : (cs : List Calibration) → List ℤ
-numbers_of_last cs = enum_numbers (table_of_last (last_of cs))
+numbers_of_last cs = enum_numbers (calibrator_of_last (last_of cs))
 
 -- the numbers of the last calibration, once it has the row
-pub numbers_after : (above : List Calibration) (name : Text) (row_values : RowValues) (o : Option Table) → continued above name ≡ o → is_other_kind o row_values ≡ false
-    → enum_numbers (table_of_last (last_of (at_last (with_new_row row_values) (with_name above name row_values)))) ≡ enum_numbers o ++ label_number row_values
+pub numbers_after : (above : List Calibration) (name : Text) (row_values : RowValues) (o : Option Calibrator) → continued above name ≡ o → is_other_kind o row_values ≡ false
+    → enum_numbers (calibrator_of_last (last_of (at_last (with_new_row row_values) (with_name above name row_values)))) ≡ enum_numbers o ++ label_number row_values
 numbers_after above name row_values None is k =
-    let c : Calibration = record { name = name; table = empty_table row_values } in
+    let c : Calibration = record { name = name; calibrator = empty_calibrator row_values } in
     let begun : with_name above name row_values ≡ above ++ c ∷ [] = rw is refl in
     let grown : at_last (with_new_row row_values) (with_name above name row_values) ≡ above ++ with_new_row row_values c ∷ [] = ap (at_last (with_new_row row_values)) begun ∙ at_last-push (with_new_row row_values) above c in
-    ap (λ (cs : List Calibration). enum_numbers (table_of_last (last_of cs))) grown ∙ ap (λ (x : Option Calibration). enum_numbers (table_of_last x)) (last_of-push above (with_new_row row_values c)) ∙ first_numbers row_values
+    ap (λ (cs : List Calibration). enum_numbers (calibrator_of_last (last_of cs))) grown ∙ ap (λ (x : Option Calibration). enum_numbers (calibrator_of_last x)) (last_of-push above (with_new_row row_values c)) ∙ first_numbers row_values
 numbers_after [] name row_values (Some t) is k = cc
 numbers_after (a ∷ above) name row_values (Some t) is k =
     let parts = snoc (a ∷ above) (omega arith) in
-    let P : List Calibration → Type 0 = λ cs. continued cs name ≡ Some t → enum_numbers (table_of_last (last_of (at_last (with_new_row row_values) (with_name cs name row_values)))) ≡ enum_numbers (Some t) ++ label_number row_values in
+    let P : List Calibration → Type 0 = λ cs. continued cs name ≡ Some t → enum_numbers (calibrator_of_last (last_of (at_last (with_new_row row_values) (with_name cs name row_values)))) ≡ enum_numbers (Some t) ++ label_number row_values in
     subst P (sym parts.2) (λ e. at_end parts.0 parts.1 e) is
   where
-    at_end : (front : List Calibration) (c : Calibration) → continued (front ++ c ∷ []) name ≡ Some t → enum_numbers (table_of_last (last_of (at_last (with_new_row row_values) (with_name (front ++ c ∷ []) name row_values)))) ≡ enum_numbers (Some t) ++ label_number row_values
+    at_end : (front : List Calibration) (c : Calibration) → continued (front ++ c ∷ []) name ≡ Some t → enum_numbers (calibrator_of_last (last_of (at_last (with_new_row row_values) (with_name (front ++ c ∷ []) name row_values)))) ≡ enum_numbers (Some t) ++ label_number row_values
     at_end front c e =
-        let last : table_named name (Some c) ≡ Some t = ap (table_named name) (sym (last_of-push front c)) ∙ e in
+        let last : calibrator_named name (Some c) ≡ Some t = ap (calibrator_named name) (sym (last_of-push front c)) ∙ e in
         let named = last_named c name t last in
         let begun : with_name (front ++ c ∷ []) name row_values ≡ front ++ c ∷ [] = rw e refl in
         let grown : at_last (with_new_row row_values) (with_name (front ++ c ∷ []) name row_values) ≡ front ++ with_new_row row_values c ∷ [] = ap (at_last (with_new_row row_values)) begun ∙ at_last-push (with_new_row row_values) front c in
-        ap (λ (cs : List Calibration). enum_numbers (table_of_last (last_of cs))) grown ∙ ap (λ (x : Option Calibration). enum_numbers (table_of_last x)) (last_of-push front (with_new_row row_values c))
-        ∙ ap (λ (u : Table). enum_numbers (Some (table_with_row u row_values))) named.1 ∙ more_numbers t row_values k
+        ap (λ (cs : List Calibration). enum_numbers (calibrator_of_last (last_of cs))) grown ∙ ap (λ (x : Option Calibration). enum_numbers (calibrator_of_last x)) (last_of-push front (with_new_row row_values c))
+        ∙ ap (λ (u : Calibrator). enum_numbers (Some (calibrator_with_row u row_values))) named.1 ∙ more_numbers t row_values k
 
--- what is continued is the last calibration's table
-pub continued_last : (cs : List Calibration) (name : Text) (t : Table) → continued cs name ≡ Some t → table_of_last (last_of cs) ≡ Some t
+-- what is continued is the last calibration's calibrator
+pub continued_last : (cs : List Calibration) (name : Text) (t : Calibrator) → continued cs name ≡ Some t → calibrator_of_last (last_of cs) ≡ Some t
 continued_last cs name t is = of_last (last_of cs) is
   where
-    of_last : (o : Option Calibration) → table_named name o ≡ Some t → table_of_last o ≡ Some t
+    of_last : (o : Option Calibration) → calibrator_named name o ≡ Some t → calibrator_of_last o ≡ Some t
     of_last None e = cc
-    of_last (Some c) e = ap (λ (u : Table). Some u) ((last_named c name t e).1)
+    of_last (Some c) e = ap (λ (u : Calibrator). Some u) ((last_named c name t e).1)
 
-not_empty : (cs : List Calibration) (name : Text) (t : Table) → continued cs name ≡ Some t → 0 < length cs
+not_empty : (cs : List Calibration) (name : Text) (t : Calibrator) → continued cs name ≡ Some t → 0 < length cs
 not_empty [] name t e = cc
 not_empty (c ∷ cs) name t e = omega arith
 
-some_by : (cs : List Calibration) (name : Text) (row_values : RowValues) (o : Option Table) → continued cs name ≡ o → 0 < length (with_name cs name row_values)
+some_by : (cs : List Calibration) (name : Text) (row_values : RowValues) (o : Option Calibrator) → continued cs name ≡ o → 0 < length (with_name cs name row_values)
 some_by cs name row_values None is =
-    let c : Calibration = record { name = name; table = empty_table row_values } in
+    let c : Calibration = record { name = name; calibrator = empty_calibrator row_values } in
     rw is (omega (arith, length-push cs c))
 some_by cs name row_values (Some t) is = rw is (not_empty cs name t is)
 
@@ -108,16 +108,16 @@ pub some_named : (cs : List Calibration) (name : Text) (row_values : RowValues) 
 some_named cs name row_values = some_by cs name row_values (continued cs name) refl
 
 -- a name that neither continues nor began an earlier group is new
-pub fresh_name : (o : Option Table) (p : Option ℕ) → (not (is_some o) && is_some p) ≡ false → o ≡ None → p ≡ None
+pub fresh_name : (o : Option Calibrator) (p : Option ℕ) → (not (is_some o) && is_some p) ≡ false → o ≡ None → p ≡ None
 fresh_name None None e is = refl
 fresh_name None (Some n) e is = cc
 fresh_name (Some t) p e is = cc
 
 -- the last calibration written with one more row
-pub written : (items : List Calibration) (n : ℕ) (old : Calibration) (t : Table) (row_values : RowValues) → suc n ≡ length items → slice_get items n ≡ Some old → t ≡ table_with_row old.table row_values
-    → set items n (record { name = old.name; table = t }) ≡ at_last (with_new_row row_values) items
+pub written : (items : List Calibration) (n : ℕ) (old : Calibration) (t : Calibrator) (row_values : RowValues) → suc n ≡ length items → slice_get items n ≡ Some old → t ≡ calibrator_with_row old.calibrator row_values
+    → set items n (record { name = old.name; calibrator = t }) ≡ at_last (with_new_row row_values) items
 written items n old t row_values e is same =
-    ap (λ (u : Table). let c : Calibration = record { name = old.name; table = u } in set items n c) same ∙ set-last (with_new_row row_values) items n old e is
+    ap (λ (u : Calibrator). let c : Calibration = record { name = old.name; calibrator = u } in set items n c) same ∙ set-last (with_new_row row_values) items n old e is
 
 -- once a row is added, names and numbers are in step again
 pub in_step_after : (above : List Calibration) (name : Text) (row_values : RowValues) (o p : Calibrations) → is_other_kind (continued above name) row_values ≡ false
@@ -129,9 +129,9 @@ in_step_after above name row_values o p kind opened names numbers items same mor
       same ∙ names ∙ sym kept ∙ ap (map (λ (c : Calibration). c.name)) (sym items);
   numbers =
       let after = numbers_after above name row_values (continued above name) refl kind in
-      more ∙ ap (λ (xs : List ℤ). xs ++ label_number row_values) numbers ∙ sym after ∙ ap (λ (cs : List Calibration). enum_numbers (table_of_last (last_of cs))) (ap (at_last (with_new_row row_values)) (sym opened) ∙ sym items);
+      more ∙ ap (λ (xs : List ℤ). xs ++ label_number row_values) numbers ∙ sym after ∙ ap (λ (cs : List Calibration). enum_numbers (calibrator_of_last (last_of cs))) (ap (at_last (with_new_row row_values)) (sym opened) ∙ sym items);
 }
 
 -- a raw number among those of an enum
-pub repeats_enum : (o : Option Table) (numbers : List ℤ) (rows : List EnumRow) (row_values : RowValues) (x : ℤ) (label : Text) → o ≡ Some (Enum rows) → row_values ≡ Label (Some x) label → numbers ≡ enum_numbers (Some (Enum rows)) → has_number x numbers ≡ repeats o row_values
-repeats_enum o numbers rows row_values x label table cell same = rw (table, cell, same) refl
+pub repeats_enum : (o : Option Calibrator) (numbers : List ℤ) (rows : List EnumRow) (row_values : RowValues) (x : ℤ) (label : Text) → o ≡ Some (Enum rows) → row_values ≡ Label (Some x) label → numbers ≡ enum_numbers (Some (Enum rows)) → has_number x numbers ≡ repeats o row_values
+repeats_enum o numbers rows row_values x label calibrator cell same = rw (calibrator, cell, same) refl

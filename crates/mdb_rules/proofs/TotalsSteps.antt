@@ -5,7 +5,7 @@ use Rattle.std.proofs.lemmas.Bool.{cases_lt}
 use Rattle.std.proofs.lemmas.List.{append-nil, map-append}
 use Rattle.std.proofs.lemmas.Option.{slice_get-map}
 use Rattle.mdb_items.specs.declared.container.Container.{Container}
-use Rattle.mdb_items.specs.declared.container.Entry.{Entry}
+use Rattle.mdb_items.specs.declared.container.ParameterEntry.{ParameterEntry}
 use Rattle.mdb_rules.specs.declared.container_rows.Containers.{Containers}
 use Rattle.mdb_rules.specs.declared.container_rows.PathTotals.{PathTotals}
 use Rattle.mdb_items.specs.declared.parameter.Parameter.{Parameter}
@@ -28,9 +28,9 @@ totals_is ps cs all_totals (Some n) same =
 
 new_totals : (ps : List Parameter) (up : ContainerPath) (c : Container) → c.entries ≡ [] → totals_of ps (path_below up c) ≡ record { containers = up.containers + 1; entries = length up.entries; end = path_end ps up }
 new_totals ps up c none =
-    let entries : up.entries ++ c.entries ≡ up.entries = ap (λ (es : List Entry). up.entries ++ es) none ∙ append-nil up.entries in
+    let entries : up.entries ++ c.entries ≡ up.entries = ap (λ (es : List ParameterEntry). up.entries ++ es) none ∙ append-nil up.entries in
     let count : suc up.containers ≡ up.containers + 1 = omega arith in
-    ap (λ (es : List Entry). let s : PathTotals = record { containers = suc up.containers; entries = length es; end = end_after ps (last_of es) } in s) entries
+    ap (λ (es : List ParameterEntry). let s : PathTotals = record { containers = suc up.containers; entries = length es; end = end_after ps (last_of es) } in s) entries
     ∙ ap (λ (n : ℕ). let s : PathTotals = record { containers = n; entries = length up.entries; end = path_end ps up } in s) count
 
 -- one more container without entries has its totals
@@ -56,16 +56,16 @@ earlier_more items c earlier below n p lt is = elim (cases_lt n (length items)) 
 abbrev pub entered_totals : ℕ → PathTotals → PathTotals
 entered_totals end s = record { containers = s.containers; entries = s.entries + 1; end = end }
 
-grown_totals : (ps : List Parameter) (up : ContainerPath) (c : Container) (e : Entry) → totals_of ps (path_below up (with_new_entry e c)) ≡ entered_totals (e.at + bits_at ps e.parameter) (totals_of ps (path_below up c))
+grown_totals : (ps : List Parameter) (up : ContainerPath) (c : Container) (e : ParameterEntry) → totals_of ps (path_below up (with_new_entry e c)) ≡ entered_totals (e.at + bits_at ps e.parameter) (totals_of ps (path_below up c))
 grown_totals ps up c e =
     let entries : up.entries ++ (c.entries ++ e ∷ []) ≡ (up.entries ++ c.entries) ++ e ∷ [] = sym (append_assoc up.entries c.entries (e ∷ [])) in
     let count : length ((up.entries ++ c.entries) ++ e ∷ []) ≡ length (up.entries ++ c.entries) + 1 = omega (arith, length-push (up.entries ++ c.entries) e) in
     let last = last_of-push (up.entries ++ c.entries) e in
-    ap (λ (es : List Entry). let s : PathTotals = record { containers = suc up.containers; entries = length es; end = end_after ps (last_of es) } in s) entries
-    ∙ ap (λ (o : Option Entry). let s : PathTotals = record { containers = suc up.containers; entries = length ((up.entries ++ c.entries) ++ e ∷ []); end = end_after ps o } in s) last
+    ap (λ (es : List ParameterEntry). let s : PathTotals = record { containers = suc up.containers; entries = length es; end = end_after ps (last_of es) } in s) entries
+    ∙ ap (λ (o : Option ParameterEntry). let s : PathTotals = record { containers = suc up.containers; entries = length ((up.entries ++ c.entries) ++ e ∷ []); end = end_after ps o } in s) last
     ∙ ap (λ (n : ℕ). let s : PathTotals = record { containers = suc up.containers; entries = n; end = e.at + bits_at ps e.parameter } in s) count
 
-all_totals_at_end : (ps : List Parameter) (front : List Container) (c : Container) (e : Entry)
+all_totals_at_end : (ps : List Parameter) (front : List Container) (c : Container) (e : ParameterEntry)
     → map (totals_of ps) (paths_of (at_last (with_new_entry e) (front ++ c ∷ []))) ≡ at_last (entered_totals (e.at + bits_at ps e.parameter)) (map (totals_of ps) (paths_of (front ++ c ∷ [])))
 all_totals_at_end ps front c e =
     let up = path_at (paths_of front) c.parent in
@@ -78,21 +78,21 @@ all_totals_at_end ps front c e =
     ∙ sym (ap (at_last (entered_totals (e.at + bits_at ps e.parameter))) old ∙ at_last-push (entered_totals (e.at + bits_at ps e.parameter)) (map f (paths_of front)) (f (path_below up c)))
 
 -- one more entry changes the last path's totals alone
-pub entered_all_totals : (ps : List Parameter) (items : List Container) (e : Entry) → 0 < length items
+pub entered_all_totals : (ps : List Parameter) (items : List Container) (e : ParameterEntry) → 0 < length items
     → map (totals_of ps) (paths_of (at_last (with_new_entry e) items)) ≡ at_last (entered_totals (e.at + bits_at ps e.parameter)) (map (totals_of ps) (paths_of items))
 entered_all_totals ps items e some =
     let parts = snoc items some in
     let P : List Container → Type 0 = λ cs. map (totals_of ps) (paths_of (at_last (with_new_entry e) cs)) ≡ at_last (entered_totals (e.at + bits_at ps e.parameter)) (map (totals_of ps) (paths_of cs)) in
     subst P (sym parts.2) (all_totals_at_end ps parts.0 parts.1 e)
 
-parent_same : (items : List Container) (e : Entry) (n : ℕ) → parent_of (slice_get (at_last (with_new_entry e) items) n) ≡ parent_of (slice_get items n)
+parent_same : (items : List Container) (e : ParameterEntry) (n : ℕ) → parent_of (slice_get (at_last (with_new_entry e) items) n) ≡ parent_of (slice_get items n)
 parent_same [] e n = refl
 parent_same (c ∷ []) e zero = refl
 parent_same (c ∷ []) e (suc n) = refl
 parent_same (c ∷ d ∷ items) e zero = refl
 parent_same (c ∷ d ∷ items) e (suc n) = parent_same (d ∷ items) e n
 
-pub earlier_entered : (items : List Container) (e : Entry) → AreEarlier items → AreEarlier (at_last (with_new_entry e) items)
+pub earlier_entered : (items : List Container) (e : ParameterEntry) → AreEarlier items → AreEarlier (at_last (with_new_entry e) items)
 earlier_entered items e earlier n p lt is = earlier n p (omega (arith, length-at_last (with_new_entry e) items)) (sym (parent_same items e n) ∙ is)
 
 -- a container that begins keeps all paths
@@ -119,10 +119,10 @@ last_totals ps items all_totals n old same e is =
     sym here ∙ totals_is ps items all_totals (Some n) same ∙ ap (λ (o : Option ℕ). totals_of ps (path_at (paths_of items) o)) (sym (last_is items n e))
 
 -- the last container written with one more entry
-pub entry_written : (items : List Container) (n : ℕ) (old : Container) (entries : List Entry) (e : Entry) → suc n ≡ length items → slice_get items n ≡ Some old → entries ≡ old.entries ++ e ∷ []
+pub entry_written : (items : List Container) (n : ℕ) (old : Container) (entries : List ParameterEntry) (e : ParameterEntry) → suc n ≡ length items → slice_get items n ≡ Some old → entries ≡ old.entries ++ e ∷ []
     → set items n (record { name = old.name; parent = old.parent; archive = old.archive; condition = old.condition; entries = entries }) ≡ at_last (with_new_entry e) items
 entry_written items n old entries e at is same =
-    ap (λ (es : List Entry). let c : Container = record { name = old.name; parent = old.parent; archive = old.archive; condition = old.condition; entries = es } in set items n c) same ∙ set-last (with_new_entry e) items n old at is
+    ap (λ (es : List ParameterEntry). let c : Container = record { name = old.name; parent = old.parent; archive = old.archive; condition = old.condition; entries = es } in set items n c) same ∙ set-last (with_new_entry e) items n old at is
 
 -- the last path's totals written with one more entry
 pub totals_written : (all_totals : List PathTotals) (n : ℕ) (old : PathTotals) (end end' : ℕ) → suc n ≡ length all_totals → slice_get all_totals n ≡ Some old → end ≡ end'
@@ -134,7 +134,7 @@ pub all_totals_length : (ps : List Parameter) (items : List Container) (all_tota
 all_totals_length ps items all_totals same = ap length same ∙ length-mapped (totals_of ps) (paths_of items) ∙ length-paths_of items
 
 -- an entry keeps all paths
-pub in_path_entered : (ps : List Parameter) (old new : Containers) (e : Entry) → HasPaths ps old → 0 < length old.items.items → new.names ≡ old.names → new.items.items ≡ at_last (with_new_entry e) old.items.items
+pub in_path_entered : (ps : List Parameter) (old new : Containers) (e : ParameterEntry) → HasPaths ps old → 0 < length old.items.items → new.names ≡ old.names → new.items.items ≡ at_last (with_new_entry e) old.items.items
     → new.all_totals.items ≡ at_last (entered_totals (e.at + bits_at ps e.parameter)) old.all_totals.items → HasPaths ps new
 in_path_entered ps old new e path some names items all_totals = record {
   names =

@@ -8,7 +8,7 @@ use Rattle.mdb_items.specs.declared.fault.MdbFault.TheVariants.{Bad, Limit, OutO
 use Rattle.mdb_items.specs.declared.parameter.Parameter.{Parameter}
 use Rattle.mdb_rules.specs.declared.parameter_rows.Parameters.{Parameters}
 use Rattle.mdb_items.specs.declared.rows.ParameterRow.{ParameterRow}
-use Rattle.mdb_items.specs.CalibrationRows.{CalibrationRow, calibrations_of, enum_numbers, table_of_last}
+use Rattle.mdb_items.specs.CalibrationRows.{CalibrationRow, calibrations_of, enum_numbers, calibrator_of_last}
 use Rattle.mdb_items.specs.ContainerRows.{ContainerRow, containers_of}
 use Rattle.mdb_items.specs.Database.{Broken, calibrations_fault, containers_fault, parameters_fault}
 use Rattle.mdb_items.specs.Lists.{last_of}
@@ -18,7 +18,7 @@ use Rattle.mdb_rules.specs.Totals.{HasPaths}
 -- the names are those of the calibrations, and the numbers those of the last one where it is an enum
 pub record IsInStep (c : Calibrations) : Type 0 where
   pub names : c.names ≡ map (λ x. x.name) c.items.items
-  pub numbers : c.numbers ≡ enum_numbers (table_of_last (last_of c.items.items))
+  pub numbers : c.numbers ≡ enum_numbers (calibrator_of_last (last_of c.items.items))
 
 -- the refusal names the first rule broken; want of memory says nothing
 abbrev pub Refuses : Option Broken → MdbFault → Type 0

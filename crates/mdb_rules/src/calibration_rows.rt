@@ -2,17 +2,17 @@
 
 ghost use Rattle.std.specs.Prelude.{◌≡◌, ◌<◌, ◌==◌, ◌∷◌, ◌++◌, [], ◌&&◌, not, is_some, length, map, None, Some, option_copied, OnOk};
 ghost use Rattle.std.specs.List.{list_any};
-ghost use Rattle.mdb_items.specs.declared.calibration.Table.{Table as TableValue};
-ghost use Rattle.mdb_items.specs.CalibrationRows.{AreNew, calibration_checks, continued, empty_table, enum_numbers, has_x, has_y, is_named, is_not_above, is_other_kind, is_point, is_unread, label_number, repeats, with_calibration_row, with_name, with_new_row, table_with_row};
+ghost use Rattle.mdb_items.specs.declared.calibration.Calibrator.{Calibrator as CalibratorValue};
+ghost use Rattle.mdb_items.specs.CalibrationRows.{AreNew, calibration_checks, continued, empty_calibrator, enum_numbers, has_x, has_y, is_named, is_not_above, is_other_kind, is_point, is_unread, label_number, repeats, with_calibration_row, with_name, with_new_row, calibrator_with_row};
 ghost use Rattle.mdb_items.specs.Checks.{first_broken};
 ghost use Rattle.mdb_items.specs.Lists.{at_last};
 ghost use Rattle.mdb_items.specs.Numbers.{is_decimal, is_in_range, is_whole_number};
 ghost use Rattle.mdb_rules.specs.Steps.{IsInStep};
 ghost use Rattle.mdb_items.specs.Texts.{place_of};
 
-use crate::names::{Names, Numbers};
+use crate::name_index::{NameIndex, Numbers};
 use item_list::items::Items;
-use mdb_items::calibration::{Calibration, EnumRow, PointsRow, PolyRow, Table};
+use mdb_items::calibration::{Calibration, Calibrator, EnumRow, PointsRow, PolyRow};
 use mdb_items::name::MdbName;
 use mdb_items::rows::RowValues;
 use mdb_items::texts::is_label;
@@ -79,14 +79,14 @@ fn has_y(row_values: &RowValues) -> bool
     }
 }
 
-fn is_other_kind(table: Option<&Table>, row_values: &RowValues) -> bool
-    ensures { result ≡ is_other_kind (option_copied table.entry) row_values.now }
+fn is_other_kind(calibrator: Option<&Calibrator>, row_values: &RowValues) -> bool
+    ensures { result ≡ is_other_kind (option_copied calibrator.entry) row_values.now }
 {
-    match table {
+    match calibrator {
         None => false,
-        Some(Table::Poly(_)) => !matches!(row_values, RowValues::Coefficient(_, _)),
-        Some(Table::Points(_)) => !matches!(row_values, RowValues::Point(_, _)),
-        Some(Table::Enum(_)) => !matches!(row_values, RowValues::Label(_, _)),
+        Some(Calibrator::Poly(_)) => !matches!(row_values, RowValues::Coefficient(_, _)),
+        Some(Calibrator::Points(_)) => !matches!(row_values, RowValues::Point(_, _)),
+        Some(Calibrator::Enum(_)) => !matches!(row_values, RowValues::Label(_, _)),
     }
 }
 
@@ -106,21 +106,21 @@ fn is_not_above(x: i128, point: Option<&PointsRow>) -> bool
 }
 
 /// The x repeats, or doesn't rise in points. `numbers` are those of an enum.
-fn repeats(table: Option<&Table>, numbers: &Numbers, row_values: &RowValues) -> bool
-    requires { (t : TableValue) → option_copied table ≡ Some t → numbers.now ≡ enum_numbers (Some t) }
-    ensures { result ≡ repeats (option_copied table.entry) row_values.now }
+fn repeats(calibrator: Option<&Calibrator>, numbers: &Numbers, row_values: &RowValues) -> bool
+    requires { (t : CalibratorValue) → option_copied calibrator ≡ Some t → numbers.now ≡ enum_numbers (Some t) }
+    ensures { result ≡ repeats (option_copied calibrator.entry) row_values.now }
 {
-    match table {
+    match calibrator {
         None => false,
-        Some(Table::Poly(rows)) => match row_values {
+        Some(Calibrator::Poly(rows)) => match row_values {
             RowValues::Coefficient(Some(exponent), _) => has_exponent(rows.as_slice(), *exponent),
             _ => false,
         },
-        Some(Table::Points(rows)) => match row_values {
+        Some(Calibrator::Points(rows)) => match row_values {
             RowValues::Point(Some(x), _) => is_not_above(*x, rows.as_slice().last()),
             _ => false,
         },
-        Some(Table::Enum(_)) => match row_values {
+        Some(Calibrator::Enum(_)) => match row_values {
             RowValues::Label(Some(x), _) => numbers.contains(*x),
             _ => false,
         },
@@ -136,24 +136,24 @@ fn is_named(name: &[u8], next: Option<&[u8]>) -> bool
     }
 }
 
-/// A table without rows, of the kind of values.
-fn empty_table(alloc: Global, row_values: &RowValues) -> Table
-    ensures { result ≡ empty_table row_values.now }
+/// A calibrator without rows, of the kind of values.
+fn empty_calibrator(alloc: Global, row_values: &RowValues) -> Calibrator
+    ensures { result ≡ empty_calibrator row_values.now }
 {
     match row_values {
-        RowValues::Unread => Table::Poly(Items::new(alloc)),
-        RowValues::Coefficient(_, _) => Table::Poly(Items::new(alloc)),
-        RowValues::Point(_, _) => Table::Points(Items::new(alloc)),
-        RowValues::Label(_, _) => Table::Enum(Items::new(alloc)),
+        RowValues::Unread => Calibrator::Poly(Items::new(alloc)),
+        RowValues::Coefficient(_, _) => Calibrator::Poly(Items::new(alloc)),
+        RowValues::Point(_, _) => Calibrator::Points(Items::new(alloc)),
+        RowValues::Label(_, _) => Calibrator::Enum(Items::new(alloc)),
     }
 }
 
-/// Adds a row, where the values are of the table's kind and whole.
-fn push_row(table: &mut Table, row_values: RowValues) -> Result<(), AllocError>
-    ensures { OnOk result (table.new ≡ table_with_row table.old row_values) }
+/// Adds a row, where the values are of the calibrator's kind and whole.
+fn push_row(calibrator: &mut Calibrator, row_values: RowValues) -> Result<(), AllocError>
+    ensures { OnOk result (calibrator.new ≡ calibrator_with_row calibrator.old row_values) }
 {
-    match table {
-        Table::Poly(rows) => {
+    match calibrator {
+        Calibrator::Poly(rows) => {
             if let RowValues::Coefficient(Some(exponent), Some(millionths)) = row_values {
                 rows.push(PolyRow {
                     exponent,
@@ -161,12 +161,12 @@ fn push_row(table: &mut Table, row_values: RowValues) -> Result<(), AllocError>
                 })?;
             }
         }
-        Table::Points(rows) => {
+        Calibrator::Points(rows) => {
             if let RowValues::Point(Some(x), Some(millionths)) = row_values {
                 rows.push(PointsRow { x, millionths })?;
             }
         }
-        Table::Enum(rows) => {
+        Calibrator::Enum(rows) => {
             if let RowValues::Label(Some(x), label) = row_values {
                 rows.push(EnumRow { x, label })?;
             }
@@ -192,7 +192,7 @@ fn note_number(numbers: &mut Numbers, row_values: &RowValues) -> Result<(), Allo
 /// The calibrations of the rows so far, their names, and the raw numbers of the last one where it is an enum.
 #[derive(Drop)]
 pub struct Calibrations {
-    pub names: Names,
+    pub names: NameIndex,
     pub numbers: Numbers,
     pub items: Vec<Calibration>,
 }
@@ -203,20 +203,20 @@ impl Calibrations {
         ensures step { IsInStep result }
     {
         Calibrations {
-            names: Names::new(alloc),
+            names: NameIndex::new(alloc),
             numbers: Numbers::new(alloc),
             items: Vec::new(alloc),
         }
     }
 
-    /// The table of the last calibration, where it has the name.
-    fn continued(&self, name: &[u8]) -> Option<&Table>
+    /// The calibrator of the last calibration, where it has the name.
+    fn continued(&self, name: &[u8]) -> Option<&Calibrator>
         ensures { option_copied result ≡ continued self.now.items.items name.now }
     {
         match self.items.last() {
             Some(last) => {
                 if last.name.as_bytes() == name {
-                    Some(&last.table)
+                    Some(&last.calibrator)
                 } else {
                     None
                 }
@@ -275,14 +275,14 @@ impl Calibrations {
         if is_unread(row_values) {
             return Some(4);
         }
-        let table = self.continued(name);
-        if is_other_kind(table, row_values) {
+        let calibrator = self.continued(name);
+        if is_other_kind(calibrator, row_values) {
             return Some(6);
         }
         if !has_x(row_values) {
             return Some(7);
         }
-        if repeats(table, &self.numbers, row_values) {
+        if repeats(calibrator, &self.numbers, row_values) {
             return Some(8);
         }
         if !has_y(row_values) {
@@ -303,14 +303,14 @@ impl Calibrations {
     ) -> Result<(), AllocError>
         requires fresh { place_of name.now self.old.names ≡ None }
         ensures items { OnOk result (self.new.items.items ≡ self.old.items.items ++
-            (record { name = name.now; table = empty_table row_values.now }) ∷ []) }
+            (record { name = name.now; calibrator = empty_calibrator row_values.now }) ∷ []) }
         ensures names { OnOk result (self.new.names ≡ self.old.names ++ name.now ∷ []) }
         ensures numbers { OnOk result (self.new.numbers ≡ []) }
     {
         self.names.add(Vec::from_slice(alloc, name)?)?;
         self.items.push(Calibration {
             name: MdbName::from_slice(alloc, name)?,
-            table: empty_table(alloc, row_values),
+            calibrator: empty_calibrator(alloc, row_values),
         })?;
         // to empty them would cost as much as the longest enumeration so far (D-68)
         self.numbers = Numbers::new(alloc);
@@ -343,7 +343,7 @@ impl Calibrations {
         note_number(&mut self.numbers, &row_values)?;
         let last = self.items.len() - 1;
         let calibration = &mut self.items[last];
-        push_row(&mut calibration.table, row_values)
+        push_row(&mut calibration.calibrator, row_values)
     }
 
     /// Adds a row that breaks no rule. After want of memory nothing is known of the calibrations.

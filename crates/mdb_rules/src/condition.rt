@@ -5,7 +5,7 @@ ghost use Rattle.std.specs.List.{list_all};
 ghost use Rattle.mdb_items.specs.Conditions.{after, comparison, comparison_named, comparison_of, comparison_with, condition, front, front_len, is_no_semicolon, is_no_space, is_operator_octet, is_space, operator_of, pieces, pieces_after};
 ghost use Rattle.text_forms.specs.Names.{is_name_octet};
 
-use crate::names::Names;
+use crate::name_index::NameIndex;
 use item_list::items::Items;
 use mdb_items::container::{Comparison, Operator};
 use mdb_items::texts::whole_number;
@@ -148,7 +148,7 @@ fn after_name(text: &[u8]) -> &[u8]
 }
 
 /// A parameter's name, and then an operator and a number, with spaces around each.
-fn comparison_named(parameters: &Names, text: &[u8]) -> Option<Comparison>
+fn comparison_named(parameters: &NameIndex, text: &[u8]) -> Option<Comparison>
     ensures { result ≡ comparison_named parameters.now text.now }
 {
     comparison_of(
@@ -158,7 +158,7 @@ fn comparison_named(parameters: &Names, text: &[u8]) -> Option<Comparison>
 }
 
 /// A parameter's name, an operator and a whole number, with spaces around each.
-fn comparison(parameters: &Names, text: &[u8]) -> Option<Comparison>
+fn comparison(parameters: &NameIndex, text: &[u8]) -> Option<Comparison>
     ensures { result ≡ comparison parameters.now text.now }
 {
     comparison_named(parameters, after_spaces(text))
@@ -187,7 +187,7 @@ fn cut(text: &[u8]) -> (&[u8], Option<&[u8]>)
 /// Comparisons joined by `;`, and none where the text is empty.
 pub fn condition(
     alloc: Global,
-    parameters: &Names,
+    parameters: &NameIndex,
     text: &[u8],
 ) -> Result<Option<Items<Comparison>>, AllocError>
     ensures { IfOk result (λ c. c ≡ condition parameters.now text.now) }

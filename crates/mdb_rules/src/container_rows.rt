@@ -14,12 +14,12 @@ ghost use Rattle.mdb_rules.specs.Totals.{HasPaths, HasSomePaths, KeepsPaths, tot
 ghost use Rattle.mdb_items.specs.Texts.{place_of};
 
 use crate::calibration_rows::is_in_range;
-use crate::names::Names;
+use crate::name_index::NameIndex;
 use crate::parameter_rows::{is_reference, number_of};
 use item_list::items::Items;
-use mdb_items::container::{Comparison, Container, Entry};
+use mdb_items::container::{Comparison, Container, ParameterEntry};
 use mdb_items::parameter::Parameter;
-use mdb_items::rows::{ContainerColumns, NewContainer, Position, Reference};
+use mdb_items::rows::{ContainerColumns, EntryPosition, NewContainer, Reference};
 use std::alloc::{AllocError, Global};
 use text_forms::is_name;
 
@@ -37,7 +37,7 @@ pub struct PathTotals {
 /// The containers of the rows so far, their names, and the totals of their paths.
 #[derive(Drop)]
 pub struct Containers {
-    pub names: Names,
+    pub names: NameIndex,
     pub all_totals: Vec<PathTotals>,
     pub items: Vec<Container>,
 }
@@ -84,13 +84,13 @@ fn is_one_more(entry: Reference, entries: usize) -> bool
     is_known(entry) && 256 <= entries
 }
 
-fn is_placed(entry: Reference, position: Position) -> bool
+fn is_placed(entry: Reference, position: EntryPosition) -> bool
     ensures { result ≡ is_placed entry position }
 {
     match entry {
-        Reference::Nothing => matches!(position, Position::Nothing),
+        Reference::Nothing => matches!(position, EntryPosition::Nothing),
         Reference::Unknown => false,
-        Reference::Known(_) => matches!(position, Position::At(_)),
+        Reference::Known(_) => matches!(position, EntryPosition::At(_)),
     }
 }
 
@@ -109,13 +109,13 @@ fn bits_at(parameters: &[Parameter], number: usize) -> u8
     }
 }
 
-fn is_too_far(parameters: &[Parameter], entry: Reference, position: Position) -> bool
+fn is_too_far(parameters: &[Parameter], entry: Reference, position: EntryPosition) -> bool
     ensures { result ≡ is_too_far parameters.now entry position }
 {
     let Reference::Known(number) = entry else {
         return false;
     };
-    let Position::At(at) = position else {
+    let EntryPosition::At(at) = position else {
         return false;
     };
     let bits = bits_at(parameters, number);
@@ -156,7 +156,7 @@ fn condition_or_empty(alloc: Global, condition: Option<Items<Comparison>>) -> It
     }
 }
 
-fn has_entry(entries: &[Entry], parameter: usize) -> bool
+fn has_entry(entries: &[ParameterEntry], parameter: usize) -> bool
     ensures { result ≡ stands_on entries.now parameter }
 {
     entries.iter().any(|e| e.parameter == parameter)
@@ -169,7 +169,7 @@ impl Containers {
         ensures all_totals { result.all_totals.items ≡ [] }
     {
         Containers {
-            names: Names::new(alloc),
+            names: NameIndex::new(alloc),
             all_totals: Vec::new(alloc),
             items: Vec::new(alloc),
         }
@@ -386,7 +386,7 @@ impl Containers {
         parameters: &[Parameter],
         continuing: bool,
         entry: Reference,
-        position: Position,
+        position: EntryPosition,
     ) -> Option<u8>
         requires { HasPaths parameters.now self.now }
         ensures { result ≡ first_broken (entry_checks parameters.now (last_path self.now.items.items) continuing entry
@@ -415,7 +415,11 @@ impl Containers {
     }
 
     /// Adds an entry to the last container. After want of memory nothing is known of the containers.
-    pub fn enter(&mut self, parameters: &[Parameter], entry: Entry) -> Result<(), AllocError>
+    pub fn enter(
+        &mut self,
+        parameters: &[Parameter],
+        entry: ParameterEntry,
+    ) -> Result<(), AllocError>
         requires path { HasPaths parameters.now self.old }
         requires begun { 0 < length self.old.items.items }
         requires room { length (last_path self.old.items.items).entries < 256 }
@@ -465,7 +469,7 @@ impl Containers {
         parameters: &[Parameter],
         continuing: bool,
         entry: Reference,
-        position: Position,
+        position: EntryPosition,
     ) -> Result<Option<u8>, AllocError>
         requires path { HasPaths parameters.now self.old }
         requires begun { 0 < length self.old.items.items }
@@ -482,12 +486,12 @@ impl Containers {
         let Reference::Known(parameter) = entry else {
             return Ok(None);
         };
-        let Position::At(at) = position else {
+        let EntryPosition::At(at) = position else {
             return Ok(None);
         };
         self.enter(
             parameters,
-            Entry {
+            ParameterEntry {
                 parameter,
                 at: at as u32,
             },

@@ -8,5 +8,5 @@ pub mod calibration_rows;
 pub mod condition;
 pub mod container_rows;
 pub mod limits;
-pub mod names;
+pub mod name_index;
 pub mod parameter_rows;

@@ -1,20 +1,20 @@
 //! The limits on a mission database's counts.
 
 ghost use Rattle.std.specs.Prelude.{◌≡◌, nat_lt, sum_by};
-ghost use Rattle.mdb_items.specs.Database.{entry_count, limit_passed, row_count, table_len};
+ghost use Rattle.mdb_items.specs.Database.{entry_count, limit_passed, row_count, calibrator_len};
 
-use mdb_items::calibration::{Calibration, Table};
+use mdb_items::calibration::{Calibration, Calibrator};
 use mdb_items::container::Container;
 use mdb_items::fault::MdbLimit;
 use mdb_items::parameter::Parameter;
 
-pub fn table_len(table: &Table) -> usize
-    ensures { result ≡ table_len table.now }
+pub fn calibrator_len(calibrator: &Calibrator) -> usize
+    ensures { result ≡ calibrator_len calibrator.now }
 {
-    match table {
-        Table::Poly(rows) => rows.len(),
-        Table::Points(rows) => rows.len(),
-        Table::Enum(rows) => rows.len(),
+    match calibrator {
+        Calibrator::Poly(rows) => rows.len(),
+        Calibrator::Points(rows) => rows.len(),
+        Calibrator::Enum(rows) => rows.len(),
     }
 }
 
@@ -24,7 +24,7 @@ fn rows_pass(calibrations: &[Calibration], most: usize) -> bool
 {
     let mut left = most;
     for calibration in calibrations {
-        let count = table_len(&calibration.table);
+        let count = calibrator_len(&calibration.calibrator);
         if left < count {
             return true;
         }

@@ -3,10 +3,10 @@
 ghost use Rattle.std.specs.Prelude.{◌≡◌, ◌≤◌, ◌*◌, ◌∷◌, ◌++◌, [], length, map, max, min, fold, sum_by, nat_lt, unwrap_or, None, Some, option_copied, OnOk};
 ghost use Rattle.mdb_items.specs.Checks.{first_broken};
 ghost use Rattle.mdb_items.specs.Texts.{place_of};
-ghost use Rattle.mdb_items.specs.ParameterRows.{admits, degree, fits_coding, is_le, is_reference, referenced_number, parameter_checks, parameter_of, reach, referenced_table};
+ghost use Rattle.mdb_items.specs.ParameterRows.{admits, degree, fits_coding, is_le, is_reference, referenced_number, parameter_checks, parameter_of, reach, referenced_calibrator};
 
-use crate::names::Names;
-use mdb_items::calibration::{Calibration, PolyRow, Table};
+use crate::name_index::NameIndex;
+use mdb_items::calibration::{Calibration, Calibrator, PolyRow};
 use mdb_items::parameter::{Coding, Parameter};
 use mdb_items::rows::{ParameterRow, Reference};
 use std::alloc::{AllocError, Global};
@@ -51,14 +51,14 @@ pub fn number_of(reference: Reference) -> Option<usize>
     }
 }
 
-fn table_at(calibrations: &[Calibration], reference: Reference) -> Option<&Table>
-    ensures { option_copied result ≡ referenced_table calibrations.now reference }
+fn calibrator_at(calibrations: &[Calibration], reference: Reference) -> Option<&Calibrator>
+    ensures { option_copied result ≡ referenced_calibrator calibrations.now reference }
 {
     match reference {
         Reference::Nothing => None,
         Reference::Unknown => None,
         Reference::Known(number) => match calibrations.get(number) {
-            Some(calibration) => Some(&calibration.table),
+            Some(calibration) => Some(&calibration.calibrator),
             None => None,
         },
     }
@@ -97,25 +97,25 @@ fn reach_of_all(bits: u8, rows: &[PolyRow]) -> u128
 }
 
 /// The calibration may be that of a parameter of so many bits.
-fn admits(bits: u8, table: Option<&Table>) -> bool
-    ensures { result ≡ admits bits (option_copied table.entry) }
+fn admits(bits: u8, calibrator: Option<&Calibrator>) -> bool
+    ensures { result ≡ admits bits (option_copied calibrator.entry) }
 {
-    match table {
+    match calibrator {
         None => true,
-        Some(Table::Poly(rows)) => {
+        Some(Calibrator::Poly(rows)) => {
             let rows = rows.as_slice();
             bits as u32 * degree(rows) as u32 <= 60
                 && reach_of_all(bits, rows) < 9223372036854775808
         }
-        Some(Table::Points(_)) => true,
-        Some(Table::Enum(_)) => true,
+        Some(Calibrator::Points(_)) => true,
+        Some(Calibrator::Enum(_)) => true,
     }
 }
 
 /// The parameters of the rows so far, and their names.
 #[derive(Drop)]
 pub struct Parameters {
-    pub names: Names,
+    pub names: NameIndex,
     pub items: Vec<Parameter>,
 }
 
@@ -125,7 +125,7 @@ impl Parameters {
         ensures names { result.names ≡ [] }
     {
         Parameters {
-            names: Names::new(alloc),
+            names: NameIndex::new(alloc),
             items: Vec::new(alloc),
         }
     }
@@ -156,7 +156,7 @@ impl Parameters {
         }
         if !admits(
             row.bits.unwrap_or(0),
-            table_at(calibrations, row.calibration),
+            calibrator_at(calibrations, row.calibration),
         ) {
             return Some(14);
         }

@@ -34,7 +34,7 @@ module _ {A : Type 0} where
 
     fails : (e : DecodeError) (front : List A) (count i : ℕ) (rest : List ℕ) (total : Option (List A × List ℕ)) → i < count → Fails e (read rest) → Remaining front (count - i) rest total → Fails e total
     unfolding times_at
-    fails errors.Memory front count i rest total lt h so_far = tt
+    fails errors.OutOfMemory front count i rest total lt h so_far = tt
     fails errors.Malformed front count i rest total lt h so_far =
         let k : count - i ≡ suc (count - (i + 1)) = omega arith in
         let here : with_front front (times_at read (count - i) rest) ≡ None = rw (k, h) refl in

@@ -10,7 +10,7 @@ Answers view (Err e) read = read ≡ None
 
 -- A refusal is that nothing is read, or that memory ran out.
 abbrev pub Fails : {Y : Type 0} → DecodeError → Option Y → Type 0
-Fails errors.Memory read = Unit {0}
+Fails errors.OutOfMemory read = Unit {0}
 Fails errors.Malformed read = read ≡ None
 
 -- The answer, seen by view, is what reading gives, unless memory ran out.

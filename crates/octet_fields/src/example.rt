@@ -6,7 +6,7 @@
 
 ghost use Rattle.std.specs.Prelude.{◌≡◌, IfOk};
 ghost use Rattle.std.specs.Int.{w16};
-ghost use Rattle.octet_fields.specs.declared.fault.DecodeError.TheVariants.{Memory};
+ghost use Rattle.octet_fields.specs.declared.fault.DecodeError.TheVariants.{OutOfMemory};
 ghost use Rattle.octet_fields.specs.Answers.{Gives, ReadsEach, ReadsOnly};
 ghost use Rattle.octet_fields.specs.Reading.{counted_at, whole};
 ghost use Rattle.octet_fields.specs.Example.{AreStations, IsStation, band_at, spelling, station, station_at};
@@ -105,7 +105,7 @@ fn whole(alloc: Global, octets: &[u8]) -> Result<Vec<Station>, DecodeError>
 /// The stations that all of the octets spell.
 pub fn read_stations(alloc: Global, octets: &[u8]) -> Result<Vec<Station>, DecodeError>
     ensures spelled { ReadsOnly AreStations spelling (λ v. v.items) octets.now result }
-    ensures each { ReadsEach AreStations spelling (λ v. v.items) (λ e. e ≡ Memory) octets.now result }
+    ensures each { ReadsEach AreStations spelling (λ v. v.items) (λ e. e ≡ OutOfMemory) octets.now result }
 {
     whole(alloc, octets)
 }

@@ -13,7 +13,7 @@ use std::rt::Files;
 
 /// What is known of a file's entry in the folder.
 #[derive(Clone, Copy)]
-enum Entry {
+enum DirectoryEntry {
     /// There was none at the first look. If another program has made one since, this one makes none.
     Absent,
     /// A crash may take it away: it may be new, or left so by a process that was killed.
@@ -30,7 +30,7 @@ pub(crate) struct Folder<'a, R> {
     alloc: Global,
     path: String,
     /// Of the files that were looked at, whether a handle is open or not.
-    entries: BTreeMap<u32, Entry>,
+    entries: BTreeMap<u32, DirectoryEntry>,
     handles: Handles,
 }
 
@@ -88,9 +88,9 @@ impl<'a, R: Files<File = File>> Folder<'a, R> {
             return Ok(());
         };
         self.handles.sync(place)?;
-        if !matches!(self.entries.get(&number), Some(Entry::Synced)) {
+        if !matches!(self.entries.get(&number), Some(DirectoryEntry::Synced)) {
             sync_folder(self.rt, self.path.as_str())?;
-            self.entries.insert(number, Entry::Synced)?;
+            self.entries.insert(number, DirectoryEntry::Synced)?;
         }
         Ok(())
     }
@@ -103,7 +103,7 @@ impl<'a, R: Files<File = File>> Folder<'a, R> {
             return Ok(Some(place));
         }
         match self.entries.get(&number) {
-            Some(Entry::Absent) => return Ok(None),
+            Some(DirectoryEntry::Absent) => return Ok(None),
             Some(_) => {
                 let file = self.open(number)?;
                 return Ok(Some(self.keep(number, file)?));
@@ -119,11 +119,11 @@ impl<'a, R: Files<File = File>> Folder<'a, R> {
     {
         match self.open(number) {
             Ok(file) => {
-                self.entries.insert(number, Entry::There)?;
+                self.entries.insert(number, DirectoryEntry::There)?;
                 Ok(Some(self.keep(number, file)?))
             }
             Err(error) if error.kind() == ErrorKind::NotFound => {
-                self.entries.insert(number, Entry::Absent)?;
+                self.entries.insert(number, DirectoryEntry::Absent)?;
                 Ok(None)
             }
             Err(error) => Err(error),
@@ -142,7 +142,7 @@ impl<'a, R: Files<File = File>> Folder<'a, R> {
         to_make.create_new(true);
         let file = self.open_by(&to_make, number)?;
         file.try_lock()?;
-        self.entries.insert(number, Entry::There)?;
+        self.entries.insert(number, DirectoryEntry::There)?;
         self.keep(number, file)
     }
 

@@ -8,15 +8,15 @@ use Rattle.partitions.specs.declared.partition.Partition.{Partition}
 use Rattle.partitions.specs.Places.{is_noted_in, places_below, places_in, chain_steps}
 
 -- those along one more
-pub one_chain_more : (part : Partition) (parts noted : List Partition) → chain_steps (part ∷ parts) noted ≡ 1 + length (places_in part noted) + chain_steps parts noted
-one_chain_more part parts noted = sum_by-cons (λ (p : Partition). 1 + length (places_in p noted)) part parts
+pub one_chain_more : (partition : Partition) (parts noted : List Partition) → chain_steps (partition ∷ parts) noted ≡ 1 + length (places_in partition noted) + chain_steps parts noted
+one_chain_more partition parts noted = sum_by-cons (λ (p : Partition). 1 + length (places_in p noted)) partition parts
 
 -- a partition has no more rows than were noted below a place
-pub few_below : (n : ℕ) (part : Partition) (noted : List Partition) → length (places_below n part noted) ≤ n
-few_below zero part noted = omega arith
-few_below (suc n) part noted = by (is_noted_in part (slice_get noted n)) (few_below n part noted)
+pub few_below : (n : ℕ) (partition : Partition) (noted : List Partition) → length (places_below n partition noted) ≤ n
+few_below zero partition noted = omega arith
+few_below (suc n) partition noted = by (is_noted_in partition (slice_get noted n)) (few_below n partition noted)
   where
-    by : (b : Bool) → length (places_below n part noted) ≤ n → length (cond b (n ∷ places_below n part noted) (places_below n part noted)) ≤ suc n
+    by : (b : Bool) → length (places_below n partition noted) ≤ n → length (cond b (n ∷ places_below n partition noted) (places_below n partition noted)) ≤ suc n
     by true later = omega (arith, later)
     by false later = omega (arith, later)
 
@@ -33,7 +33,7 @@ none_taken (Some place) s t none took = absurd cc
 -- the steps of no partition, and those once the first one's chain is entered
 pub no_chain : (parts noted : List Partition) → length parts ≡ 0 → chain_steps parts noted ≡ 0
 no_chain [] noted none = refl
-no_chain (part ∷ parts) noted none = absurd (omega (arith, none))
+no_chain (partition ∷ parts) noted none = absurd (omega (arith, none))
 
-pub chain_entered : (parts rest noted : List Partition) (part : Partition) → parts ≡ part ∷ rest → chain_steps parts noted ≡ (length (places_in part noted) + chain_steps rest noted) + 1
-chain_entered parts rest noted part is = ap (λ (ps : List Partition). chain_steps ps noted) is ∙ one_chain_more part rest noted ∙ omega arith
+pub chain_entered : (parts rest noted : List Partition) (partition : Partition) → parts ≡ partition ∷ rest → chain_steps parts noted ≡ (length (places_in partition noted) + chain_steps rest noted) + 1
+chain_entered parts rest noted partition is = ap (λ (ps : List Partition). chain_steps ps noted) is ∙ one_chain_more partition rest noted ∙ omega arith

@@ -49,10 +49,10 @@ module _ (days : Days) where
       by (inr x) = on_from days p.day (record { first = omega (arith, ints, x.0); last = grind (arith, ints) })
 
   -- nor is one from a partition past the last day on
-  pub none_past : (part : Partition) → days.last <ℤ part.day → (p : Partition) → (partition_cmp part p ≡ Greater → ⊥) → is_on_days days p ≡ false
-  none_past part past p up = false_from_ne_true (is_on days p.day) (λ yes. by (no_later part p up) (on_is days p.day yes))
+  pub none_past : (partition : Partition) → days.last <ℤ partition.day → (p : Partition) → (partition_cmp partition p ≡ Greater → ⊥) → is_on_days days p ≡ false
+  none_past partition past p up = false_from_ne_true (is_on days p.day) (λ yes. by (no_later partition p up) (on_is days p.day yes))
     where
-      by : IsNoLater part p → IsOn days p.day → ⊥
+      by : IsNoLater partition p → IsOn days p.day → ⊥
       by (inl x) is = omega (arith, ints, x, past, is.last)
       by (inr x) is = omega (arith, ints, x.0, past, is.last)
 

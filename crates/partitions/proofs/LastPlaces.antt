@@ -31,98 +31,98 @@ length-push (y ∷ xs) x = ap suc (length-push xs x)
 
 -- ---- what is noted at a place
 
-noted_is : (part : Partition) (o : Option Partition) → is_noted_in part o ≡ true → o ≡ Some part
-noted_is part None is = cc
-noted_is part (Some p) is = ap (λ (q : Partition). Some q) (sym (tells_apart exact_partitions part p is))
+noted_is : (partition : Partition) (o : Option Partition) → is_noted_in partition o ≡ true → o ≡ Some partition
+noted_is partition None is = cc
+noted_is partition (Some p) is = ap (λ (q : Partition). Some q) (sym (tells_apart exact_partitions partition p is))
 
-noted_itself : (part : Partition) → is_noted_in part (Some part) ≡ true
-noted_itself part = (eq_by_cmp_equiv partition_cmp_total).refl part
+noted_itself : (partition : Partition) → is_noted_in partition (Some partition) ≡ true
+noted_itself partition = (eq_by_cmp_equiv partition_cmp_total).refl partition
 
 -- the places before a row noted are those without it
-pub below_left : (n : ℕ) (part next : Partition) (noted : List Partition) → n ≤ length noted → places_below n part (noted ++ next ∷ []) ≡ places_below n part noted
-below_left zero part next noted le = refl
-below_left (suc n) part next noted le =
+pub below_left : (n : ℕ) (partition next : Partition) (noted : List Partition) → n ≤ length noted → places_below n partition (noted ++ next ∷ []) ≡ places_below n partition noted
+below_left zero partition next noted le = refl
+below_left (suc n) partition next noted le =
     let here : slice_get (noted ++ next ∷ []) n ≡ slice_get noted n = slice_get-left noted (next ∷ []) n (omega (arith, le)) in
-    let before : places_below n part (noted ++ next ∷ []) ≡ places_below n part noted = below_left n part next noted (omega (arith, le)) in
-    ap (λ (o : Option Partition). cond (is_noted_in part o) (n ∷ places_below n part (noted ++ next ∷ [])) (places_below n part (noted ++ next ∷ []))) here
-    ∙ ap (λ (l : List ℕ). cond (is_noted_in part (slice_get noted n)) (n ∷ l) l) before
+    let before : places_below n partition (noted ++ next ∷ []) ≡ places_below n partition noted = below_left n partition next noted (omega (arith, le)) in
+    ap (λ (o : Option Partition). cond (is_noted_in partition o) (n ∷ places_below n partition (noted ++ next ∷ [])) (places_below n partition (noted ++ next ∷ []))) here
+    ∙ ap (λ (l : List ℕ). cond (is_noted_in partition (slice_get noted n)) (n ∷ l) l) before
 
 -- a row more is the last of its partition, and of no other
-pub last_push : (part next : Partition) (noted : List Partition) →
-    last_place_below (length (noted ++ next ∷ [])) part (noted ++ next ∷ []) ≡ cond (is_eq (partition_cmp part next)) (Some (length noted)) (last_place_below (length noted) part noted)
-last_push part next noted =
-    ap (λ (n : ℕ). last_place_below n part (noted ++ next ∷ [])) (length-push noted next)
-    ∙ ap (λ (o : Option Partition). slice_get (cond (is_noted_in part o) (length noted ∷ places_below (length noted) part (noted ++ next ∷ [])) (places_below (length noted) part (noted ++ next ∷ []))) 0) (slice_get-end noted next)
-    ∙ ap (λ (l : List ℕ). slice_get (cond (is_eq (partition_cmp part next)) (length noted ∷ l) l) 0) (below_left (length noted) part next noted (omega arith))
-    ∙ by (is_eq (partition_cmp part next))
+pub last_push : (partition next : Partition) (noted : List Partition) →
+    last_place_below (length (noted ++ next ∷ [])) partition (noted ++ next ∷ []) ≡ cond (is_eq (partition_cmp partition next)) (Some (length noted)) (last_place_below (length noted) partition noted)
+last_push partition next noted =
+    ap (λ (n : ℕ). last_place_below n partition (noted ++ next ∷ [])) (length-push noted next)
+    ∙ ap (λ (o : Option Partition). slice_get (cond (is_noted_in partition o) (length noted ∷ places_below (length noted) partition (noted ++ next ∷ [])) (places_below (length noted) partition (noted ++ next ∷ []))) 0) (slice_get-end noted next)
+    ∙ ap (λ (l : List ℕ). slice_get (cond (is_eq (partition_cmp partition next)) (length noted ∷ l) l) 0) (below_left (length noted) partition next noted (omega arith))
+    ∙ by (is_eq (partition_cmp partition next))
   where
-    by : (b : Bool) → slice_get (cond b (length noted ∷ places_below (length noted) part noted) (places_below (length noted) part noted)) 0 ≡ cond b (Some (length noted)) (last_place_below (length noted) part noted)
+    by : (b : Bool) → slice_get (cond b (length noted ∷ places_below (length noted) partition noted) (places_below (length noted) partition noted)) 0 ≡ cond b (Some (length noted)) (last_place_below (length noted) partition noted)
     by true = refl
     by false = refl
 
 -- ---- the last place
 
 -- it is below, and a row of the partition was noted there
-pub last_is : (n : ℕ) (part : Partition) (noted : List Partition) (place : ℕ) → last_place_below n part noted ≡ Some place → (place < n) × (slice_get noted place ≡ Some part)
-last_is zero part noted place is = cc
-last_is (suc n) part noted place is = by (is_noted_in part (slice_get noted n)) refl (last_is n part noted place) is
+pub last_is : (n : ℕ) (partition : Partition) (noted : List Partition) (place : ℕ) → last_place_below n partition noted ≡ Some place → (place < n) × (slice_get noted place ≡ Some partition)
+last_is zero partition noted place is = cc
+last_is (suc n) partition noted place is = by (is_noted_in partition (slice_get noted n)) refl (last_is n partition noted place) is
   where
-    by : (b : Bool) → is_noted_in part (slice_get noted n) ≡ b → (last_place_below n part noted ≡ Some place → (place < n) × (slice_get noted place ≡ Some part)) →
-        slice_get (cond b (n ∷ places_below n part noted) (places_below n part noted)) 0 ≡ Some place → (place < suc n) × (slice_get noted place ≡ Some part)
-    by true e later is = let same = same_Some n place is in (omega (arith, same), subst (λ (k : ℕ). slice_get noted k ≡ Some part) same (noted_is part (slice_get noted n) e))
+    by : (b : Bool) → is_noted_in partition (slice_get noted n) ≡ b → (last_place_below n partition noted ≡ Some place → (place < n) × (slice_get noted place ≡ Some partition)) →
+        slice_get (cond b (n ∷ places_below n partition noted) (places_below n partition noted)) 0 ≡ Some place → (place < suc n) × (slice_get noted place ≡ Some partition)
+    by true e later is = let same = same_Some n place is in (omega (arith, same), subst (λ (k : ℕ). slice_get noted k ≡ Some partition) same (noted_is partition (slice_get noted n) e))
     by false e later is = let rest = later is in (omega (arith, rest.0), rest.1)
 
-pub last_within : (n : ℕ) (part : Partition) (noted : List Partition) (end : ℕ) → n ≤ end → IfSome (last_place_below n part noted) (λ place. place < end)
-last_within n part noted end le = by (last_place_below n part noted) refl
+pub last_within : (n : ℕ) (partition : Partition) (noted : List Partition) (end : ℕ) → n ≤ end → IfSome (last_place_below n partition noted) (λ place. place < end)
+last_within n partition noted end le = by (last_place_below n partition noted) refl
   where
-    by : (o : Option ℕ) → last_place_below n part noted ≡ o → IfSome o (λ place. place < end)
+    by : (o : Option ℕ) → last_place_below n partition noted ≡ o → IfSome o (λ place. place < end)
     by None e = tt
-    by (Some place) e = omega (arith, le, (last_is n part noted place e).0)
+    by (Some place) e = omega (arith, le, (last_is n partition noted place e).0)
 
 -- there is one where a row of the partition was noted below
-pub some_below : (n : ℕ) (part : Partition) (noted : List Partition) (place : ℕ) → place < n → slice_get noted place ≡ Some part → IsSome (last_place_below n part noted)
-some_below zero part noted place lt is = absurd (omega (arith, lt))
-some_below (suc n) part noted place lt is = by (is_noted_in part (slice_get noted n)) refl (some_below n part noted place)
+pub some_below : (n : ℕ) (partition : Partition) (noted : List Partition) (place : ℕ) → place < n → slice_get noted place ≡ Some partition → IsSome (last_place_below n partition noted)
+some_below zero partition noted place lt is = absurd (omega (arith, lt))
+some_below (suc n) partition noted place lt is = by (is_noted_in partition (slice_get noted n)) refl (some_below n partition noted place)
   where
-    not_here : is_noted_in part (slice_get noted n) ≡ false → n ≤ place → ⊥
+    not_here : is_noted_in partition (slice_get noted n) ≡ false → n ≤ place → ⊥
     not_here e at =
         let same : place ≡ n = omega (arith, lt, at) in
-        let yes : is_noted_in part (slice_get noted n) ≡ true = ap (is_noted_in part) (subst (λ (k : ℕ). slice_get noted k ≡ Some part) same is) ∙ noted_itself part in
+        let yes : is_noted_in partition (slice_get noted n) ≡ true = ap (is_noted_in partition) (subst (λ (k : ℕ). slice_get noted k ≡ Some partition) same is) ∙ noted_itself partition in
         cc
 
-    by : (b : Bool) → is_noted_in part (slice_get noted n) ≡ b → (place < n → slice_get noted place ≡ Some part → IsSome (last_place_below n part noted)) →
-        IsSome (slice_get (cond b (n ∷ places_below n part noted) (places_below n part noted)) 0)
+    by : (b : Bool) → is_noted_in partition (slice_get noted n) ≡ b → (place < n → slice_get noted place ≡ Some partition → IsSome (last_place_below n partition noted)) →
+        IsSome (slice_get (cond b (n ∷ places_below n partition noted) (places_below n partition noted)) 0)
     by true e later = refl
     by false e later = ⊎_elim (λ before. later before is) (λ at. absurd (not_here e at)) (cases_lt place n)
 
-pub contained : (part : Partition) (noted : List Partition) (place : ℕ) → slice_get noted place ≡ Some part → Contains noted part
-contained part noted place is = (place, slice_get_within noted place part is, get_or_from_slice_get noted place part part is)
+pub contained : (partition : Partition) (noted : List Partition) (place : ℕ) → slice_get noted place ≡ Some partition → Contains noted partition
+contained partition noted place is = (place, slice_get_within noted place partition is, get_or_from_slice_get noted place partition partition is)
 
 -- a partition has a last place exactly where it holds a row
-pub some_contained : (part : Partition) (noted : List Partition) → IsSome (last_place_below (length noted) part noted) → Contains noted part
-some_contained part noted some = by (last_place_below (length noted) part noted) refl some
+pub some_contained : (partition : Partition) (noted : List Partition) → IsSome (last_place_below (length noted) partition noted) → Contains noted partition
+some_contained partition noted some = by (last_place_below (length noted) partition noted) refl some
   where
-    by : (o : Option ℕ) → last_place_below (length noted) part noted ≡ o → IsSome o → Contains noted part
+    by : (o : Option ℕ) → last_place_below (length noted) partition noted ≡ o → IsSome o → Contains noted partition
     by None e some = cc
-    by (Some place) e some = contained part noted place (last_is (length noted) part noted place e).1
+    by (Some place) e some = contained partition noted place (last_is (length noted) partition noted place e).1
 
-pub contained_some : (part : Partition) (noted : List Partition) → Contains noted part → IsSome (last_place_below (length noted) part noted)
-contained_some part noted (k, h, e) = some_below (length noted) part noted k h (slice_get_read noted (length noted) k part refl h (sym e))
+pub contained_some : (partition : Partition) (noted : List Partition) → Contains noted partition → IsSome (last_place_below (length noted) partition noted)
+contained_some partition noted (k, h, e) = some_below (length noted) partition noted k h (slice_get_read noted (length noted) k partition refl h (sym e))
 
 -- ---- links
 
 -- the places up to the last one below are all below
-pub up_to_last : (n : ℕ) (part : Partition) (links : List Link) → places_up_to links (last_place_below n part (noted_in links)) ≡ places_below n part (noted_in links)
-up_to_last zero part links = refl
-up_to_last (suc n) part links = by (is_noted_in part (slice_get (noted_in links) n)) refl (up_to_last n part links)
+pub up_to_last : (n : ℕ) (partition : Partition) (links : List Link) → places_up_to links (last_place_below n partition (noted_in links)) ≡ places_below n partition (noted_in links)
+up_to_last zero partition links = refl
+up_to_last (suc n) partition links = by (is_noted_in partition (slice_get (noted_in links) n)) refl (up_to_last n partition links)
   where
-    by : (b : Bool) → is_noted_in part (slice_get (noted_in links) n) ≡ b → places_up_to links (last_place_below n part (noted_in links)) ≡ places_below n part (noted_in links) →
-        places_up_to links (slice_get (cond b (n ∷ places_below n part (noted_in links)) (places_below n part (noted_in links))) 0) ≡ cond b (n ∷ places_below n part (noted_in links)) (places_below n part (noted_in links))
-    by true e later = ap (λ (p : Partition). n ∷ places_below n p (noted_in links)) (get_or_from_slice_get (noted_in links) n part (record { day = pos 0; pname = 0 }) (noted_is part (slice_get (noted_in links) n) e))
+    by : (b : Bool) → is_noted_in partition (slice_get (noted_in links) n) ≡ b → places_up_to links (last_place_below n partition (noted_in links)) ≡ places_below n partition (noted_in links) →
+        places_up_to links (slice_get (cond b (n ∷ places_below n partition (noted_in links)) (places_below n partition (noted_in links))) 0) ≡ cond b (n ∷ places_below n partition (noted_in links)) (places_below n partition (noted_in links))
+    by true e later = ap (λ (p : Partition). n ∷ places_below n p (noted_in links)) (get_or_from_slice_get (noted_in links) n partition (record { day = pos 0; pname = 0 }) (noted_is partition (slice_get (noted_in links) n) e))
     by false e later = later
 
-pub at_last : (n : ℕ) (part : Partition) (links : List Link) → AreChained links → n ≤ length links → AreAt links (last_place_below n part (noted_in links))
-at_last n part links chained le = record { chained = chained; within = last_within n part (noted_in links) (length links) le }
+pub at_last : (n : ℕ) (partition : Partition) (links : List Link) → AreChained links → n ≤ length links → AreAt links (last_place_below n partition (noted_in links))
+at_last n partition links chained le = record { chained = chained; within = last_within n partition (noted_in links) (length links) le }
 
 pub noted_push : (links : List Link) (link : Link) → noted_in (links ++ link ∷ []) ≡ noted_in links ++ link.noted.value ∷ []
 noted_push links link = map-append (λ (l : Link). l.noted.value) links (link ∷ [])
@@ -144,10 +144,10 @@ module _ (links : List Link) (place : ℕ) (link : Link) (chained : AreChained l
 
 -- a link more, with the last place of its partition, is chained as those before it are
 module _ (links : List Link) (link : Link) (chained : AreChained links) (last : place_of_word link.earlier ≡ last_place_below (length links) link.noted.value (noted_in links)) where
-  before_push : (i : ℕ) (part : Partition) → i ≤ length links → last_place_below i part (noted_in links) ≡ last_place_below i part (noted_in (links ++ link ∷ []))
-  before_push i part le =
-      ap (λ (l : List ℕ). slice_get l 0) (sym (below_left i part link.noted.value (noted_in links) (omega (arith, le, length-noted links))))
-      ∙ ap (λ (l : List Partition). last_place_below i part l) (sym (noted_push links link))
+  before_push : (i : ℕ) (partition : Partition) → i ≤ length links → last_place_below i partition (noted_in links) ≡ last_place_below i partition (noted_in (links ++ link ∷ []))
+  before_push i partition le =
+      ap (λ (l : List ℕ). slice_get l 0) (sym (below_left i partition link.noted.value (noted_in links) (omega (arith, le, length-noted links))))
+      ∙ ap (λ (l : List Partition). last_place_below i partition l) (sym (noted_push links link))
 
   pub chained_push : AreChained (links ++ link ∷ [])
   chained_push i x is = ⊎_elim earlier here (cases_lt i (length links))

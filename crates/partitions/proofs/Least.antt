@@ -8,7 +8,7 @@ use Rattle.std.proofs.lemmas.Bool.Decides.{nat_tests}
 use Rattle.std.proofs.lemmas.List.Folds.{list_any_none, list_any_at}
 use Rattle.std.proofs.lemmas.List.Elements.{All-from_get_or}
 use Rattle.std.proofs.lemmas.Option.{slice_get-get_or, slice_get_past}
-use Rattle.partitions.specs.Names.{IsLeastFrom}
+use Rattle.partitions.specs.SortedNames.{IsLeastFrom}
 
 module _ (xs : List ℕ) where
   none_of : (p : ℕ) → ((i : ℕ) → i < length xs → (get_or xs i 0 ≡ p → ⊥)) → list_any (nat_eq p) xs ≡ false

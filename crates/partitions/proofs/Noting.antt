@@ -33,58 +33,58 @@ module _ (by_day : Listing Partition ℕ) (by_name : Listing NameDay Unit) (note
     λ is. found partition_cmp_total exact_partitions p by_day.entries (subst IsSome (sym (are.last p)) (contained_some p noted is)),
   )
 
-  module _ (part : Partition) (place : ℕ) (at : place ≡ length noted) where
+  module _ (partition : Partition) (place : ℕ) (at : place ≡ length noted) where
     -- the place is the last of its partition
-    last_more : (p : Partition) → lookup (is_at (partition_cmp p)) (insert_entry partition_cmp by_day.entries part place) ≡ last_place_below (length (noted ++ part ∷ [])) p (noted ++ part ∷ [])
+    last_more : (p : Partition) → lookup (is_at (partition_cmp p)) (insert_entry partition_cmp by_day.entries partition place) ≡ last_place_below (length (noted ++ partition ∷ [])) p (noted ++ partition ∷ [])
     last_more p =
-        lookup-insert_entry partition_cmp_total p part place by_day.entries
-        ∙ ap (λ (b : Bool). cond b (Some place) (lookup (is_at (partition_cmp p)) by_day.entries)) ((eq_by_cmp_equiv partition_cmp_total).symm part p)
-        ∙ ap (λ (o : Option ℕ). cond (is_eq (partition_cmp p part)) (Some place) o) (are.last p)
-        ∙ ap (λ (k : ℕ). cond (is_eq (partition_cmp p part)) (Some k) (last_place_below (length noted) p noted)) at
-        ∙ sym (last_push p part noted)
+        lookup-insert_entry partition_cmp_total p partition place by_day.entries
+        ∙ ap (λ (b : Bool). cond b (Some place) (lookup (is_at (partition_cmp p)) by_day.entries)) ((eq_by_cmp_equiv partition_cmp_total).symm partition p)
+        ∙ ap (λ (o : Option ℕ). cond (is_eq (partition_cmp p partition)) (Some place) o) (are.last p)
+        ∙ ap (λ (k : ℕ). cond (is_eq (partition_cmp p partition)) (Some k) (last_place_below (length noted) p noted)) at
+        ∙ sym (last_push p partition noted)
 
     -- a row of a partition that holds one
-    pub indexed_known : (new_day : Listing Partition ℕ) (before : ℕ) → Some before ≡ lookup (is_at (partition_cmp part)) by_day.entries →
-        new_day.entries ≡ insert_entry partition_cmp by_day.entries part place → IsRising partition_cmp new_day.entries → AreIndexed new_day by_name (noted ++ part ∷ [])
+    pub indexed_known : (new_day : Listing Partition ℕ) (before : ℕ) → Some before ≡ lookup (is_at (partition_cmp partition)) by_day.entries →
+        new_day.entries ≡ insert_entry partition_cmp by_day.entries partition place → IsRising partition_cmp new_day.entries → AreIndexed new_day by_name (noted ++ partition ∷ [])
     indexed_known new_day before was put rises = record {
       by_day_rises = rises;
       by_name_rises = are.by_name_rises;
       last = λ p. (ap (lookup (is_at (partition_cmp p))) put ∙ last_more p);
-      names = λ p. (λ is. Contains-append_left noted (part ∷ []) p ((are.names p).0 is), λ is. from p (Contains-push_cases noted part p is));
+      names = λ p. (λ is. Contains-append_left noted (partition ∷ []) p ((are.names p).0 is), λ is. from p (Contains-push_cases noted partition p is));
     }
       where
-        there : Contains noted part
-        there = contained part noted before (last_is (length noted) part noted before (sym (was ∙ are.last part))).1
+        there : Contains noted partition
+        there = contained partition noted before (last_is (length noted) partition noted before (sym (was ∙ are.last partition))).1
 
-        from : (p : Partition) → Contains noted p ⊎ (part ≡ p) → Contains (keys_of by_name.entries) (name_day p)
+        from : (p : Partition) → Contains noted p ⊎ (partition ≡ p) → Contains (keys_of by_name.entries) (name_day p)
         from p (inl before) = (are.names p).1 before
         from p (inr one) = (are.names p).1 (subst (Contains noted) one there)
 
     -- the partition holds no row yet
-    module _ (none : None ≡ lookup (is_at (partition_cmp part)) by_day.entries) where
-      absent : Contains noted part → ⊥
-      absent is = let some : IsSome (lookup (is_at (partition_cmp part)) by_day.entries) = subst IsSome (sym (are.last part)) (contained_some part noted is) in cc
+    module _ (none : None ≡ lookup (is_at (partition_cmp partition)) by_day.entries) where
+      absent : Contains noted partition → ⊥
+      absent is = let some : IsSome (lookup (is_at (partition_cmp partition)) by_day.entries) = subst IsSome (sym (are.last partition)) (contained_some partition noted is) in cc
 
       -- and isn't among the names
-      pub name_absent : (s : Option Unit) → s ≡ lookup (is_at (name_day_cmp (name_day part))) by_name.entries → s ≡ None
+      pub name_absent : (s : Option Unit) → s ≡ lookup (is_at (name_day_cmp (name_day partition))) by_name.entries → s ≡ None
       name_absent None is = refl
-      name_absent (Some v) is = absurd (absent ((are.names part).0 (found named_cmp_total exact_named (name_day part) by_name.entries (rw (← is) refl))))
+      name_absent (Some v) is = absurd (absent ((are.names partition).0 (found named_cmp_total exact_named (name_day partition) by_name.entries (rw (← is) refl))))
 
-      pub indexed_new : (new_day : Listing Partition ℕ) (new_name : Listing NameDay Unit) → new_day.entries ≡ insert_entry partition_cmp by_day.entries part place →
-          IsRising partition_cmp new_day.entries → new_name.entries ≡ insert_entry name_day_cmp by_name.entries (name_day part) tt → IsRising name_day_cmp new_name.entries →
-          AreIndexed new_day new_name (noted ++ part ∷ [])
+      pub indexed_new : (new_day : Listing Partition ℕ) (new_name : Listing NameDay Unit) → new_day.entries ≡ insert_entry partition_cmp by_day.entries partition place →
+          IsRising partition_cmp new_day.entries → new_name.entries ≡ insert_entry name_day_cmp by_name.entries (name_day partition) tt → IsRising name_day_cmp new_name.entries →
+          AreIndexed new_day new_name (noted ++ partition ∷ [])
       indexed_new new_day new_name put day_rises put_name name_rises = record {
         by_day_rises = day_rises;
         by_name_rises = name_rises;
         last = λ p. (ap (lookup (is_at (partition_cmp p))) put ∙ last_more p);
-        names = rw put_name (λ p. (λ is. to p (in_new named_cmp_total exact_named (name_day part) by_name.entries (name_day p) is), λ is. from_old named_cmp_total exact_named (name_day part) by_name.entries (name_day p) (from p (Contains-push_cases noted part p is))));
+        names = rw put_name (λ p. (λ is. to p (in_new named_cmp_total exact_named (name_day partition) by_name.entries (name_day p) is), λ is. from_old named_cmp_total exact_named (name_day partition) by_name.entries (name_day p) (from p (Contains-push_cases noted partition p is))));
       }
         where
-          to : (p : Partition) → Contains (keys_of by_name.entries) (name_day p) ⊎ (name_day p ≡ name_day part) → Contains (noted ++ part ∷ []) p
-          to p (inl was) = Contains-append_left noted (part ∷ []) p ((are.names p).0 was)
-          to p (inr one) = subst (Contains (noted ++ part ∷ [])) (sym (named_once p part one)) (Contains-push noted part)
+          to : (p : Partition) → Contains (keys_of by_name.entries) (name_day p) ⊎ (name_day p ≡ name_day partition) → Contains (noted ++ partition ∷ []) p
+          to p (inl was) = Contains-append_left noted (partition ∷ []) p ((are.names p).0 was)
+          to p (inr one) = subst (Contains (noted ++ partition ∷ [])) (sym (named_once p partition one)) (Contains-push noted partition)
 
-          from : (p : Partition) → Contains noted p ⊎ (part ≡ p) → Contains (keys_of by_name.entries) (name_day p) ⊎ (name_day p ≡ name_day part)
+          from : (p : Partition) → Contains noted p ⊎ (partition ≡ p) → Contains (keys_of by_name.entries) (name_day p) ⊎ (name_day p ≡ name_day partition)
           from p (inl was) = inl ((are.names p).1 was)
           from p (inr one) = inr (ap name_day (sym one))
 

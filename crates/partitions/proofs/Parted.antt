@@ -31,26 +31,26 @@ equal_by Equal is = refl
 equal_by Greater is = absurd cc
 
 -- a row stands in no other partition than its own
-pub its_partition : (part : Partition) (row : Row) → is_of_partition part row ≡ true → part ≡ partition_of row.key.time row.pname
-its_partition part row is = exact_partitions part (partition_of row.key.time row.pname) (equal_by _ is)
+pub its_partition : (partition : Partition) (row : Row) → is_of_partition partition row ≡ true → partition ≡ partition_of row.key.time row.pname
+its_partition partition row is = exact_partitions partition (partition_of row.key.time row.pname) (equal_by _ is)
 
-pub its_day : (part : Partition) (row : Row) → is_of_partition part row ≡ true → part.day ≡ day_of row.key.time
-its_day part row is = ap (λ (p : Partition). p.day) (its_partition part row is)
+pub its_day : (partition : Partition) (row : Row) → is_of_partition partition row ≡ true → partition.day ≡ day_of row.key.time
+its_day partition row is = ap (λ (p : Partition). p.day) (its_partition partition row is)
 
-abbrev pub no_part : Partition
-no_part = record { day = pos 0; pname = 0 }
+abbrev pub no_partition : Partition
+no_partition = record { day = pos 0; pname = 0 }
 
 -- ---- the rows of each are those of all
 
 -- a row of one partition stands in none of those above it
-pub in_none_above : (part : Partition) (row : Row) → is_of_partition part row ≡ true → (parts : List Partition) → AllByRecursion (λ p. partition_cmp part p ≡ Less) parts → is_of_parts parts row ≡ false
-in_none_above part row is [] all = refl
-in_none_above part row is (p ∷ parts) all = by (is_of_partition p row) refl (in_none_above part row is parts all.1)
+pub in_none_above : (partition : Partition) (row : Row) → is_of_partition partition row ≡ true → (parts : List Partition) → AllByRecursion (λ p. partition_cmp partition p ≡ Less) parts → is_of_parts parts row ≡ false
+in_none_above partition row is [] all = refl
+in_none_above partition row is (p ∷ parts) all = by (is_of_partition p row) refl (in_none_above partition row is parts all.1)
   where
     by : (b : Bool) → is_of_partition p row ≡ b → is_of_parts parts row ≡ false → is_of_parts (p ∷ parts) row ≡ false
     by true e none =
-        let same : part ≡ p = its_partition part row is ∙ sym (its_partition p row e) in
-        let itself : partition_cmp part p ≡ Equal = subst (λ (q : Partition). partition_cmp part q ≡ Equal) same (tied_itself partition_cmp_total part) in
+        let same : partition ≡ p = its_partition partition row is ∙ sym (its_partition p row e) in
+        let itself : partition_cmp partition p ≡ Equal = subst (λ (q : Partition). partition_cmp partition q ≡ Equal) same (tied_itself partition_cmp_total partition) in
         let less = all.0 in absurd cc
     by false e none = rw e none
 
@@ -59,15 +59,15 @@ none_of_none [] = tt
 none_of_none (row ∷ rows) = (refl, none_of_none rows)
 
 -- the rows of some partitions are those of each, in another order
-pub parted : (parts : List Partition) (rows : List Row) → AreRising parts → IsPermutation (filter (is_of_parts parts) rows) (flat_map (λ part. filter (is_of_partition part) rows) parts)
+pub parted : (parts : List Partition) (rows : List Row) → AreRising parts → IsPermutation (filter (is_of_parts parts) rows) (flat_map (λ partition. filter (is_of_partition partition) rows) parts)
 parted [] rows rising = subst (λ (l : List Row). IsPermutation l []) (sym (none_pass (is_of_parts []) rows (none_of_none rows))) (IsPermutation-refl [])
-parted (part ∷ parts) rows rising =
-    let first = filter (is_of_partition part) rows in
+parted (partition ∷ parts) rows rising =
+    let first = filter (is_of_partition partition) rows in
     let rest = filter (is_of_parts parts) rows in
     let each = flat_map (λ p. filter (is_of_partition p) rows) parts in
-    IsPermutation-trans (filter (is_of_parts (part ∷ parts)) rows) (first ++ rest) (first ++ each)
-    (either_moved (is_of_partition part) (is_of_parts parts) (λ row is. in_none_above part row is parts (sorted_head partition_cmp part parts rising)) rows)
-    (IsPermutation-append_right first rest each (parted parts rows (sorted_tail partition_cmp part parts rising)))
+    IsPermutation-trans (filter (is_of_parts (partition ∷ parts)) rows) (first ++ rest) (first ++ each)
+    (either_moved (is_of_partition partition) (is_of_parts parts) (λ row is. in_none_above partition row is parts (sorted_head partition_cmp partition parts rising)) rows)
+    (IsPermutation-append_right first rest each (parted parts rows (sorted_tail partition_cmp partition parts rising)))
 
 -- ---- a partition is found by halving
 
@@ -79,14 +79,14 @@ searchable parts rising k d low h =
     below_before (partition_cmp (get_or parts (k + 1) d) (get_or parts k d))
     (flip_less partition_cmp_total (get_or parts k d) (get_or parts (k + 1) d) (Less-from_sorted partition_cmp parts k (k + 1) d rising (omega arith) h))
 
-pub halved : (parts : List Partition) (part : Partition) (r : Result ℕ ℕ) → AreRising parts → IsSearchInRange r (length parts) → IsBinarySearchResult (λ y. partition_cmp y part) parts r →
-    is_ok r ≡ list_any (λ p. is_eq (partition_cmp p part)) parts
-halved parts part (Ok i) rising within found = sym (list_any_at (λ p. is_eq (partition_cmp p part)) parts i no_part within (ap is_eq (found no_part)))
-halved parts part (Err i) rising within found =
-    let point = found (searchable_from_sorted partition_cmp_total (λ (p : Partition). p) parts part (searchable parts rising)) in
-    sym (list_any_none (λ p. is_eq (partition_cmp p part)) parts (λ k d h. by k d (point.0 k d (omega arith)) (λ from. point.1 k d from h) (nat_lt k i) refl))
+pub halved : (parts : List Partition) (partition : Partition) (r : Result ℕ ℕ) → AreRising parts → IsSearchInRange r (length parts) → IsBinarySearchResult (λ y. partition_cmp y partition) parts r →
+    is_ok r ≡ list_any (λ p. is_eq (partition_cmp p partition)) parts
+halved parts partition (Ok i) rising within found = sym (list_any_at (λ p. is_eq (partition_cmp p partition)) parts i no_partition within (ap is_eq (found no_partition)))
+halved parts partition (Err i) rising within found =
+    let point = found (searchable_from_sorted partition_cmp_total (λ (p : Partition). p) parts partition (searchable parts rising)) in
+    sym (list_any_none (λ p. is_eq (partition_cmp p partition)) parts (λ k d h. by k d (point.0 k d (omega arith)) (λ from. point.1 k d from h) (nat_lt k i) refl))
   where
-    by : (k : ℕ) (d : Partition) → (k < i → partition_cmp (get_or parts k d) part ≡ Less) → (i ≤ k → partition_cmp (get_or parts k d) part ≡ Greater) → (b : Bool) → nat_lt k i ≡ b → is_eq (partition_cmp (get_or parts k d) part) ≡ false
+    by : (k : ℕ) (d : Partition) → (k < i → partition_cmp (get_or parts k d) partition ≡ Less) → (i ≤ k → partition_cmp (get_or parts k d) partition ≡ Greater) → (b : Bool) → nat_lt k i ≡ b → is_eq (partition_cmp (get_or parts k d) partition) ≡ false
     by k d below above true e = let before : k < i = grind (arith, nat_tests) in ap is_eq (below before)
     by k d below above false e = let behind : i ≤ k = grind (arith, nat_tests) in ap is_eq (above behind)
 
@@ -127,7 +127,7 @@ in_range_by from to row low high =
 pub in_whole_days : (parts : List Partition) (before from to : ℤ) (d : Partition) → AreRising parts → day_of before <ℤ (get_or parts 0 d).day → (get_or parts (length parts - 1) d).day <ℤ day_of to →
     from ≤ℤ (before +ℤ pos 1) → (row : Row) → is_of_parts parts row ≡ true → is_in_time_range from to row ≡ true
 in_whole_days parts before from to d rising low high next row is =
-    let any = Any-from_list_any (λ part. is_of_partition part row) parts is in
+    let any = Any-from_list_any (λ partition. is_of_partition partition row) parts is in
     let k = any.0 in
     let within : k < length parts = any.2 in
     let at : get_or parts k d ≡ any.1 = default_free parts k d any.1 within ∙ any.3 in

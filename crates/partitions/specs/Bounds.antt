@@ -20,6 +20,6 @@ abbrev pub HasTimeOn : ℤ → ℤ → ℤ → Type 0
 HasTimeOn from to day = (time : ℤ) × (from ≤ℤ time) × (time <ℤ to) × (day_of time ≡ day)
 
 -- a row in the bounds may stand in a partition: some time of the bounds has its day, and its packet name is among theirs
-pub record MayHold (bounds : Bounds) (part : Partition) : Type 0 where
-  pub day : HasTimeOn bounds.from bounds.to part.day
-  pub name : IsAmong bounds.names part.pname
+pub record MayHold (bounds : Bounds) (partition : Partition) : Type 0 where
+  pub day : HasTimeOn bounds.from bounds.to partition.day
+  pub name : IsAmong bounds.names partition.pname

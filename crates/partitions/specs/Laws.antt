@@ -15,8 +15,8 @@ RowsMayStand = (bounds : Bounds) (time : ℤ) (pname : ℕ) → IsInBounds bound
 
 -- a row stands in one partition alone: that of its time and its packet name
 abbrev pub StandsInItsPartition : Type 0
-StandsInItsPartition = (part : Partition) (row : Row) → (is_of_partition part row ≡ true) ↔ (part ≡ partition_of row.key.time row.pname)
+StandsInItsPartition = (partition : Partition) (row : Row) → (is_of_partition partition row ≡ true) ↔ (partition ≡ partition_of row.key.time row.pname)
 
 -- the places of rows in a partition are places of rows that were noted
 abbrev pub PlacesAreNoted : Type 0
-PlacesAreNoted = (part : Partition) (noted : List Partition) → AllByRecursion (λ place. place < length noted) (places_in part noted)
+PlacesAreNoted = (partition : Partition) (noted : List Partition) → AllByRecursion (λ place. place < length noted) (places_in partition noted)

@@ -2,7 +2,7 @@ pub mod Partition
 pub mod Rows
 pub mod NameDay
 pub mod Bounds
-pub mod Names
+pub mod SortedNames
 pub mod Places
 pub mod Links
 pub mod NameDayFilter

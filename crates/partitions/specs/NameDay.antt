@@ -10,4 +10,4 @@ name_day_cmp a b = ordering_then (nat_cmp a.pname b.pname) (int_cmp a.day b.day)
 
 -- the name day of a partition
 abbrev pub name_day : Partition → NameDay
-name_day part = record { pname = part.pname; day = part.day }
+name_day partition = record { pname = partition.pname; day = partition.day }

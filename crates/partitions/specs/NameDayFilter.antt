@@ -14,7 +14,7 @@ is_on days day = not (int_lt day days.first) && not (int_lt days.last day)
 
 -- whether a partition's day is
 abbrev pub is_on_days : Days → Partition → Bool
-is_on_days days part = is_on days part.day
+is_on_days days partition = is_on days partition.day
 
 -- whether a name day has one of the days and one of the packet names that are wanted
 abbrev pub passes_filter : NameDayFilter → NameDay → Bool

@@ -13,15 +13,15 @@ partitions_of rows = map (λ row. partition_of row.key.time row.pname) rows
 
 -- whether a row stands in a partition: the day of its time and its packet name are the partition's
 abbrev pub is_of_partition : Partition → Row → Bool
-is_of_partition part row = is_eq (partition_cmp part (partition_of row.key.time row.pname))
+is_of_partition partition row = is_eq (partition_cmp partition (partition_of row.key.time row.pname))
 
 -- whether it stands in one of these partitions
 abbrev pub is_of_parts : List Partition → Row → Bool
-is_of_parts parts row = list_any (λ part. is_of_partition part row) parts
+is_of_parts parts row = list_any (λ partition. is_of_partition partition row) parts
 
 -- the rows of a partition of a table at a front, in the order of their keys
 abbrev pub partition_at : ℕ → ℕ → Partition → List Row → List Row
-partition_at front table part history = filter (is_of_partition part) (table_at_front front table history)
+partition_at front table partition history = filter (is_of_partition partition) (table_at_front front table history)
 
 -- those of several partitions with from <= time < to, in the order of their keys
 abbrev pub parts_between : ℕ → ℕ → List Partition → ℤ → ℤ → List Row → List Row

@@ -38,10 +38,10 @@ impl<'a> ChainSteps<'a> {
             return true;
         }
         let parts = self.parts;
-        let Some((part, rest)) = parts.split_first() else {
+        let Some((partition, rest)) = parts.split_first() else {
             return false;
         };
-        self.places = self.partitions.places_of(*part);
+        self.places = self.partitions.places_of(*partition);
         self.parts = rest;
         true
     }

@@ -22,22 +22,22 @@ use std::alloc::{AllocError, Global};
 pub(crate) fn put_last(
     by_day: &mut GrowingIndex<Partition, u32>,
     by_name: &mut GrowingIndex<NameDay, ()>,
-    part: Partition,
+    partition: Partition,
     place: u32,
 ) -> Option<u32>
     requires room_by_day { 0 < by_day.old.room }
     requires room_by_name { 0 < by_name.old.room }
-    ensures before { result ≡ lookup (is_at (partition_cmp part)) by_day.old.entries }
+    ensures before { result ≡ lookup (is_at (partition_cmp partition)) by_day.old.entries }
     ensures indexed { (noted : List APartition) → AreIndexed by_day.old by_name.old noted → place ≡ length noted →
-        AreIndexed by_day.new by_name.new (noted ++ part ∷ []) }
+        AreIndexed by_day.new by_name.new (noted ++ partition ∷ []) }
     ensures left_by_day { by_day.old.room ≤ by_day.new.room + 1 }
     ensures left_by_name { by_name.old.room ≤ by_name.new.room + 1 }
 {
-    match by_day.replace(part, place) {
+    match by_day.replace(partition, place) {
         Some(before) => Some(before),
         None => {
-            let _ = by_day.insert(part, place);
-            let _ = by_name.insert(NameDay::of(part), ());
+            let _ = by_day.insert(partition, place);
+            let _ = by_name.insert(NameDay::of(partition), ());
             None
         }
     }
@@ -57,11 +57,11 @@ pub(crate) fn on_days(
         day: days.first,
         pname: 0,
     });
-    while let Some(&(part, _)) = entries.next() {
-        if part.day > days.last {
+    while let Some(&(partition, _)) = entries.next() {
+        if partition.day > days.last {
             break;
         }
-        parts.push(part)?;
+        parts.push(partition)?;
     }
     Ok(parts)
 }

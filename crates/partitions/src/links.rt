@@ -20,14 +20,14 @@ pub(crate) struct Link {
 
 impl Link {
     /// A row noted in a partition, behind the one at a place, if there is one.
-    pub(crate) fn new(part: &Partition, earlier: Option<u32>) -> Self
+    pub(crate) fn new(partition: &Partition, earlier: Option<u32>) -> Self
         requires { IfSome earlier (λ place. place < 2 ^ 32 - 1) }
-        ensures noted { result.noted.value ≡ part.now }
+        ensures noted { result.noted.value ≡ partition.now }
         ensures earlier { place_of_word result.earlier ≡ earlier }
     {
         Link {
             earlier: earlier.unwrap_or(NO_PLACE),
-            noted: Snapshot::of(part),
+            noted: Snapshot::of(partition),
         }
     }
 

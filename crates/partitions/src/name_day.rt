@@ -13,12 +13,12 @@ pub(crate) struct NameDay {
 }
 
 impl NameDay {
-    pub(crate) fn of(part: Partition) -> Self
-        ensures { result ≡ name_day part }
+    pub(crate) fn of(partition: Partition) -> Self
+        ensures { result ≡ name_day partition }
     {
         NameDay {
-            pname: part.pname,
-            day: part.day,
+            pname: partition.pname,
+            day: partition.day,
         }
     }
 

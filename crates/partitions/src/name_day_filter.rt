@@ -6,7 +6,7 @@ ghost use Rattle.partitions.specs.NameDayFilter.{passes_filter, IsFirstFrom};
 
 use crate::days::Days;
 use crate::name_day::NameDay;
-use crate::names::SortedNames;
+use crate::sorted_names::SortedNames;
 
 /// Some days of some packet names.
 #[derive(Drop)]

@@ -15,9 +15,9 @@ use crate::links::Link;
 use crate::lists::{PartList, in_order};
 use crate::name_day::NameDay;
 use crate::name_day_filter::NameDayFilter;
-use crate::names::SortedNames;
 use crate::partition::{Partition, partition_of};
 use crate::places::Places;
+use crate::sorted_names::SortedNames;
 use block_map::growing_index::GrowingIndex;
 use std::alloc::{AllocError, Global};
 use std::marker::Model;
@@ -90,28 +90,28 @@ impl Partitions {
         ensures added { self.new.noted ≡ self.old.noted ++ partition_of time pname ∷ [] }
         ensures left { self.old.room ≤ self.new.room + 1 }
     {
-        let part = partition_of(time, pname);
+        let partition = partition_of(time, pname);
         let place = self.links.len() as u32;
-        let before = put_last(&mut self.by_day, &mut self.by_name, part, place);
-        self.links.push_reserved(Link::new(&part, before));
+        let before = put_last(&mut self.by_day, &mut self.by_name, partition, place);
+        self.links.push_reserved(Link::new(&partition, before));
         self.room -= 1;
     }
 
     /// The places of the rows that were noted in a partition, the last first. A place is how many rows were noted
     /// before.
-    pub fn places_of(&self, part: Partition) -> Places<'_>
-        ensures { result ≡ places_in part self.now.noted }
+    pub fn places_of(&self, partition: Partition) -> Places<'_>
+        ensures { result ≡ places_in partition self.now.noted }
     {
-        Places::new(self.links.as_slice(), self.by_day.get(part))
+        Places::new(self.links.as_slice(), self.by_day.get(partition))
     }
 
     /// How many rows were noted in a partition. They are counted along its chain.
-    pub fn row_count(&self, part: Partition) -> usize
-        ensures { result ≡ length (places_in part self.now.noted) }
+    pub fn row_count(&self, partition: Partition) -> usize
+        ensures { result ≡ length (places_in partition self.now.noted) }
     {
         // It tells the proof that places have 32 bits.
         let _links = &self.links;
-        let mut places = self.places_of(part);
+        let mut places = self.places_of(partition);
         let mut count = 0;
         while let Some(_) = places.next() {
             count += 1;

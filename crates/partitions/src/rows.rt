@@ -18,8 +18,8 @@ pub fn is_of_parts(parts: &[Partition], row: &Row) -> bool
     requires { AreRising parts.now }
     ensures { result ≡ is_of_parts parts.now row.now }
 {
-    let part = partition_of(row.key.time, row.pname);
-    parts.binary_search(&part).is_ok()
+    let partition = partition_of(row.key.time, row.pname);
+    parts.binary_search(&partition).is_ok()
 }
 
 /// Whether a row's time lies in a range, `from <= time < to`.

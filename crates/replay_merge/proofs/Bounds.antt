@@ -81,7 +81,7 @@ module _ (bounds : Bounds) (table front : ℕ) (parts : List Partition) (history
       let range = within_range bounds.from bounds.to row time in
       let may : MayHold bounds (own_partition row) = record { day = (row.key.time, range.0, range.1, refl); name = (listed_is_among bounds.names row.pname).0 name } in
       let at = enough (own_partition row) (mapped (filter (is_in_table table) history) row there) may in
-      list_any-from_Any (λ part. is_of_partition part row) parts (at.0, own_partition row, at.1, at.2, in_own row)
+      list_any-from_Any (λ partition. is_of_partition partition row) parts (at.0, own_partition row, at.1, at.2, in_own row)
 
   -- partitions that hold each that has a row of the table, and may hold one in the bounds, hold each row that is asked
   pub pruned_is_enough : HoldsEachRow parts (rows_asked table bounds.from bounds.to bounds.names (take front history))

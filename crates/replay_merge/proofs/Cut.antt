@@ -12,7 +12,7 @@ use Rattle.partitions.specs.declared.partition.Partition.{Partition}
 use Rattle.partitions.specs.Partitions.{AreRising}
 use Rattle.partitions.specs.Rows.{is_of_partition, is_of_parts, parts_between}
 use Rattle.partitions.proofs.Parted.{its_day, day_rises, default_free}
-use Rattle.replay_merge.specs.Source.{IsRowBetween}
+use Rattle.replay_merge.specs.RowSource.{IsRowBetween}
 
 same_below : (time from low : ℤ) → from ≤ℤ low → (from ≤ℤ time → low ≤ℤ time) → int_lt time low ≡ int_lt time from
 same_below time from low le least = by (int_lt time from) refl
@@ -33,7 +33,7 @@ pub cut_same : (parts : List Partition) (d : Partition) (from to low high : ℤ)
     (high ≤ℤ to) → ((time : ℤ) → time <ℤ to → time <ℤ (pos 86_400_000 *ℤ ((get_or parts (length parts - 1) d).day +ℤ pos 1)) → time <ℤ high) →
     (row : Row) → is_of_parts parts row ≡ true → is_in_time_range low high row ≡ is_in_time_range from to row
 cut_same parts d from to low high rising up least down greatest row is =
-    let any = Any-from_list_any (λ part. is_of_partition part row) parts is in
+    let any = Any-from_list_any (λ partition. is_of_partition partition row) parts is in
     let k = any.0 in
     let time = row.key.time in
     let within : k < length parts = any.2 in

@@ -20,7 +20,7 @@ use Rattle.partitions.specs.declared.partition.Partition.{Partition}
 use Rattle.partitions.specs.Partitions.{AreRising}
 use Rattle.partitions.specs.Rows.{is_of_partition, is_of_parts, partition_at, parts_between}
 use Rattle.partitions.proofs.Filters.{filter_swap}
-use Rattle.replay_merge.specs.Source.{IsKeyedRow, IsRowOf, IsRowBetween, AreInKeyOrder, IsRowSourceHistory}
+use Rattle.replay_merge.specs.RowSource.{IsKeyedRow, IsRowOf, IsRowBetween, AreInKeyOrder, IsRowSourceHistory}
 use Rattle.replay_merge.proofs.Reading.{all_both}
 use Rattle.replay_merge.proofs.Sorting.{ascending, same_sorted}
 use Rattle.replay_merge.proofs.Sources.{each_tested, in_table_keyed, IsKeyedIn, no_rows_in}
@@ -46,26 +46,26 @@ flat_one {X} {Y} f xs i x within is =
     ap (λ (l : List Y). flat_map f (take i xs) ++ l) (sym last) ∙ sym (flat_map-append f (take i xs) (x ∷ []))
     ∙ ap (λ (y : X). flat_map f (take i xs ++ y ∷ [])) is ∙ ap (flat_map f) (sym (take-suc xs i x within)) ∙ ap (λ (n : ℕ). flat_map f (take n xs)) (sym next)
 
-module _ (table front : ℕ) (from to : ℤ) (parts : List Partition) (i : ℕ) (part : Partition) (within : i < length parts) (is : part ≡ get_or parts i part) where
+module _ (table front : ℕ) (from to : ℤ) (parts : List Partition) (i : ℕ) (partition : Partition) (within : i < length parts) (is : partition ≡ get_or parts i partition) where
   pub one_part_more : (told : Option (List Row)) (rows given all : List Row) →
-      IfSome told (λ history. rows ≡ by_parts (take i parts) (range_of table from to (take front history))) → IfSome told (λ history. given ≡ partition_at front table part history) →
+      IfSome told (λ history. rows ≡ by_parts (take i parts) (range_of table from to (take front history))) → IfSome told (λ history. given ≡ partition_at front table partition history) →
       all ≡ rows ++ filter (is_in_time_range from to) given → IfSome told (λ history. all ≡ by_parts (take (i + 1) parts) (range_of table from to (take front history)))
   one_part_more None rows given all so_far got more = tt
   one_part_more (Some history) rows given all so_far got more =
       let range = range_of table from to (take front history) in
-      let its : filter (is_in_time_range from to) given ≡ filter (is_of_partition part) range =
-      ap (filter (is_in_time_range from to)) got ∙ filter_swap (is_in_time_range from to) (is_of_partition part) (table_at_front front table history) in
+      let its : filter (is_in_time_range from to) given ≡ filter (is_of_partition partition) range =
+      ap (filter (is_in_time_range from to)) got ∙ filter_swap (is_in_time_range from to) (is_of_partition partition) (table_at_front front table history) in
       more ∙ ap (λ (w : List Row). w ++ filter (is_in_time_range from to) given) so_far ∙ ap (λ (w : List Row). by_parts (take i parts) range ++ w) its
-      ∙ flat_one (λ p. filter (is_of_partition p) range) parts i part within is
+      ∙ flat_one (λ p. filter (is_of_partition p) range) parts i partition within is
 
-  in_these : (row : Row) → is_of_partition part row ≡ true → is_of_parts parts row ≡ true
-  in_these row of = list_any_at (λ p. is_of_partition p row) parts i part within (subst (λ (p : Partition). is_of_partition p row ≡ true) is of)
+  in_these : (row : Row) → is_of_partition partition row ≡ true → is_of_parts parts row ≡ true
+  in_these row of = list_any_at (λ p. is_of_partition p row) parts i partition within (subst (λ (p : Partition). is_of_partition p row ≡ true) is of)
 
-  pub each_part_more : (rows given all : List Row) → AllByRecursion (IsRowBetween table parts from to) rows → AllByRecursion (IsRowOf table part) given →
+  pub each_part_more : (rows given all : List Row) → AllByRecursion (IsRowBetween table parts from to) rows → AllByRecursion (IsRowOf table partition) given →
       all ≡ rows ++ filter (is_in_time_range from to) given → AllByRecursion (IsRowBetween table parts from to) all
   each_part_more rows given all so_far each more =
-      let kept = each_tested (IsRowOf table part) (IsRowBetween table parts from to) (is_in_time_range from to)
-      (λ row of range. record { keyed = of.keyed; in_table = of.in_table; in_parts = in_these row of.in_part; in_range = range }) given each in
+      let kept = each_tested (IsRowOf table partition) (IsRowBetween table parts from to) (is_in_time_range from to)
+      (λ row of range. record { keyed = of.keyed; in_table = of.in_table; in_parts = in_these row of.in_partition; in_range = range }) given each in
       subst (λ (l : List Row). AllByRecursion (IsRowBetween table parts from to) l) (sym more) (all_both (IsRowBetween table parts from to) rows (filter (is_in_time_range from to) given) so_far kept)
 
 -- ---- all of them

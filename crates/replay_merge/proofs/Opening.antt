@@ -64,24 +64,24 @@ module _ (E : Partition → Partition → Bool) (tests : (a b : Partition) → E
     congr = λ a b d e. tests a d ∙ (eq_by_cmp_equiv partition_cmp_total).congr a b d (sym (tests a b) ∙ e) ∙ sym (tests b d);
   }
 
-  pub once_same : (part : Partition) → Contains left part ↔ Contains given part
-  once_same part = (to, from)
+  pub once_same : (partition : Partition) → Contains left partition ↔ Contains given partition
+  once_same partition = (to, from)
     where
-      to : Contains left part → Contains given part
-      to is = Contains-permutation sorted given part (IsPermutation-sym given sorted same) (Contains-from_dedup E sorted part (subst (λ (l : List Partition). Contains l part) (dedup_is E sorted left once) is))
+      to : Contains left partition → Contains given partition
+      to is = Contains-permutation sorted given partition (IsPermutation-sym given sorted same) (Contains-from_dedup E sorted partition (subst (λ (l : List Partition). Contains l partition) (dedup_is E sorted left once) is))
 
-      from : Contains given part → Contains left part
-      from is = subst (λ (l : List Partition). Contains l part) (sym (dedup_is E sorted left once)) (Contains-dedup alike equal sorted part (Contains-permutation given sorted part same is))
+      from : Contains given partition → Contains left partition
+      from is = subst (λ (l : List Partition). Contains l partition) (sym (dedup_is E sorted left once)) (Contains-dedup alike equal sorted partition (Contains-permutation given sorted partition same is))
 
 -- ---- what is left at the opening
 
-there : (given parts : List Partition) → ((part : Partition) → Contains parts part ↔ Contains given part) → (row : Row) → is_of_parts given row ≡ true → is_of_parts parts row ≡ true
+there : (given parts : List Partition) → ((partition : Partition) → Contains parts partition ↔ Contains given partition) → (row : Row) → is_of_parts given row ≡ true → is_of_parts parts row ≡ true
 there given parts same row is =
-    let any = Any-from_list_any (λ part. is_of_partition part row) given is in
+    let any = Any-from_list_any (λ partition. is_of_partition partition row) given is in
     let at = (same any.1).1 (any.0, any.2, any.3) in
-    list_any-from_Any (λ part. is_of_partition part row) parts (at.0, any.1, at.1, at.2, any.4)
+    list_any-from_Any (λ partition. is_of_partition partition row) parts (at.0, any.1, at.1, at.2, any.4)
 
-all_there : (given parts : List Partition) → ((part : Partition) → Contains parts part ↔ Contains given part) → (rows : List Row) → HoldsEachRow given rows → AllByRecursion (λ row. is_of_parts parts row ≡ true) rows
+all_there : (given parts : List Partition) → ((partition : Partition) → Contains parts partition ↔ Contains given partition) → (rows : List Row) → HoldsEachRow given rows → AllByRecursion (λ row. is_of_parts parts row ≡ true) rows
 all_there given parts same [] all = tt
 all_there given parts same (row ∷ rows) all = (there given parts same row all.0, all_there given parts same rows all.1)
 

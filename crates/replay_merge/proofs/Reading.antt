@@ -21,9 +21,9 @@ use Rattle.partitions.specs.Partitions.{AreRising}
 use Rattle.partitions.specs.Rows.{is_of_partition, is_of_parts, parts_between}
 use Rattle.partitions.proofs.Filters.{filter_both}
 use Rattle.partitions.proofs.Order.{partition_cmp_total}
-use Rattle.partitions.proofs.Parted.{its_partition, no_part}
+use Rattle.partitions.proofs.Parted.{its_partition, no_partition}
 use Rattle.replay_merge.specs.declared.wanted.Wanted.{Wanted}
-use Rattle.replay_merge.specs.Source.{IsRowBetween}
+use Rattle.replay_merge.specs.RowSource.{IsRowBetween}
 use Rattle.replay_merge.specs.Replay.{is_listed_name, has_listed_name}
 use Rattle.replay_merge.specs.Fetch.{rows_wanted, wanted_in, IsWanted, EndsDay}
 use Rattle.replay_merge.proofs.Splits.{split}
@@ -43,28 +43,28 @@ all_pass q (x ∷ xs) all = rw all.0 (ap (λ (w : List _). x ∷ w) (all_pass q 
 -- ---- partitions
 
 pub rising_first : (n : ℕ) (parts : List Partition) → AreRising parts → AreRising (take n parts)
-rising_first n parts rising = sorted_from_all_adjacent partition_cmp_total (take n parts) no_part (λ k h.
+rising_first n parts rising = sorted_from_all_adjacent partition_cmp_total (take n parts) no_partition (λ k h.
     (let short : k + 1 < n = omega (arith, h, length-take n parts) in
     let within : k + 1 < length parts = omega (arith, h, length-take n parts) in
-    rw (get_or-take n parts k no_part (omega arith), get_or-take n parts (k + 1) no_part short) (Less-from_sorted partition_cmp parts k (k + 1) no_part rising (omega arith) within)))
+    rw (get_or-take n parts k no_partition (omega arith), get_or-take n parts (k + 1) no_partition short) (Less-from_sorted partition_cmp parts k (k + 1) no_partition rising (omega arith) within)))
 
 pub rising_rest : (n : ℕ) (parts : List Partition) → AreRising parts → AreRising (drop n parts)
-rising_rest n parts rising = sorted_from_all_adjacent partition_cmp_total (drop n parts) no_part (λ k h.
+rising_rest n parts rising = sorted_from_all_adjacent partition_cmp_total (drop n parts) no_partition (λ k h.
     (let within : n + (k + 1) < length parts = omega (arith, h, length-drop n parts) in
-    rw (get_or-drop n parts k no_part, get_or-drop n parts (k + 1) no_part) (Less-from_sorted partition_cmp parts (n + k) (n + (k + 1)) no_part rising (omega arith) within)))
+    rw (get_or-drop n parts k no_partition, get_or-drop n parts (k + 1) no_partition) (Less-from_sorted partition_cmp parts (n + k) (n + (k + 1)) no_partition rising (omega arith) within)))
 
 -- ---- the partitions whose names are listed
 
 -- a row stands in one of them where its name is listed, and it stands in one of all
-one_listed : (names : Option (List ℕ)) (parts : List Partition) (row : Row) → is_of_parts (filter (λ part. is_listed_name names part.pname) parts) row ≡ (has_listed_name names row && is_of_parts parts row)
+one_listed : (names : Option (List ℕ)) (parts : List Partition) (row : Row) → is_of_parts (filter (λ partition. is_listed_name names partition.pname) parts) row ≡ (has_listed_name names row && is_of_parts parts row)
 one_listed names parts row =
-    any-filter_same (λ part. is_of_partition part row) (λ part. is_listed_name names part.pname) (has_listed_name names row)
-    (λ part is. ap (λ (p : Partition). is_listed_name names p.pname) (its_partition part row is)) parts
+    any-filter_same (λ partition. is_of_partition partition row) (λ partition. is_listed_name names partition.pname) (has_listed_name names row)
+    (λ partition is. ap (λ (p : Partition). is_listed_name names p.pname) (its_partition partition row is)) parts
 
 pub listed_rows : (names : Option (List ℕ)) (parts : List Partition) (rows : List Row) →
-    filter (is_of_parts (filter (λ part. is_listed_name names part.pname) parts)) rows ≡ filter (is_of_parts parts) (filter (has_listed_name names) rows)
+    filter (is_of_parts (filter (λ partition. is_listed_name names partition.pname) parts)) rows ≡ filter (is_of_parts parts) (filter (has_listed_name names) rows)
 listed_rows names parts rows =
-    filter_agree (is_of_parts (filter (λ part. is_listed_name names part.pname) parts)) (λ row. has_listed_name names row && is_of_parts parts row) (one_listed names parts) rows
+    filter_agree (is_of_parts (filter (λ partition. is_listed_name names partition.pname) parts)) (λ row. has_listed_name names row && is_of_parts parts row) (one_listed names parts) rows
     ∙ filter_both (has_listed_name names) (is_of_parts parts) rows
 
 first_of_both : (a b : Bool) → (a && b) ≡ true → a ≡ true
@@ -72,7 +72,7 @@ first_of_both true b both = refl
 first_of_both false b both = absurd cc
 
 pub each_listed : (wanted : Wanted) (parts : List Partition) (rows : List Row) →
-    AllByRecursion (IsRowBetween wanted.table (filter (λ part. is_listed_name wanted.names part.pname) parts) wanted.from wanted.to) rows → AllByRecursion (IsWanted wanted) rows
+    AllByRecursion (IsRowBetween wanted.table (filter (λ partition. is_listed_name wanted.names partition.pname) parts) wanted.from wanted.to) rows → AllByRecursion (IsWanted wanted) rows
 each_listed wanted parts [] all = tt
 each_listed wanted parts (row ∷ rows) all = (
   record {
@@ -84,8 +84,8 @@ each_listed wanted parts (row ∷ rows) all = (
   each_listed wanted parts rows all.1,
 )
 
-pub listed_rise : (names : Option (List ℕ)) (n : ℕ) (parts listed : List Partition) → AreRising parts → listed ≡ filter (λ part. is_listed_name names part.pname) (take n parts) → AreRising listed
-listed_rise names n parts listed rising is = subst AreRising (sym is) (IsStrictlySortedBy-filter partition_cmp (λ part. is_listed_name names part.pname) (take n parts) (rising_first n parts rising))
+pub listed_rise : (names : Option (List ℕ)) (n : ℕ) (parts listed : List Partition) → AreRising parts → listed ≡ filter (λ partition. is_listed_name names partition.pname) (take n parts) → AreRising listed
+listed_rise names n parts listed rising is = subst AreRising (sym is) (IsStrictlySortedBy-filter partition_cmp (λ partition. is_listed_name names partition.pname) (take n parts) (rising_first n parts rising))
 
 -- ---- a day
 
@@ -99,12 +99,12 @@ wanted_sorted wanted history =
 pub day_split : (wanted : Wanted) (history : List Row) (parts : List Partition) (n : ℕ) → EndsDay parts n → wanted_in wanted parts history ≡ wanted_in wanted (take n parts) history ++ wanted_in wanted (drop n parts) history
 day_split wanted history parts n ends =
     filter_agree (is_of_parts parts) (λ row. is_of_parts (take n parts) row || is_of_parts (drop n parts) row)
-    (λ row. ap (λ (ps : List Partition). is_of_parts ps row) (sym (take-append-drop n parts)) ∙ list_any-append (λ part. is_of_partition part row) (take n parts) (drop n parts)) (rows_wanted wanted history)
+    (λ row. ap (λ (ps : List Partition). is_of_parts ps row) (sym (take-append-drop n parts)) ∙ list_any-append (λ partition. is_of_partition partition row) (take n parts) (drop n parts)) (rows_wanted wanted history)
     ∙ split rows_rank (is_of_parts (take n parts)) (is_of_parts (drop n parts)) (days_in_order parts n ends) (rows_wanted wanted history) (ascending rows_rank (rows_wanted wanted history) (wanted_sorted wanted history))
 
 -- the rows of the first day's partitions whose names are listed are those of the first day that are wanted
 pub day_read : (told : Option (List Row)) (wanted : Wanted) (parts listed : List Partition) (n : ℕ) (rows : List Row) → EndsDay parts n →
-    listed ≡ filter (λ part. is_listed_name wanted.names part.pname) (take n parts) →
+    listed ≡ filter (λ partition. is_listed_name wanted.names partition.pname) (take n parts) →
     IfSome told (λ history. rows ≡ parts_between wanted.front wanted.table listed wanted.from wanted.to history) →
     IfSome told (λ history. wanted_in wanted parts history ≡ rows ++ wanted_in wanted (drop n parts) history)
 day_read None wanted parts listed n rows ends is got = tt

@@ -20,7 +20,7 @@ use Rattle.arch_types.proofs.InOrder.{order_same, order_sorted}
 use Rattle.partitions.specs.declared.partition.Partition.{Partition}
 use Rattle.partitions.specs.Rows.{is_of_partition, partition_at}
 use Rattle.partitions.proofs.Filters.{none_pass}
-use Rattle.replay_merge.specs.Source.{IsKeyedRow, IsRowOf, AreRowsOf, IsRowSourceHistory}
+use Rattle.replay_merge.specs.RowSource.{IsKeyedRow, IsRowOf, AreRowsOf, IsRowSourceHistory}
 use Rattle.replay_merge.proofs.Pieces.{all_first}
 use Rattle.replay_merge.proofs.Sorting.{ascending, tied_with_itself}
 use Rattle.replay_merge.proofs.Tied.{is_tied, AtMostOne, one_after, one_in_table, first_rows}
@@ -86,14 +86,14 @@ in_table_keyed table history all =
     recursion_from_All (IsKeyedIn table) (order_by is_before those) (All-permutation (IsKeyedIn table) those (order_by is_before those) (order_same is_before those) (All-from_recursion (IsKeyedIn table) those each))
 
 -- those of a history at a front are rows of the partition, in the order of their keys
-pub partition_rows_are : (front table : ℕ) (part : Partition) (history : List Row) → IsRowSourceHistory history → AreRowsOf table part (partition_at front table part history)
-partition_rows_are front table part history is =
+pub partition_rows_are : (front table : ℕ) (partition : Partition) (history : List Row) → IsRowSourceHistory history → AreRowsOf table partition (partition_at front table partition history)
+partition_rows_are front table partition history is =
     let first = take front history in
     let rows = table_of table first in
     let once = first_rows front history is.once in
-    let test = is_of_partition part in
+    let test = is_of_partition partition in
     record {
-      each = each_tested (IsKeyedIn table) (IsRowOf table part) test (λ row both e. record { keyed = both.keyed; in_table = both.in_table; in_part = e }) rows (in_table_keyed table first (all_first IsKeyedRow front history is.each));
+      each = each_tested (IsKeyedIn table) (IsRowOf table partition) test (λ row both e. record { keyed = both.keyed; in_table = both.in_table; in_partition = e }) rows (in_table_keyed table first (all_first IsKeyedRow front history is.each));
       rising = strictly (filter test rows) (ascending rows_rank (filter test rows) (IsSortedBy-filter is_before rows_rank test rows (order_sorted (filter (is_in_table table) first)))) (λ z. one_after test z rows (one_in_table table z first once));
     }
 
@@ -111,5 +111,5 @@ pub no_rows_in : (front table n : ℕ) (history : List Row) → AllByRecursion (
 no_rows_in front table n history all most =
     ap (order_by is_before) (none_pass (is_in_table table) (take front history) (none_in table n (take front history) (all_first (λ row. row.table < n) front history all) most))
 
-pub no_rows_of_table : (front table n : ℕ) (part : Partition) (history : List Row) → AllByRecursion (λ row. row.table < n) history → n ≤ table → partition_at front table part history ≡ []
-no_rows_of_table front table n part history all most = ap (filter (is_of_partition part)) (no_rows_in front table n history all most)
+pub no_rows_of_table : (front table n : ℕ) (partition : Partition) (history : List Row) → AllByRecursion (λ row. row.table < n) history → n ≤ table → partition_at front table partition history ≡ []
+no_rows_of_table front table n partition history all most = ap (filter (is_of_partition partition)) (no_rows_in front table n history all most)

@@ -129,30 +129,30 @@ first_rows (suc n) (row ∷ rows) is = (kept n rows is.0, first_rows n rows is.1
 
 -- the rows of partitions, those of each behind those of the one before
 abbrev pub by_parts : List Partition → List Row → List Row
-by_parts parts rows = flat_map (λ part. filter (is_of_partition part) rows) parts
+by_parts parts rows = flat_map (λ partition. filter (is_of_partition partition) rows) parts
 
 no_rows : (parts : List Partition) → by_parts parts [] ≡ []
 no_rows [] = refl
-no_rows (part ∷ parts) = no_rows parts
+no_rows (partition ∷ parts) = no_rows parts
 
 -- a row of the first partition stands in none of the others
-apart : (part : Partition) (row : Row) → is_of_partition part row ≡ true → (parts : List Partition) → AllByRecursion (λ p. partition_cmp part p ≡ Less) parts → by_parts parts (row ∷ []) ≡ []
-apart part row is [] all = refl
-apart part row is (p ∷ parts) all = by (is_of_partition p row) refl (apart part row is parts all.1)
+apart : (partition : Partition) (row : Row) → is_of_partition partition row ≡ true → (parts : List Partition) → AllByRecursion (λ p. partition_cmp partition p ≡ Less) parts → by_parts parts (row ∷ []) ≡ []
+apart partition row is [] all = refl
+apart partition row is (p ∷ parts) all = by (is_of_partition p row) refl (apart partition row is parts all.1)
   where
     by : (b : Bool) → is_of_partition p row ≡ b → by_parts parts (row ∷ []) ≡ [] → by_parts (p ∷ parts) (row ∷ []) ≡ []
     by true e none =
-        let same : part ≡ p = its_partition part row is ∙ sym (its_partition p row e) in
-        let itself : partition_cmp part p ≡ Equal = subst (λ (q : Partition). partition_cmp part q ≡ Equal) same (tied_itself partition_cmp_total part) in
+        let same : partition ≡ p = its_partition partition row is ∙ sym (its_partition p row e) in
+        let itself : partition_cmp partition p ≡ Equal = subst (λ (q : Partition). partition_cmp partition q ≡ Equal) same (tied_itself partition_cmp_total partition) in
         let less = all.0 in absurd cc
     by false e none = rw e none
 
 one_row : (parts : List Partition) (row : Row) → AreRising parts → by_parts parts (row ∷ []) ≡ filter (is_of_parts parts) (row ∷ [])
 one_row [] row rising = refl
-one_row (part ∷ parts) row rising = by (is_of_partition part row) refl (one_row parts row (sorted_tail partition_cmp part parts rising))
+one_row (partition ∷ parts) row rising = by (is_of_partition partition row) refl (one_row parts row (sorted_tail partition_cmp partition parts rising))
   where
-    by : (b : Bool) → is_of_partition part row ≡ b → by_parts parts (row ∷ []) ≡ filter (is_of_parts parts) (row ∷ []) → by_parts (part ∷ parts) (row ∷ []) ≡ filter (is_of_parts (part ∷ parts)) (row ∷ [])
-    by true e later = rw e (ap (λ (w : List Row). row ∷ w) (apart part row e parts (sorted_head partition_cmp part parts rising)))
+    by : (b : Bool) → is_of_partition partition row ≡ b → by_parts parts (row ∷ []) ≡ filter (is_of_parts parts) (row ∷ []) → by_parts (partition ∷ parts) (row ∷ []) ≡ filter (is_of_parts (partition ∷ parts)) (row ∷ [])
+    by true e later = rw e (ap (λ (w : List Row). row ∷ w) (apart partition row e parts (sorted_head partition_cmp partition parts rising)))
     by false e later = rw e later
 
 -- at most one row stands in distinct partitions as often as in one of them
@@ -163,10 +163,10 @@ one_by_parts parts rows rising (inr one) = rw one.1 (one_row parts one.0 rising)
 -- what passes a test of the rows of partitions
 pub filter_by_parts : (q : Row → Bool) (parts : List Partition) (rows : List Row) → filter q (by_parts parts rows) ≡ by_parts parts (filter q rows)
 filter_by_parts q [] rows = refl
-filter_by_parts q (part ∷ parts) rows =
-    filter-append q (filter (is_of_partition part) rows) (by_parts parts rows)
-    ∙ ap (λ (w : List Row). w ++ filter q (by_parts parts rows)) (filter_swap q (is_of_partition part) rows)
-    ∙ ap (λ (w : List Row). filter (is_of_partition part) (filter q rows) ++ w) (filter_by_parts q parts rows)
+filter_by_parts q (partition ∷ parts) rows =
+    filter-append q (filter (is_of_partition partition) rows) (by_parts parts rows)
+    ∙ ap (λ (w : List Row). w ++ filter q (by_parts parts rows)) (filter_swap q (is_of_partition partition) rows)
+    ∙ ap (λ (w : List Row). filter (is_of_partition partition) (filter q rows) ++ w) (filter_by_parts q parts rows)
 
 -- where no partition has a row, none stands in one of them
 pub none_in_parts : (parts : List Partition) (rows : List Row) → by_parts parts rows ≡ [] → filter (is_of_parts parts) rows ≡ []
@@ -175,9 +175,9 @@ none_in_parts [] rows none = none_pass (is_of_parts []) rows (all_fail rows)
     all_fail : (rows : List Row) → AllByRecursion (λ row. is_of_parts [] row ≡ false) rows
     all_fail [] = tt
     all_fail (row ∷ rows) = (refl, all_fail rows)
-none_in_parts (part ∷ parts) rows none =
-    none_pass_either (is_of_partition part) (is_of_parts parts) rows (append_nil_left (filter (is_of_partition part) rows) (by_parts parts rows) none)
-    (none_in_parts parts rows (append_nil_right (filter (is_of_partition part) rows) (by_parts parts rows) none))
+none_in_parts (partition ∷ parts) rows none =
+    none_pass_either (is_of_partition partition) (is_of_parts parts) rows (append_nil_left (filter (is_of_partition partition) rows) (by_parts parts rows) none)
+    (none_in_parts parts rows (append_nil_right (filter (is_of_partition partition) rows) (by_parts parts rows) none))
 
 -- rows that tie with a row are the same by partitions and in the order of the table
 pub same_tied : (parts : List Partition) (rows : List Row) (z : Row) → AreRising parts → AtMostOne (filter (is_tied z) rows) →

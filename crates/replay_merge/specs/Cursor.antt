@@ -59,7 +59,7 @@ pub record IsCursorOf (request : ReplayRequest) (table front : ℕ) (parts : Lis
   pub ends : c.to ≡ request.to
   pub limit : c.left ≡ request.limit
   pub listed : (pname : ℕ) → is_listed_name c.names pname ≡ is_listed_name names pname
-  pub same_parts : (part : Partition) → Contains c.parts part ↔ Contains parts part
+  pub same_parts : (partition : Partition) → Contains c.parts partition ↔ Contains parts partition
   pub rising : AreRising c.parts
   pub unread : c.ahead ≡ []
 

@@ -8,7 +8,7 @@ use Rattle.partitions.specs.declared.partition.Partition.{Partition}
 use Rattle.partitions.specs.Partitions.{AreRising}
 use Rattle.partitions.specs.Rows.{is_of_parts}
 use Rattle.replay_merge.specs.declared.wanted.Wanted.{Wanted}
-use Rattle.replay_merge.specs.Source.{AreInKeyOrder}
+use Rattle.replay_merge.specs.RowSource.{AreInKeyOrder}
 use Rattle.replay_merge.specs.Replay.{is_listed_name, rows_asked, IsReplayedRow}
 
 -- what a request asks of a table at a front, its packet names by their numbers
@@ -33,7 +33,7 @@ IsWanted wanted row = IsReplayedRow wanted.table wanted.from wanted.to wanted.na
 
 -- the first so many partitions are those of the days up to some day
 abbrev pub EndsDay : List Partition → ℕ → Type 0
-EndsDay parts count = (day : ℤ) × IsPartitionPoint (λ (part : Partition). part.day ≤ℤ day) (λ (part : Partition). day <ℤ part.day) parts count
+EndsDay parts count = (day : ℤ) × IsPartitionPoint (λ (partition : Partition). partition.day ≤ℤ day) (λ (partition : Partition). day <ℤ partition.day) parts count
 
 -- a cursor's partitions rise, and it has read so many of them; the rows ahead are wanted, in the order of their keys
 pub record IsUnderway (wanted : Wanted) (parts : List Partition) (at : ℕ) (ahead : List Row) : Type 0 where

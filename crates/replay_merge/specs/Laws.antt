@@ -24,7 +24,7 @@ ListedIsAmong = (names : Option (List ℕ)) (pname : ℕ) → (is_listed_name na
 -- among the partitions is each that has one of the rows and may hold one in the bounds
 abbrev pub HoldsPruned : Bounds → List Row → List Partition → Type 0
 HoldsPruned bounds rows parts =
-    (part : Partition) → Contains (partitions_of rows) part → MayHold bounds part → Contains parts part
+    (partition : Partition) → Contains (partitions_of rows) partition → MayHold bounds partition → Contains parts partition
 
 -- such partitions of the rows of a table hold each row that is asked by the bounds
 abbrev pub PrunedIsEnough : Type 0

@@ -1,4 +1,4 @@
-pub mod Source
+pub mod RowSource
 pub mod Replay
 pub mod Cursor
 pub mod Fetch

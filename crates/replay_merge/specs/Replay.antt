@@ -5,7 +5,7 @@ use Rattle.arch_types.specs.declared.row.Row.{Row}
 use Rattle.arch_types.specs.Table.{is_in_time_range, range_of}
 use Rattle.partitions.specs.declared.partition.Partition.{Partition}
 use Rattle.partitions.specs.Rows.{is_of_parts}
-use Rattle.replay_merge.specs.Source.{IsKeyedRow}
+use Rattle.replay_merge.specs.RowSource.{IsKeyedRow}
 
 -- whether a packet name is among those listed; where there is no list, each is
 abbrev pub is_listed_name : Option (List ℕ) → ℕ → Bool

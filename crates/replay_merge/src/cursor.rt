@@ -4,13 +4,13 @@ ghost use Rattle.std.specs.Prelude.{◌≡◌, ◌<◌, ◌≤◌, ◌++◌, ◌
 ghost use Rattle.std.specs.List.{AllByRecursion};
 ghost use Rattle.arch_types.specs.declared.row.Row.{Row};
 ghost use Rattle.partitions.specs.Partitions.{AreRising};
-ghost use Rattle.replay_merge.specs.Source.{AreInKeyOrder, IsRowFault, UsedRowSource};
+ghost use Rattle.replay_merge.specs.RowSource.{AreInKeyOrder, IsRowFault, UsedRowSource};
 ghost use Rattle.replay_merge.specs.Replay.{rows_asked, replay_of, HoldsEachRow};
 ghost use Rattle.replay_merge.specs.Cursor.{rest_of, steps_at_most, AsksTheSame, EndsExactly, IsRowAsked, IsCursorOf, left_after};
 
 use crate::ahead::{Ahead, split_first};
 use crate::fetch::fetch;
-use crate::source::RowSource;
+use crate::row_source::RowSource;
 use crate::wanted::Wanted;
 use arch_types::row::Rows;
 use arch_types::row_fault::RowFault;
@@ -133,7 +133,7 @@ impl Cursor {
 
 /// The partitions in their order, each once. Takes no memory.
 fn in_order(parts: PartList) -> Vec<Partition>
-    ensures same { (part : Partition) → Contains result.items part ↔ Contains parts part }
+    ensures same { (partition : Partition) → Contains result.items partition ↔ Contains parts partition }
     ensures rising { AreRising result.items }
 {
     let mut parts = parts.into_vec();

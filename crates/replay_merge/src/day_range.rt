@@ -6,9 +6,9 @@ ghost use Rattle.arch_types.specs.declared.row.Row.{Row as ARow};
 ghost use Rattle.arch_types.specs.Table.{is_in_time_range};
 ghost use Rattle.partitions.specs.Partitions.{AreRising};
 ghost use Rattle.partitions.specs.Rows.{is_of_parts, parts_between};
-ghost use Rattle.replay_merge.specs.Source.{AreInKeyOrder, IsRowBetween, IsRowFault, UsedRowSource};
+ghost use Rattle.replay_merge.specs.RowSource.{AreInKeyOrder, IsRowBetween, IsRowFault, UsedRowSource};
 
-use crate::source::RowSource;
+use crate::row_source::RowSource;
 use arch_types::row::Rows;
 use arch_types::row_fault::RowFault;
 use partitions::partition::Partition;

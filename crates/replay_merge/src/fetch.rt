@@ -4,11 +4,11 @@ ghost use Rattle.std.specs.Prelude.{◌≡◌, ◌<◌, ◌≤◌, ◌++◌, [],
 ghost use Rattle.std.specs.List.{AllByRecursion};
 ghost use Rattle.partitions.specs.Partitions.{AreRising};
 ghost use Rattle.replay_merge.specs.Replay.{is_listed_name};
-ghost use Rattle.replay_merge.specs.Source.{AreInKeyOrder, IsRowFault, UsedRowSource};
+ghost use Rattle.replay_merge.specs.RowSource.{AreInKeyOrder, IsRowFault, UsedRowSource};
 ghost use Rattle.replay_merge.specs.Fetch.{wanted_in, IsWanted, EndsDay};
 
 use crate::day_range::rows_on_days;
-use crate::source::RowSource;
+use crate::row_source::RowSource;
 use crate::wanted::Wanted;
 use arch_types::row::Rows;
 use arch_types::row_fault::RowFault;
@@ -22,12 +22,12 @@ fn listed_parts(
     parts: &[Partition],
 ) -> Result<Vec<Partition>, AllocError>
     ensures { IfOk result (λ listed. listed.items
-        ≡ filter (λ part. is_listed_name wanted.now.names part.pname) parts.now) }
+        ≡ filter (λ partition. is_listed_name wanted.now.names partition.pname) parts.now) }
 {
     let mut listed = Vec::with_capacity(alloc, parts.len())?;
-    for part in parts {
-        if wanted.has_name(part.pname) {
-            listed.push(*part)?;
+    for partition in parts {
+        if wanted.has_name(partition.pname) {
+            listed.push(*partition)?;
         }
     }
     Ok(listed)
@@ -42,7 +42,7 @@ fn first_day(parts: &[Partition]) -> usize
     ensures day { EndsDay parts.now result }
 {
     let day = parts[0].day;
-    parts.partition_point(|part| part.day <= day)
+    parts.partition_point(|partition| partition.day <= day)
 }
 
 /// The wanted rows of the first day of some partitions, in the order of their keys, and how many partitions were read for them.

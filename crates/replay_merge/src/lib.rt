@@ -32,6 +32,6 @@ pub mod cursor;
 pub mod day_range;
 mod fetch;
 pub mod laws;
-mod names;
-pub mod source;
+mod listed_names;
+pub mod row_source;
 mod wanted;

@@ -4,7 +4,7 @@ ghost use Rattle.std.specs.Prelude.{◌≡◌};
 ghost use Rattle.replay_merge.specs.Replay.{is_listed_name};
 ghost use Rattle.replay_merge.specs.Fetch.{IsAskedBy};
 
-use crate::names::{ListedNames, sorted_names};
+use crate::listed_names::{ListedNames, sorted_names};
 use asks::ReplayRequest;
 use partitions::lists::PnameList;
 

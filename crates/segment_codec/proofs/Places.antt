@@ -4,14 +4,12 @@ use Rattle.std.specs.Int.{w16}
 use Rattle.std.proofs.lemmas.Bool.{cases_lt}
 use Rattle.std.proofs.lemmas.List.{drop_all, get_or-drop, length-append, length-drop}
 use Rattle.octet_fields.specs.declared.fault.DecodeError.{DecodeError}
-use Rattle.octet_fields.specs.declared.fault.DecodeError.TheVariants as fields
+use Rattle.octet_fields.specs.declared.fault.DecodeError.TheVariants as errors
 use Rattle.octet_fields.specs.Answers.{Fails}
 use Rattle.octet_fields.specs.Exact.{IsOctets}
 use Rattle.octet_fields.specs.Reading.{counted_at, number_at}
 use Rattle.octet_fields.proofs.Exact.{some_is}
-use Rattle.segment_codec.specs.declared.fault.NotASegment.TheVariants.{OutOfMemory}
 use Rattle.segment_codec.specs.declared.segment.Segment.{Segment}
-use Rattle.segment_codec.specs.Faults.{not_a_segment_by}
 use Rattle.segment_codec.specs.OneColumn.{column_in, column_of}
 use Rattle.segment_codec.specs.Segment.{HasSegmentAt, segment_at, segment_octets}
 use Rattle.segment_codec.proofs.Segments.{none_at_end, segment_exact}
@@ -48,9 +46,9 @@ pub is_that : (octets front : List ℕ) (at : ℕ) (s : Segment) (rest : List �
 is_that octets front at s rest that has is read = ap (λ (x : Segment × List ℕ). x.0) (some_is (s, rest) (that, has.1) (sym read ∙ read_at octets front at that has is))
 
 -- where a segment stands, only memory can have been wanting
-pub is_memory : (octets front : List ℕ) (at : ℕ) (s : Segment) (fault : DecodeError) → HasSegmentAt octets at s → front ≡ drop at octets → Fails fault (segment_at front) → not_a_segment_by fault ≡ OutOfMemory
-is_memory octets front at s fields.Memory has is fails = refl
-is_memory octets front at s fields.Malformed has is fails =
+pub is_memory : (octets front : List ℕ) (at : ℕ) (s : Segment) (fault : DecodeError) → HasSegmentAt octets at s → front ≡ drop at octets → Fails fault (segment_at front) → fault ≡ errors.OutOfMemory
+is_memory octets front at s errors.OutOfMemory has is fails = refl
+is_memory octets front at s errors.Malformed has is fails =
     absurd (let bad : ◌≡◌ {A = Option (Segment × List ℕ)} None (Some (s, has.1)) = sym fails ∙ read_at octets front at s has is in cc)
 
 -- the column of a segment that stands at a place
@@ -67,7 +65,7 @@ are_those octets front at s read has is given =
     ap (λ (x : List ℕ × List ℕ). x.0) (some_is read (s.parameters, (parameters_of_segment s has.1 has.0).0) (sym given ∙ parameters_there octets front at s has is))
 
 -- where a segment stands, only memory can have been wanting for its parameters
-pub parameters_memory : (octets front : List ℕ) (at : ℕ) (s : Segment) (fault : DecodeError) → HasSegmentAt octets at s → front ≡ drop at octets → Fails fault (counted_at w16 (number_at w16) front) → not_a_segment_by fault ≡ OutOfMemory
-parameters_memory octets front at s fields.Memory has is fails = refl
-parameters_memory octets front at s fields.Malformed has is fails =
+pub parameters_memory : (octets front : List ℕ) (at : ℕ) (s : Segment) (fault : DecodeError) → HasSegmentAt octets at s → front ≡ drop at octets → Fails fault (counted_at w16 (number_at w16) front) → fault ≡ errors.OutOfMemory
+parameters_memory octets front at s errors.OutOfMemory has is fails = refl
+parameters_memory octets front at s errors.Malformed has is fails =
     absurd (let bad : ◌≡◌ {A = Option (List ℕ × List ℕ)} None (Some (s.parameters, (parameters_of_segment s has.1 has.0).0)) = sym fails ∙ parameters_there octets front at s has is in cc)

@@ -5,5 +5,4 @@ pub mod KeyColumn
 pub mod RawColumn
 pub mod Segment
 pub mod OneColumn
-pub mod Faults
 pub mod Laws

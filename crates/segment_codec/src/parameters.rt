@@ -6,7 +6,7 @@ ghost use Rattle.octet_fields.specs.Answers.{Gives};
 ghost use Rattle.octet_fields.specs.Reading.{counted_at, number_at};
 ghost use Rattle.octet_fields.specs.Spelling.{counted, number};
 ghost use Rattle.segment_codec.specs.Segment.{HasSegmentAt, are_distinct, parameters_at};
-ghost use Rattle.segment_codec.specs.declared.fault.NotASegment.TheVariants.{OutOfMemory};
+ghost use Rattle.octet_fields.specs.declared.fault.DecodeError.TheVariants.{OutOfMemory};
 ghost use Rattle.segment_codec.specs.declared.segment.Segment.{Segment};
 
 use crate::fault::NotASegment;

@@ -3,7 +3,7 @@
 ghost use Rattle.std.specs.Prelude.{◌≡◌, ◌+◌, ◌≤◌, length, IfOk, IfErr};
 ghost use Rattle.octet_fields.specs.Answers.{Gives};
 ghost use Rattle.octet_fields.specs.Reading.{times_at};
-ghost use Rattle.segment_codec.specs.declared.fault.NotASegment.TheVariants.{OutOfMemory};
+ghost use Rattle.octet_fields.specs.declared.fault.DecodeError.TheVariants.{OutOfMemory};
 ghost use Rattle.segment_codec.specs.declared.segment.Segment.{Segment as ASegment};
 ghost use Rattle.segment_codec.specs.RawColumn.{raw_column_at};
 ghost use Rattle.segment_codec.specs.Segment.{HasSegmentAt, most_rows, row_count_at, segment_at, segment_octets};

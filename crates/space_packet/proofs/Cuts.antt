@@ -7,7 +7,7 @@ use Rattle.std.proofs.lemmas.List.Folds.{concat-append}
 use Rattle.std.proofs.lemmas.List.Elements.{All-push}
 use Rattle.arch_types.specs.Packet.{IsPacket}
 use Rattle.arch_types.specs.Dump.{IsDump, BeginsWithNoPacket}
-use Rattle.space_packet.specs.Cut.{IsPart, IsCut}
+use Rattle.space_packet.specs.Cut.{IsPacketRange, IsCut}
 
 -- the n octets from a place on
 pub range_is : (dump : List ℕ) (at n : ℕ) → slice_range dump at (at + n) ≡ take n (drop at dump)
@@ -26,12 +26,12 @@ joined_to dump packets at end up h =
     rw sum at more
 
 -- one packet more
-pub cut_more : (dump : List ℕ) (packets : List (List ℕ)) (start end : ℕ) → IsCut dump packets start → IsPart dump start end →
+pub cut_more : (dump : List ℕ) (packets : List (List ℕ)) (start end : ℕ) → IsCut dump packets start → IsPacketRange dump start end →
     IsCut dump (packets ++ slice_range dump start end ∷ []) end
-cut_more dump packets start end cut part = record {
-  within = part.within;
-  joined = joined_to dump packets start end part.rising cut.joined;
-  each = All-push IsPacket packets (slice_range dump start end) cut.each part.packet;
+cut_more dump packets start end cut range = record {
+  within = range.within;
+  joined = joined_to dump packets start end range.rising cut.joined;
+  each = All-push IsPacket packets (slice_range dump start end) cut.each range.packet;
 }
 
 -- where no packet follows, the cut is the dump's

@@ -4,12 +4,12 @@ use Rattle.std.specs.List.{concat}
 use Rattle.arch_types.specs.Packet.{IsPacket}
 
 -- a dump, and an octet of it
-pub record Place : Type 0 where
+pub record DumpPosition : Type 0 where
   pub dump : List ℕ
   pub at : ℕ
 
 -- the octets of a dump from one place to another are a packet
-pub record IsPart (dump : List ℕ) (start end : ℕ) : Type 0 where
+pub record IsPacketRange (dump : List ℕ) (start end : ℕ) : Type 0 where
   pub rising : start ≤ end
   pub within : end ≤ length dump
   pub packet : IsPacket (slice_range dump start end)

@@ -4,7 +4,7 @@ ghost use Rattle.std.specs.Prelude.{◌≡◌, ◌≤◌, length, take, drop, sl
 ghost use Rattle.arch_types.specs.Packet.{IsPacket};
 ghost use Rattle.arch_types.specs.Dump.{BeginsWithNoPacket};
 ghost use Rattle.space_packet.specs.Rest.{why_of};
-ghost use Rattle.space_packet.specs.Cut.{IsPart};
+ghost use Rattle.space_packet.specs.Cut.{IsPacketRange};
 
 use crate::header::total_length;
 use std::marker::Model;
@@ -50,7 +50,7 @@ fn why_none(octets: &[u8]) -> Why
 
 /// The places of a packet in a dump: its first octet, and the octet behind its last.
 #[derive(Clone, Copy, Debug, PartialEq, Eq)]
-pub struct Part {
+pub struct PacketRange {
     pub start: usize,
     pub end: usize,
 }
@@ -64,9 +64,9 @@ pub struct DumpPackets<'a> {
 
 impl<'a> Model for DumpPackets<'a> {
     ghost use Rattle.std.specs.Prelude.{◌≤◌, length};
-    ghost use Rattle.space_packet.specs.Cut.{Place};
+    ghost use Rattle.space_packet.specs.Cut.{DumpPosition};
 
-    ghost Value = { Place };
+    ghost Value = { DumpPosition };
 
     ghost view = { λ p. record { dump = p.dump.now; at = p.at } };
 
@@ -82,28 +82,28 @@ impl<'a> DumpPackets<'a> {
     }
 
     /// The places of the next packet, or `None` exactly where no packet begins, at the rest of the dump. Takes no memory.
-    pub fn next_packet(&mut self) -> Option<Part>
+    pub fn next_packet(&mut self) -> Option<PacketRange>
         ensures dump { self.new.dump ≡ self.old.dump }
-        ensures packet { IfSome result (λ part. IsPart self.old.dump part.start part.end) }
-        ensures follows { IfSome result (λ part. (part.start ≡ self.old.at) × (part.end ≡ self.new.at)) }
+        ensures packet { IfSome result (λ range. IsPacketRange self.old.dump range.start range.end) }
+        ensures follows { IfSome result (λ range. (range.start ≡ self.old.at) × (range.end ≡ self.new.at)) }
         ensures none { IfNone result (BeginsWithNoPacket (drop self.old.at self.old.dump)) }
         ensures stays { IfNone result (self.new ≡ self.old) }
     {
         let start = self.at;
         let length = first_packet(self.dump.split_at(start).1).ok()?;
         self.at += length;
-        Some(Part {
+        Some(PacketRange {
             start,
             end: self.at,
         })
     }
 
     /// The octets of a packet of the dump.
-    pub fn octets(&self, part: Part) -> &'a [u8]
-        requires { (part.start ≤ part.end) × (part.end ≤ length self.now.dump) }
-        ensures { result.now ≡ slice_range self.now.dump part.start part.end }
+    pub fn octets(&self, range: PacketRange) -> &'a [u8]
+        requires { (range.start ≤ range.end) × (range.end ≤ length self.now.dump) }
+        ensures { result.now ≡ slice_range self.now.dump range.start range.end }
     {
-        &self.dump[part.start..part.end]
+        &self.dump[range.start..range.end]
     }
 
     /// The octet where the next packet begins, and once there is none the rest.

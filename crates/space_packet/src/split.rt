@@ -14,8 +14,8 @@ pub fn split(alloc: Global, dump: &Octets) -> Result<Split, AllocError>
 {
     let mut packets = Packets::new(alloc);
     let mut places = DumpPackets::new(dump.as_slice());
-    while let Some(part) = places.next_packet() {
-        packets.push(dump.part(part.start, part.end)?)?;
+    while let Some(range) = places.next_packet() {
+        packets.push(dump.slice(range.start, range.end)?)?;
     }
     Ok(Split {
         packets,

@@ -78,7 +78,7 @@ fn predicate_at(alloc: Global, tokens: &[Token]) -> Result<(Predicate, &[Token])
 
 /// Where the reader of a condition stands.
 #[derive(Clone, Copy)]
-struct Place {
+struct ReaderState {
     /// A term has to come; else one stands right before.
     before: bool,
     /// How many parentheses are open.
@@ -88,7 +88,7 @@ struct Place {
 /// The next piece, or nothing where the condition ends.
 fn piece_at(
     alloc: Global,
-    place: Place,
+    place: ReaderState,
     tokens: &[Token],
 ) -> Result<(Option<Piece>, &[Token]), Stop>
     ensures { ReadsAs (λ x. (x.0, x.1.now)) result (spec.piece_at place.before place.opened tokens.now) }
@@ -118,27 +118,27 @@ fn piece_at(
     Err(Stop::Wrong(tokens.len()))
 }
 
-impl Place {
-    /// The place behind a piece.
+impl ReaderState {
+    /// Where it stands behind a piece.
     fn behind(self, piece: &Piece) -> Self
         requires { self.opened + 1 < 2 ^ 64 }
         ensures before { result.before ≡ spec.is_before_next piece.now }
         ensures opened { result.opened ≡ spec.opened_after piece.now self.opened }
     {
         match piece {
-            Piece::Not | Piece::And | Piece::Or => Place {
+            Piece::Not | Piece::And | Piece::Or => ReaderState {
                 before: true,
                 opened: self.opened,
             },
-            Piece::Open => Place {
+            Piece::Open => ReaderState {
                 before: true,
                 opened: self.opened + 1,
             },
-            Piece::Close => Place {
+            Piece::Close => ReaderState {
                 before: false,
                 opened: self.opened.saturating_sub(1),
             },
-            Piece::Predicate(_) => Place {
+            Piece::Predicate(_) => ReaderState {
                 before: false,
                 opened: self.opened,
             },
@@ -153,7 +153,7 @@ pub(crate) fn pieces(alloc: Global, tokens: &[Token]) -> Result<(Items<Piece>, &
 {
     let mut pieces = Items::new(alloc);
     let mut rest = tokens;
-    let mut place = Place {
+    let mut place = ReaderState {
         before: true,
         opened: 0,
     };

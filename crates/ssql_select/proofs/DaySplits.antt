@@ -15,7 +15,7 @@ use Rattle.partitions.specs.Partitions.{AreRising}
 use Rattle.partitions.specs.Rows.{is_of_partition, is_of_parts}
 use Rattle.partitions.proofs.Parted.{day_rises}
 use Rattle.replay_merge.specs.Fetch.{EndsDay}
-use Rattle.replay_merge.specs.Source.{AreInKeyOrder}
+use Rattle.replay_merge.specs.RowSource.{AreInKeyOrder}
 use Rattle.replay_merge.proofs.Days.{days_in_order}
 use Rattle.replay_merge.proofs.Sorting.{ascending}
 use Rattle.replay_merge.proofs.Splits.{split}
@@ -24,7 +24,7 @@ use Rattle.replay_merge.proofs.Splits.{split}
 
 -- whether a partition's day is earlier
 abbrev pub is_earlier : ℤ → Partition → Bool
-is_earlier day part = int_lt part.day day
+is_earlier day partition = int_lt partition.day day
 
 earlier_too : (day before other : ℤ) → before ≤ℤ other → int_lt other day ≡ true → int_lt before day ≡ true
 earlier_too day before other le e = grind (arith, ints)
@@ -42,11 +42,11 @@ pub last_parted : (parts : List Partition) (day : ℤ) → AreRising parts → I
 last_parted parts day rising i j d le h test =
     earlier_too day (get_or parts i d).day (get_or parts j d).day (day_rises parts rising i j d le h) test
 
-pub ends_before : (parts : List Partition) (day : ℤ) (n : ℕ) → IsPartitionPoint (λ part. is_earlier day part ≡ true) (λ part. is_earlier day part ≡ false) parts n → EndsDay parts n
+pub ends_before : (parts : List Partition) (day : ℤ) (n : ℕ) → IsPartitionPoint (λ partition. is_earlier day partition ≡ true) (λ partition. is_earlier day partition ≡ false) parts n → EndsDay parts n
 ends_before parts day n point =
     (day -ℤ pos 1, (λ k d low high. up_to day (get_or parts k d).day (point.0 k d low high), λ k d low high. behind day (get_or parts k d).day (point.1 k d low high)))
 
-pub some_last : (parts : List Partition) (d : Partition) (n : ℕ) → 0 < length parts → AllWithin (λ part. is_earlier (get_or parts (length parts - 1) d).day part ≡ true) parts 0 n → n < length parts
+pub some_last : (parts : List Partition) (d : Partition) (n : ℕ) → 0 < length parts → AllWithin (λ partition. is_earlier (get_or parts (length parts - 1) d).day partition ≡ true) parts 0 n → n < length parts
 some_last parts d n some all = by (nat_lt n (length parts)) refl
   where
     by : (b : Bool) → nat_lt n (length parts) ≡ b → n < length parts
@@ -62,7 +62,7 @@ module _ (parts first later : List Partition) (n : ℕ) (ends : EndsDay parts n)
   pub forwards : (rows : List Row) → AreInKeyOrder rows → filter (is_of_parts parts) rows ≡ filter (is_of_parts first) rows ++ filter (is_of_parts later) rows
   forwards rows in_order =
       filter_agree (is_of_parts parts) (λ row. is_of_parts (take n parts) row || is_of_parts (drop n parts) row)
-      (λ row. ap (λ (ps : List Partition). is_of_parts ps row) (sym (take-append-drop n parts)) ∙ list_any-append (λ part. is_of_partition part row) (take n parts) (drop n parts)) rows
+      (λ row. ap (λ (ps : List Partition). is_of_parts ps row) (sym (take-append-drop n parts)) ∙ list_any-append (λ partition. is_of_partition partition row) (take n parts) (drop n parts)) rows
       ∙ split rows_rank (is_of_parts (take n parts)) (is_of_parts (drop n parts)) (days_in_order parts n ends) rows (ascending rows_rank rows in_order)
       ∙ ap (λ (ps : List Partition). filter (is_of_parts ps) rows ++ filter (is_of_parts (drop n parts)) rows) (sym is_first)
       ∙ ap (λ (ps : List Partition). filter (is_of_parts first) rows ++ filter (is_of_parts ps) rows) (sym is_later)

@@ -16,7 +16,7 @@ use Rattle.arch_types.proofs.Ordered.{filter-order}
 use Rattle.arch_types.proofs.InOrder.{order_sorted}
 use Rattle.partitions.specs.declared.partition.Partition.{Partition}
 use Rattle.partitions.specs.Rows.{is_of_parts, parts_between}
-use Rattle.replay_merge.specs.Source.{IsKeyedRow, IsRowBetween, AreInKeyOrder}
+use Rattle.replay_merge.specs.RowSource.{IsKeyedRow, IsRowBetween, AreInKeyOrder}
 use Rattle.replay_merge.proofs.Sorting.{ascending, same_sorted}
 use Rattle.replay_merge.proofs.Tied.{is_tied}
 use Rattle.replay_merge.proofs.Reading.{all_both}

@@ -29,7 +29,8 @@ use Rattle.ssql_conditions.specs.Formulas.{Formula}
 use Rattle.ssql_conditions.specs.ConditionBounds.{bounds_of}
 use Rattle.ssql_conditions.specs.Laws.{BoundsHold}
 use Rattle.ssql_types.specs.declared.query.TypedSelect.{TypedSelect}
-use Rattle.ssql_select.specs.Selection.{is_selected, selected_of, selected_rows, selection_of, directed, IsHeld, HoldsSelected, rows_in_parts, rows_of_sources, merged_between, selected_between}
+use Rattle.arch_types.specs.Directions.{in_direction}
+use Rattle.ssql_select.specs.Selection.{is_selected, selected_of, selected_rows, selection_of, IsHeld, HoldsSelected, rows_in_parts, rows_of_sources, merged_between, selected_between}
 use Rattle.ssql_select.proofs.Merged.{filter_flat}
 use Rattle.ssql_select.proofs.Selecting.{last_kept}
 
@@ -66,7 +67,7 @@ filter_reverse q (row ∷ rows) =
     ∙ last_test q row (filter q rows)
     ∙ ap reverse (first_test q row rows)
 
-filter_directed : (q : Row → Bool) (direction : Direction) (rows : List Row) → filter q (directed direction rows) ≡ directed direction (filter q rows)
+filter_directed : (q : Row → Bool) (direction : Direction) (rows : List Row) → filter q (in_direction direction rows) ≡ in_direction direction (filter q rows)
 filter_directed q Ascending rows = refl
 filter_directed q Descending rows = filter_reverse q rows
 
@@ -134,7 +135,7 @@ all_selected hold statement parts history held =
     let ranges = flat_map (λ table. range_of table from to history) statement.sources in
     ap (truncated statement.limit)
     (filter_directed q statement.direction (filter p (sorted ranges))
-    ∙ ap (directed statement.direction)
+    ∙ ap (λ (l : List Row). in_direction statement.direction l)
     (ap (filter q) (filter-order rows_rank p ranges)
     ∙ filter-order rows_rank q (filter p ranges)
     ∙ ap sorted (ap (filter q) (filter_flat p (λ table. range_of table from to history) statement.sources)
@@ -143,18 +144,18 @@ all_selected hold statement parts history held =
 
 -- ---- partitions in another order
 
-module _ (given rising : List Partition) (same : (part : Partition) → Contains rising part ↔ Contains given part) where
+module _ (given rising : List Partition) (same : (partition : Partition) → Contains rising partition ↔ Contains given partition) where
   there : (row : Row) → is_of_parts given row ≡ true → is_of_parts rising row ≡ true
   there row is =
-      let any = Any-from_list_any (λ part. is_of_partition part row) given is in
+      let any = Any-from_list_any (λ partition. is_of_partition partition row) given is in
       let at = (same any.1).1 (any.0, any.2, any.3) in
-      list_any-from_Any (λ part. is_of_partition part row) rising (at.0, any.1, at.1, at.2, any.4)
+      list_any-from_Any (λ partition. is_of_partition partition row) rising (at.0, any.1, at.1, at.2, any.4)
 
   back : (row : Row) → is_of_parts rising row ≡ true → is_of_parts given row ≡ true
   back row is =
-      let any = Any-from_list_any (λ part. is_of_partition part row) rising is in
+      let any = Any-from_list_any (λ partition. is_of_partition partition row) rising is in
       let at = (same any.1).0 (any.0, any.2, any.3) in
-      list_any-from_Any (λ part. is_of_partition part row) given (at.0, any.1, at.1, at.2, any.4)
+      list_any-from_Any (λ partition. is_of_partition partition row) given (at.0, any.1, at.1, at.2, any.4)
 
   same_parts : (row : Row) → is_of_parts rising row ≡ is_of_parts given row
   same_parts row = by (is_of_parts rising row) (is_of_parts given row) refl refl

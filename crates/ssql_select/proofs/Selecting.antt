@@ -11,14 +11,15 @@ use Rattle.partitions.specs.declared.partition.Partition.{Partition}
 use Rattle.partitions.specs.Rows.{is_of_parts}
 use Rattle.partitions.proofs.Filters.{none_pass}
 use Rattle.replay_merge.specs.Replay.{truncated}
-use Rattle.replay_merge.specs.Source.{AreInKeyOrder}
+use Rattle.replay_merge.specs.RowSource.{AreInKeyOrder}
 use Rattle.arch_types.proofs.InOrder.{order_sorted}
 use Rattle.arch_types.specs.declared.direction.Direction.{Direction}
 use Rattle.arch_types.specs.declared.direction.Direction.TheVariants.{Ascending, Descending}
 use Rattle.ssql_types.specs.declared.query.TypedSelect.{TypedSelect}
 use Rattle.arch_types.specs.Table.{range_of}
 use Rattle.std.specs.Prelude.{flat_map}
-use Rattle.ssql_select.specs.Selection.{is_selected, directed, is_enough, rows_between_of, merged_between, selected_between}
+use Rattle.arch_types.specs.Directions.{in_direction}
+use Rattle.ssql_select.specs.Selection.{is_selected, is_enough, rows_between_of, merged_between, selected_between}
 use Rattle.ssql_select.proofs.Limits.{enough, room, all_taken, next_rows}
 use Rattle.ssql_select.proofs.Merged.{merged_in_parts}
 
@@ -77,7 +78,7 @@ test_keeps P q row p = by (q row)
 
 -- ---- directions
 
-pub directed_len : (direction : Direction) (rows : List Row) → length (directed direction rows) ≡ length rows
+pub directed_len : (direction : Direction) (rows : List Row) → length (in_direction direction rows) ≡ length rows
 directed_len Ascending rows = refl
 directed_len Descending rows = length-reverse rows
 
@@ -96,21 +97,21 @@ merged_in_order : (tables : List ℕ) (from to : ℤ) (history : List Row) → A
 merged_in_order tables from to history = order_sorted (flat_map (λ table. range_of table from to history) tables)
 
 module _ (statement : TypedSelect) (left day rest : List Partition) (from to : ℤ) (front : ℕ) (rows turned : List Row)
-    (days : (all : List Row) → AreInKeyOrder all → directed statement.direction (filter (is_of_parts left) all) ≡
-    directed statement.direction (filter (is_of_parts day) all) ++ directed statement.direction (filter (is_of_parts rest) all)) where
+    (days : (all : List Row) → AreInKeyOrder all → in_direction statement.direction (filter (is_of_parts left) all) ≡
+    in_direction statement.direction (filter (is_of_parts day) all) ++ in_direction statement.direction (filter (is_of_parts rest) all)) where
   module _ (history : List Row) (got : rows ≡ sorted (rows_between_of statement.sources day from to history)) where
     day_is : rows ≡ filter (is_of_parts day) (merged_between statement.sources from to history)
     day_is = got ∙ merged_in_parts statement.sources day from to history
 
     -- what is selected of the days that are left is that of the day, and then that of the others
-    pub day_first : reverse turned ≡ directed statement.direction rows →
+    pub day_first : reverse turned ≡ in_direction statement.direction rows →
         selected_between statement left from to history ≡ filter (is_selected statement.condition) (reverse turned) ++ selected_between statement rest from to history
     day_first back =
         let m = merged_between statement.sources from to history in
         let q = is_selected statement.condition in
         ap (filter q) (days m (merged_in_order statement.sources from to history))
-        ∙ filter-append q (directed statement.direction (filter (is_of_parts day) m)) (directed statement.direction (filter (is_of_parts rest) m))
-        ∙ ap (λ (l : List Row). filter q (directed statement.direction l) ++ selected_between statement rest from to history) (sym day_is)
+        ∙ filter-append q (in_direction statement.direction (filter (is_of_parts day) m)) (in_direction statement.direction (filter (is_of_parts rest) m))
+        ∙ ap (λ (l : List Row). filter q (in_direction statement.direction l) ++ selected_between statement rest from to history) (sym day_is)
         ∙ ap (λ (l : List Row). filter q l ++ selected_between statement rest from to history) (sym back)
 
     pub day_len : length (filter (is_of_parts left) (merged_between statement.sources from to history)) ≡ length rows + length (filter (is_of_parts rest) (merged_between statement.sources from to history))
@@ -118,13 +119,13 @@ module _ (statement : TypedSelect) (left day rest : List Partition) (from to : �
         let m = merged_between statement.sources from to history in
         let direction = statement.direction in
         sym (directed_len direction (filter (is_of_parts left) m)) ∙ ap length (days m (merged_in_order statement.sources from to history))
-        ∙ length-append (directed direction (filter (is_of_parts day) m)) (directed direction (filter (is_of_parts rest) m))
-        ∙ ap (λ (n : ℕ). n + length (directed direction (filter (is_of_parts rest) m))) (directed_len direction (filter (is_of_parts day) m) ∙ ap length (sym day_is))
+        ∙ length-append (in_direction direction (filter (is_of_parts day) m)) (in_direction direction (filter (is_of_parts rest) m))
+        ∙ ap (λ (n : ℕ). n + length (in_direction direction (filter (is_of_parts rest) m))) (directed_len direction (filter (is_of_parts day) m) ∙ ap length (sym day_is))
         ∙ ap (λ (n : ℕ). length rows + n) (directed_len direction (filter (is_of_parts rest) m))
 
   -- what is told once the day was gone through
   pub day_told : (told : Option (List Row)) (found new : List Row) (parts : List Partition) →
-      IfSome told (λ history. rows ≡ sorted (rows_between_of statement.sources day from to (take front history))) → reverse turned ≡ directed statement.direction rows →
+      IfSome told (λ history. rows ≡ sorted (rows_between_of statement.sources day from to (take front history))) → reverse turned ≡ in_direction statement.direction rows →
       new ≡ truncated statement.limit (found ++ filter (is_selected statement.condition) (reverse turned)) →
       IfSome told (λ history. truncated statement.limit (found ++ selected_between statement left from to (take front history)) ≡ truncated statement.limit (selected_between statement parts from to (take front history))) →
       IfSome told (λ history. truncated statement.limit (new ++ selected_between statement rest from to (take front history)) ≡ truncated statement.limit (selected_between statement parts from to (take front history)))
@@ -154,20 +155,20 @@ steps_within (Some history) left all before first h = omega (arith, h)
 
 pub none_left : (parts : List Partition) → (length parts == 0) ≡ true → parts ≡ []
 none_left [] e = refl
-none_left (part ∷ parts) e = absurd (let none : length (part ∷ parts) ≡ 0 = grind (arith, nat_tests) in omega (arith, none))
+none_left (partition ∷ parts) e = absurd (let none : length (partition ∷ parts) ≡ 0 = grind (arith, nat_tests) in omega (arith, none))
 
 none_of_none : (rows : List Row) → AllByRecursion (λ row. is_of_parts [] row ≡ false) rows
 none_of_none [] = tt
 none_of_none (row ∷ rows) = (refl, none_of_none rows)
 
-none_directed : (direction : Direction) → directed direction [] ≡ []
+none_directed : (direction : Direction) → ◌≡◌ {A = List Row} (in_direction direction []) []
 none_directed Ascending = refl
 none_directed Descending = refl
 
 pub nothing_left : (statement : TypedSelect) (from to : ℤ) (history : List Row) → selected_between statement [] from to history ≡ []
 nothing_left statement from to history =
     let m = merged_between statement.sources from to history in
-    ap (λ (l : List Row). filter (is_selected statement.condition) (directed statement.direction l)) (none_pass (is_of_parts []) m (none_of_none m))
+    ap (λ (l : List Row). filter (is_selected statement.condition) (in_direction statement.direction l)) (none_pass (is_of_parts []) m (none_of_none m))
     ∙ ap (filter (is_selected statement.condition)) (none_directed statement.direction)
 
 -- all days were gone through, or there are enough

@@ -12,7 +12,7 @@ use Rattle.arch_types.specs.declared.row.Row.{Row}
 use Rattle.partitions.specs.declared.partition.Partition.{Partition}
 use Rattle.partitions.specs.Rows.{partition_at}
 use Rattle.partitions.proofs.Parted.{its_day}
-use Rattle.replay_merge.specs.Source.{AreRowsOf, IsKeyedRow}
+use Rattle.replay_merge.specs.RowSource.{AreRowsOf, IsKeyedRow}
 use Rattle.ssql_select.specs.declared.show.ShowLine.{ShowLine}
 use Rattle.ssql_select.specs.declared.show.ShowLine.TheVariants as l
 use Rattle.ssql_select.specs.ShowText.{line_of_rows, partition_line, partition_lines}
@@ -22,17 +22,17 @@ pub clock_day : (time : ℤ) → IsClockTime time → (pos 0 ≤ℤ day_of time)
 clock_day time is = let on = on_its_day time in (omega (arith, ints, is.0, on.1), omega (arith, ints, is.1, on.0))
 
 -- the first row is keyed
-pub first_keyed : (table : ℕ) (part : Partition) (rows : List Row) (row : Row) → 0 < length rows → row ≡ get_or rows 0 row → AreRowsOf table part rows → IsKeyedRow row
-first_keyed table part [] row some is are = absurd (omega (arith, some))
-first_keyed table part (first ∷ rows) row some is are = subst IsKeyedRow (sym is) are.each.0.keyed
+pub first_keyed : (table : ℕ) (partition : Partition) (rows : List Row) (row : Row) → 0 < length rows → row ≡ get_or rows 0 row → AreRowsOf table partition rows → IsKeyedRow row
+first_keyed table partition [] row some is are = absurd (omega (arith, some))
+first_keyed table partition (first ∷ rows) row some is are = subst IsKeyedRow (sym is) are.each.0.keyed
 
 -- and its day is the partition's
-pub line_is : (table : ℕ) (part : Partition) (rows : List Row) (row : Row) → 0 < length rows → row ≡ get_or rows 0 row → AreRowsOf table part rows →
-    l.Partition (day_name_of (day_of row.key.time)) part.pname (length rows) ∷ [] ≡ line_of_rows part rows
-line_is table part [] row some is are = absurd (omega (arith, some))
-line_is table part (first ∷ rows) row some is are =
-    ap (λ (r : Row). l.Partition (day_name_of (day_of r.key.time)) part.pname (length (first ∷ rows)) ∷ []) is
-    ∙ ap (λ (day : ℤ). l.Partition (day_name_of day) part.pname (length (first ∷ rows)) ∷ []) (sym (its_day part first are.each.0.in_part))
+pub line_is : (table : ℕ) (partition : Partition) (rows : List Row) (row : Row) → 0 < length rows → row ≡ get_or rows 0 row → AreRowsOf table partition rows →
+    l.Partition (day_name_of (day_of row.key.time)) partition.pname (length rows) ∷ [] ≡ line_of_rows partition rows
+line_is table partition [] row some is are = absurd (omega (arith, some))
+line_is table partition (first ∷ rows) row some is are =
+    ap (λ (r : Row). l.Partition (day_name_of (day_of r.key.time)) partition.pname (length (first ∷ rows)) ∷ []) is
+    ∙ ap (λ (day : ℤ). l.Partition (day_name_of day) partition.pname (length (first ∷ rows)) ∷ []) (sym (its_day partition first are.each.0.in_partition))
 
 -- ---- one more
 
@@ -45,10 +45,10 @@ flat_next {A} {B} f xs i x within is =
     ∙ ap (flat_map f) (sym (take-suc xs i x within))
     ∙ ap (λ (n : ℕ). flat_map f (take n xs)) (sym next)
 
-pub one_part_more : (front table : ℕ) (told : Option (List Row)) (parts : List Partition) (i : ℕ) (part : Partition) (lines : List ShowLine) (rows : List Row) (all : List ShowLine) →
-    i < length parts → part ≡ get_or parts i part → IfSome told (λ history. lines ≡ partition_lines front table history (take i parts)) →
-    IfSome told (λ history. rows ≡ partition_at front table part history) → all ≡ lines ++ line_of_rows part rows → IfSome told (λ history. all ≡ partition_lines front table history (take (i + 1) parts))
-one_part_more front table None parts i part lines rows all within is so_far got put = tt
-one_part_more front table (Some history) parts i part lines rows all within is so_far got put =
-    put ∙ ap (λ (r : List Row). lines ++ line_of_rows part r) got ∙ ap (λ (k : List ShowLine). k ++ partition_line front table history part) so_far
-    ∙ flat_next (partition_line front table history) parts i part within is
+pub one_part_more : (front table : ℕ) (told : Option (List Row)) (parts : List Partition) (i : ℕ) (partition : Partition) (lines : List ShowLine) (rows : List Row) (all : List ShowLine) →
+    i < length parts → partition ≡ get_or parts i partition → IfSome told (λ history. lines ≡ partition_lines front table history (take i parts)) →
+    IfSome told (λ history. rows ≡ partition_at front table partition history) → all ≡ lines ++ line_of_rows partition rows → IfSome told (λ history. all ≡ partition_lines front table history (take (i + 1) parts))
+one_part_more front table None parts i partition lines rows all within is so_far got put = tt
+one_part_more front table (Some history) parts i partition lines rows all within is so_far got put =
+    put ∙ ap (λ (r : List Row). lines ++ line_of_rows partition r) got ∙ ap (λ (k : List ShowLine). k ++ partition_line front table history partition) so_far
+    ∙ flat_next (partition_line front table history) parts i partition within is

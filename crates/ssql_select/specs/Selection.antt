@@ -1,5 +1,5 @@
 -- What a query of tables selects.
-use Rattle.std.specs.Prelude.{◌≡◌, ℕ, ℤ, List, reverse, filter, flat_map, length, not, nat_lt, Bool, true, false, Option, Some, None}
+use Rattle.std.specs.Prelude.{◌≡◌, ℕ, ℤ, List, filter, flat_map, length, not, nat_lt, Bool, true, false, Option, Some, None}
 use Rattle.std.specs.List.{AllByRecursion}
 use Rattle.text_forms.specs.ClockTime.{IsClockTime}
 use Rattle.arch_types.specs.declared.row.Row.{Row}
@@ -7,8 +7,7 @@ use Rattle.arch_types.specs.Table.{sorted, table_of, range_of}
 use Rattle.partitions.specs.declared.partition.Partition.{Partition}
 use Rattle.partitions.specs.Rows.{is_of_parts}
 use Rattle.replay_merge.specs.Replay.{truncated}
-use Rattle.arch_types.specs.declared.direction.Direction.{Direction}
-use Rattle.arch_types.specs.declared.direction.Direction.TheVariants.{Ascending, Descending}
+use Rattle.arch_types.specs.Directions.{in_direction}
 use Rattle.ssql_conditions.specs.Formulas.{Formula}
 use Rattle.ssql_conditions.specs.Truth.{is_true}
 use Rattle.ssql_types.specs.declared.query.TypedSelect.{TypedSelect}
@@ -25,15 +24,10 @@ selected_of condition history table = filter (is_selected condition) (table_of t
 abbrev pub selected_rows : Formula → List ℕ → List Row → List Row
 selected_rows condition tables history = flat_map (selected_of condition history) tables
 
--- the last first, where that is asked
-abbrev pub directed : Direction → List Row → List Row
-directed Ascending rows = rows
-directed Descending rows = reverse rows
-
 -- the rows of each source that meet the condition, merged by key with ties in the order of the sources, turned where that is asked, up to the limit
 abbrev pub selection_of : TypedSelect → List Row → List Row
 selection_of statement history =
-    truncated statement.limit (directed statement.direction (sorted (selected_rows statement.condition statement.sources history)))
+    truncated statement.limit (in_direction statement.direction (sorted (selected_rows statement.condition statement.sources history)))
 
 -- a row stands in one of some partitions, and its generation time is in the clock's range
 pub record IsHeld (parts : List Partition) (row : Row) : Type 0 where
@@ -69,7 +63,7 @@ merged_between tables from to history = sorted (flat_map (λ table. range_of tab
 -- those of them that stand in some partitions and meet the condition, in the order that is asked
 abbrev pub selected_between : TypedSelect → List Partition → ℤ → ℤ → List Row → List Row
 selected_between statement parts from to history =
-    filter (is_selected statement.condition) (directed statement.direction (filter (is_of_parts parts) (merged_between statement.sources from to history)))
+    filter (is_selected statement.condition) (in_direction statement.direction (filter (is_of_parts parts) (merged_between statement.sources from to history)))
 
 -- whether there are as many as may be
 abbrev pub is_enough : Option ℕ → List Row → Bool

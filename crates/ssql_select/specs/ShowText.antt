@@ -14,12 +14,12 @@ use Rattle.ssql_select.specs.SelectionText.{pname_of}
 
 -- a partition with its rows, where it has any
 abbrev pub line_of_rows : Partition → List Row → List ShowLine
-line_of_rows part [] = []
-line_of_rows part (row ∷ rows) = l.Partition (day_name_of part.day) part.pname (length (row ∷ rows)) ∷ []
+line_of_rows partition [] = []
+line_of_rows partition (row ∷ rows) = l.Partition (day_name_of partition.day) partition.pname (length (row ∷ rows)) ∷ []
 
 -- a partition of a table with its rows at a front
 abbrev pub partition_line : ℕ → ℕ → List Row → Partition → List ShowLine
-partition_line front table history part = line_of_rows part (partition_at front table part history)
+partition_line front table history partition = line_of_rows partition (partition_at front table partition history)
 
 -- those of some partitions
 abbrev pub partition_lines : ℕ → ℕ → List Row → List Partition → List ShowLine

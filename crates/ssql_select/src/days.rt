@@ -6,8 +6,8 @@ ghost use Rattle.partitions.specs.declared.partition.Partition.{Partition as APa
 ghost use Rattle.partitions.specs.Partitions.{AreRising};
 ghost use Rattle.partitions.specs.Rows.{is_of_parts};
 ghost use Rattle.replay_merge.specs.Fetch.{EndsDay};
-ghost use Rattle.replay_merge.specs.Source.{AreInKeyOrder};
-ghost use Rattle.ssql_select.specs.Selection.{directed};
+ghost use Rattle.replay_merge.specs.RowSource.{AreInKeyOrder};
+ghost use Rattle.arch_types.specs.Directions.{in_direction};
 
 use arch_types::direction::Direction;
 use partitions::lists::PartList;
@@ -16,7 +16,7 @@ use std::alloc::{AllocError, Global};
 
 /// Partitions in their order, each once. The one error is want of memory.
 pub(crate) fn rising_once(alloc: Global, parts: &PartList) -> Result<Vec<Partition>, AllocError>
-    ensures same { IfOk result (λ rising. (part : APartition) → Contains rising.items part ↔ Contains parts.now part) }
+    ensures same { IfOk result (λ rising. (partition : APartition) → Contains rising.items partition ↔ Contains parts.now partition) }
     ensures rising { IfOk result (λ rising. AreRising rising.items) }
 {
     let copy = parts.copy(alloc)?;
@@ -35,7 +35,7 @@ fn first_day(parts: &[Partition]) -> usize
     ensures day { EndsDay parts.now result }
 {
     let day = parts[0].day;
-    parts.partition_point(|part| part.day <= day)
+    parts.partition_point(|partition| partition.day <= day)
 }
 
 /// How many of some partitions are of a day before the last one's.
@@ -46,7 +46,7 @@ fn before_last_day(parts: &[Partition]) -> usize
     ensures day { EndsDay parts.now result }
 {
     let day = parts[parts.len() - 1].day;
-    parts.partition_point(|part| part.day < day)
+    parts.partition_point(|partition| partition.day < day)
 }
 
 /// The partitions of the day that comes first in a direction, and those of the days behind it.
@@ -56,9 +56,9 @@ pub(crate) fn split_day(parts: &[Partition], direction: Direction) -> (&[Partiti
     ensures day { AreRising result.0.now }
     ensures rest { AreRising result.1.now }
     ensures nearer { length result.1.now < length parts.now }
-    ensures rows { (rows : List ARow) → AreInKeyOrder rows → directed direction (filter (is_of_parts parts.now) rows)
-        ≡ directed direction (filter (is_of_parts result.0.now) rows)
-        ++ directed direction (filter (is_of_parts result.1.now) rows) }
+    ensures rows { (rows : List ARow) → AreInKeyOrder rows → in_direction direction (filter (is_of_parts parts.now) rows)
+        ≡ in_direction direction (filter (is_of_parts result.0.now) rows)
+        ++ in_direction direction (filter (is_of_parts result.1.now) rows) }
 {
     match direction {
         Direction::Ascending => parts.split_at(first_day(parts)),

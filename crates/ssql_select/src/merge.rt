@@ -4,7 +4,7 @@ ghost use Rattle.std.specs.Prelude.{◌≡◌, ◌++◌, take, IfOk, IfErr, IfSo
 ghost use Rattle.std.specs.List.{AllByRecursion};
 ghost use Rattle.arch_types.specs.Table.{sorted};
 ghost use Rattle.partitions.specs.Partitions.{AreRising};
-ghost use Rattle.replay_merge.specs.Source.{IsKeyedRow, IsRowFault, UsedRowSource};
+ghost use Rattle.replay_merge.specs.RowSource.{IsKeyedRow, IsRowFault, UsedRowSource};
 ghost use Rattle.ssql_select.specs.Selection.{rows_between_of};
 
 use arch_types::row::{Row, Rows};
@@ -13,7 +13,7 @@ use partitions::bounds::Bounds;
 use partitions::partition::Partition;
 use partitions::rows::merged_by_key;
 use replay_merge::day_range::rows_on_days;
-use replay_merge::source::RowSource;
+use replay_merge::row_source::RowSource;
 use std::alloc::{AllocError, Global};
 
 /// Rows, and others behind them. The one error is want of memory.

@@ -9,7 +9,7 @@ use dump_lines::write::write_all;
 use outer_traits::print_fault::PrintFault;
 use outer_traits::sink::Sink;
 
-/// The most octets of a text that goes through the buffer.
+/// The most octets of a text that goes through the buffer: `longest_line` of dump_lines, for which it has room.
 const LONG: usize = 512;
 
 /// Prints octets, which may still be buffered.

@@ -5,9 +5,10 @@ ghost use Rattle.std.specs.List.{AllByRecursion};
 ghost use Rattle.partitions.specs.Partitions.{AreRising};
 ghost use Rattle.partitions.specs.Rows.{is_of_parts};
 ghost use Rattle.replay_merge.specs.Replay.{truncated};
-ghost use Rattle.replay_merge.specs.Source.{IsKeyedRow, IsRowFault, UsedRowSource};
+ghost use Rattle.replay_merge.specs.RowSource.{IsKeyedRow, IsRowFault, UsedRowSource};
 ghost use Rattle.ssql_select.specs.Selection as spec;
-ghost use Rattle.ssql_select.specs.Selection.{HoldsSelected, directed, is_selected, merged_between, selected_between, selection_of, rows_of_sources};
+ghost use Rattle.arch_types.specs.Directions.{in_direction};
+ghost use Rattle.ssql_select.specs.Selection.{HoldsSelected, is_selected, merged_between, selected_between, selection_of, rows_of_sources};
 ghost use Rattle.ssql_select.specs.SelectionText.{selection_text};
 
 use crate::days::{rising_once, split_day};
@@ -21,7 +22,7 @@ use arch_types::steps::Steps;
 use partitions::bounds::Bounds;
 use partitions::lists::PartList;
 use partitions::partition::Partition;
-use replay_merge::source::RowSource;
+use replay_merge::row_source::RowSource;
 use ssql_conditions::bounds::bounds;
 use ssql_conditions::condition::Condition;
 use ssql_conditions::laws::bounds_hold;
@@ -42,7 +43,7 @@ fn is_enough(rows: &[Row], limit: Option<u64>) -> bool
 
 /// The rows so that the one that comes first in a direction stands last, where it is taken off without moving the others.
 fn turned(mut rows: Vec<Row>, direction: Direction) -> Vec<Row>
-    ensures rows { reverse result.items ≡ directed direction rows.items }
+    ensures rows { reverse result.items ≡ in_direction direction rows.items }
     ensures each { AllByRecursion IsKeyedRow rows.items → AllByRecursion IsKeyedRow result.items }
     ensures len { length result.items ≡ length rows.items }
 {

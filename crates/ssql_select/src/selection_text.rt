@@ -2,7 +2,7 @@
 
 ghost use Rattle.std.specs.Prelude.{◌≡◌, ◌++◌, flat_map};
 ghost use Rattle.std.specs.List.{AllByRecursion};
-ghost use Rattle.replay_merge.specs.Source.{IsKeyedRow};
+ghost use Rattle.replay_merge.specs.RowSource.{IsKeyedRow};
 ghost use Rattle.dump_lines.specs.LineRoom.{HasLineRoom};
 ghost use Rattle.dump_lines.specs.Printed.{PrintsText};
 ghost use Rattle.ssql_select.specs.SelectionText.{selected_line, selection_lines, select_line};
@@ -29,7 +29,7 @@ pub struct SelectionText<'a> {
 impl<'a> Model for SelectionText<'a> {
     ghost use Rattle.std.specs.Prelude.{List, ℕ};
     ghost use Rattle.std.specs.List.{AllByRecursion};
-    ghost use Rattle.replay_merge.specs.Source.{IsKeyedRow};
+    ghost use Rattle.replay_merge.specs.RowSource.{IsKeyedRow};
     ghost use Rattle.ssql_select.specs.SelectionText.{selection_lines};
 
     ghost Value = { List ℕ };

@@ -1,7 +1,7 @@
 //! What SHOW prints.
 
 ghost use Rattle.std.specs.Prelude.{◌≡◌, ◌++◌, flat_map, codes, decimal, IfOk, IfErr, IfSome, OnOk};
-ghost use Rattle.replay_merge.specs.Source.{AreRowsOf, IsKeyedRow, IsRowFault, UsedRowSource};
+ghost use Rattle.replay_merge.specs.RowSource.{AreRowsOf, IsKeyedRow, IsRowFault, UsedRowSource};
 ghost use Rattle.time_text.specs.Day.{day_of};
 ghost use Rattle.time_text.specs.Spelling.{day_name_of};
 ghost use Rattle.dump_lines.specs.LineRoom.{HasLineRoom};
@@ -20,7 +20,7 @@ use itoa::Integer;
 use outer_traits::print_fault::PrintFault;
 use outer_traits::sink::Sink;
 use partitions::partition::Partition;
-use replay_merge::source::RowSource;
+use replay_merge::row_source::RowSource;
 use std::alloc::{AllocError, Global};
 use time_text::{day_octets, day_of};
 
@@ -47,11 +47,11 @@ fn day_name(row: &Row) -> [u8; 8]
 fn add_partition(
     lines: &mut Vec<ShowLine>,
     table: u8,
-    part: &Partition,
+    partition: &Partition,
     rows: &[Row],
 ) -> Result<(), AllocError>
-    requires { AreRowsOf table part.now rows.now }
-    ensures { OnOk result (lines.new.items ≡ lines.old.items ++ spec.line_of_rows part.now rows.now) }
+    requires { AreRowsOf table partition.now rows.now }
+    ensures { OnOk result (lines.new.items ≡ lines.old.items ++ spec.line_of_rows partition.now rows.now) }
 {
     if rows.is_empty() {
         return Ok(());
@@ -59,7 +59,7 @@ fn add_partition(
     let day = day_name(&rows[0]);
     lines.push(ShowLine::Partition {
         day,
-        pname: part.pname,
+        pname: partition.pname,
         rows: rows.len() as u64,
     })?;
     Ok(())
@@ -80,9 +80,9 @@ pub fn partition_lines<R: RowSource>(
     ensures source { UsedRowSource (R.state source.old) (R.state source.new) }
 {
     let mut lines = Vec::new(alloc);
-    for part in parts {
-        let rows = source.rows(alloc, table, part, front)?;
-        add_partition(&mut lines, table, part, rows.as_slice())?;
+    for partition in parts {
+        let rows = source.rows(alloc, table, partition, front)?;
+        add_partition(&mut lines, table, partition, rows.as_slice())?;
     }
     Ok(lines)
 }

@@ -4,7 +4,7 @@ ghost use Rattle.std.specs.Prelude.{◌≡◌, ◌++◌, ◌∷◌, [], flat_map
 ghost use Rattle.hex.specs.Hex.{encode_lower};
 ghost use Rattle.arch_types.specs.GenerationTime.{generation_time};
 ghost use Rattle.arch_types.specs.Packet.{IsPacket, apid_of};
-ghost use Rattle.replay_merge.specs.Source.{IsKeyedRow};
+ghost use Rattle.replay_merge.specs.RowSource.{IsKeyedRow};
 ghost use Rattle.text_forms.specs.ClockTime.{IsClockTime};
 ghost use Rattle.ssql_select.specs.SelectionText as spec;
 

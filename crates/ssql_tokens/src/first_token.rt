@@ -34,7 +34,7 @@ fn word_at(script: &Octets, at: usize) -> Result<Option<(Token, usize)>, AllocEr
     ensures { IfOk result (spec.IsFoundFirst (drop at script.now)) }
 {
     let len = word_len(&script.as_slice()[at..]);
-    let octets = script.part(at, at + len)?;
+    let octets = script.slice(at, at + len)?;
     match word_of(octets) {
         None => Ok(None),
         Some(token) => Ok(Some((token, len))),
@@ -50,7 +50,7 @@ fn number_at(script: &Octets, at: usize) -> Result<Option<(Token, usize)>, Alloc
     let Some(len) = number_len(&script.as_slice()[at..]) else {
         return Ok(None);
     };
-    let octets = script.part(at, at + len)?;
+    let octets = script.slice(at, at + len)?;
     Ok(Some((Token::Number(octets), len)))
 }
 

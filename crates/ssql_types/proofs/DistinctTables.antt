@@ -11,7 +11,7 @@ use Rattle.ssql_parse.specs.declared.statement.Statement.{Statement}
 use Rattle.ssql_parse.specs.declared.statement.Statement.TheVariants as st
 use Rattle.ssql_types.specs.declared.place.ScriptPlace.TheVariants.{Create}
 use Rattle.ssql_types.specs.declared.rules.Rule.TheVariants.{NameTaken}
-use Rattle.ssql_types.specs.Rules.{TokenFault, broken, no_fault, first_sql_refusal, later_places}
+use Rattle.ssql_types.specs.Rules.{TokenFault, broken, no_fault, first_sql_fault, later_places}
 use Rattle.ssql_types.specs.Faults.{created_fault, script_faults}
 use Rattle.ssql_types.specs.Names.{is_known_name, is_name_taken, is_tm_in}
 use Rattle.ssql_types.specs.Typed.{typed_script}
@@ -21,7 +21,7 @@ use Rattle.ssql_types.specs.CreatedTables.{created_tables, CreatedTablesAreDisti
 abbrev AreSound : List TokenFault → Type 0
 AreSound faults = AllByRecursion (λ (fault : TokenFault). fault ≡ None) faults
 
-each_sound : (faults : List TokenFault) (places : List ℕ) → first_sql_refusal faults places ≡ None → AreSound faults
+each_sound : (faults : List TokenFault) (places : List ℕ) → first_sql_fault faults places ≡ None → AreSound faults
 each_sound [] places none = tt
 each_sound (None ∷ faults) places none = (refl, each_sound faults (later_places places) none)
 each_sound (Some fault ∷ faults) places none = absurd (cc (none))

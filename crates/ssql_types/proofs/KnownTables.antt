@@ -10,7 +10,7 @@ use Rattle.ssql_parse.specs.declared.query.Query.{Query}
 use Rattle.ssql_parse.specs.declared.statement.Statement.{Statement}
 use Rattle.ssql_parse.specs.declared.statement.Statement.TheVariants as st
 use Rattle.ssql_types.specs.declared.place.ScriptPlace.{ScriptPlace}
-use Rattle.ssql_types.specs.Rules.{TokenFault, no_fault, unknown, first_sql_refusal, later_places}
+use Rattle.ssql_types.specs.Rules.{TokenFault, no_fault, unknown, first_sql_fault, later_places}
 use Rattle.ssql_types.specs.Faults.{table_fault, columns_faults, source_faults, listed_faults, filter_faults, order_faults, limit_faults, query_faults, statement_faults, script_faults}
 use Rattle.ssql_types.specs.Names.{number_among, names_created}
 use Rattle.ssql_types.specs.Typed.{known_number, source_names, typed_select, typed_statement, typed_script}
@@ -20,7 +20,7 @@ use Rattle.ssql_types.specs.Laws.{NamesTables, TypedNamesTables}
 abbrev AreSound : List TokenFault → Type 0
 AreSound faults = AllByRecursion (λ (fault : TokenFault). fault ≡ None) faults
 
-each_sound : (faults : List TokenFault) (places : List ℕ) → first_sql_refusal faults places ≡ None → AreSound faults
+each_sound : (faults : List TokenFault) (places : List ℕ) → first_sql_fault faults places ≡ None → AreSound faults
 each_sound [] places none = tt
 each_sound (None ∷ faults) places none = (refl, each_sound faults (later_places places) none)
 each_sound (Some fault ∷ faults) places none = absurd (cc (none))

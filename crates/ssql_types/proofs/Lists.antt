@@ -3,9 +3,9 @@ use Rattle.std.proofs.Common.{◌≡◌, inl, inr, ℕ, zero, suc, arith, ◌+�
 use Rattle.std.specs.Prelude.{flat_map}
 use Rattle.std.proofs.lemmas.List.{append-nil, drop_all}
 use Rattle.ssql_types.specs.declared.not_typed.NotTyped.{NotTyped}
-use Rattle.ssql_types.specs.Rules.{TokenFault, no_fault, first_sql_refusal, later_places, places_behind}
+use Rattle.ssql_types.specs.Rules.{TokenFault, no_fault, first_sql_fault, later_places, places_behind}
 use Rattle.ssql_types.specs.Faults.{listed_faults}
-use Rattle.ssql_types.specs.Typing.{IsTypedPart, IsTypeRefusal}
+use Rattle.ssql_types.specs.Typing.{IsTypedPart, IsPartNotTyped}
 use Rattle.ssql_types.proofs.Joined.{first_behind, places_append, refused_before}
 
 -- what is left of a list at an item that is at its place
@@ -17,7 +17,7 @@ drop_item {A} xs i x within is =
 -- Of a list some items are typed and these are left: together they are all, and what is wrong first is wrong with what is left.
 pub record IsListLeft {A B : Type 0} (faults : A → List TokenFault) (value : A → B) (all : List A) (places : List ℕ) (items : List B) (left : List A) (rest : List ℕ) : Type 0 where
   pub same : items ++ map value left ≡ map value all
-  pub first : first_sql_refusal (flat_map faults left) rest ≡ first_sql_refusal (flat_map faults all) places
+  pub first : first_sql_fault (flat_map faults left) rest ≡ first_sql_fault (flat_map faults all) places
   pub behind : places_behind (flat_map faults left) rest ≡ places_behind (flat_map faults all) places
 
 -- a token and the sign behind it
@@ -29,7 +29,7 @@ with_sign fault places value v later next part is = record {
   rest = is ∙ ap later_places part.rest;
 }
 
-pub refused_with_sign : (fault : TokenFault) (places : List ℕ) (refusal : NotTyped) → IsTypeRefusal (fault ∷ []) places refusal → IsTypeRefusal (fault ∷ no_fault ∷ []) places refusal
+pub refused_with_sign : (fault : TokenFault) (places : List ℕ) (refusal : NotTyped) → IsPartNotTyped (fault ∷ []) places refusal → IsPartNotTyped (fault ∷ no_fault ∷ []) places refusal
 refused_with_sign fault places refusal why = refused_before (fault ∷ []) (no_fault ∷ []) places refusal why
 
 module _ {A B : Type 0} (faults : A → List TokenFault) (value : A → B) (all : List A) (places : List ℕ) where
@@ -41,21 +41,21 @@ module _ {A B : Type 0} (faults : A → List TokenFault) (value : A → B) (all 
       IsListLeft faults value all places longer left later
   list_goes_on items x left rest v later longer sofar part is = record {
     same = ap (λ (ys : List B). ys ++ map value left) (is ∙ ap (λ (y : B). items ++ y ∷ []) part.same) ∙ append_assoc items (value x ∷ []) (map value left) ∙ sofar.same;
-    first = ap (first_sql_refusal (flat_map faults left)) part.rest ∙ sym (first_behind (faults x) (flat_map faults left) rest part.sound) ∙ sofar.first;
+    first = ap (first_sql_fault (flat_map faults left)) part.rest ∙ sym (first_behind (faults x) (flat_map faults left) rest part.sound) ∙ sofar.first;
     behind = ap (places_behind (flat_map faults left)) part.rest ∙ sym (places_append (faults x) (flat_map faults left) rest) ∙ sofar.behind;
   }
 
   pub list_ends : (items : List B) (left : List A) (rest : List ℕ) → IsListLeft faults value all places items left rest → left ≡ [] → IsTypedPart (flat_map faults all) places (map value all) (items, rest)
   list_ends items left rest sofar none = record {
-    sound = sym sofar.first ∙ ap (λ (l : List A). first_sql_refusal (flat_map faults l) rest) none;
+    sound = sym sofar.first ∙ ap (λ (l : List A). first_sql_fault (flat_map faults l) rest) none;
     same = sym (append-nil items) ∙ ap (λ (l : List A). items ++ map value l) (sym none) ∙ sofar.same;
     rest = ap (λ (l : List A). places_behind (flat_map faults l) rest) (sym none) ∙ sofar.behind;
   }
 
   pub list_stops : (items : List B) (x : A) (left : List A) (rest : List ℕ) (refusal : NotTyped) →
-      IsListLeft faults value all places items (x ∷ left) rest → IsTypeRefusal (faults x) rest refusal → IsTypeRefusal (flat_map faults all) places refusal
+      IsListLeft faults value all places items (x ∷ left) rest → IsPartNotTyped (faults x) rest refusal → IsPartNotTyped (flat_map faults all) places refusal
   list_stops items x left rest refusal sofar why =
-      elim (refused_before (faults x) (flat_map faults left) rest refusal why) as (λ h. IsTypeRefusal (flat_map faults all) places refusal) [
+      elim (refused_before (faults x) (flat_map faults left) rest refusal why) as (λ h. IsPartNotTyped (flat_map faults all) places refusal) [
         | inl e ↦ inl e
         | inr e ↦ inr (sym sofar.first ∙ e)
       ]
@@ -68,7 +68,7 @@ module _ {A B : Type 0} (faults : A → List TokenFault) (value : A → B) (all 
   left_at items i x rest within is sofar = subst (λ (left : List A). IsListLeft faults value all places items left rest) (drop_item all i x within is) sofar
 
   pub item_stops : (items : List B) (i : ℕ) (x : A) (rest : List ℕ) (refusal : NotTyped) → i < length all → x ≡ get_or all i x → IsListLeft faults value all places items (drop i all) rest →
-      IsTypeRefusal (faults x) rest refusal → IsTypeRefusal (flat_map faults all) places refusal
+      IsPartNotTyped (faults x) rest refusal → IsPartNotTyped (flat_map faults all) places refusal
   item_stops items i x rest refusal within is sofar why =
       list_stops faults value all places items x (drop (i + 1) all) rest refusal (left_at items i x rest within is sofar) why
 
@@ -87,7 +87,7 @@ module _ {A B : Type 0} (fault : A → TokenFault) (value : A → B) (all : List
   with_signs x = fault x ∷ no_fault ∷ []
 
   pub token_stops : (items : List B) (i : ℕ) (x : A) (rest : List ℕ) (refusal : NotTyped) → i < length all → x ≡ get_or all i x → IsListLeft with_signs value all places items (drop i all) rest →
-      IsTypeRefusal (fault x ∷ []) rest refusal → IsTypeRefusal (listed_faults fault all) places refusal
+      IsPartNotTyped (fault x ∷ []) rest refusal → IsPartNotTyped (listed_faults fault all) places refusal
   token_stops items i x rest refusal within is sofar why =
       item_stops with_signs value all places items i x rest refusal within is sofar (refused_with_sign (fault x) rest refusal why)
 

@@ -7,7 +7,7 @@ use Rattle.ssql_types.specs.declared.place.ScriptPlace.{ScriptPlace}
 use Rattle.ssql_types.specs.declared.statement.TypedStatement.{TypedStatement}
 use Rattle.ssql_types.specs.declared.statement.TypedStatement.TheVariants as ts
 use Rattle.ssql_types.specs.Faults.{script_faults}
-use Rattle.ssql_types.specs.Rules.{first_sql_refusal}
+use Rattle.ssql_types.specs.Rules.{first_sql_fault}
 use Rattle.ssql_types.specs.Typed.{typed_piece, typed_predicate, typed_script}
 use Rattle.ssql_types.specs.ConditionFormula.{condition_formula}
 use Rattle.ssql_conditions.specs.Formulas.{formula_of}
@@ -35,5 +35,5 @@ NamesTables count (ts.ShowPartitions table) = table < count
 abbrev pub TypedNamesTables : Type 0
 TypedNamesTables =
     (place : ScriptPlace) (tables names created : List (List ℕ)) (statements : List Statement) (places : List ℕ) →
-    first_sql_refusal (script_faults place tables created statements) places ≡ None →
+    first_sql_fault (script_faults place tables created statements) places ≡ None →
     AllByRecursion (NamesTables (length tables)) (typed_script tables names created statements)

@@ -5,7 +5,7 @@ use Rattle.ssql_types.specs.declared.not_typed.NotTyped.TheVariants as r
 use Rattle.ssql_types.specs.declared.rules.Rule.{Rule}
 use Rattle.ssql_types.specs.declared.rules.Rule.TheVariants.{Misplaced, WrongType, NameTaken, UnknownStream, WrongForm, OutOfRange}
 
--- the number of a rule in a refusal; rules 1 and 2 are those of the tokens and of the grammar
+-- the number of a rule; rules 1 and 2 are those of the tokens and of the grammar
 abbrev pub sql_rule_number : Rule → ℕ
 sql_rule_number Misplaced = 3
 sql_rule_number WrongType = 4
@@ -31,21 +31,21 @@ no_fault = None
 abbrev pub if_broken : Option Rule → TokenFault
 if_broken rule = option_map broken rule
 
--- the refusal of a fault in the token that begins at an octet
-abbrev pub sql_refusal : ℕ → SqlFault → NotTyped
-sql_refusal at (broken rule) = r.BadSql at (sql_rule_number rule)
-sql_refusal at (unknown name) = r.UnknownTable name
+-- a fault, in the token that begins at an octet
+abbrev pub sql_fault_at : ℕ → SqlFault → NotTyped
+sql_fault_at at (broken rule) = r.BadSql at (sql_rule_number rule)
+sql_fault_at at (unknown name) = r.UnknownTable name
 
 -- the octets at which tokens begin, without the first
 abbrev pub later_places : List ℕ → List ℕ
 later_places places = drop 1 places
 
--- The refusal of the first token with which something is wrong, if there is one. There is a fault or none for each token, in the order in
+-- What is wrong with the first token with which something is, if there is one. There is a fault or none for each token, in the order in
 -- which they are written, and the octet at which each begins.
-abbrev pub first_sql_refusal : List TokenFault → List ℕ → Option NotTyped
-first_sql_refusal [] places = None
-first_sql_refusal (None ∷ faults) places = first_sql_refusal faults (later_places places)
-first_sql_refusal (Some fault ∷ faults) places = Some (sql_refusal (slice_index places 0) fault)
+abbrev pub first_sql_fault : List TokenFault → List ℕ → Option NotTyped
+first_sql_fault [] places = None
+first_sql_fault (None ∷ faults) places = first_sql_fault faults (later_places places)
+first_sql_fault (Some fault ∷ faults) places = Some (sql_fault_at (slice_index places 0) fault)
 
 -- the octets at which the tokens behind these begin
 abbrev pub places_behind : List TokenFault → List ℕ → List ℕ

@@ -5,7 +5,7 @@
 //!
 //! `typed` goes over a script once. Each part of it takes the octets at which its tokens and those behind begin, and
 //! gives back the octets of those behind, so that the first token with which something is wrong has its place at
-//! hand. The one idea of its proof: the first refusal of tokens a and then b is that of a, or else that of b with the
+//! hand. The one idea of its proof: the first fault of tokens a and then b is that of a, or else that of b with the
 //! places behind a.
 //!
 //! Conditions are `ssql_conditions`' own: held piece by piece, and formulas for contracts.

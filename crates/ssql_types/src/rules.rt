@@ -24,7 +24,7 @@ pub enum Rule {
 }
 
 impl Rule {
-    /// Its number in a refusal.
+    /// Its number.
     pub fn number(self) -> u8
         ensures { result ≡ spec.sql_rule_number self }
     {
@@ -49,9 +49,9 @@ pub(crate) fn behind(places: &[u32]) -> &[u32]
     }
 }
 
-/// The refusal by a rule that the next token breaks.
+/// The fault of a next token that breaks a rule.
 pub(crate) fn refused(rule: Rule, places: &[u32]) -> NotTyped
-    ensures { result ≡ spec.sql_refusal (slice_index places.now 0) (spec.broken rule) }
+    ensures { result ≡ spec.sql_fault_at (slice_index places.now 0) (spec.broken rule) }
 {
     let at = match places {
         [] => 0,

@@ -18,7 +18,7 @@ use Rattle.arch_types.specs.Order.{key_cmp, place_by, order_by}
 use Rattle.arch_types.specs.History.{has_key}
 use Rattle.yarch_table.specs.declared.table.Stored.{Stored}
 use Rattle.yarch_table.specs.Stored.{rows_of}
-use Rattle.yarch_table.specs.Index.{stored_at, comes_before, Names, IsKeyIndex}
+use Rattle.yarch_table.specs.Index.{stored_at, comes_before, IsEntryOf, IsKeyIndex}
 
 -- the parts of an insertion, by where the new key stands to the first
 choose : {V : Type 0} (f : Key × ℕ → Stored) (o : Ordering) (less same more : List (Key × ℕ)) (x y : List Stored) (v : V) (w : Option V) →
@@ -69,7 +69,7 @@ test_cases : (b : Bool) (i : ℕ) (o : Option ℕ) → (b || is_some o) ≡ is_s
 test_cases true i o = refl
 test_cases false i o = refl
 
-any-entries : (key : Key) (d : Stored) (stored : List Stored) (es : List (Key × ℕ)) → AllByRecursion (Names stored) es →
+any-entries : (key : Key) (d : Stored) (stored : List Stored) (es : List (Key × ℕ)) → AllByRecursion (IsEntryOf stored) es →
     list_any (λ s. has_key key s.row) (map (stored_at stored d) es) ≡ is_some (lookup (is_at (key_cmp key)) es)
 any-entries key d stored [] all = refl
 any-entries key d stored (e ∷ es) all =
@@ -81,7 +81,7 @@ pub any-rows : (key : Key) (d : Stored) (stored : List Stored) (es : List (Key �
     list_any (has_key key) (rows_of stored) ≡ is_some (lookup (is_at (key_cmp key)) es)
 any-rows key d stored es index = any-map key stored ∙ sym (any-sorted (λ s. has_key key s.row) stored) ∙ ap (list_any (λ s. has_key key s.row)) (sym (index.order d)) ∙ any-entries key d stored es index.each
 
-found_cases : (key : Key) (stored : List Stored) (e : Key × ℕ) (b : Bool) (o : Option ℕ) (i : ℕ) → Names stored e → is_eq (key_cmp key e.0) ≡ b →
+found_cases : (key : Key) (stored : List Stored) (e : Key × ℕ) (b : Bool) (o : Option ℕ) (i : ℕ) → IsEntryOf stored e → is_eq (key_cmp key e.0) ≡ b →
     (o ≡ Some i → (i < length stored) × ((d : Stored) → has_key key (slice_index_or stored i d).row ≡ true)) → cond b (Some e.1) o ≡ Some i →
     (i < length stored) × ((d : Stored) → has_key key (slice_index_or stored i d).row ≡ true)
 found_cases key stored e true o i n test rest found =
@@ -91,17 +91,17 @@ found_cases key stored e true o i n test rest found =
 found_cases key stored e false o i n test rest found = rest found
 
 -- a key that the index has is the key of the row that its entry names
-pub found_row : (key : Key) (stored : List Stored) (es : List (Key × ℕ)) (i : ℕ) → AllByRecursion (Names stored) es →
+pub found_row : (key : Key) (stored : List Stored) (es : List (Key × ℕ)) (i : ℕ) → AllByRecursion (IsEntryOf stored) es →
     lookup (is_at (key_cmp key)) es ≡ Some i → (i < length stored) × ((d : Stored) → has_key key (slice_index_or stored i d).row ≡ true)
 found_row key stored [] i all found = cc
 found_row key stored (e ∷ es) i all found =
     found_cases key stored e (is_eq (key_cmp key e.0)) (lookup (is_at (key_cmp key)) es) i all.0 refl (λ (h : lookup (is_at (key_cmp key)) es ≡ Some i). found_row key stored es i all.1 h) found
 
 -- more rows leave what an entry names
-pub same_row : (d : Stored) (stored : List Stored) (s : Stored) (e : Key × ℕ) → Names stored e → stored_at (stored ++ s ∷ []) d e ≡ stored_at stored d e
+pub same_row : (d : Stored) (stored : List Stored) (s : Stored) (e : Key × ℕ) → IsEntryOf stored e → stored_at (stored ++ s ∷ []) d e ≡ stored_at stored d e
 same_row d stored s e n = get_or_append_left stored (s ∷ []) d e.1 n.0
 
-pub same_rows : (d : Stored) (stored : List Stored) (s : Stored) (es : List (Key × ℕ)) → AllByRecursion (Names stored) es →
+pub same_rows : (d : Stored) (stored : List Stored) (s : Stored) (es : List (Key × ℕ)) → AllByRecursion (IsEntryOf stored) es →
     map (stored_at (stored ++ s ∷ []) d) es ≡ map (stored_at stored d) es
 same_rows d stored s [] all = refl
 same_rows d stored s (e ∷ es) all = let h = same_row d stored s e all.0 in let t = same_rows d stored s es all.1 in cc
@@ -109,7 +109,7 @@ same_rows d stored s (e ∷ es) all = let h = same_row d stored s e all.0 in let
 pub new_row : (d : Stored) (stored : List Stored) (s : Stored) (key : Key) → stored_at (stored ++ s ∷ []) d (key, length stored) ≡ s
 new_row d stored s key = get_or-append_seam stored s [] d
 
-pub rows-insert : (d : Stored) (stored : List Stored) (s : Stored) (es : List (Key × ℕ)) → AllByRecursion (Names stored) es →
+pub rows-insert : (d : Stored) (stored : List Stored) (s : Stored) (es : List (Key × ℕ)) → AllByRecursion (IsEntryOf stored) es →
     lookup (is_at (key_cmp s.row.key)) es ≡ None →
     map (stored_at (stored ++ s ∷ []) d) (insert_entry key_cmp es s.row.key (length stored)) ≡ place_by comes_before (map (stored_at stored d) es) s
 rows-insert d stored s [] all none = let n = new_row d stored s s.row.key in cc
@@ -127,14 +127,14 @@ rows-insert d stored s (e ∷ es) all none =
     e.1 (lookup (is_at (key_cmp s.row.key)) es) none first more)
 
 -- an entry goes on to name its row
-pub names_more : (stored : List Stored) (s : Stored) (e : Key × ℕ) → Names stored e → Names (stored ++ s ∷ []) e
+pub names_more : (stored : List Stored) (s : Stored) (e : Key × ℕ) → IsEntryOf stored e → IsEntryOf (stored ++ s ∷ []) e
 names_more stored s e n = (grind (arith, common_steps), λ (d : Stored). n.1 d ∙ ap (λ (r : Stored). r.row.key) (sym (same_row d stored s e n)))
 
-pub all_names_more : (stored : List Stored) (s : Stored) (es : List (Key × ℕ)) → AllByRecursion (Names stored) es → AllByRecursion (Names (stored ++ s ∷ [])) es
+pub all_names_more : (stored : List Stored) (s : Stored) (es : List (Key × ℕ)) → AllByRecursion (IsEntryOf stored) es → AllByRecursion (IsEntryOf (stored ++ s ∷ [])) es
 all_names_more stored s [] all = tt
 all_names_more stored s (e ∷ es) all = (names_more stored s e all.0, all_names_more stored s es all.1)
 
-pub names_new : (stored : List Stored) (s : Stored) → Names (stored ++ s ∷ []) (s.row.key, length stored)
+pub names_new : (stored : List Stored) (s : Stored) → IsEntryOf (stored ++ s ∷ []) (s.row.key, length stored)
 names_new stored s = (grind (arith, common_steps), λ (d : Stored). ap (λ (r : Stored). r.row.key) (sym (new_row d stored s s.row.key)))
 
 choose_names : (P : Key × ℕ → Type 0) (o : Ordering) (less same more : List (Key × ℕ)) (v : ℕ) (w : Option ℕ) →
@@ -143,14 +143,14 @@ choose_names P Less less same more v w none h m = h
 choose_names P Equal less same more v w none h m = cc
 choose_names P Greater less same more v w none h m = m none
 
-pub names-insert : (stored : List Stored) (s : Stored) (es : List (Key × ℕ)) → AllByRecursion (Names stored) es →
+pub names-insert : (stored : List Stored) (s : Stored) (es : List (Key × ℕ)) → AllByRecursion (IsEntryOf stored) es →
     lookup (is_at (key_cmp s.row.key)) es ≡ None →
-    AllByRecursion (Names (stored ++ s ∷ [])) (insert_entry key_cmp es s.row.key (length stored))
+    AllByRecursion (IsEntryOf (stored ++ s ∷ [])) (insert_entry key_cmp es s.row.key (length stored))
 names-insert stored s [] all none = (names_new stored s, tt)
 names-insert stored s (e ∷ es) all none =
-    let more : lookup (is_at (key_cmp s.row.key)) es ≡ None → AllByRecursion (Names (stored ++ s ∷ [])) (e ∷ insert_entry key_cmp es s.row.key (length stored)) =
+    let more : lookup (is_at (key_cmp s.row.key)) es ≡ None → AllByRecursion (IsEntryOf (stored ++ s ∷ [])) (e ∷ insert_entry key_cmp es s.row.key (length stored)) =
     λ absent. (names_more stored s e all.0, names-insert stored s es all.1 absent) in
-    choose_names (Names (stored ++ s ∷ [])) (key_cmp s.row.key e.0) ((s.row.key, length stored) ∷ e ∷ es) ((e.0, length stored) ∷ es) (e ∷ insert_entry key_cmp es s.row.key (length stored))
+    choose_names (IsEntryOf (stored ++ s ∷ [])) (key_cmp s.row.key e.0) ((s.row.key, length stored) ∷ e ∷ es) ((e.0, length stored) ∷ es) (e ∷ insert_entry key_cmp es s.row.key (length stored))
     e.1 (lookup (is_at (key_cmp s.row.key)) es) none (names_new stored s, all_names_more stored s (e ∷ es) all) more
 
 -- an index after the insertion of a key that was absent

@@ -16,7 +16,7 @@ use Rattle.arch_types.specs.Table.{is_in_time_range}
 use Rattle.block_map.specs.Rising.{IsBelow}
 use Rattle.yarch_table.specs.declared.table.Stored.{Stored}
 use Rattle.yarch_table.specs.Stored.{seen_at, seen_between}
-use Rattle.yarch_table.specs.Index.{Names, stored_at, rows_left, is_seen, is_before_end, AreRisingKeys, IsKeyIndex}
+use Rattle.yarch_table.specs.Index.{IsEntryOf, stored_at, rows_left, is_seen, is_before_end, AreRisingKeys, IsKeyIndex}
 use Rattle.yarch_table.proofs.RowsLeft.{rows_left-seen}
 
 -- what the first entry shows
@@ -35,7 +35,7 @@ seen_cases : (b c : Bool) → c ≡ true → (b && c) ≡ b
 seen_cases true c h = h
 seen_cases false c h = refl
 
-pub seen_below : (stored : List Stored) (front : ℕ) (end : Option ℤ) (e : Key × ℕ) (d : Stored) → Names stored e → is_before_end end e.0.time ≡ true →
+pub seen_below : (stored : List Stored) (front : ℕ) (end : Option ℤ) (e : Key × ℕ) (d : Stored) → IsEntryOf stored e → is_before_end end e.0.time ≡ true →
     is_seen front end (stored_at stored d e) ≡ nat_lt (stored_at stored d e).position front
 seen_below stored front end e d n within =
     let P : Key → Type 0 = λ k. is_before_end end k.time ≡ true in
@@ -58,10 +58,10 @@ and_false false = refl
 unseen_past : (front : ℕ) (end : Option ℤ) (s : Stored) → is_before_end end s.row.key.time ≡ false → is_seen front end s ≡ false
 unseen_past front end s h = rw h (and_false (nat_lt s.position front))
 
-moved_past : (stored : List Stored) (d : Stored) (e : Key × ℕ) (end : Option ℤ) → Names stored e → is_before_end end e.0.time ≡ false → is_before_end end (stored_at stored d e).row.key.time ≡ false
+moved_past : (stored : List Stored) (d : Stored) (e : Key × ℕ) (end : Option ℤ) → IsEntryOf stored e → is_before_end end e.0.time ≡ false → is_before_end end (stored_at stored d e).row.key.time ≡ false
 moved_past stored d e end n past = let P : Key → Type 0 = λ k. is_before_end end k.time ≡ false in subst P (n.1 d) past
 
-none_after : (stored : List Stored) (front : ℕ) (end : Option ℤ) (d : Stored) (k : Key) (es : List (Key × ℕ)) → AllByRecursion (Names stored) es → IsBelow key_cmp k es → is_before_end end k.time ≡ false →
+none_after : (stored : List Stored) (front : ℕ) (end : Option ℤ) (d : Stored) (k : Key) (es : List (Key × ℕ)) → AllByRecursion (IsEntryOf stored) es → IsBelow key_cmp k es → is_before_end end k.time ≡ false →
     rows_left stored front end es ≡ []
 none_after stored front end d k [] each below past = refl
 none_after stored front end d k (e ∷ es) each below past =
@@ -98,12 +98,12 @@ skip_cases q true false row from all h e = e
 skip_cases q false true row from all h e = rw (h, e)
 skip_cases q false false row from all h e = e
 
-first_cases : (stored : List Stored) (front : ℕ) (end : Option ℤ) (d : Stored) (e : Key × ℕ) (es : List (Key × ℕ)) (b : Bool) → Names stored e →
+first_cases : (stored : List Stored) (front : ℕ) (end : Option ℤ) (d : Stored) (e : Key × ℕ) (es : List (Key × ℕ)) (b : Bool) → IsEntryOf stored e →
     rows_left stored front end (cond b (e ∷ es) es) ≡ cond b (cond (is_seen front end (stored_at stored d e)) ((stored_at stored d e).row ∷ rows_left stored front end es) (rows_left stored front end es)) (rows_left stored front end es)
 first_cases stored front end d e es true n = rows_left-first stored front end e es d (is_seen front end (stored_at stored d e)) n.0 refl
 first_cases stored front end d e es false n = refl
 
-from_shows_by : (stored : List Stored) (front : ℕ) (low : ℤ) (end : Option ℤ) (d : Stored) (es : List (Key × ℕ)) → AllByRecursion (Names stored) es →
+from_shows_by : (stored : List Stored) (front : ℕ) (low : ℤ) (end : Option ℤ) (d : Stored) (es : List (Key × ℕ)) → AllByRecursion (IsEntryOf stored) es →
     rows_left stored front end (entries_from (key_cmp (first_key low)) es) ≡ filter (λ row. not (int_lt row.key.time low)) (rows_left stored front end es)
 from_shows_by stored front low end d [] each = refl
 from_shows_by stored front low end d (e ∷ es) each =
@@ -116,7 +116,7 @@ from_shows_by stored front low end d (e ∷ es) each =
     ∙ ap (filter (λ row. not (int_lt row.key.time low))) (sym (rows_left-first stored front end e es d (is_seen front end s) each.0.0 refl))
 
 -- the entries from a time on show the rows that have no earlier time
-from_shows : (stored : List Stored) (front : ℕ) (low : ℤ) (end : Option ℤ) (es : List (Key × ℕ)) → AllByRecursion (Names stored) es →
+from_shows : (stored : List Stored) (front : ℕ) (low : ℤ) (end : Option ℤ) (es : List (Key × ℕ)) → AllByRecursion (IsEntryOf stored) es →
     rows_left stored front end (entries_from (key_cmp (first_key low)) es) ≡ filter (λ row. not (int_lt row.key.time low)) (rows_left stored front end es)
 from_shows [] front low end [] each = refl
 from_shows [] front low end (e ∷ es) each = let within = each.0.0 in absurd (omega arith)

@@ -13,7 +13,7 @@ use Rattle.arch_types.proofs.Ranks.{key_cmp_total}
 use Rattle.arch_types.proofs.Ordered.{filter-order}
 use Rattle.yarch_table.specs.declared.table.Stored.{Stored}
 use Rattle.yarch_table.specs.Stored.{rows_of, rows_below, seen_at}
-use Rattle.yarch_table.specs.Index.{stored_at, comes_before, Names, IsKeyIndex, rows_left, is_seen, is_before_end}
+use Rattle.yarch_table.specs.Index.{stored_at, comes_before, IsEntryOf, IsKeyIndex, rows_left, is_seen, is_before_end}
 
 -- what is seen, as a filter
 cons_cases : (b : Bool) (s : Stored) (seen : List Stored) (rows : List Row) → rows ≡ rows_of seen →
@@ -21,7 +21,7 @@ cons_cases : (b : Bool) (s : Stored) (seen : List Stored) (rows : List Row) → 
 cons_cases true s seen rows e = ap (λ (x : List Row). s.row ∷ x) e
 cons_cases false s seen rows e = e
 
-rows_left-filter : (stored : List Stored) (d : Stored) (front : ℕ) (end : Option ℤ) (es : List (Key × ℕ)) → AllByRecursion (Names stored) es →
+rows_left-filter : (stored : List Stored) (d : Stored) (front : ℕ) (end : Option ℤ) (es : List (Key × ℕ)) → AllByRecursion (IsEntryOf stored) es →
     rows_left stored front end es ≡ rows_of (filter (is_seen front end) (map (stored_at stored d) es))
 rows_left-filter stored d front end [] all = refl
 rows_left-filter stored d front end (e ∷ es) all =

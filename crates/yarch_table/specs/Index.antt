@@ -18,12 +18,12 @@ abbrev pub stored_at : List Stored → Stored → Key × ℕ → Stored
 stored_at stored d entry = slice_index_or stored entry.1 d
 
 -- an entry names a stored row, and has its key
-abbrev pub Names : List Stored → Key × ℕ → Type 0
-Names stored entry = (entry.1 < length stored) × ((d : Stored) → entry.0 ≡ (stored_at stored d entry).row.key)
+abbrev pub IsEntryOf : List Stored → Key × ℕ → Type 0
+IsEntryOf stored entry = (entry.1 < length stored) × ((d : Stored) → entry.0 ≡ (stored_at stored d entry).row.key)
 
 -- the entries name the stored rows, each once, in the order of their keys
 pub record IsKeyIndex (stored : List Stored) (entries : List (Key × ℕ)) : Type 0 where
-  pub each : AllByRecursion (Names stored) entries
+  pub each : AllByRecursion (IsEntryOf stored) entries
   pub order : (d : Stored) → map (stored_at stored d) entries ≡ order_by comes_before stored
 
 -- an index of the stored rows, with room in their vector for as many more as in the index, whose places have 32 bits
@@ -34,7 +34,7 @@ pub record IsIndexedTable (stored : Vec Stored) (index : Listing Key ℕ) : Type
 
 -- entries in the order of their keys, each of which names a stored row of its key
 pub record AreRisingKeys (stored : List Stored) (entries : List (Key × ℕ)) : Type 0 where
-  pub each : AllByRecursion (Names stored) entries
+  pub each : AllByRecursion (IsEntryOf stored) entries
   pub rising : IsRising key_cmp entries
 
 -- whether a time is below an end, where there is one

@@ -2,9 +2,9 @@ use Rattle.std.proofs.Common.{◌≡◌, ℕ, ap, sym, subst, take, reverse, Lis
 use Rattle.std.proofs.lemmas.List.{take_all}
 use Rattle.arch_disk.specs.Image.{Image}
 use Rattle.arch_disk.specs.Files.{image_in}
-use Rattle.arch_disk.specs.History.{reads_of}
+use Rattle.arch_disk.specs.CallLog.{reads_of}
 use Rattle.arch_disk.specs.Crash.{crash_of}
-use Rattle.arch_disk.specs.declared.history.Call.{Call}
+use Rattle.arch_disk.specs.declared.call_log.Call.{Call}
 use Rattle.arch_disk.proofs.Crashes.{more_reversed}
 use Rattle.arch_disk.proofs.crash.image_after.Goals as goal
 

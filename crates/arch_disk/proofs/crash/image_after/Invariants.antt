@@ -1,6 +1,6 @@
 use Rattle.std.proofs.Common.{◌≡◌, ℕ, take, reverse}
 use Rattle.arch_disk.specs.Files.{image_in}
-use Rattle.arch_disk.specs.History.{reads_of}
+use Rattle.arch_disk.specs.CallLog.{reads_of}
 use Rattle.arch_disk.specs.Crash.{crash_of}
 use Rattle.arch_disk.proofs.crash.image_after.Given as goal
 

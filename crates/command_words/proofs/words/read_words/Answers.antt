@@ -6,7 +6,7 @@ use Rattle.clap.specs.Words.{App, Row, Text, app_of, matches_of, rows_of, found_
 use Rattle.clap.specs.Faults.{fault_of}
 use Rattle.clap.specs.declared.error.Error.{Error}
 use Rattle.clap.specs.declared.error.kind.ErrorKind.TheVariants as kind
-use Rattle.command_words.specs.Words.{are_plain, rows_where, rows_of_words, IsNotFound}
+use Rattle.command_words.specs.Words.{are_plain, rows_where, rows_of_words, AreNoRows}
 use Rattle.command_words.proofs.words.read_words.Goals as goal
 
 found_where : (plain : Bool) (faults : Kinds) (rows : List Row) → plain ≡ true → faults ≡ [] → rows_where plain faults rows ≡ Some rows
@@ -30,7 +30,7 @@ unfolding rows_of_words
 faulty app words e h n = faulty_where (are_plain words) (fault_of app words) (matches_of app words) e h n
 
 not_found : (app : App) (words : List Text) (e : Error) (refusal : Refusal) → HasKind (fault_of app words) e →
-    ((refusal ≡ refused.Usage) × (kind_of e ≢ kind.OutOfMemory)) ⊎ (refusal ≡ refused.OutOfMemory) → IsNotFound (rows_of_words app words) refusal
+    ((refusal ≡ refused.Usage) × (kind_of e ≢ kind.OutOfMemory)) ⊎ (refusal ≡ refused.OutOfMemory) → AreNoRows (rows_of_words app words) refusal
 not_found app words e refusal h which = elim which [
   | inl usage ↦ rw usage.0 (faulty app words e h usage.1)
   | inr memory ↦ rw memory tt

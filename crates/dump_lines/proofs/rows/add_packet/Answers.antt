@@ -10,21 +10,21 @@ use Rattle.dump_lines.proofs.rows.add_packet.Goals as goal
 pub returns-in-New : goal.returns-in-New
 returns-in-New c =
     let moment = to_z-of_z w64 c.args.moment c.ranges.moment in
-    let row : c.row_of_packet-row.result ≡ scanned_row c.args.moment (slice_range c.args.dump.now c.args.part.start c.args.part.end) = rw (moment, c.in_ok-packet.ensures) at c.row_of_packet-row.ensures in
+    let row : c.row_of_packet-row.result ≡ scanned_row c.args.moment (slice_range c.args.dump.now c.args.range.start c.args.range.end) = rw (moment, c.in_ok-packet.ensures) at c.row_of_packet-row.ensures in
     let inserted = rw row at c.in-New.ensures.inserted in
     let found : false ≡ is_idle c.as_slice.result.now = c.if-is_idle_packet.ensures in
-    let idle : is_idle (slice_range c.args.dump.now c.args.part.start c.args.part.end) ≡ false = sym (rw (c.as_slice.ensures, c.in_ok-packet.ensures) at found) in
+    let idle : is_idle (slice_range c.args.dump.now c.args.range.start c.args.range.end) ≡ false = sym (rw (c.as_slice.ensures, c.in_ok-packet.ensures) at found) in
     record {
-      added = (idle, duplicate-is c.args.moment (slice_range c.args.dump.now c.args.part.start c.args.part.end) c.args.table.now.stored c.requires.shown ∙ inserted.0, (c.args.position, inserted.2, (c.requires.position, refl)));
+      added = (idle, duplicate-is c.args.moment (slice_range c.args.dump.now c.args.range.start c.args.range.end) c.args.table.now.stored c.requires.shown ∙ inserted.0, (c.args.position, inserted.2, (c.requires.position, refl)));
     }
 
 pub returns-in-Duplicate : goal.returns-in-Duplicate
 returns-in-Duplicate c =
     let moment = to_z-of_z w64 c.args.moment c.ranges.moment in
-    let row : c.row_of_packet-row.result ≡ scanned_row c.args.moment (slice_range c.args.dump.now c.args.part.start c.args.part.end) = rw (moment, c.in_ok-packet.ensures) at c.row_of_packet-row.ensures in
+    let row : c.row_of_packet-row.result ≡ scanned_row c.args.moment (slice_range c.args.dump.now c.args.range.start c.args.range.end) = rw (moment, c.in_ok-packet.ensures) at c.row_of_packet-row.ensures in
     let inserted = rw row at c.in-Duplicate.ensures.inserted in
     let found : false ≡ is_idle c.as_slice.result.now = c.if-is_idle_packet.ensures in
-    let idle : is_idle (slice_range c.args.dump.now c.args.part.start c.args.part.end) ≡ false = sym (rw (c.as_slice.ensures, c.in_ok-packet.ensures) at found) in
+    let idle : is_idle (slice_range c.args.dump.now c.args.range.start c.args.range.end) ≡ false = sym (rw (c.as_slice.ensures, c.in_ok-packet.ensures) at found) in
     record {
-      added = (idle, duplicate-is c.args.moment (slice_range c.args.dump.now c.args.part.start c.args.part.end) c.args.table.now.stored c.requires.shown ∙ inserted.0, ap (λ (h : TableView). h.stored) inserted.2);
+      added = (idle, duplicate-is c.args.moment (slice_range c.args.dump.now c.args.range.start c.args.range.end) c.args.table.now.stored c.requires.shown ∙ inserted.0, ap (λ (h : TableView). h.stored) inserted.2);
     }

@@ -1,7 +1,7 @@
 use Rattle.std.proofs.Common.{◌≡◌, ◌∙◌, ◌<◌, ◌++◌, ◌∷◌, List, [], length, map, take, refl, ap, sym, arith}
 use Rattle.std.specs.Prelude.{ℕ}
 use Rattle.std.proofs.lemmas.Option.{slice_get_read}
-use Rattle.mdb_items.specs.declared.container.Entry.{Entry}
+use Rattle.mdb_items.specs.declared.container.ParameterEntry.{ParameterEntry}
 use Rattle.mdb_items.specs.Paths.{path_at, paths_of}
 use Rattle.mdb_lookups.specs.PlacedConditions.{path_parameters}
 use Rattle.mdb_lookups.proofs.PathPlaces.{paths_begin, paths_more}
@@ -21,8 +21,8 @@ loop-container-preserved c =
     let at = slice_get_read cs (length cs) i k refl lt c.container-item.is in
     let front = paths_of (take i cs) in
     let up : c.parameters_at-above.result.now ≡ path_parameters (path_at front k.parent) = c.parameters_at-above.ensures front (c.as_slice.ensures.value ∙ c.loop-container.invariant) in
-    let is : own ≡ path_parameters (path_at front k.parent) ++ map (λ (e : Entry). e.parameter) k.entries = c.in_ok-parameters.ensures
-    ∙ ap (λ (xs : List ℕ). xs ++ map (λ (e : Entry). e.parameter) c.as_slice-in-loop-container.result.now) up
-    ∙ ap (λ (es : List Entry). path_parameters (path_at front k.parent) ++ map (λ (e : Entry). e.parameter) es) c.as_slice-in-loop-container.ensures in
+    let is : own ≡ path_parameters (path_at front k.parent) ++ map (λ (e : ParameterEntry). e.parameter) k.entries = c.in_ok-parameters.ensures
+    ∙ ap (λ (xs : List ℕ). xs ++ map (λ (e : ParameterEntry). e.parameter) c.as_slice-in-loop-container.result.now) up
+    ∙ ap (λ (es : List ParameterEntry). path_parameters (path_at front k.parent) ++ map (λ (e : ParameterEntry). e.parameter) es) c.as_slice-in-loop-container.ensures in
     let grown : c.push.new.self.items ≡ paths ++ own ∷ [] = c.in_ok-push.ensures.items ∙ ap (λ (xs : List ℕ). paths ++ xs ∷ []) c.from_vec.ensures in
     grown ∙ paths_more cs i k paths own at c.loop-container.invariant is

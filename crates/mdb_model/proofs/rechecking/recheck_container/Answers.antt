@@ -1,6 +1,6 @@
 use Rattle.std.proofs.Common.{List, [], ◌∷◌, subst}
 use Rattle.std.specs.Prelude.{flat_map}
-use Rattle.mdb_items.specs.declared.container.Entry.{Entry}
+use Rattle.mdb_items.specs.declared.container.ParameterEntry.{ParameterEntry}
 use Rattle.mdb_items.specs.ContainerRows.{entry_row}
 use Rattle.mdb_model.specs.Rechecking.{RowsRechecked}
 use Rattle.mdb_model.proofs.RowsAgain.{container_rest}
@@ -12,5 +12,5 @@ returns c =
     let mid = c.recheck_begin.new.containers in
     let now = c.recheck_entries.new.containers in
     let result = c.recheck_entries.result in
-    let P : List Entry → Type 0 = λ entries. RowsRechecked ps mid now (flat_map (λ e. entry_row e ∷ []) entries) result in
+    let P : List ParameterEntry → Type 0 = λ entries. RowsRechecked ps mid now (flat_map (λ e. entry_row e ∷ []) entries) result in
     container_rest ps c.args.containers.now mid now c.args.c.now result c.in_ok-recheck_begin.ensures (subst P c.as_slice.ensures c.recheck_entries.ensures)

@@ -1,5 +1,5 @@
 use Rattle.std.proofs.Common.{◌∙◌, ℕ, Option, Ok, true, ap, sym}
-use Rattle.mdb_items.specs.declared.rows.Position.TheVariants.{At}
+use Rattle.mdb_items.specs.declared.rows.EntryPosition.TheVariants.{At}
 use Rattle.mdb_items.specs.declared.rows.Reference.TheVariants.{Known}
 use Rattle.mdb_items.specs.Checks.{first_broken}
 use Rattle.mdb_items.specs.ContainerRows.{entry_checks, last_path, with_entry}

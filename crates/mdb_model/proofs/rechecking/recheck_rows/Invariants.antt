@@ -5,4 +5,4 @@ use Rattle.mdb_model.proofs.RowsAgain.{RowsLeft}
 use Rattle.mdb_model.proofs.rechecking.recheck_rows.Given as goal
 
 abbrev pub invariant-loop-place : goal.invariant-loop-place
-invariant-loop-place l = IsInStep l.calibrations × RowsLeft l.fn.calibrations.items.items l.given.name (option_copied l.next) (row_values_of l.given.table) l.calibrations.items.items l.place
+invariant-loop-place l = IsInStep l.calibrations × RowsLeft l.fn.calibrations.items.items l.given.name (option_copied l.next) (row_values_of l.given.calibrator) l.calibrations.items.items l.place

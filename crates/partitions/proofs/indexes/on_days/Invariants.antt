@@ -7,10 +7,10 @@ use Rattle.partitions.specs.NameDayFilter.{is_on_days}
 use Rattle.partitions.proofs.Leaps.{IsUnderWay}
 use Rattle.partitions.proofs.indexes.on_days.Given as goal
 
-abbrev pub invariant-loop-part : goal.invariant-loop-part
-invariant-loop-part l =
+abbrev pub invariant-loop-partition : goal.invariant-loop-partition
+invariant-loop-partition l =
     IsUnderWay (is_on_days l.days) l.index.entries l.entries l.parts
     × AllByRecursion (λ e. partition_cmp (let start : Partition = record { day = l.days.first; pname = 0 } in start) e.0 ≡ Greater → ⊥) l.entries
 
-abbrev pub decreases-loop-part : goal.decreases-loop-part
-decreases-loop-part l = length l.entries
+abbrev pub decreases-loop-partition : goal.decreases-loop-partition
+decreases-loop-partition l = length l.entries

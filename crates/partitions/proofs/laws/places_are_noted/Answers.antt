@@ -10,6 +10,6 @@ all_below zero limit le = tt
 all_below (suc n) limit le = (omega (arith, le), all_below n limit (omega (arith, le)))
 
 pub returns : goal.returns
-returns c = λ part noted.
+returns c = λ partition noted.
     let below = λ (place : ℕ). place < length noted in
-    recursion_from_All below (places_in part noted) (All-filter (λ place. is_noted_in part (slice_get noted place)) below (falling (length noted)) (All-from_recursion below (falling (length noted)) (all_below (length noted) (length noted) (omega arith))))
+    recursion_from_All below (places_in partition noted) (All-filter (λ place. is_noted_in partition (slice_get noted place)) below (falling (length noted)) (All-from_recursion below (falling (length noted)) (all_below (length noted) (length noted) (omega arith))))

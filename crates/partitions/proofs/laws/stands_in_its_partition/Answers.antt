@@ -14,10 +14,10 @@ equal_by Less is = absurd cc
 equal_by Equal is = refl
 equal_by Greater is = absurd cc
 
-in_own : (part own : Partition) → part ≡ own → is_eq (partition_cmp part own) ≡ true
-in_own part own same =
-    let itself : is_eq (partition_cmp part part) ≡ true = rw (tied_itself partition_cmp_total part) refl in
-    subst (λ (q : Partition). is_eq (partition_cmp part q) ≡ true) same itself
+in_own : (partition own : Partition) → partition ≡ own → is_eq (partition_cmp partition own) ≡ true
+in_own partition own same =
+    let itself : is_eq (partition_cmp partition partition) ≡ true = rw (tied_itself partition_cmp_total partition) refl in
+    subst (λ (q : Partition). is_eq (partition_cmp partition q) ≡ true) same itself
 
 pub returns : goal.returns
-returns c = λ part row. (λ is. exact_partitions part (partition_of row.key.time row.pname) (equal_by _ is), λ same. in_own part (partition_of row.key.time row.pname) same)
+returns c = λ partition row. (λ is. exact_partitions partition (partition_of row.key.time row.pname) (equal_by _ is), λ same. in_own partition (partition_of row.key.time row.pname) same)

@@ -11,8 +11,8 @@ pub returns : goal.returns
 returns c =
     let parts = c.args.parts.now in
     let row = c.args.row.now in
-    let part = c.partition_of-part.result in
+    let partition = c.partition_of-partition.result in
     let fits : SFits w64 row.key.time = search rules in
-    let its : part ≡ partition_of row.key.time row.pname = simp to_z-of_z at c.partition_of-part.ensures in
-    c.is_ok.ensures.value ∙ halved parts part c.binary_search.result c.requires c.binary_search.ensures.bound c.binary_search.ensures.position
+    let its : partition ≡ partition_of row.key.time row.pname = simp to_z-of_z at c.partition_of-partition.ensures in
+    c.is_ok.ensures.value ∙ halved parts partition c.binary_search.result c.requires c.binary_search.ensures.bound c.binary_search.ensures.position
     ∙ ap (λ (p : Partition). list_any (λ q. is_eq (partition_cmp q p)) parts) its

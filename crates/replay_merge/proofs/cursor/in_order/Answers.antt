@@ -5,9 +5,9 @@ use Rattle.replay_merge.proofs.Opening.{are_same, same_by_order, once_rising, on
 use Rattle.replay_merge.proofs.cursor.in_order.Goals as goal
 
 pub returns-clause-same : goal.returns-clause-same
-returns-clause-same c = λ part.
-    subst (λ (l : List Partition). Contains c.dedup.new.self.items part ↔ Contains l part) c.into_vec-parts.ensures
-    (once_same are_same same_by_order c.into_vec-parts.result.items c.sort_unstable.new.self.items c.dedup.new.self.items c.sort_unstable.ensures.permutation c.sort_unstable.ensures.sorted c.dedup.ensures.filtered part)
+returns-clause-same c = λ partition.
+    subst (λ (l : List Partition). Contains c.dedup.new.self.items partition ↔ Contains l partition) c.into_vec-parts.ensures
+    (once_same are_same same_by_order c.into_vec-parts.result.items c.sort_unstable.new.self.items c.dedup.new.self.items c.sort_unstable.ensures.permutation c.sort_unstable.ensures.sorted c.dedup.ensures.filtered partition)
 
 pub returns-clause-rising : goal.returns-clause-rising
 returns-clause-rising c =

@@ -1,7 +1,7 @@
 use Rattle.std.proofs.Common.{◌≡◌, ◌-◌, ◌≤ℤ◌, ◌*ℤ◌, ◌+ℤ◌, ◌-ℤ◌, ℤ, pos, false, length, get_or, w64, SFits, rules, arith}
 use Rattle.std.specs.Prelude.{int_lt}
 use Rattle.std.proofs.lemmas.Int.{ints, to_z-of_z}
-use Rattle.partitions.proofs.Parted.{no_part}
+use Rattle.partitions.proofs.Parted.{no_partition}
 use Rattle.replay_merge.proofs.Cut.{cut_same}
 use Rattle.replay_merge.proofs.day_range.cut_to_days.Goals as goal
 
@@ -17,8 +17,8 @@ returns c row is =
     let from = c.args.from in
     let to = c.args.to in
     let far : ℤ = pos 100_000_000_000 in
-    let first = (get_or parts 0 no_part).day in
-    let last = (get_or parts (length parts - 1) no_part).day in
+    let first = (get_or parts 0 no_partition).day in
+    let last = (get_or parts (length parts - 1) no_partition).day in
     let first_fits : SFits w64 first = search rules in
     let last_fits : SFits w64 last = search rules in
     let first_is = to_z-of_z w64 first first_fits in
@@ -42,4 +42,4 @@ returns c row is =
     let down = rw (to_is, last_is, next_is, end_is) at c.earlier.ensures.not_above in
     let greatest = rw (to_is, last_is, next_is, end_is) at c.earlier.ensures.greatest in
     rw (to_z-of_z w64 c.later.result later_fits, to_z-of_z w64 c.earlier.result earlier_fits)
-    (cut_same parts no_part from to c.later.result c.earlier.result c.requires up.0 (λ time l s. least time l (omega (arith, ints, s))) down.0 (λ time l s. greatest time l (omega (arith, ints, s))) row is)
+    (cut_same parts no_partition from to c.later.result c.earlier.result c.requires up.0 (λ time l s. least time l (omega (arith, ints, s))) down.0 (λ time l s. greatest time l (omega (arith, ints, s))) row is)

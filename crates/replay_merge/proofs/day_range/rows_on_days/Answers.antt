@@ -5,7 +5,7 @@ use Rattle.std.proofs.lemmas.Int.{to_z-of_z}
 use Rattle.arch_types.specs.declared.row.Row.{Row}
 use Rattle.arch_types.specs.Table.{is_in_time_range}
 use Rattle.partitions.specs.Rows.{is_of_parts, parts_between}
-use Rattle.replay_merge.specs.Source.{IsRowBetween}
+use Rattle.replay_merge.specs.RowSource.{IsRowBetween}
 use Rattle.replay_merge.proofs.Cut.{each_cut, told_cut}
 use Rattle.replay_merge.proofs.day_range.rows_on_days.Goals as goal
 

@@ -1,6 +1,6 @@
 use Rattle.std.proofs.Common.{◌≡◌, ◌≤◌, ◌-◌, length, drop}
 use Rattle.std.specs.Prelude.{IfSome}
-use Rattle.replay_merge.specs.Source.{UsedRowSource}
+use Rattle.replay_merge.specs.RowSource.{UsedRowSource}
 use Rattle.replay_merge.specs.Fetch.{wanted_in}
 use Rattle.replay_merge.proofs.fetch.fetch.Given as goal
 

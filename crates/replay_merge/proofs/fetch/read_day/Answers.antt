@@ -4,7 +4,7 @@ use Rattle.std.specs.List.{AllByRecursion}
 use Rattle.std.proofs.lemmas.Int.{to_z-of_z}
 use Rattle.partitions.specs.declared.partition.Partition.{Partition}
 use Rattle.replay_merge.specs.Replay.{is_listed_name}
-use Rattle.replay_merge.specs.Source.{IsRowBetween}
+use Rattle.replay_merge.specs.RowSource.{IsRowBetween}
 use Rattle.replay_merge.proofs.Reading.{day_read, each_listed, listed_rise}
 use Rattle.replay_merge.proofs.fetch.read_day.Goals as goal
 
@@ -14,7 +14,7 @@ rows_on_days-requires g c =
     let parts = c.args.parts.now in
     let count = c.first_day-count.result in
     let slice = c.as_slice.result.now in
-    let is : slice ≡ filter (λ part. is_listed_name wanted.names part.pname) (take count parts) = c.as_slice.ensures.value ∙ c.in_ok-listed.ensures in
+    let is : slice ≡ filter (λ partition. is_listed_name wanted.names partition.pname) (take count parts) = c.as_slice.ensures.value ∙ c.in_ok-listed.ensures in
     listed_rise wanted.names count parts slice c.requires.rising is
 
 pub returns-clause-rows : goal.returns-clause-rows
@@ -24,7 +24,7 @@ returns-clause-rows g c =
     let parts = c.args.parts.now in
     let count = c.first_day-count.result in
     let slice = c.as_slice.result.now in
-    let is : slice ≡ filter (λ part. is_listed_name wanted.names part.pname) (take count parts) = c.as_slice.ensures.value ∙ c.in_ok-listed.ensures in
+    let is : slice ≡ filter (λ partition. is_listed_name wanted.names partition.pname) (take count parts) = c.as_slice.ensures.value ∙ c.in_ok-listed.ensures in
     let from_fits : SFits w64 wanted.from = search rules in
     let to_fits : SFits w64 wanted.to = search rules in
     day_read told wanted parts slice count c.in_ok-rows.rows c.first_day-count.ensures.day is (rw (to_z-of_z w64 wanted.from from_fits, to_z-of_z w64 wanted.to to_fits) at c.in_ok-rows.ensures.told)
@@ -35,7 +35,7 @@ returns-clause-each g c =
     let parts = c.args.parts.now in
     let count = c.first_day-count.result in
     let slice = c.as_slice.result.now in
-    let is : slice ≡ filter (λ part. is_listed_name wanted.names part.pname) (take count parts) = c.as_slice.ensures.value ∙ c.in_ok-listed.ensures in
+    let is : slice ≡ filter (λ partition. is_listed_name wanted.names partition.pname) (take count parts) = c.as_slice.ensures.value ∙ c.in_ok-listed.ensures in
     let from_fits : SFits w64 wanted.from = search rules in
     let to_fits : SFits w64 wanted.to = search rules in
     each_listed wanted (take count parts) c.in_ok-rows.rows

@@ -1,7 +1,7 @@
 use Rattle.std.proofs.Common.{◌≡◌, [], ◌∷◌, get_or, w64, SFits, sym, subst, arith, rules}
 use Rattle.std.proofs.lemmas.Int.{to_z-of_z}
 use Rattle.std.specs.List.{AllByRecursion}
-use Rattle.replay_merge.specs.Source.{IsKeyedRow}
+use Rattle.replay_merge.specs.RowSource.{IsKeyedRow}
 use Rattle.ssql_select.proofs.Merged.{one_told, merged_told, one_of_tables, keyed_between, keyed_moved}
 use Rattle.ssql_select.proofs.merge.merged_rows.Goals as goal
 

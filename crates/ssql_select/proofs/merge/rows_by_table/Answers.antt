@@ -5,7 +5,7 @@ use Rattle.std.specs.List.{AllByRecursion}
 use Rattle.arch_types.specs.declared.row.Row.{Row}
 use Rattle.partitions.proofs.Parted.{default_free}
 use Rattle.partitions.specs.Rows.{parts_between}
-use Rattle.replay_merge.specs.Source.{IsKeyedRow}
+use Rattle.replay_merge.specs.RowSource.{IsKeyedRow}
 use Rattle.replay_merge.proofs.Reading.{all_both}
 use Rattle.ssql_select.proofs.Merged.{one_table_more, keyed_between}
 use Rattle.ssql_select.proofs.merge.rows_by_table.Goals as goal

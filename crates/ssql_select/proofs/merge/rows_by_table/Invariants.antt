@@ -1,7 +1,7 @@
 use Rattle.std.proofs.Common.{◌≡◌, take}
 use Rattle.std.specs.Prelude.{IfSome}
 use Rattle.std.specs.List.{AllByRecursion}
-use Rattle.replay_merge.specs.Source.{IsKeyedRow, UsedRowSource}
+use Rattle.replay_merge.specs.RowSource.{IsKeyedRow, UsedRowSource}
 use Rattle.ssql_select.specs.Selection.{rows_between_of}
 use Rattle.ssql_select.proofs.merge.rows_by_table.Given as goal
 

@@ -2,7 +2,7 @@ use Rattle.std.proofs.Common.{◌≡◌, ◌++◌, ◌∷◌, [], ◌∙◌, rev
 use Rattle.std.specs.Prelude.{filter}
 use Rattle.std.specs.List.{AllByRecursion}
 use Rattle.replay_merge.specs.Replay.{truncated}
-use Rattle.replay_merge.specs.Source.{IsKeyedRow}
+use Rattle.replay_merge.specs.RowSource.{IsKeyedRow}
 use Rattle.replay_merge.proofs.Reading.{all_both}
 use Rattle.ssql_select.specs.Selection.{is_selected, is_enough}
 use Rattle.ssql_select.proofs.Selecting.{last_kept, row_taken, row_within, row_counted, test_keeps}

@@ -2,7 +2,7 @@ use Rattle.std.proofs.Common.{◌≡◌, ◌+◌, ◌≤◌, ◌++◌, length, r
 use Rattle.std.specs.Prelude.{filter}
 use Rattle.std.specs.List.{AllByRecursion}
 use Rattle.replay_merge.specs.Replay.{truncated}
-use Rattle.replay_merge.specs.Source.{IsKeyedRow}
+use Rattle.replay_merge.specs.RowSource.{IsKeyedRow}
 use Rattle.ssql_select.specs.Selection.{is_selected}
 use Rattle.ssql_select.proofs.select.add_met.Given as goal
 

@@ -4,7 +4,7 @@ use Rattle.std.specs.List.{AllByRecursion}
 use Rattle.partitions.specs.Partitions.{AreRising}
 use Rattle.partitions.specs.Rows.{is_of_parts}
 use Rattle.replay_merge.specs.Replay.{truncated}
-use Rattle.replay_merge.specs.Source.{IsKeyedRow, UsedRowSource}
+use Rattle.replay_merge.specs.RowSource.{IsKeyedRow, UsedRowSource}
 use Rattle.ssql_select.specs.Selection.{merged_between, selected_between}
 use Rattle.ssql_select.proofs.select.select_days.Given as goal
 

@@ -2,28 +2,28 @@ use Rattle.std.proofs.Common.{◌≡◌, ◌++◌, List, get_or, Option, ◌∙�
 use Rattle.std.specs.Prelude.{IfSome}
 use Rattle.arch_types.specs.declared.row.Row.{Row}
 use Rattle.partitions.specs.Rows.{partition_at}
-use Rattle.partitions.proofs.Parted.{no_part, default_free}
+use Rattle.partitions.proofs.Parted.{no_partition, default_free}
 use Rattle.ssql_select.specs.ShowText.{line_of_rows}
 use Rattle.ssql_select.proofs.ShownRows.{one_part_more}
 use Rattle.ssql_select.proofs.show.partition_lines.Goals as goal
 
-pub loop-part-preserved : goal.loop-part-preserved
-loop-part-preserved g c =
+pub loop-partition-preserved : goal.loop-partition-preserved
+loop-partition-preserved g c =
     let told = (g.R.RowSource.state c.args.source.now).history in
     let front = c.args.front in
     let table = c.args.table in
-    let i = c.loop-part.part-index in
-    let part = get_or c.args.parts.now i no_part in
-    let is : part ≡ get_or c.args.parts.now i part = default_free c.args.parts.now i no_part part c.loop-part-test.true in
-    let lines = c.loop-part.lines.items in
+    let i = c.loop-partition.partition-index in
+    let partition = get_or c.args.parts.now i no_partition in
+    let is : partition ≡ get_or c.args.parts.now i partition = default_free c.args.parts.now i no_partition partition c.loop-partition-test.true in
+    let lines = c.loop-partition.lines.items in
     let rows = c.in_ok-rows.rows in
     let got = c.in_ok-rows.ensures in
-    let used = c.loop-part.invariant.used in
+    let used = c.loop-partition.invariant.used in
     record {
       used = record { told = got.source.told ∙ used.told; later = omega (arith, used.later, got.source.later) };
-      lines = one_part_more front table told c.args.parts.now i part lines rows c.add_partition.new.lines.items c.loop-part-test.true is c.loop-part.invariant.lines
-          (subst (λ (o : Option (List Row)). IfSome o (λ history. rows ≡ partition_at front table part history)) used.told got.told)
-          (c.in_ok-add_partition.ensures ∙ ap (λ (r : List Row). lines ++ line_of_rows part r) c.as_slice.ensures);
+      lines = one_part_more front table told c.args.parts.now i partition lines rows c.add_partition.new.lines.items c.loop-partition-test.true is c.loop-partition.invariant.lines
+          (subst (λ (o : Option (List Row)). IfSome o (λ history. rows ≡ partition_at front table partition history)) used.told got.told)
+          (c.in_ok-add_partition.ensures ∙ ap (λ (r : List Row). lines ++ line_of_rows partition r) c.as_slice.ensures);
     }
 
 -- the requirement of `add_partition`, beside the rows as a slice

@@ -1,11 +1,11 @@
 use Rattle.std.proofs.Common.{◌≡◌, take}
 use Rattle.std.specs.Prelude.{IfSome}
-use Rattle.replay_merge.specs.Source.{UsedRowSource}
+use Rattle.replay_merge.specs.RowSource.{UsedRowSource}
 use Rattle.ssql_select.specs.ShowText.{partition_lines}
 use Rattle.ssql_select.proofs.show.partition_lines.Given as goal
 
-abbrev pub invariant-loop-part : goal.invariant-loop-part
-invariant-loop-part g l = record {
+abbrev pub invariant-loop-partition : goal.invariant-loop-partition
+invariant-loop-partition g l = record {
   used : UsedRowSource (g.R.RowSource.state l.fn.source) (g.R.RowSource.state l.source);
-  lines : IfSome (g.R.RowSource.state l.fn.source).history (λ history. l.lines.items ≡ partition_lines l.front l.table history (take l.part-index l.parts));
+  lines : IfSome (g.R.RowSource.state l.fn.source).history (λ history. l.lines.items ≡ partition_lines l.front l.table history (take l.partition-index l.parts));
 }

@@ -34,16 +34,16 @@ start_of-end-requires c =
     rw (c.as_slice-record_ends.ensures.value, c.as_slice-field_ends.ensures.value)
     ((bounds_at 0 s.record_ends.items (length s.field_ends.items) c.args.place c.self.invariant.1 lt).1)
 
-pub part-requires : goal.part-requires
-part-requires c =
+pub slice-requires : goal.slice-requires
+slice-requires c =
     let s = c.self.inside in
     let lt = place_in s.record_ends.items s.field_ends.items s.octets.items c.args.self.now c.args.place c.self.view_is c.requires in
     let within = (bounds_at 0 s.record_ends.items (length s.field_ends.items) c.args.place c.self.invariant.1 lt).1 in
     rw (c.start_of-end.ensures, c.as_slice-record_ends.ensures.value, c.as_slice-field_ends.ensures.value, c.as_slice.ensures.value)
     (omega arith, start_within 0 s.field_ends.items (length s.octets.items) _ c.self.invariant.0 within)
 
-pub part-requires-2 : goal.part-requires-2
-part-requires-2 c =
+pub slice-requires-2 : goal.slice-requires-2
+slice-requires-2 c =
     let s = c.self.inside in
     let lt = place_in s.record_ends.items s.field_ends.items s.octets.items c.args.self.now c.args.place c.self.view_is c.requires in
     rw (c.start_of-first.ensures, c.as_slice-record_ends.ensures.value, c.as_slice-field_ends.ensures.value)
@@ -63,7 +63,7 @@ new-requires c =
     let lt = place_in s.record_ends.items s.field_ends.items s.octets.items c.args.self.now c.args.place c.self.view_is c.requires in
     let first : c.start_of-first.result ≡ start_at 0 s.record_ends.items c.args.place = rw c.as_slice-record_ends.ensures.value at c.start_of-first.ensures in
     let end : c.start_of-end.result ≡ start_at 0 s.field_ends.items (get_or s.record_ends.items c.args.place 0) = rw (c.as_slice-record_ends.ensures.value, c.as_slice-field_ends.ensures.value) at c.start_of-end.ensures in
-    rw (c.part.ensures, c.part-2.ensures, c.start_of.ensures, c.as_slice-record_ends.ensures.value, c.as_slice-field_ends.ensures.value, c.as_slice.ensures.value)
+    rw (c.slice.ensures, c.slice-2.ensures, c.start_of.ensures, c.as_slice-record_ends.ensures.value, c.as_slice-field_ends.ensures.value, c.as_slice.ensures.value)
     (ends_of_record s.record_ends.items s.field_ends.items s.octets.items c.args.place c.start_of-first.result (get_or s.record_ends.items c.args.place 0) c.start_of-end.result c.self.invariant.1 c.self.invariant.0 lt first refl end)
 
 pub returns : goal.returns
@@ -72,5 +72,5 @@ returns c =
     let lt = place_in s.record_ends.items s.field_ends.items s.octets.items c.args.self.now c.args.place c.self.view_is c.requires in
     let first : c.start_of-first.result ≡ start_at 0 s.record_ends.items c.args.place = rw c.as_slice-record_ends.ensures.value at c.start_of-first.ensures in
     let end : c.start_of-end.result ≡ start_at 0 s.field_ends.items (get_or s.record_ends.items c.args.place 0) = rw (c.as_slice-record_ends.ensures.value, c.as_slice-field_ends.ensures.value) at c.start_of-end.ensures in
-    rw (← c.self.view_is, c.new.ensures, c.part.ensures, c.part-2.ensures, c.start_of.ensures, c.as_slice-record_ends.ensures.value, c.as_slice-field_ends.ensures.value, c.as_slice.ensures.value)
+    rw (← c.self.view_is, c.new.ensures, c.slice.ensures, c.slice-2.ensures, c.start_of.ensures, c.as_slice-record_ends.ensures.value, c.as_slice-field_ends.ensures.value, c.as_slice.ensures.value)
     (record_in s.record_ends.items s.field_ends.items s.octets.items c.args.place c.start_of-first.result (get_or s.record_ends.items c.args.place 0) c.start_of-end.result c.self.invariant.1 c.self.invariant.0 lt first refl end)

@@ -4,8 +4,7 @@ use Rattle.std.specs.Cmp.Lexicographic.{other_text, same_text}
 use Rattle.std.specs.Result.{MatchResult}
 use Rattle.mdb_items.specs.Database.{Database, IsDatabase}
 use Rattle.mdb_octets.specs.Spelling.{database_octets}
-use Rattle.mdb_items.specs.declared.not_mdb.NotMdb.TheVariants.{OutOfMemory}
-use Rattle.mdb_items.specs.Refusals.{refusal_of}
+use Rattle.octet_fields.specs.declared.fault.DecodeError.TheVariants.{OutOfMemory}
 use Rattle.mdb_model.proofs.ListsAgain.{again_memory, is_given, lists_memory}
 use Rattle.mdb_rules.proofs.Outcomes.{at_err}
 use Rattle.mdb_model.proofs.mdb.Mdb.from_bytes.Goals as goal
@@ -20,14 +19,14 @@ alike false e = cc
 
 pub returns-in_err-lists-clause-each : goal.returns-in_err-lists-clause-each
 returns-in_err-lists-clause-each c = λ a is same.
-    at_err (λ r. MatchResult r (λ x. x ≡ a) (λ e. e ≡ OutOfMemory)) c.from_residual.result (refusal_of c.in_err-lists.field-0.0) c.from_residual.ensures.1
-    (ap refusal_of (lists_memory c.args.octets.now c.in_err-lists.field-0.0 a c.in_err-lists.ensures is same))
+    at_err (λ r. MatchResult r (λ x. x ≡ a) (λ e. e ≡ OutOfMemory)) c.from_residual.result c.in_err-lists.field-0.0 c.from_residual.ensures.1
+    (lists_memory c.args.octets.now c.in_err-lists.field-0.0 a c.in_err-lists.ensures is same)
 
 pub returns-in_err-mdb-clause-each : goal.returns-in_err-mdb-clause-each
 returns-in_err-mdb-clause-each c = λ a is same.
     let lists : Database = record { parameters = c.in_ok-lists.lists.parameters.items; calibrations = c.in_ok-lists.lists.calibrations.items; containers = c.in_ok-lists.lists.containers.items } in
-    at_err (λ r. MatchResult r (λ x. x ≡ a) (λ e. e ≡ OutOfMemory)) c.from_residual-in_err-mdb.result (refusal_of c.in_err-mdb.field-0.0) c.from_residual-in_err-mdb.ensures.1
-    (ap refusal_of (again_memory c.args.octets.now lists a c.in_err-mdb.field-0.0 c.in_ok-lists.ensures c.in_err-mdb.ensures is same))
+    at_err (λ r. MatchResult r (λ x. x ≡ a) (λ e. e ≡ OutOfMemory)) c.from_residual-in_err-mdb.result c.in_err-mdb.field-0.0 c.from_residual-in_err-mdb.ensures.1
+    (again_memory c.args.octets.now lists a c.in_err-mdb.field-0.0 c.in_ok-lists.ensures c.in_err-mdb.ensures is same)
 
 pub returns-then-ne-clause-each : goal.returns-then-ne-clause-each
 returns-then-ne-clause-each c = λ a is same.

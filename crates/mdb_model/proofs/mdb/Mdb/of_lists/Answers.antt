@@ -6,7 +6,7 @@ use Rattle.mdb_items.specs.declared.container.Container.{Container}
 use Rattle.mdb_items.specs.declared.parameter.Parameter.{Parameter}
 use Rattle.mdb_items.specs.CalibrationRows.{calibrations_of, rows_of_calibration}
 use Rattle.mdb_items.specs.ContainerRows.{containers_of, rows_of_container}
-use Rattle.mdb_items.specs.Database.{Database, IsDatabase, limit_passed, database_rows, table_len}
+use Rattle.mdb_items.specs.Database.{Database, IsDatabase, limit_passed, database_rows, calibrator_len}
 use Rattle.octet_fields.specs.declared.fault.DecodeError.{DecodeError}
 use Rattle.mdb_items.specs.ParameterRows.{row_of_parameter}
 use Rattle.mdb_model.specs.Rechecking.{HasRows, ListsRechecked, Refused, calibrations_sound, containers_sound, parameters_sound}
@@ -25,7 +25,7 @@ pub returns-then-not-have_rows : goal.returns-then-not-have_rows
 returns-then-not-have_rows c =
     let lists = c.args.lists.now in
     let d : Database = record { parameters = lists.parameters.items; calibrations = lists.calibrations.items; containers = lists.containers.items } in
-    let none : list_all (λ k. nat_lt 0 (table_len k.table)) d.calibrations ≡ false = search rules in
+    let none : list_all (λ k. nat_lt 0 (calibrator_len k.calibrator)) d.calibrations ≡ false = search rules in
     refuse_rowless d (some_rowless d.calibrations none)
 
 pub returns-then-is_empty : goal.returns-then-is_empty
@@ -39,7 +39,7 @@ pub rechecked_calibrations-requires : goal.rechecked_calibrations-requires
 rechecked_calibrations-requires c =
     let lists = c.args.lists.now in
     let d : Database = record { parameters = lists.parameters.items; calibrations = lists.calibrations.items; containers = lists.containers.items } in
-    let all : list_all (λ k. nat_lt 0 (table_len k.table)) d.calibrations ≡ true = search rules in
+    let all : list_all (λ k. nat_lt 0 (calibrator_len k.calibrator)) d.calibrations ≡ true = search rules in
     let P : List Calibration → Type 0 = λ xs. AllByRecursion HasRows xs in
     subst P (sym c.deref-2.ensures.value) (each_has_rows d.calibrations all)
 

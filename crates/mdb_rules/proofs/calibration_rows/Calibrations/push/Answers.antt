@@ -12,4 +12,4 @@ returns-clause-items c =
     let len = c.args.self.now.items.ok.0 in
     let lt : n < length items = omega arith in
     let at = slice_get_read items (length items) n old refl lt c.index_mut-calibration.ensures.value in
-    on_ok_weaker c.push_row.result (λ e. written items n old c.push_row.new.table c.args.row_values (omega arith) at e) c.push_row.ensures
+    on_ok_weaker c.push_row.result (λ e. written items n old c.push_row.new.calibrator c.args.row_values (omega arith) at e) c.push_row.ensures

@@ -10,9 +10,9 @@ pub loop-count-init : goal.loop-count-init
 loop-count-init c =
     let links = c.self.inside.links in
     let noted = noted_in links.items in
-    let are : length c.places_of-places.result ≡ length (places_in c.args.part noted) =
-    ap length c.places_of-places.ensures ∙ ap (λ (h : PartitionsView). length (places_in c.args.part h.noted)) (sym c.self.view_is) in
+    let are : length c.places_of-places.result ≡ length (places_in c.args.partition noted) =
+    ap length c.places_of-places.ensures ∙ ap (λ (h : PartitionsView). length (places_in c.args.partition h.noted)) (sym c.self.view_is) in
     record {
       counted = omega arith;
-      short = omega (arith, are, few_below (length noted) c.args.part noted, length-noted links.items, links.ok.0, c.self.invariant.has_places);
+      short = omega (arith, are, few_below (length noted) c.args.partition noted, length-noted links.items, links.ok.0, c.self.invariant.has_places);
     }

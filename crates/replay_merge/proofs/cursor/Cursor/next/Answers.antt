@@ -4,7 +4,7 @@ use Rattle.std.proofs.lemmas.List.{take_rest, nil_from_length, length-drop}
 use Rattle.arch_types.specs.declared.row.Row.{Row}
 use Rattle.arch_types.specs.Order.{is_before}
 use Rattle.replay_merge.specs.Cursor.{left_after}
-use Rattle.replay_merge.specs.Source.{AreInKeyOrder}
+use Rattle.replay_merge.specs.RowSource.{AreInKeyOrder}
 use Rattle.replay_merge.specs.Fetch.{IsWanted}
 use Rattle.replay_merge.proofs.Reading.{rising_rest, day_fetched}
 use Rattle.replay_merge.proofs.Pieces.{given, same_rest, nothing_ahead, all_first, all_rest, first_in_order, rest_in_order, still_all, still_in_order, still_short}

@@ -1,6 +1,6 @@
 use Rattle.std.proofs.Common.{w64}
 use Rattle.std.proofs.lemmas.Int.{to_z-of_z}
-use Rattle.yarch_table.specs.Index.{Names}
+use Rattle.yarch_table.specs.Index.{IsEntryOf}
 use Rattle.yarch_table.proofs.Ranged.{rows_left-between, from_names, first_key}
 use Rattle.yarch_table.proofs.table.Table.range_at.Goals as goal
 
@@ -9,7 +9,7 @@ new-requires c =
     let from = to_z-of_z w64 c.args.from c.ranges.from in
     let entries = rw (c.of.ensures, from) at c.from_key-entries.ensures.entries in
     record {
-      each = rw (c.as_slice.ensures.value, entries) (from_names (Names c.self.inside.stored.items) (first_key c.args.from) c.self.inside.index.entries c.self.invariant.names.each);
+      each = rw (c.as_slice.ensures.value, entries) (from_names (IsEntryOf c.self.inside.stored.items) (first_key c.args.from) c.self.inside.index.entries c.self.invariant.names.each);
       rising = c.from_key-entries.ensures.rising;
     }
 

@@ -1,5 +1,0 @@
-use Rattle.arch_disk.proofs.SyncedFiles.{IsSyncedAs}
-use Rattle.arch_disk.proofs.history.History.holding.Given as goal
-
-abbrev pub invariant-loop-i : goal.invariant-loop-i
-invariant-loop-i l = IsSyncedAs l.files.list.items l.i l.history

@@ -1,0 +1,91 @@
+//! Distinct names and distinct numbers, found by their hashes.
+
+ghost use Rattle.std.specs.Prelude.{◌≡◌, ◌∷◌, ◌++◌, [], OnOk, OnErr, None, false};
+ghost use Rattle.std.specs.List.{list_any};
+ghost use Rattle.mdb_items.specs.Texts.{place_of};
+ghost use Rattle.mdb_items.specs.Numbers.{has_number};
+
+use indexmap::IndexSet;
+use std::alloc::{AllocError, Global};
+use std::marker::Model;
+
+/// Distinct names, numbered in the order in which they were first seen, by a hash that doesn't outlive the sheets (D-67).
+#[derive(Drop)]
+pub struct NameIndex {
+    set: IndexSet<Vec<u8>>,
+}
+
+impl Model for NameIndex {
+    ghost use Rattle.std.specs.Prelude.{List, ℕ, map};
+
+    ghost Value = { List (List ℕ) };
+
+    ghost view = { λ a. map (λ k. k.items) a.set.keys };
+}
+
+impl NameIndex {
+    pub fn new(alloc: Global) -> NameIndex
+        ensures { result ≡ [] }
+    {
+        NameIndex {
+            set: IndexSet::new(alloc),
+        }
+    }
+
+    /// The number of a name.
+    pub fn number(&self, name: &[u8]) -> Option<usize>
+        ensures { result ≡ place_of name.now self.now }
+    {
+        self.set.get_index_of(name)
+    }
+
+    /// Adds a name that is not there. It goes last. Where there's no memory the names stay as they were.
+    pub fn add(&mut self, name: Vec<u8>) -> Result<(), AllocError>
+        requires { place_of name.items self.old ≡ None }
+        ensures added { OnOk result (self.new ≡ self.old ++ name.items ∷ []) }
+        ensures kept { OnErr result (self.new ≡ self.old) }
+    {
+        self.set.insert(name)?;
+        Ok(())
+    }
+}
+
+/// Distinct numbers in the order in which they were first seen.
+#[derive(Drop)]
+pub struct Numbers {
+    set: IndexSet<i128>,
+}
+
+impl Model for Numbers {
+    ghost use Rattle.std.specs.Prelude.{List, ℤ};
+
+    ghost Value = { List ℤ };
+
+    ghost view = { λ a. a.set.keys };
+}
+
+impl Numbers {
+    pub fn new(alloc: Global) -> Numbers
+        ensures { result ≡ [] }
+    {
+        Numbers {
+            set: IndexSet::new(alloc),
+        }
+    }
+
+    pub fn contains(&self, number: i128) -> bool
+        ensures { result ≡ has_number number self.now }
+    {
+        self.set.contains(&number)
+    }
+
+    /// Adds a number that is not there. It goes last. Where there's no memory the numbers stay as they were.
+    pub fn add(&mut self, number: i128) -> Result<(), AllocError>
+        requires { has_number number self.old ≡ false }
+        ensures added { OnOk result (self.new ≡ self.old ++ number ∷ []) }
+        ensures kept { OnErr result (self.new ≡ self.old) }
+    {
+        self.set.insert(number)?;
+        Ok(())
+    }
+}

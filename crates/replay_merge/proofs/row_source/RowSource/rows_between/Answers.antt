@@ -1,0 +1,48 @@
+use Rattle.std.proofs.Common.{◌≡◌, inr, List, Option, get_or, w64, to_z, of_z, ◌∙◌, subst, arith}
+use Rattle.std.specs.Prelude.{IfSome}
+use Rattle.std.proofs.lemmas.Int.{to_z-of_z}
+use Rattle.arch_types.specs.declared.row.Row.{Row}
+use Rattle.partitions.specs.Rows.{partition_at}
+use Rattle.partitions.proofs.Parted.{no_partition, default_free}
+use Rattle.replay_merge.specs.RowSource.{IsRowSourceHistory}
+use Rattle.replay_merge.proofs.Gathered.{one_part_more, each_part_more, all_gathered, between_read, each_moved}
+use Rattle.replay_merge.proofs.row_source.RowSource.rows_between.Goals as goal
+
+pub loop-partition-preserved : goal.loop-partition-preserved
+loop-partition-preserved g c =
+    let told = (g.Self.RowSource.state c.args.self.now).history in
+    let loop = c.loop-partition in
+    let parts = c.args.parts.now in
+    let i = loop.partition-index in
+    let partition = get_or parts i no_partition in
+    let is : partition ≡ get_or parts i partition = default_free parts i no_partition partition c.loop-partition-test.true in
+    let given = c.in_ok-part_rows.part_rows in
+    let got = c.in_ok-part_rows.ensures in
+    let all = c.in_ok-rows.rows.items in
+    let low = to_z w64 (of_z w64 c.args.from) in
+    let high = to_z w64 (of_z w64 c.args.to) in
+    let used = loop.invariant.used in
+    record {
+      used = record { told = got.source.told ∙ used.told; later = omega (arith, used.later, got.source.later) };
+      rows = one_part_more c.args.table c.args.front low high parts i partition c.loop-partition-test.true is told loop.rows.items given all loop.invariant.rows
+          (subst (λ (o : Option (List Row)). IfSome o (λ history. given ≡ partition_at c.args.front c.args.table partition history)) used.told got.told) c.in_ok-rows.ensures;
+      each = each_part_more c.args.table c.args.front low high parts i partition c.loop-partition-test.true is loop.rows.items given all loop.invariant.each got.each.each c.in_ok-rows.ensures;
+      told = inr (subst (λ (o : Option (List Row)). IfSome o IsRowSourceHistory) used.told got.history);
+    }
+
+pub returns-clause-told : goal.returns-clause-told
+returns-clause-told g c =
+    let told = (g.Self.RowSource.state c.args.self.now).history in
+    let parts = c.args.parts.now in
+    let loop = c.loop-partition in
+    let low = to_z-of_z w64 c.args.from c.ranges.from in
+    let high = to_z-of_z w64 c.args.to c.ranges.to in
+    let moved = c.in_ok-merged_by_key.ensures in
+    between_read told c.args.table c.args.front c.args.from c.args.to parts loop.rows.items c.in_ok-merged_by_key.field-0 c.requires
+    (all_gathered told c.args.table c.args.front c.args.from c.args.to parts loop.partition-index loop.rows.items c.loop-partition-test.false (rw (low, high) at loop.invariant.rows)) loop.invariant.told moved.same moved.sorted moved.stable
+
+pub returns-clause-each : goal.returns-clause-each
+returns-clause-each g c =
+    let low = to_z-of_z w64 c.args.from c.ranges.from in
+    let high = to_z-of_z w64 c.args.to c.ranges.to in
+    each_moved c.args.table c.args.from c.args.to c.args.parts.now c.loop-partition.rows.items c.in_ok-merged_by_key.field-0 c.in_ok-merged_by_key.ensures.same (rw (low, high) at c.loop-partition.invariant.each)

@@ -1,0 +1,65 @@
+-- What a source of rows tells, and what it gives.
+use Rattle.std.specs.Prelude.{◌≡◌, ◌≤◌, ℕ, ℤ, List, Option, IsNone, true}
+use Rattle.std.specs.List.{AllByRecursion}
+use Rattle.std.specs.List.Sorted.{IsSortedByKey, IsStrictlySortedBy}
+use Rattle.text_forms.specs.ClockTime.{IsClockTime}
+use Rattle.arch_types.specs.declared.row.Row.{Row}
+use Rattle.arch_types.specs.declared.row_fault.RowFault.{RowFault}
+use Rattle.arch_types.specs.declared.row_fault.RowFault.TheVariants.{DiskFault, Damaged, OutOfMemory}
+use Rattle.arch_types.specs.Packet.{IsPacket}
+use Rattle.arch_types.specs.GenerationTime.{key_of}
+use Rattle.arch_types.specs.Order.{key_cmp}
+use Rattle.arch_types.specs.History.{IsHistory}
+use Rattle.arch_types.specs.Table.{is_in_time_range}
+use Rattle.arch_disk.specs.Disk.{raised}
+use Rattle.partitions.specs.declared.partition.Partition.{Partition}
+use Rattle.partitions.specs.Rows.{is_of_partition, is_of_parts}
+
+-- the rows that a source tells, in the order in which they came to stay, and how often it has failed
+pub record RowSourceState : Type 0 where
+  pub history : Option (List Row)
+  pub faults : ℕ
+
+-- a whole packet, received within the clock's range, with the key that it gives then
+pub record IsKeyedRow (row : Row) : Type 0 where
+  pub packet : IsPacket row.packet
+  pub rectime : IsClockTime row.rectime
+  pub key : row.key ≡ key_of row.packet row.rectime
+
+-- a history of such rows
+pub record IsRowSourceHistory (history : List Row) : Type 0 where
+  pub once : IsHistory history
+  pub each : AllByRecursion IsKeyedRow history
+
+-- such a row of a table and a partition
+pub record IsRowOf (table : ℕ) (partition : Partition) (row : Row) : Type 0 where
+  pub keyed : IsKeyedRow row
+  pub in_table : row.table ≡ table
+  pub in_partition : is_of_partition partition row ≡ true
+
+-- such rows, each with a key below those of the rows after it
+pub record AreRowsOf (table : ℕ) (partition : Partition) (rows : List Row) : Type 0 where
+  pub each : AllByRecursion (IsRowOf table partition) rows
+  pub rising : IsStrictlySortedBy (λ (a b : Row). key_cmp a.key b.key) rows
+
+-- such a row of a table, of one of some partitions, with from <= time < to
+pub record IsRowBetween (table : ℕ) (parts : List Partition) (from to : ℤ) (row : Row) : Type 0 where
+  pub keyed : IsKeyedRow row
+  pub in_table : row.table ≡ table
+  pub in_parts : is_of_parts parts row ≡ true
+  pub in_range : is_in_time_range from to row ≡ true
+
+-- no row's key is below that of the row before it
+abbrev pub AreInKeyOrder : List Row → Type 0
+AreInKeyOrder rows = IsSortedByKey (λ (row : Row). row.key) key_cmp rows
+
+-- a source gives no rows for a fault where its count has risen, for damage where it doesn't tell its rows, and else for want of memory
+abbrev pub IsRowFault : RowSourceState → RowSourceState → RowFault → Type 0
+IsRowFault old new DiskFault = raised old.faults ≤ new.faults
+IsRowFault old new (Damaged file at) = IsNone old.history
+IsRowFault old new OutOfMemory = Unit {0}
+
+-- a source tells what it told, and its count of faults hasn't fallen
+pub record UsedRowSource (old new : RowSourceState) : Type 0 where
+  pub told : new.history ≡ old.history
+  pub later : old.faults ≤ new.faults

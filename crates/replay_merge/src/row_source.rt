@@ -1,0 +1,64 @@
+//! Sources of rows.
+
+ghost use Rattle.std.specs.Prelude.{◌≡◌, IfOk, IfErr, IfSome};
+ghost use Rattle.std.specs.List.{AllByRecursion};
+ghost use Rattle.partitions.specs.Partitions.{AreRising};
+ghost use Rattle.partitions.specs.Rows.{partition_at, parts_between};
+ghost use Rattle.replay_merge.specs.RowSource.{RowSourceState, IsRowSourceHistory, AreRowsOf, IsRowBetween, AreInKeyOrder, IsRowFault, UsedRowSource};
+
+use arch_types::row::Rows;
+use arch_types::row_fault::RowFault;
+use partitions::partition::Partition;
+use partitions::rows::{append_between, merged_by_key};
+use std::alloc::Global;
+
+/// What has the rows of tables.
+pub trait RowSource {
+    /// The rows that it tells, and how often it has failed.
+    ghost state: { Self → RowSourceState };
+
+    /// The rows of a partition of a table with a position below the front, in the order of their keys. Refused with `DiskFault`,
+    /// `Damaged` or `OutOfMemory`, and the same call may be made again.
+    fn rows(
+        &mut self,
+        alloc: Global,
+        table: u8,
+        partition: &Partition,
+        front: u64,
+    ) -> Result<Rows, RowFault>
+        ensures told { IfOk result (λ rows. IfSome (state self.old).history (λ history.
+            rows ≡ partition_at front table partition.now history)) }
+        ensures each { IfOk result (AreRowsOf table partition.now) }
+        ensures history { IfSome (state self.old).history IsRowSourceHistory }
+        ensures refused { IfErr result (IsRowFault (state self.old) (state self.new)) }
+        ensures source { UsedRowSource (state self.old) (state self.new) };
+
+    /// The rows of some partitions of a table, which rise, with `from <= time < to` and a position below the front, in the order of
+    /// their keys. Refused as `rows`, and the same call may be made again.
+    ///
+    /// What stands here reads each partition whole, and puts the rows in order once: a source that finds a range by itself says how (D-156).
+    fn rows_between(
+        &mut self,
+        alloc: Global,
+        table: u8,
+        parts: &[Partition],
+        from: i64,
+        to: i64,
+        front: u64,
+    ) -> Result<Rows, RowFault>
+        requires { AreRising parts.now }
+        ensures told { IfOk result (λ rows. IfSome (state self.old).history (λ history.
+            rows ≡ parts_between front table parts.now from to history)) }
+        ensures each { IfOk result (AllByRecursion (IsRowBetween table parts.now from to)) }
+        ensures in_key_order { IfOk result AreInKeyOrder }
+        ensures refused { IfErr result (IsRowFault (state self.old) (state self.new)) }
+        ensures source { UsedRowSource (state self.old) (state self.new) }
+    {
+        let mut rows = Vec::new(alloc);
+        for partition in parts {
+            let part_rows = self.rows(alloc, table, partition, front)?;
+            rows = append_between(rows, part_rows, from, to)?;
+        }
+        Ok(merged_by_key(rows)?)
+    }
+}
